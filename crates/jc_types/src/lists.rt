@@ -14,7 +14,9 @@ pub struct ListOf<T> {
 
 impl<T> Model for ListOf<T> {
     ghost use Rattle.std.specs.Prelude.{List};
+
     ghost Value = { List T };
+
     ghost view = { λ l. l.items.items };
 }
 
@@ -26,7 +28,9 @@ impl<T> ListOf<T> {
     pub fn new(alloc: Global) -> ListOf<T>
         ensures { result ≡ [] }
     {
-        ListOf { items: Vec::new(alloc) }
+        ListOf {
+            items: Vec::new(alloc),
+        }
     }
 
     /// How many items the list has.

@@ -65,7 +65,10 @@ pub enum Entry {
 
 impl Copied for Key {
     fn copy(&self) -> Result<Key, Want> {
-        Ok(Key { namespace: self.namespace.copy()?, name: self.name.copy()? })
+        Ok(Key {
+            namespace: self.namespace.copy()?,
+            name: self.name.copy()?,
+        })
     }
 }
 

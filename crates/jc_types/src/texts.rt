@@ -15,8 +15,11 @@ pub struct Name {
 impl Model for Name {
     ghost use Rattle.std.specs.Prelude.{List, ℕ, ◌<◌, ◌≤◌, length};
     ghost use Rattle.std.specs.String.{string_bytes};
+
     ghost Value = { List ℕ };
+
     ghost view = { λ n. string_bytes n.string };
+
     ghost invariant = { λ n. (0 < length (string_bytes n.string)) × (length (string_bytes n.string) ≤ 63) };
 }
 
@@ -31,7 +34,9 @@ impl Name {
         requires short { length text.now ≤ 63 }
         ensures { IfOk result (λ n. n ≡ text.now) }
     {
-        Ok(Name { string: String::from_str(alloc, text)? })
+        Ok(Name {
+            string: String::from_str(alloc, text)?,
+        })
     }
 
     /// The text of the name, of 1 to 63 bytes.
@@ -46,7 +51,9 @@ impl Name {
 
 impl Copied for Name {
     fn copy(&self) -> Result<Name, Want> {
-        Ok(Name { string: self.string.clone()? })
+        Ok(Name {
+            string: self.string.clone()?,
+        })
     }
 }
 
