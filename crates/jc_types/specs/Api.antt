@@ -16,7 +16,7 @@ use Rattle.jc_types.specs.declared.objects.Entry.{Entry}
 use Rattle.jc_types.specs.declared.objects.Entry.TheVariants.{JobPut, JobGone, PodPut, PodGone}
 use Rattle.jc_types.specs.declared.replies.Reply.{Reply}
 use Rattle.jc_types.specs.declared.replies.Reply.TheVariants.{Created, Written, Unchanged, Released, Conflict, NotFound, AlreadyExists, Final, BadStep, NotTracked}
-use Rattle.jc_types.specs.Log.{job_in, Life, Never, Live, Gone, life, living, next_version, next_uid, is_final}
+use Rattle.jc_types.specs.Log.{same_uid, job_in, Life, Never, Live, Gone, life, living, next_version, next_uid, is_final}
 
 -- A reply, and the entry that was appended, where one was.
 pub record Answered : Type 0 where
@@ -43,7 +43,7 @@ same_bool false b = not b
 abbrev pub same_status : JobStatus → JobStatus → Bool
 same_status a b =
     (a.active == b.active) && ((a.succeeded == b.succeeded)
-    && (pointwise (λ (x : Uid) (y : Uid). x.0 == y.0) a.uncounted_succeeded b.uncounted_succeeded
+    && (pointwise same_uid a.uncounted_succeeded b.uncounted_succeeded
     && same_bool a.complete b.complete))
 
 -- The status of a new Job.

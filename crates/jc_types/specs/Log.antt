@@ -2,6 +2,7 @@
 -- ends the tail of n entries, and the first n entries are a tail.
 use Rattle.std.specs.Prelude.{ℕ, Bool, true, false, not, List, [], ◌∷◌, ◌++◌, ◌==◌, ◌+◌, ◌&&◌, nat_eq, nat_lt, length, filter, if◌then◌else◌}
 use Rattle.std.specs.Prelude.{Option, Some, None}
+use Rattle.std.specs.List.{list_any}
 use Rattle.std.specs.Cmp.Lexicographic.{pointwise}
 use Rattle.jc_types.specs.declared.numbers.Uid.{Uid}
 use Rattle.jc_types.specs.declared.numbers.Version.{Version}
@@ -12,6 +13,13 @@ use Rattle.jc_types.specs.declared.objects.Phase.{Phase}
 use Rattle.jc_types.specs.declared.objects.Phase.TheVariants.{Pending, Running, Succeeded, Failed}
 use Rattle.jc_types.specs.declared.objects.Entry.{Entry}
 use Rattle.jc_types.specs.declared.objects.Entry.TheVariants.{JobPut, JobGone, PodPut, PodGone}
+
+-- Whether two UIDs are equal, and whether a UID is in a list.
+abbrev pub same_uid : Uid → Uid → Bool
+same_uid a b = a.0 == b.0
+
+abbrev pub is_in : Uid → List Uid → Bool
+is_in uid uids = list_any (λ (u : Uid). u.0 == uid.0) uids
 
 -- Whether two keys are equal.
 abbrev pub same_key : Key → Key → Bool

@@ -1,0 +1,6 @@
+pub mod Deeds
+pub mod Outcomes
+pub mod Ledger
+pub mod Once
+pub mod Sync
+pub mod Play

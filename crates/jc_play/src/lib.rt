@@ -1,0 +1,8 @@
+//! The play of a script on one thread, and the ledger that counts its pods.
+#![tactic(auto)]
+
+pub mod commands;
+pub mod writers;
+
+pub use commands::Command;
+pub use writers::Writer;

@@ -1,0 +1,2 @@
+//! The versioned object store.
+#![tactic(auto)]
