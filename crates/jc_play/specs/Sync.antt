@@ -61,15 +61,17 @@ first_status status pods = record {
   complete = status.complete || (is_done status pods && (is_none (counted status pods) && is_none (due status pods)));
 }
 
--- The second status counts out: what was released leaves the list and is in the total.
-abbrev pub left_over : JobStatus → List Pod → List Uid
-left_over status pods = filter (λ (u : Uid). not (is_in u (due status pods))) (counted status pods)
-
-abbrev pub second_status : JobStatus → List Pod → JobStatus
-second_status status pods = record {
-  active = open_pods pods;
-  succeeded = total_in status pods
-      + length (filter (λ (u : Uid). is_in u (due status pods)) (counted status pods));
-  uncounted_succeeded = left_over status pods;
-  complete = (first_status status pods).complete || (is_done status pods && is_none (left_over status pods));
+-- Counting out: what was released leaves the list and is in the total. The status has the end where the Job is done and
+-- nothing is left in the list.
+abbrev pub counted_out : Bool → List Uid → JobStatus → JobStatus
+counted_out done released status = record {
+  active = status.active;
+  succeeded = status.succeeded + length (filter (λ (u : Uid). is_in u released) status.uncounted_succeeded);
+  uncounted_succeeded = filter (λ (u : Uid). not (is_in u released)) status.uncounted_succeeded;
+  complete = status.complete
+    || (done && is_none (filter (λ (u : Uid). not (is_in u released)) status.uncounted_succeeded))
 }
+
+-- The second status is the first after all releases.
+abbrev pub second_status : JobStatus → List Pod → JobStatus
+second_status status pods = counted_out (is_done status pods) (due status pods) (first_status status pods)

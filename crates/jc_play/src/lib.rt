@@ -2,6 +2,7 @@
 #![tactic(auto)]
 
 pub mod commands;
+mod counting;
 pub mod writers;
 
 pub use commands::Command;
