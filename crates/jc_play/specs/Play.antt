@@ -1,7 +1,8 @@
 -- The play of a script's commands on one thread, by the store's answers.
-use Rattle.std.specs.Prelude.{ℕ, Bool, true, false, not, List, [], ◌∷◌, length, fold, Option, Some, None, codes, if◌then◌else◌}
+use Rattle.std.specs.Prelude.{ℕ, Bool, true, false, not, List, [], ◌∷◌, length, fold, Option, Some, None, codes, if◌then◌else◌, ◌+◌, ◌<◌, ◌^◌}
 use Rattle.jc_types.specs.declared.numbers.Uid.{Uid}
 use Rattle.jc_types.specs.declared.numbers.Version.{Version}
+use Rattle.jc_types.specs.declared.objects.Entry.{Entry}
 use Rattle.jc_types.specs.declared.objects.Key.{Key}
 use Rattle.jc_types.specs.declared.objects.Job.{Job}
 use Rattle.jc_types.specs.declared.objects.JobStatus.{JobStatus}
@@ -92,3 +93,13 @@ after_command deeds (Command.Finish pod) = did Script deeds (report_phase_gives 
 -- The deeds of a script's commands, played in their order.
 abbrev pub played : List Command → List Deed
 played commands = fold after_command [] commands
+
+-- The sums of a sync fit their types.
+abbrev pub FitsAt : List Entry → Option Job → Type 0
+FitsAt log None = Unit {0}
+FitsAt log (Some job) =
+    (length (pods_of job.uid log) < 2 ^ 31)
+    × (job.status.succeeded + length job.status.uncounted_succeeded + length (pods_of job.uid log) < 2 ^ 64)
+
+abbrev pub SyncFits : List Deed → Type 0
+SyncFits deeds = FitsAt (log_of deeds) (job_in pi (log_of deeds))

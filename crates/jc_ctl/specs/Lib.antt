@@ -1,0 +1,5 @@
+pub mod Lines
+pub mod Commands
+pub mod Script
+pub mod Report
+pub mod Run

@@ -1,0 +1,12 @@
+-- The lines of a text.
+use Rattle.std.specs.Prelude.{ℕ, List, [], ◌==◌, Option, Some, None}
+use Rattle.std.specs.List.{slice_split}
+
+-- Line feeds separate lines. Behind a last one stands an empty line.
+abbrev pub lines_of : List ℕ → List (List ℕ)
+lines_of text = slice_split (λ b. b == 10) text
+
+-- The lines of what is left, where something is left.
+abbrev pub lines_left : Option (List ℕ) → List (List ℕ)
+lines_left None = []
+lines_left (Some rest) = lines_of rest
