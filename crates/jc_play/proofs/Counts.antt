@@ -1,21 +1,17 @@
 -- Each place's deeds count each pod once after each of their versions.
-use Rattle.std.specs.Prelude.{ℕ, Bool, true, false, cond, List, [], ◌∷◌, ◌≡◌, ◌==◌, ◌||◌, refl, Option, Some, None}
-use Rattle.std.proofs.Common.{◌∙◌, ap, sym, subst, arith, rules}
+use Rattle.std.specs.Prelude.{Bool, true, false, cond, List, [], ◌∷◌, ◌≡◌, ◌==◌, ◌||◌, refl, Option, Some, None}
+use Rattle.std.proofs.Common.{◌∙◌, sym, subst, arith}
 use Rattle.std.proofs.lemmas.Bool.{true≢false}
 use Rattle.std.specs.List.{IsDistinct}
 use Rattle.jc_types.specs.declared.numbers.Uid.{Uid}
 use Rattle.jc_types.specs.declared.objects.Key.{Key}
 use Rattle.jc_types.specs.declared.objects.Job.{Job}
-use Rattle.jc_types.specs.declared.objects.Pod.{Pod}
-use Rattle.jc_types.specs.declared.objects.Phase.TheVariants.{Pending, Succeeded}
-use Rattle.jc_types.specs.declared.objects.Entry.{Entry}
-use Rattle.jc_types.specs.declared.objects.Entry.TheVariants.{JobPut, PodPut}
-use Rattle.jc_types.specs.Log.{same_uid, same_key, is_in, job_in, Life, Live, is_lost, upto}
+use Rattle.jc_types.specs.declared.objects.Phase.TheVariants.{Succeeded}
+use Rattle.jc_types.specs.Log.{same_uid, same_key, is_in, job_in, Life, Live, is_lost}
 use Rattle.jc_play.specs.declared.commands.Command.{Command}
 use Rattle.jc_play.specs.Deeds.{Deed, log_of}
-use Rattle.jc_play.specs.Outcomes.{Success}
 use Rattle.jc_play.specs.Ledger.{Record, recorded, record_of, records}
-use Rattle.jc_play.specs.Once.{Judged, JudgedBefore, CountsOnce, Takings, Once, OnceAtEach}
+use Rattle.jc_play.specs.Once.{CountsOnce, Takings, Once, OnceAtEach}
 use Rattle.jc_play.specs.Play.{pi, played}
 use Rattle.jc_play.proofs.Places.{pod_at, job_1, job_3, job_5, job_7, deeds_1, deeds_2, deeds_3, deeds_4, deeds_5, deeds_6, deeds_7, Place, Unmade, Made, Opened, Ended, Counted, deeds_at, place_of, played_at}
 
@@ -101,22 +97,19 @@ is_found-listed : (is_it : Bool) (one r : Record) → cond is_it (Some one) None
 is_found-listed true one r is_found = refl
 is_found-listed false one r is_found = absurd (cc)
 
-counts_5 : CountsOnce deeds_5 job_5
+listed : (deeds : List Deed) → records (record { 0 = 1 }) deeds ≡ judged ∷ [] → CountsOnce deeds job_5
 unfolding judged
-counts_5 = record {
-  total = refl;
+listed deeds known = record {
+  total = rw known refl;
   distinct = one_distinct _;
-  listed = λ uid is_listed. record { found = judged; is_found = is_listed-found (2 == uid.0) judged is_listed; as_such = refl };
-  unlisted = λ uid r is_found not_listed. absurd (true≢false (sym (is_found-listed (2 == uid.0) judged r is_found) ∙ not_listed));
-}
-
-counts_6 : CountsOnce deeds_6 job_5
-unfolding judged
-counts_6 = record {
-  total = refl;
-  distinct = one_distinct _;
-  listed = λ uid is_listed. record { found = judged; is_found = is_listed-found (2 == uid.0) judged is_listed; as_such = refl };
-  unlisted = λ uid r is_found not_listed. absurd (true≢false (sym (is_found-listed (2 == uid.0) judged r is_found) ∙ not_listed));
+  listed = λ uid is_listed. record {
+    found = judged;
+    is_found = rw known (is_listed-found (2 == uid.0) judged is_listed);
+    as_such = refl;
+  };
+  unlisted = λ uid r is_found not_listed.
+      let is_listed = is_found-listed (2 == uid.0) judged r (rw known at is_found) in
+      absurd (true≢false (sym is_listed ∙ not_listed));
 }
 
 -- The sixth version takes the finalizer of the pod, which the fifth judged.
@@ -140,10 +133,12 @@ counts_7 = record {
 }
 
 once_5 : Once deeds_5
-once_5 = once deeds_5 job_5 one_5 counts_5 takings_6.1
+unfolding judged
+once_5 = once deeds_5 job_5 one_5 (listed deeds_5 refl) takings_6.1
 
 once_6 : Once deeds_6
-once_6 = once deeds_6 job_5 one_5 counts_6 takings_6
+unfolding judged
+once_6 = once deeds_6 job_5 one_5 (listed deeds_6 refl) takings_6
 
 once_7 : Once deeds_7
 once_7 = once deeds_7 job_7 one_7 counts_7 (tt, takings_6)

@@ -1,6 +1,6 @@
 -- A script of one Job that wants one success comes to five places only: it makes one pod, and that pod stays. Each command
 -- goes from place to place.
-use Rattle.std.specs.Prelude.{ℕ, Bool, true, false, cond, List, [], ◌∷◌, ◌≡◌, ◌==◌, refl, fold, Option, Some, None}
+use Rattle.std.specs.Prelude.{ℕ, Bool, true, false, cond, List, [], ◌∷◌, ◌≡◌, ◌==◌, refl, fold}
 use Rattle.std.proofs.Common.{◌∙◌, ap}
 use Rattle.jc_types.specs.declared.numbers.Uid.{Uid}
 use Rattle.jc_types.specs.declared.objects.Job.{Job}
@@ -12,10 +12,8 @@ use Rattle.jc_types.specs.declared.objects.Entry.{Entry}
 use Rattle.jc_types.specs.declared.objects.Entry.TheVariants.{JobPut, PodPut}
 use Rattle.jc_types.specs.Log.{Life, Never, Live, living}
 use Rattle.jc_types.specs.Api.{report_phase_at}
-use Rattle.jc_play.specs.declared.writers.Writer.{Writer}
 use Rattle.jc_play.specs.declared.writers.Writer.TheVariants as By
 use Rattle.jc_play.specs.declared.commands.Command.{Command}
-use Rattle.jc_play.specs.declared.commands.Command.TheVariants as Command
 use Rattle.jc_play.specs.Deeds.{Deed, log_of, did}
 use Rattle.jc_play.specs.Play.{pi, after_command, played}
 

@@ -9,5 +9,4 @@ ghost use Rattle.jc_play.specs.Play.{played};
 /// finalizer only after the pod was judged.
 pub fn counts_once()
     ensures { (commands : List Command) → OnceAtEach (played commands) }
-{
-}
+{}
