@@ -4,3 +4,4 @@ pub mod Ledger
 pub mod Once
 pub mod Sync
 pub mod Play
+pub mod Tallies

@@ -1,9 +1,17 @@
 //! The play of a script on one thread, and the ledger that counts its pods.
 #![tactic(auto)]
 
-pub mod commands;
+mod commands;
 mod counting;
-pub mod writers;
+mod journal;
+pub mod laws;
+mod plays;
+mod syncs;
+mod verdicts;
+mod writers;
 
 pub use commands::Command;
+pub use journal::{Journal, pi_key};
+pub use plays::play;
+pub use verdicts::{Verdicts, verdicts};
 pub use writers::Writer;

@@ -1,0 +1,4 @@
+pub mod Faults
+pub mod Moved
+pub mod Plan
+pub mod Memory

@@ -1,0 +1,167 @@
+// A source and a sink in memory, whose faults are planned.
+ghost use Rattle.std.specs.Prelude.{◌≡◌, ◌≤◌, min, take, length, vec_len, vec_capacity};
+
+use super::plan::Plan;
+use super::{Bytes, Failed, Sink, Source, Want};
+use std::alloc::Global;
+
+/// A source that gives bytes which it holds, and fails at calls that are planned.
+///
+/// Its calls of `read_some` count from 1; all from call 2^64 - 1 on have that number.
+#[derive(Drop)]
+pub struct MemSource {
+    bytes: Bytes,
+    at: usize,
+    plan: Plan,
+    ghost within: { at ≤ vec_len bytes },
+}
+
+impl MemSource {
+    ghost use Rattle.std.specs.Prelude.{◌≡◌};
+    ghost use Rattle.jc_io.specs.Memory.{bytes_left, source_plan};
+    ghost use Rattle.jc_io.specs.Plan.{new_plan};
+
+    /// A source of `bytes`, whose calls with a number in `fails` fail. It takes no memory.
+    pub fn new(bytes: Bytes, fails: Vec<u64>) -> MemSource
+        ensures left { bytes_left result ≡ bytes.items }
+        ensures plan { source_plan result ≡ new_plan fails }
+    {
+        MemSource {
+            bytes,
+            at: 0,
+            plan: Plan::new(fails),
+        }
+    }
+}
+
+impl Source for MemSource {
+    ghost use Rattle.std.specs.Prelude.{◌≡◌, ◌≤◌, ℕ, List, Option, Some, min, length, is_err, IfOk};
+    ghost use Rattle.std.specs.Io.{ReadsAtMost};
+    ghost use Rattle.std.specs.Io.KnownBytes.{ReadConsumes};
+    ghost use Rattle.jc_io.specs.Faults.{HasCause};
+    ghost use Rattle.jc_io.specs.Memory.{bytes_left, source_plan};
+    ghost use Rattle.jc_io.specs.Plan.{after_call, fails_next};
+
+    ghost left = { λ s. Some (bytes_left s) };
+
+    ghost faults = { λ s. (source_plan s).faults };
+
+    fn read_some(&mut self, buf: &mut [u8]) -> Result<usize, Failed>
+        ensures bound { ReadsAtMost result buf.new }
+        ensures bytes { ReadConsumes
+            (Some (bytes_left self.old)) (Some (bytes_left self.new)) result buf.new }
+        ensures cause { HasCause
+            (source_plan self.old).faults (source_plan self.new).faults result }
+        ensures never_falls { (source_plan self.old).faults ≤ (source_plan self.new).faults }
+        // A call gives as much as the buffer has room for, and fails exactly where that is planned.
+        ensures count { IfOk result (λ n. n ≡ min (length buf.old) (length (bytes_left self.old))) }
+        ensures refused { is_err result ≡ fails_next (source_plan self.old) }
+        ensures counted { source_plan self.new ≡ after_call (source_plan self.old) (is_err result) }
+    {
+        self.plan.call(true)?;
+        let count = copy_front(&self.bytes[self.at..], buf);
+        self.at += count;
+        Ok(count)
+    }
+}
+
+/// A sink that holds bytes up to a given room, and fails at calls that are planned. A write where
+/// no room is left fails too.
+///
+/// Its calls of `write_some` and `finish` count together from 1; all from call 2^64 - 1 on have
+/// that number.
+#[derive(Drop)]
+pub struct MemSink {
+    held: Bytes,
+    room: usize,
+    plan: Plan,
+    ghost within: { vec_len held ≤ room },
+    ghost reserved: { room ≤ vec_capacity held },
+}
+
+impl MemSink {
+    ghost use Rattle.std.specs.Prelude.{◌≡◌, [], IfOk};
+    ghost use Rattle.jc_io.specs.Memory.{bytes_held, sink_plan, sink_room};
+    ghost use Rattle.jc_io.specs.Plan.{new_plan};
+
+    /// A sink with room for `room` bytes, whose calls with a number in `fails` fail.
+    pub fn new(alloc: Global, room: u64, fails: Vec<u64>) -> Result<MemSink, Want>
+        ensures empty { IfOk result (λ s. bytes_held s ≡ []) }
+        ensures room { IfOk result (λ s. sink_room s ≡ room) }
+        ensures plan { IfOk result (λ s. sink_plan s ≡ new_plan fails) }
+    {
+        let room = room as usize;
+        Ok(MemSink {
+            held: Vec::with_capacity(alloc, room)?,
+            room,
+            plan: Plan::new(fails),
+        })
+    }
+
+    /// The bytes that were written.
+    pub fn held(&self) -> &[u8]
+        ensures { result.now ≡ bytes_held self.now }
+    {
+        &self.held
+    }
+}
+
+impl Sink for MemSink {
+    ghost use Rattle.std.specs.Prelude.{◌≡◌, ◌≤◌, ◌<◌, ◌||◌, ◌==◌, ℕ, List, Option, Some, min, length, is_err, IfOk};
+    ghost use Rattle.std.specs.Io.{WritesAtMost};
+    ghost use Rattle.std.specs.Io.KnownBytes.{Keeps, WriteAppends};
+    ghost use Rattle.jc_io.specs.Faults.{HasCause};
+    ghost use Rattle.jc_io.specs.Memory.{bytes_held, room_left, sink_plan, sink_room};
+    ghost use Rattle.jc_io.specs.Plan.{after_call, fails_next};
+
+    ghost held = { λ s. Some (bytes_held s) };
+
+    ghost faults = { λ s. (sink_plan s).faults };
+
+    fn write_some(&mut self, piece: &[u8]) -> Result<usize, Failed>
+        requires { 0 < length piece.now }
+        ensures bound { WritesAtMost result piece.now }
+        ensures some { IfOk result (λ n. 0 < n) }
+        ensures bytes { WriteAppends
+            (Some (bytes_held self.old)) (Some (bytes_held self.new)) result piece.now }
+        ensures cause { HasCause (sink_plan self.old).faults (sink_plan self.new).faults result }
+        ensures never_falls { (sink_plan self.old).faults ≤ (sink_plan self.new).faults }
+        // A call appends as much as there is room for, and fails exactly where that is planned or
+        // no room is left.
+        ensures count { IfOk result (λ n. n ≡ min (length piece.now) (room_left self.old)) }
+        ensures same_room { sink_room self.new ≡ sink_room self.old }
+        ensures refused { is_err result
+            ≡ (fails_next (sink_plan self.old) || (room_left self.old == 0)) }
+        ensures counted { sink_plan self.new ≡ after_call (sink_plan self.old) (is_err result) }
+    {
+        let room = self.room - self.held.len();
+        self.plan.call(room > 0)?;
+        let count = piece.len().min(room);
+        match self.held.extend_from_slice(&piece[..count]) {
+            Ok(()) => Ok(count),
+            Err(_) => unreachable!(),
+        }
+    }
+
+    fn finish(&mut self) -> Result<(), Failed>
+        ensures bytes { Keeps (Some (bytes_held self.old)) (Some (bytes_held self.new)) }
+        ensures cause { HasCause (sink_plan self.old).faults (sink_plan self.new).faults result }
+        ensures never_falls { (sink_plan self.old).faults ≤ (sink_plan self.new).faults }
+        // A call fails exactly where that is planned.
+        ensures same_room { sink_room self.new ≡ sink_room self.old }
+        ensures refused { is_err result ≡ fails_next (sink_plan self.old) }
+        ensures counted { sink_plan self.new ≡ after_call (sink_plan self.old) (is_err result) }
+    {
+        self.plan.call(true)
+    }
+}
+
+// Copies as many bytes as both have, and says how many.
+fn copy_front(from: &[u8], to: &mut [u8]) -> usize
+    ensures count { result ≡ min (length to.old) (length from.now) }
+    ensures copied { take result to.new ≡ take result from.now }
+{
+    let count = to.len().min(from.len());
+    to[..count].copy_from_slice(&from[..count]);
+    count
+}

@@ -1,0 +1,5 @@
+pub mod Exact
+pub mod Field
+pub mod Given
+pub mod Line
+pub mod Place

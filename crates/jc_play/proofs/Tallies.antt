@@ -1,0 +1,47 @@
+-- What the code keeps of the records follows the records.
+use Rattle.std.proofs.Common.{◌≡◌, refl, sym, ◌∙◌, ap, ℕ, Bool, true, false, cond, not, List, [], ◌∷◌, ◌++◌, ◌&&◌, map, filter, length, find, Option, Some, None, is_some, suc}
+use Rattle.std.specs.List.{list_any}
+use Rattle.std.proofs.lemmas.List.{map-append}
+use Rattle.std.proofs.lemmas.List.Elements.{filter_agree}
+use Rattle.std.proofs.lemmas.Simd.{map-map}
+use Rattle.jc_types.specs.declared.numbers.Uid.{Uid}
+use Rattle.jc_types.specs.declared.objects.Pod.{Pod}
+use Rattle.jc_play.specs.declared.verdicts.Tally.{Tally}
+use Rattle.jc_play.specs.Outcomes.{outcome, is_alive, is_success, is_failure}
+use Rattle.jc_play.specs.Ledger.{Record, record_of, is_fresh, recorded, bump}
+use Rattle.jc_play.specs.Tallies.{tally, tally_of, is_judged, is_unjudged, with_pods}
+
+-- A UID has a record exactly where it is among the tallies.
+found : (uid : Uid) (rs : List Record) → is_some (record_of uid rs) ≡ is_judged (map tally rs) uid
+found uid [] = refl
+found uid (r ∷ rs) = by (r.pod.uid.0 == uid.0) (found uid rs)
+  where
+    by : (b : Bool) → is_some (record_of uid rs) ≡ is_judged (map tally rs) uid
+      → is_some (cond b (Some r) (record_of uid rs)) ≡ cond b true (is_judged (map tally rs) uid)
+    by true rest = refl
+    by false rest = rest
+
+-- A pod is still to be judged by the tallies exactly where it is by the records.
+same_test : (rs : List Record) (pod : Pod) → is_unjudged (map tally rs) pod ≡ is_fresh rs pod
+same_test rs pod = ap (λ b. pod.tracked && (not (is_alive (outcome pod)) && not b)) (sym (found pod.uid rs))
+
+-- The tallies after a write are those of the records after it.
+pub with_records : (seen at : ℕ) (rs : List Record) (pods : List Pod)
+    → with_pods (map tally rs) pods ≡ map tally (bump (filter (is_fresh rs) pods) seen at rs)
+with_records seen at rs pods =
+    ap (λ ps. map tally rs ++ map tally_of ps) (filter_agree (is_unjudged (map tally rs)) (is_fresh rs) (same_test rs) pods)
+    ∙ ap (λ ts. map tally rs ++ ts) (sym (map-map tally (recorded seen at) (filter (is_fresh rs) pods)))
+    ∙ sym (map-append tally rs (map (recorded seen at) (filter (is_fresh rs) pods)))
+
+-- As many tallies as records are of pods judged succeeded, and as many of pods judged failed.
+pub count_same : (f : Record → Bool) (g : Tally → Bool) → ((r : Record) → g (tally r) ≡ f r) → (rs : List Record)
+    → length (filter g (map tally rs)) ≡ length (filter f rs)
+count_same f g same [] = refl
+count_same f g same (r ∷ rs) =
+    ap (λ b. length (cond b (tally r ∷ filter g (map tally rs)) (filter g (map tally rs)))) (same r)
+    ∙ by (f r) (count_same f g same rs)
+  where
+    by : (b : Bool) → length (filter g (map tally rs)) ≡ length (filter f rs)
+      → length (cond b (tally r ∷ filter g (map tally rs)) (filter g (map tally rs))) ≡ length (cond b (r ∷ filter f rs) (filter f rs))
+    by true rest = ap suc rest
+    by false rest = rest
