@@ -23,7 +23,7 @@ upto_behind (entry ∷ newer) older =
 upto_first : (k : ℕ) (log : List Entry) → k ≤ length log → upto k (reverse log) ≡ reverse (take k log)
 upto_first k log within =
     let parts : reverse log ≡ reverse (drop k log) ++ reverse (take k log)
-      = ap (λ l. reverse l) (sym (take-append-drop k log)) ∙ reverse-append (take k log) (drop k log) in
+    = ap (λ l. reverse l) (sym (take-append-drop k log)) ∙ reverse-append (take k log) (drop k log) in
     let size : length (reverse (take k log)) ≡ k = length-reverse (take k log) ∙ length-take-le k log within
     in ap (λ l. upto k l) parts ∙ ap (λ n. upto n (reverse (drop k log) ++ reverse (take k log))) (sym size)
     ∙ upto_behind (reverse (drop k log)) (reverse (take k log))
@@ -33,12 +33,12 @@ upto_reverse n log = by (nat_le n (length log)) refl
   where
     by : (b : Bool) → nat_le n (length log) ≡ b → upto n (reverse log) ≡ reverse (take (min n (length log)) log)
     by true test =
-      let within : n ≤ length log = grind (arith, test) in
-      let least : min n (length log) ≡ n = grind (arith, within)
-      in upto_first n log within ∙ ap (λ k. reverse (take k log)) (sym least)
+        let within : n ≤ length log = grind (arith, test) in
+        let least : min n (length log) ≡ n = grind (arith, within)
+        in upto_first n log within ∙ ap (λ k. reverse (take k log)) (sym least)
     by false test =
-      let past : length log ≤ n = grind (arith, test) in
-      let least : min n (length log) ≡ length log = grind (arith, past) in
-      let size : length (reverse log) ≤ n = omega (arith, past, length-reverse log)
-      in upto_all n (reverse log) size
-      ∙ ap (λ l. reverse l) (sym (take_all (length log) log (omega arith)) ∙ ap (λ k. take k log) (sym least))
+        let past : length log ≤ n = grind (arith, test) in
+        let least : min n (length log) ≡ length log = grind (arith, past) in
+        let size : length (reverse log) ≤ n = omega (arith, past, length-reverse log)
+        in upto_all n (reverse log) size
+        ∙ ap (λ l. reverse l) (sym (take_all (length log) log (omega arith)) ∙ ap (λ k. take k log) (sym least))

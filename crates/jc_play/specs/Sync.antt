@@ -69,7 +69,7 @@ counted_out done released status = record {
   succeeded = status.succeeded + length (filter (λ (u : Uid). is_in u released) status.uncounted_succeeded);
   uncounted_succeeded = filter (λ (u : Uid). not (is_in u released)) status.uncounted_succeeded;
   complete = status.complete
-    || (done && is_none (filter (λ (u : Uid). not (is_in u released)) status.uncounted_succeeded))
+      || (done && is_none (filter (λ (u : Uid). not (is_in u released)) status.uncounted_succeeded));
 }
 
 -- The second status is the first after all releases.

@@ -3,7 +3,7 @@ use Rattle.std.specs.Prelude.{ℕ, Bool, true, false, not, List, [], ◌∷◌, 
 use Rattle.std.specs.List.{list_any}
 use Rattle.jc_types.specs.declared.numbers.Uid.{Uid}
 use Rattle.jc_types.specs.declared.objects.Pod.{Pod}
-use Rattle.jc_play.specs.declared.verdicts.Tally.{Tally}
+use Rattle.jc_play.specs.declared.ledger.Tally.{Tally}
 use Rattle.jc_play.specs.Outcomes.{outcome, is_alive, is_success, is_failure}
 use Rattle.jc_play.specs.Ledger.{Record}
 

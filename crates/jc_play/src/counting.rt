@@ -88,7 +88,12 @@ fn untracked(status: &JobStatus, pods: &[Pod]) -> usize
     ensures left { result ≡ length (filter (λ u. not (is_tracked_in pods.now u)) status.now.uncounted_succeeded) }
     ensures bound { result ≤ length status.now.uncounted_succeeded }
 {
-    status.uncounted_succeeded.as_slice().iter().filter(|u| !tracked_among(pods, **u)).count()
+    status
+        .uncounted_succeeded
+        .as_slice()
+        .iter()
+        .filter(|u| !tracked_among(pods, **u))
+        .count()
 }
 
 // Whether the pod is open or has succeeded, so that no other is wanted.
@@ -176,7 +181,10 @@ fn count_among(uids: &Uids, others: &Uids) -> usize
     ensures count { result ≡ length (filter (λ u. is_in u others.now) uids.now) }
     ensures bound { result ≤ length uids.now }
 {
-    uids.as_slice().iter().filter(|uid| contains(others, **uid)).count()
+    uids.as_slice()
+        .iter()
+        .filter(|uid| contains(others, **uid))
+        .count()
 }
 
 // The UIDs that are not among the others.
@@ -193,7 +201,12 @@ fn without(alloc: Global, uids: &Uids, others: &Uids) -> Result<Uids, Want>
 }
 
 // The status after the releases: what was released leaves the list and is in the total.
-fn count_out(alloc: Global, done: bool, released: &Uids, status: &JobStatus) -> Result<JobStatus, Want>
+fn count_out(
+    alloc: Global,
+    done: bool,
+    released: &Uids,
+    status: &JobStatus,
+) -> Result<JobStatus, Want>
     requires { status.now.succeeded + length status.now.uncounted_succeeded < 2 ^ 64 }
     ensures { IfOk result (λ out. out ≡ counted_out done released.now status.now) }
 {

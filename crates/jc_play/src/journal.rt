@@ -2,12 +2,12 @@
 ghost use Rattle.std.specs.Prelude.{◌≡◌, ◌<◌, [], length, option_copied, reverse, vec_len, vec_capacity, IfOk};
 ghost use Rattle.jc_types.specs.Log.{job_in, pods_of};
 ghost use Rattle.jc_types.specs.Api.{create_job_gives, create_pod_gives, write_status_gives, release_gives, report_phase_gives};
-ghost use Rattle.jc_play.specs.Deeds.{log_of, noted, DidOrKept};
+ghost use Rattle.jc_play.specs.Deeds.{log_of, deeds_of, noted, DidOrKept};
 ghost use Rattle.jc_play.specs.Play.{pi};
 
 use super::writers::Writer;
 use jc_store::Store;
-use jc_types::{Job, JobStatus, Key, Name, Phase, Pod, Reply, Uid, Version, Want};
+use jc_types::{Entry, Job, JobStatus, Key, Name, Phase, Pod, Reply, Uid, Version, Want};
 use std::alloc::Global;
 use std::marker::Model;
 
@@ -22,8 +22,11 @@ pub struct Journal {
 impl Model for Journal {
     ghost use Rattle.std.specs.Prelude.{◌≡◌, List, length, reverse};
     ghost use Rattle.jc_play.specs.Deeds.{Deed, deeds_of};
+
     ghost Value = { List Deed };
+
     ghost view = { λ j. deeds_of j.store (reverse j.writers.items) };
+
     ghost invariant = { λ j. length j.store ≡ length j.writers.items };
 }
 
@@ -45,7 +48,10 @@ fn note(store: &Store, writers: &mut Vec<Writer>, writer: Writer)
 pub fn pi_key(alloc: Global) -> Result<Key, Want>
     ensures { IfOk result (λ key. key ≡ pi) }
 {
-    Ok(Key { namespace: Name::from_text(alloc, "default")?, name: Name::from_text(alloc, "pi")? })
+    Ok(Key {
+        namespace: Name::from_text(alloc, "default")?,
+        name: Name::from_text(alloc, "pi")?,
+    })
 }
 
 impl Journal {
@@ -53,12 +59,31 @@ impl Journal {
     pub fn new(alloc: Global) -> Journal
         ensures { result ≡ [] }
     {
-        Journal { alloc, store: Store::new(alloc), writers: Vec::new(alloc) }
+        Journal {
+            alloc,
+            store: Store::new(alloc),
+            writers: Vec::new(alloc),
+        }
     }
 
     /// Where the memory of new values comes from.
     pub fn allocator(&self) -> Global {
         self.alloc
+    }
+
+    /// The log, oldest first.
+    pub fn log(&self) -> &[Entry]
+        ensures { reverse result.now ≡ log_of self.now }
+    {
+        self.store.log()
+    }
+
+    /// Who made each entry of the log, oldest first.
+    pub fn writers(&self) -> &[Writer]
+        ensures deeds { deeds_of (log_of self.now) (reverse result.now) ≡ self.now }
+        ensures count { length result.now ≡ length (log_of self.now) }
+    {
+        self.writers.as_slice()
     }
 
     /// How many entries the log has.
@@ -133,7 +158,13 @@ impl Journal {
     /// # Errors
     ///
     /// Want of memory; nothing was done.
-    pub fn write_status(&mut self, writer: Writer, job: &Job, version: Version, status: &JobStatus) -> Result<Reply, Want>
+    pub fn write_status(
+        &mut self,
+        writer: Writer,
+        job: &Job,
+        version: Version,
+        status: &JobStatus,
+    ) -> Result<Reply, Want>
         ensures { DidOrKept writer self.old self.new
             (write_status_gives (log_of self.old) job.now.key job.now.uid version status.now) result }
     {

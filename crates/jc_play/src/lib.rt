@@ -5,13 +5,13 @@ mod commands;
 mod counting;
 mod journal;
 pub mod laws;
+mod ledger;
 mod plays;
 mod syncs;
-mod verdicts;
 mod writers;
 
 pub use commands::Command;
 pub use journal::{Journal, pi_key};
+pub use ledger::Verdicts;
 pub use plays::play;
-pub use verdicts::{Verdicts, verdicts};
 pub use writers::Writer;

@@ -6,7 +6,8 @@ ghost use Rattle.jc_play.specs.Play.{after_create, after_status, Stage, after_re
 use super::counting::{first_of, second_of, to_release, wants_pod};
 use super::journal::{Journal, pi_key};
 use super::writers::Writer;
-use jc_types::{Copied, Job, JobStatus, Pod, Reply, Same, Uids, Version, Want};
+use jc_store::is_equal_status;
+use jc_types::{Copied, Job, JobStatus, Pod, Reply, Uids, Version, Want};
 
 // Makes the wanted pod.
 fn make_wanted(journal: &mut Journal, writer: Writer, job: &Job, pods: &[Pod]) -> Result<(), Want>
@@ -33,7 +34,7 @@ fn send(
     ensures sends { IfOk result (λ sends. sends
         ≡ (after_status writer job.now version stands.now status.now journal.old).sends) }
 {
-    if stands.is_same(status) {
+    if is_equal_status(stands, status) {
         return Ok(Some(version));
     }
     match journal.write_status(writer, job, version, status)? {
@@ -102,6 +103,8 @@ pub fn sync(journal: &mut Journal) -> Result<(), Want>
     };
     let job = found.copy()?;
     let pods = journal.pods_of(job.uid)?;
-    let writer = Writer::Sync { seen: journal.log_len() };
+    let writer = Writer::Sync {
+        seen: journal.log_len(),
+    };
     sync_over(journal, writer, &job, &pods)
 }

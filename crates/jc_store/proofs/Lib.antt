@@ -1,0 +1,5 @@
+pub mod Status
+pub mod Known
+pub mod Numbers
+mod Table
+mod Versions

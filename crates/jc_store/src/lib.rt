@@ -1,2 +1,14 @@
-//! The versioned object store.
+//! The versioned object store: a log of accepted writes, and the requests that it answers.
+//!
+//! The store keeps its log alone. What it says of a Job or a pod is read from the log, from the newest entry on.
 #![tactic(auto)]
+
+mod look_ups;
+mod phases;
+mod pod_table;
+mod statuses;
+mod store;
+
+pub use pod_table::pods_among;
+pub use statuses::is_equal_status;
+pub use store::Store;

@@ -1,15 +1,15 @@
 //! The ledger of a Job: which of its pods the accepted writes of its status have judged.
-ghost use Rattle.std.specs.Prelude.{◌≡◌, ◌≤◌, ◌++◌, ◌&&◌, List, IfOk, OnOk, length, map, filter, not, reverse};
+ghost use Rattle.std.specs.Prelude.{◌≡◌, ℕ, ◌≤◌, ◌++◌, ◌&&◌, List, IfOk, OnOk, length, map, filter, not, reverse};
 ghost use Rattle.std.specs.List.{list_any};
 ghost use Rattle.jc_play.specs.Deeds.{deeds_of};
 ghost use Rattle.jc_play.specs.Outcomes.{outcome, is_alive, is_success, is_failure};
-ghost use Rattle.jc_play.specs.Ledger.{Record, records, records_after, judged_succeeded, judged_failed};
+ghost use Rattle.jc_play.specs.Ledger.{Record, records, records_after, bump, chosen, judged_succeeded, judged_failed};
 ghost use Rattle.jc_play.specs.Tallies.{tally, tally_of, is_judged, is_unjudged, with_pods};
 
 use super::journal::Journal;
 use super::writers::Writer;
 use jc_store::pods_among;
-use jc_types::{Entry, Phase, Pod, Uid, Want};
+use jc_types::{Entry, Phase, Pod, Uid, Version, Want};
 use std::alloc::Global;
 
 /// How many distinct pods were judged.
@@ -32,10 +32,34 @@ fn tally_pod(pod: &Pod) -> Tally
     ensures { result ≡ tally_of pod.now }
 {
     match pod.phase {
-        Phase::Succeeded => Tally { pod: pod.uid, succeeded: true, failed: false },
-        Phase::Failed => Tally { pod: pod.uid, succeeded: false, failed: true },
-        Phase::Pending | Phase::Running => Tally { pod: pod.uid, succeeded: false, failed: false },
+        Phase::Succeeded => Tally {
+            pod: pod.uid,
+            succeeded: true,
+            failed: false,
+        },
+        Phase::Failed => Tally {
+            pod: pod.uid,
+            succeeded: false,
+            failed: true,
+        },
+        Phase::Pending | Phase::Running => Tally {
+            pod: pod.uid,
+            succeeded: false,
+            failed: false,
+        },
     }
+}
+
+fn count_succeeded(tallies: &[Tally]) -> usize
+    ensures { result ≡ length (filter (λ t. t.succeeded) tallies.now) }
+{
+    tallies.iter().filter(|t| t.succeeded).count()
+}
+
+fn count_failed(tallies: &[Tally]) -> usize
+    ensures { result ≡ length (filter (λ t. t.failed) tallies.now) }
+{
+    tallies.iter().filter(|t| t.failed).count()
 }
 
 // Whether the pod has succeeded or failed.
@@ -82,8 +106,23 @@ fn add_pods(alloc: Global, tallies: &mut Vec<Tally>, pods: &[Pod]) -> Result<(),
     tallies.extend_from_slice(&fresh)
 }
 
+// Judges the pods that a sync saw which began when the log had `seen` entries.
+fn judge_seen(
+    alloc: Global,
+    tallies: &mut Vec<Tally>,
+    older: &[Entry],
+    seen: Version,
+    job: Uid,
+) -> Result<(), Want>
+    ensures { OnOk result ((rs : List Record) (at : ℕ) → tallies.old.items ≡ map tally rs
+        → tallies.new.items ≡ map tally (bump (chosen rs job seen.0 (reverse older.now)) seen.0 at rs)) }
+{
+    let end = (seen.0 as usize).min(older.len());
+    let pods = pods_among(alloc, &older[..end], job)?;
+    add_pods(alloc, tallies, &pods)
+}
+
 // Goes over one deed, behind older entries.
-#[tactic(auto, using(crate::proofs::Tallies::judged_more))]
 fn add_deed(
     alloc: Global,
     tallies: &mut Vec<Tally>,
@@ -95,18 +134,28 @@ fn add_deed(
     ensures { OnOk result ((rs : List Record) → tallies.old.items ≡ map tally rs
         → tallies.new.items ≡ map tally (records_after job entry.now writer (reverse older.now) rs)) }
 {
-    match (entry, writer) {
-        (Entry::JobPut(put), Writer::Sync { seen }) if put.uid.0 == job.0 => {
-            let end = (seen.0 as usize).min(older.len());
-            let pods = pods_among(alloc, &older[..end], job)?;
-            add_pods(alloc, tallies, &pods)
-        }
-        _ => Ok(()),
+    match entry {
+        Entry::JobPut(put) => match writer {
+            Writer::Sync { seen } => {
+                if put.uid.0 == job.0 {
+                    judge_seen(alloc, tallies, older, seen, job)
+                } else {
+                    Ok(())
+                }
+            }
+            Writer::Script => Ok(()),
+        },
+        Entry::JobGone(_) | Entry::PodPut(_) | Entry::PodGone(_) => Ok(()),
     }
 }
 
 // What the ledger keeps of all deeds, which are given oldest first.
-fn all_tallies(alloc: Global, log: &[Entry], writers: &[Writer], job: Uid) -> Result<Vec<Tally>, Want>
+fn all_tallies(
+    alloc: Global,
+    log: &[Entry],
+    writers: &[Writer],
+    job: Uid,
+) -> Result<Vec<Tally>, Want>
     requires { length log.now ≡ length writers.now }
     ensures { IfOk result (λ tallies. tallies.items
         ≡ map tally (records job (deeds_of (reverse log.now) (reverse writers.now)))) }
@@ -118,18 +167,21 @@ fn all_tallies(alloc: Global, log: &[Entry], writers: &[Writer], job: Uid) -> Re
     Ok(tallies)
 }
 
-/// How many distinct pods of the Job's UID the accepted writes of its status have judged succeeded, and how many failed.
-///
-/// # Errors
-///
-/// Want of memory.
-pub fn verdicts(journal: &Journal, job: Uid) -> Result<Verdicts, Want>
-    ensures succeeded { IfOk result (λ v. v.succeeded ≡ judged_succeeded job journal.now) }
-    ensures failed { IfOk result (λ v. v.failed ≡ judged_failed job journal.now) }
-{
-    let tallies = all_tallies(journal.allocator(), journal.log(), journal.writers(), job)?;
-    Ok(Verdicts {
-        succeeded: tallies.iter().filter(|t| t.succeeded).count(),
-        failed: tallies.iter().filter(|t| t.failed).count(),
-    })
+impl Journal {
+    /// How many distinct pods of the Job's UID the accepted writes of its status have judged succeeded, and how many
+    /// failed.
+    ///
+    /// # Errors
+    ///
+    /// Want of memory.
+    pub fn verdicts(&self, job: Uid) -> Result<Verdicts, Want>
+        ensures succeeded { IfOk result (λ v. v.succeeded ≡ judged_succeeded job self.now) }
+        ensures failed { IfOk result (λ v. v.failed ≡ judged_failed job self.now) }
+    {
+        let tallies = all_tallies(self.allocator(), self.log(), self.writers(), job)?;
+        Ok(Verdicts {
+            succeeded: count_succeeded(&tallies),
+            failed: count_failed(&tallies),
+        })
+    }
 }

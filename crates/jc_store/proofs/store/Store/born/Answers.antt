@@ -1,0 +1,7 @@
+use Rattle.std.proofs.Common.{arith, reverse, ap, length, sym}
+use Rattle.jc_store.proofs.Numbers.{births_within}
+use Rattle.jc_store.proofs.store.Store.born.Goals as goal
+
+pub returns-clause-small : goal.returns-clause-small
+returns-clause-small c =
+    omega (arith, births_within (reverse c.self.inside.log.items), c.self.invariant.counted, ap length c.self.view_is, c.entries-entries.ensures.value, c.entries-entries.ensures.small)
