@@ -20,7 +20,7 @@ written_test s text v d written reads spells = by (has_float v) refl
   where
     differs : has_float v ≡ true → (b : Bool) → bytes_eq s text ≡ b → bytes_eq s text ≡ false
     differs float true same =
-      absurd (true≢false (sym float ∙ no_float s text v d reads spells ((bytes_decides s text).0 same)))
+        absurd (true≢false (sym float ∙ no_float s text v d reads spells ((bytes_decides s text).0 same)))
     differs float false same = same
 
     by : (b : Bool) → has_float v ≡ b → bytes_eq s text ≡ (not b && bytes_eq (compact_text v) text)

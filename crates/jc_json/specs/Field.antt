@@ -38,8 +38,8 @@ abbrev pub text_of : List ℕ → Data → Result (List ℕ) Refusal
 text_of path d = ok_or (as_str d) (wrong_type path)
 
 -- the whole number that a value is: one that is kept as 64 bits, signed or unsigned
-abbrev pub number_of : List ℕ → Data → Result ℤ Refusal
-number_of path d = ok_or (option_and_then as_integer (as_number d)) (wrong_type path)
+abbrev pub whole_number_of : List ℕ → Data → Result ℤ Refusal
+whole_number_of path d = ok_or (option_and_then as_integer (as_number d)) (wrong_type path)
 
 -- the number, where it is within bounds
 abbrev pub within : List ℕ → ℤ → ℤ → ℤ → Result ℤ Refusal
@@ -55,5 +55,5 @@ needed_text path name d = do
 unfoldable pub needed_number : List ℕ → List ℕ → ℤ → ℤ → Data → Result ℤ Refusal
 needed_number path name least greatest d = do
   found ← needed path name d
-  n ← number_of (path_to path name) found
+  n ← whole_number_of (path_to path name) found
   within (path_to path name) least greatest n

@@ -19,11 +19,11 @@ text_is name text d = unwrap_or (option_map (λ s. bytes_eq s text) (option_and_
 unfoldable pub number_is : List ℕ → ℤ → Data → Bool
 number_is name number d = unwrap_or (option_map (λ n. int_eq n number) (option_and_then as_i64 (option_and_then as_number (get name d)))) false
 
--- a value without floats whose text, written without blanks, is that text
+-- a value without floats whose compact text is that text
 unfoldable pub is_written : List ℕ → Data → Bool
 is_written text d = not (has_float d) && bytes_eq (compact_text d) text
 
--- the text is the one way to write the data without blanks
+-- the text is the data's compact text: without blanks, members in byte order, and whole numbers alone
 pub record IsTextOf (text : List ℕ) (d : Data) : Type 0 where
   pub whole : has_float d ≡ false
   pub compact : compact_text d ≡ text
