@@ -1,5 +1,6 @@
 -- What a line of a script says.
-use Rattle.std.specs.Prelude.{ℕ, Bool, true, false, not, List, [], ◌∷◌, ◌&&◌, ℤ, pos, negsuc, codes, Option, Some, None, Result, Ok, Err, bytes_eq, option_and_then, result_ok, if◌then◌else◌}
+use Rattle.std.specs.Prelude.{ℕ, Bool, true, false, not, List, [], ◌∷◌, ◌&&◌, ℤ, pos, negsuc, codes, Option, Some, None, Result, Ok, Err, bytes_eq, option_and_then, if◌then◌else◌}
+use Rattle.std.specs.Result.{result_ok}
 use Rattle.serde_json.specs.Data.{Data}
 use Rattle.jc_json.specs.Line.{data_of}
 use Rattle.jc_json.specs.Field.{needed_number}

@@ -68,6 +68,7 @@ fn answer(alloc: Global, input: &[u8]) -> Result<String, ScriptFault>
 /// With `Ok` the report was appended to the sink: the two lines `job default/pi vV succeeded N` and
 /// `verdicts default/pi succeeded N failed N` where the Job is there, and nothing where it is not. The answers are tested
 /// in the order words, reading, script, writing.
+#[tactic(auto, using(crate::proofs::Counting::script_once))]
 pub fn run_program<S: Source, K: Sink>(
     alloc: Global,
     words: &[String],
@@ -95,7 +96,7 @@ pub fn run_program<S: Source, K: Sink>(
     ensures complete { in_grammar (map string_bytes words.now) ≡ true
         → ¬ Rose (S.faults source.old) (S.faults source.new) → ¬ Rose (K.faults sink.old) (K.faults sink.new)
         → IfSome (S.left source.old) (λ input. length input ≤ most_bytes
-            → (result ≡ status_of (answer_of input)) ⊎ (result ≡ Status.Want)) }
+        → (result ≡ status_of (answer_of input)) ⊎ (result ≡ Status.Want)) }
 {
     if !are_known(words) {
         return Status::BadWords;
@@ -108,7 +109,10 @@ pub fn run_program<S: Source, K: Sink>(
     };
     let text = match answer(alloc, &input) {
         Ok(text) => text,
-        Err(ScriptFault::BadLine { number, cause }) => return Status::BadScript { line: number, cause },
+        Err(ScriptFault::BadLine { number, cause }) => return Status::BadScript {
+            line: number,
+            cause,
+        },
         Err(ScriptFault::Want) => return Status::Want,
     };
     match write_all(sink, text.as_bytes()) {

@@ -27,6 +27,7 @@ pub enum ScriptFault {
 impl From<AllocError> for ScriptFault {
     ghost use Rattle.std.specs.Prelude.{◌≡◌};
     ghost use Rattle.jc_ctl.specs.declared.script.ScriptFault.TheVariants.{Want};
+
     ghost from_gives = { λ _ fault. fault ≡ Want };
 
     fn from(_refused: AllocError) -> ScriptFault {
@@ -37,6 +38,7 @@ impl From<AllocError> for ScriptFault {
 impl<T: Drop> From<AllocFailed<T>> for ScriptFault {
     ghost use Rattle.std.specs.Prelude.{◌≡◌};
     ghost use Rattle.jc_ctl.specs.declared.script.ScriptFault.TheVariants.{Want};
+
     ghost from_gives = { λ _ fault. fault ≡ Want };
 
     fn from(_refused: AllocFailed<T>) -> ScriptFault {
@@ -48,7 +50,12 @@ impl<T: Drop> From<AllocFailed<T>> for ScriptFault {
 const MOST_COMMANDS: usize = 1000;
 
 // Adds the line's command to the commands before it.
-fn take_line(alloc: Global, commands: &mut Vec<Command>, number: u32, line: &[u8]) -> Result<(), ScriptFault>
+fn take_line(
+    alloc: Global,
+    commands: &mut Vec<Command>,
+    number: u32,
+    line: &[u8],
+) -> Result<(), ScriptFault>
     ensures read { OnOk result ((more : List (List ℕ)) →
         with_front commands.new.items (script_from (number + 1) (vec_len commands.new) more)
         ≡ with_front commands.old.items (script_from number (vec_len commands.old) (line.now ∷ more))) }
@@ -61,7 +68,10 @@ fn take_line(alloc: Global, commands: &mut Vec<Command>, number: u32, line: &[u8
     }
     match said(alloc, text)? {
         Some(command) if commands.len() < MOST_COMMANDS => Ok(commands.push(command)?),
-        _ => Err(ScriptFault::BadLine { number, cause: Cause::NotBuilt }),
+        _ => Err(ScriptFault::BadLine {
+            number,
+            cause: Cause::NotBuilt,
+        }),
     }
 }
 

@@ -1,0 +1,5 @@
+pub mod Create
+pub mod FirstLine
+pub mod Pods
+pub mod Reading
+pub mod Counting
