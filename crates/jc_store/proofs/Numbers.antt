@@ -1,13 +1,13 @@
 -- The numbers that Jobs and pods have: each is at most the number of births, and there is an entry for each birth.
-use Rattle.std.proofs.Common.{◌≡◌, ◌<◌, ◌≤◌, ◌+◌, ℕ, Bool, true, false, cond, eqb, List, [], ◌∷◌, length, refl, ap, sym, ◌∙◌, arith, subst}
-use Rattle.std.proofs.lemmas.Bool.{cond-true, cond-false, ne_eqb, true≢false, false≢true}
+use Rattle.std.proofs.Common.{◌≡◌, ◌≤◌, ◌+◌, ℕ, Bool, true, false, cond, eqb, List, [], ◌∷◌, length, ap, sym, ◌∙◌, arith}
+use Rattle.std.proofs.lemmas.Bool.{cond-true, cond-false, ne_eqb}
 use Rattle.jc_types.specs.declared.numbers.Uid.{Uid}
 use Rattle.jc_types.specs.declared.objects.Job.{Job}
 use Rattle.jc_types.specs.declared.objects.Pod.{Pod}
 use Rattle.jc_types.specs.declared.objects.Entry.{Entry}
 use Rattle.jc_types.specs.declared.objects.Entry.TheVariants.{JobPut, JobGone, PodPut, PodGone}
 use Rattle.jc_types.specs.Log.{Life, Live, life, births, is_born, is_never}
-use Rattle.jc_store.specs.Births.{IsNumbered, IsFirst, IsLater}
+use Rattle.jc_store.specs.Births.{IsNumbered, IsFirst}
 
 at_most : (b : Bool) (m n : ℕ) → m ≤ n → cond b m (m + 1) ≤ n + 1
 at_most true m n h = omega arith

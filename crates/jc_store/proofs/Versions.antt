@@ -1,5 +1,5 @@
 -- The entry of a version by its place in the log from its oldest entry on.
-use Rattle.std.proofs.Common.{◌≡◌, ◌++◌, ℕ, suc, zero, cond, eqb, List, [], ◌∷◌, length, reverse, Option, Some, None, refl, ap, sym, ◌∙◌, arith, inl, inr, ◌⊎◌}
+use Rattle.std.proofs.Common.{◌≡◌, ◌++◌, ℕ, suc, zero, eqb, List, [], ◌∷◌, length, reverse, Option, Some, None, refl, ap, sym, ◌∙◌, arith, inl, inr, ◌⊎◌}
 use Rattle.std.proofs.Common.{◌-◌}
 use denote.Ref.{Bor}
 use Rattle.std.specs.Prelude.{slice_get, option_copied}

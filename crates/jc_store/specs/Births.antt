@@ -1,5 +1,5 @@
 -- What the store keeps of its log beside it: how many Jobs and pods were made, all of which have UIDs up to that number.
-use Rattle.std.specs.Prelude.{ℕ, Bool, true, false, List, ◌<◌, ◌≡◌}
+use Rattle.std.specs.Prelude.{ℕ, true, false, List, ◌<◌, ◌≡◌}
 use Rattle.jc_types.specs.declared.numbers.Uid.{Uid}
 use Rattle.jc_types.specs.declared.objects.Entry.{Entry}
 use Rattle.jc_types.specs.declared.objects.Entry.TheVariants.{JobPut, JobGone, PodPut, PodGone}

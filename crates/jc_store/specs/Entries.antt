@@ -1,5 +1,5 @@
 -- The entry of a version.
-use Rattle.std.specs.Prelude.{ℕ, List, [], ◌∷◌, ◌==◌, nat_eq, length, if◌then◌else◌, Option, Some, None}
+use Rattle.std.specs.Prelude.{ℕ, List, [], ◌∷◌, ◌==◌, length, if◌then◌else◌, Option, Some, None}
 use Rattle.jc_types.specs.declared.objects.Entry.{Entry}
 
 -- The entry that ends the first n entries of a log. The log stands newest first, and there is none at 0 or past its end.

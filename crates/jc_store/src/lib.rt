@@ -8,6 +8,8 @@ mod phases;
 mod pod_table;
 mod statuses;
 mod store;
+#[cfg(test)]
+mod tests;
 
 pub use pod_table::pods_among;
 pub use statuses::is_equal_status;

@@ -5,10 +5,10 @@ ghost use Rattle.jc_types.specs.Api.{GivesOrKeeps, create_job_at, create_job_giv
 ghost use Rattle.jc_store.specs.Births.{IsNumbered, IsFirst, IsLater};
 ghost use Rattle.jc_store.specs.Entries.{entry_at};
 
-use super::phases::refusal;
-use super::statuses::is_equal_status;
 use super::look_ups;
+use super::phases::refusal;
 use super::pod_table::pods_among;
+use super::statuses::is_equal_status;
 use jc_types::{Copied, Entry, Job, JobStatus, Key, Phase, Pod, Reply, Uid, Uids, Version, Want};
 use std::alloc::Global;
 use std::marker::Model;
@@ -94,7 +94,7 @@ impl Store {
         pods_among(*self.log.allocator(), self.log.as_slice(), owner)
     }
 
-    /// Creates a Job with an empty status.
+    /// Creates a Job with an empty status, and replies `Created`. Where a Job has the key, it replies `AlreadyExists`.
     ///
     /// # Errors
     ///
@@ -108,7 +108,7 @@ impl Store {
         }
     }
 
-    /// Creates a pod of a Job: Pending, and tracked.
+    /// Creates a pod of a Job, Pending and with the finalizer of KEP-2307, and replies `Created`.
     ///
     /// # Errors
     ///
@@ -129,7 +129,10 @@ impl Store {
         Ok(Reply::Created { uid, version })
     }
 
-    /// Writes the status of the Job that has the key, the UID and the version.
+    /// Writes a Job's status, and replies `Written`, or `Unchanged` where the Job has that status already.
+    ///
+    /// It replies `NotFound` where no Job has the key and the UID, and `Conflict` where the Job has another version: the
+    /// optimistic lock of Kubernetes' API.
     ///
     /// # Errors
     ///
@@ -170,7 +173,7 @@ impl Store {
         Ok(Reply::Written { version })
     }
 
-    /// Takes the finalizer of a tracked pod.
+    /// Takes a pod's finalizer, and replies `Released`. Where no pod with a finalizer has the UID, it replies `NotTracked`.
     ///
     /// # Errors
     ///
@@ -178,25 +181,28 @@ impl Store {
     pub fn release(&mut self, pod: Uid) -> Result<Reply, Want>
         ensures { GivesOrKeeps self.old self.new (release_gives self.old pod) result }
     {
-        let Some(tracked) = self.pod(pod) else {
+        let Some(found) = self.pod(pod) else {
             return Ok(Reply::NotTracked);
         };
-        if !tracked.tracked {
+        if !found.tracked {
             return Ok(Reply::NotTracked);
         }
         let version = self.next_version();
         let released = Pod {
-            uid: tracked.uid,
+            uid: found.uid,
             version,
-            owner_uid: tracked.owner_uid,
-            phase: tracked.phase,
+            owner_uid: found.owner_uid,
+            phase: found.phase,
             tracked: false,
         };
         self.append_later(Entry::PodPut(released))?;
         Ok(Reply::Released { version })
     }
 
-    /// Reports the phase of a pod.
+    /// Reports a pod's phase, and replies `Written`, or `Unchanged` where the pod has that phase already.
+    ///
+    /// It replies `NotFound` where no pod has the UID, `Final` where the pod has succeeded or failed, and `BadStep` where it
+    /// would go from Running back to Pending.
     ///
     /// # Errors
     ///
@@ -301,7 +307,7 @@ impl Store {
         self.born
     }
 
-    // How many entries the log has. They take memory, so that there are fewer than 64 bits can count.
+    // How many entries the log has. They lie in memory, so 64 bits can count one more.
     fn entries(&self) -> u64
         ensures value { result ≡ length self.now }
         ensures small { result + 1 < 2 ^ 64 }

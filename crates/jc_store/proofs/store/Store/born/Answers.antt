@@ -1,4 +1,4 @@
-use Rattle.std.proofs.Common.{arith, reverse, ap, length, sym}
+use Rattle.std.proofs.Common.{arith, reverse, ap, length}
 use Rattle.jc_store.proofs.Numbers.{births_within}
 use Rattle.jc_store.proofs.store.Store.born.Goals as goal
 
