@@ -1,0 +1,11 @@
+pub mod KeyFacts
+pub mod ListFacts
+pub mod TableFacts
+pub mod LogFacts
+pub mod ObjectFacts
+pub mod WriteFacts
+pub mod PodFacts
+pub mod DeedFacts
+pub mod BirthFacts
+pub mod UidFacts
+pub mod PlaceFacts

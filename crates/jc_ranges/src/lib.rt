@@ -1,0 +1,18 @@
+//! Sets of whole numbers from 0 to 99,999, and their texts: the form in which a Kubernetes Job
+//! writes its completed indexes (`status.completedIndexes` of batch/v1; KEP-2214).
+#![tactic(auto)]
+
+mod elements;
+mod parse;
+mod runs;
+mod set;
+mod text;
+
+pub use parse::RangesFault;
+pub use set::Ranges;
+
+/// Want of memory: an allocation was refused.
+pub type Want = std::alloc::AllocError;
+
+#[cfg(test)]
+mod tests;
