@@ -7,3 +7,5 @@ pub mod Writes
 pub mod Uids
 pub mod Deeds
 pub mod Specs
+pub mod Sames
+pub mod Api
