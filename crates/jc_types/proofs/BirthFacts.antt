@@ -1,18 +1,17 @@
 -- UIDs and what is made: a UID that was used is at most the number of births, a Job that is there was
 -- there since it was made, and a pod's Job was put before the pod.
-use Rattle.std.proofs.Common.{◌≡◌, ℕ, suc, ◌+◌, ◌<◌, ◌≤◌, Bool, true, false, cond, not, ◌&&◌, ◌||◌, List, [], ◌∷◌, Option, Some, None, is_some, is_none, refl, sym, ap, ◌∙◌, subst, arith, true≢false, ⊎_elim, IfSome}
-use Rattle.std.proofs.lemmas.Bool.{cond-true, cond-false, or_cases, or_left, or_right, both_ways, false_from_ne_true, and_from, cases_Bool, ne_eqb}
+use Rattle.std.proofs.Common.{◌≡◌, ℕ, ◌+◌, ◌≤◌, Bool, true, false, cond, ◌&&◌, List, [], ◌∷◌, Option, Some, None, refl, sym, ap, ◌∙◌, subst, arith, true≢false, IfSome}
+use Rattle.std.proofs.lemmas.Bool.{both_ways, false_from_ne_true, ne_eqb}
 use Rattle.jc_types.specs.declared.numbers.Uid.{Uid}
 use Rattle.jc_types.specs.declared.objects.Entry.{Entry}
 use Rattle.jc_types.specs.declared.objects.Entry.TheVariants.{JobPut, JobGone, PodPut, PodGone}
 use Rattle.jc_types.specs.declared.objects.Job.{Job}
 use Rattle.jc_types.specs.declared.objects.Key.{Key}
-use Rattle.jc_types.specs.declared.objects.Pod.{Pod}
 use Rattle.jc_types.specs.Keys.{same_key, same_uid}
 use Rattle.jc_types.specs.Log.{Life, Never, Live, Gone, upto, job_in, life, is_never, is_job_of, is_born, living, pod_in, has_job, births}
-use Rattle.jc_types.specs.Writes.{JobStep, PodStep, IsNewPod, CanJob, CanPut, CanGo, CanEnd, Writes, IsOwned, Allowed, Follows, Stored, Legal}
-use Rattle.jc_types.proofs.KeyFacts.{same_key-eq, same_key-itself, same_uid-eq, same_uid-itself}
-use Rattle.jc_types.proofs.WriteFacts.{persists, persists_on, Stored-from_legal, job_in-born, job_in-key, is_born-more}
+use Rattle.jc_types.specs.Writes.{JobStep, CanJob, CanPut, CanGo, Writes, Stored, Legal}
+use Rattle.jc_types.proofs.KeyFacts.{same_key-eq, same_uid-eq}
+use Rattle.jc_types.proofs.WriteFacts.{persists, job_in-born, is_born-more}
 
 -- No entry lessens the number of births.
 pub births-grow : (e : Entry) (older : List Entry) → births older ≤ births (e ∷ older)

@@ -1,10 +1,10 @@
 -- The deeds of a history: one more event is one more deed in front, and every prefix is a tail.
-use Rattle.std.proofs.Common.{◌≡◌, ℕ, List, [], ◌∷◌, ◌++◌, map, reverse, take, length, sym, ap, ◌∙◌}
+use Rattle.std.proofs.Common.{◌≡◌, ℕ, [], ◌∷◌, ◌++◌, map, reverse, take, length, ap, ◌∙◌}
 use Rattle.std.proofs.lemmas.List.{map-append, reverse-append, take-map, length-reverse, length-map}
 use Rattle.jc_types.specs.declared.actions.Script.{Script}
 use Rattle.jc_types.specs.declared.runs.History.{History}
 use Rattle.jc_types.specs.declared.runs.Past.{Past}
-use Rattle.jc_types.specs.Deeds.{Deed, deed, deeds}
+use Rattle.jc_types.specs.Deeds.{deed, deeds}
 use Rattle.jc_types.specs.Log.{upto}
 use Rattle.jc_types.proofs.LogFacts.{upto-reverse}
 

@@ -1,5 +1,5 @@
 -- Keys and UIDs that are the same are equal, and each is the same as itself.
-use Rattle.std.proofs.Common.{◌≡◌, ℕ, Bool, true, false, ◌&&◌, nat_eq, List, refl, sym, ap, ◌∙◌, subst, eqb-true, eq-eqb, true≢false}
+use Rattle.std.proofs.Common.{◌≡◌, Bool, true, false, nat_eq, refl, sym, ap, ◌∙◌, eqb-true, eq-eqb}
 use Rattle.std.specs.Cmp.{first_so, second_so}
 use Rattle.std.specs.Cmp.Lexicographic.{pointwise, bytes_decides}
 use Rattle.std.proofs.lemmas.Bool.{and_from, false_from_ne_true, both_ways}

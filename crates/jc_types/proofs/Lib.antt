@@ -9,3 +9,6 @@ pub mod DeedFacts
 pub mod BirthFacts
 pub mod UidFacts
 pub mod PlaceFacts
+pub mod JobFacts
+pub mod SameFacts
+pub mod SameObjects

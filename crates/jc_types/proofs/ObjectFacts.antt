@@ -1,14 +1,12 @@
 -- The objects of a log: the plain reading, and what the tables hold.
-use Rattle.std.proofs.Common.{◌≡◌, ℕ, Bool, true, false, cond, List, [], ◌∷◌, reverse, take, Option, Some, None, option_and_then, find, refl, sym, ap, ◌∙◌, subst}
+use Rattle.std.proofs.Common.{◌≡◌, ℕ, Bool, true, false, cond, List, [], ◌∷◌, reverse, take, Some, None, option_and_then, find, refl, ap, ◌∙◌}
 use Rattle.jc_types.specs.declared.numbers.Uid.{Uid}
 use Rattle.jc_types.specs.declared.objects.Entry.{Entry}
 use Rattle.jc_types.specs.declared.objects.Entry.TheVariants.{JobPut, JobGone, PodPut, PodGone}
-use Rattle.jc_types.specs.declared.objects.Job.{Job}
 use Rattle.jc_types.specs.declared.objects.Key.{Key}
-use Rattle.jc_types.specs.declared.objects.Pod.{Pod}
 use Rattle.jc_types.specs.Keys.{same_key, same_uid}
-use Rattle.jc_types.specs.Tables.{at, puts, takes}
-use Rattle.jc_types.specs.Log.{Life, Never, Live, Gone, living, upto, job_in, life, pod_in, jobs_in}
+use Rattle.jc_types.specs.Tables.{at}
+use Rattle.jc_types.specs.Log.{Live, Gone, living, upto, job_in, life, pod_in, jobs_in}
 use Rattle.jc_types.specs.Plain.{is_about_job, is_about_pod, job_put, pod_put, job_at, pod_at}
 use Rattle.jc_types.proofs.KeyFacts.{same_key-eq, same_key-itself}
 use Rattle.jc_types.proofs.TableFacts.{Apart, Apart-puts, Apart-takes, Sets-puts, Sets-takes}

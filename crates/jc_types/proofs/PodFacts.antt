@@ -1,5 +1,5 @@
 -- The list of pods of a log: it is ascending, and has of each UID the pod that lives.
-use Rattle.std.proofs.Common.{◌≡◌, ℕ, ◌+◌, ◌<◌, ◌≤◌, ◌==◌, nat_lt, Bool, true, false, cond, not, List, [], ◌∷◌, filter, find, Option, Some, None, is_some, refl, sym, ap, ◌∙◌, subst, arith, ltb-true, ltb-false, eqb-true, ne_eqb, true≢false}
+use Rattle.std.proofs.Common.{◌≡◌, ℕ, ◌+◌, ◌<◌, ◌≤◌, ◌==◌, nat_lt, Bool, true, false, cond, not, List, [], ◌∷◌, filter, find, Option, Some, None, is_some, refl, sym, ap, ◌∙◌, arith, ltb-true, ltb-false, eqb-true, ne_eqb, true≢false}
 use Rattle.std.specs.List.{AllByRecursion as Each}
 use Rattle.std.proofs.lemmas.Bool.{cond-true, cond-false, eqb-false}
 use Rattle.jc_types.specs.declared.numbers.Uid.{Uid}
@@ -8,7 +8,7 @@ use Rattle.jc_types.specs.declared.objects.Entry.TheVariants.{JobPut, JobGone, P
 use Rattle.jc_types.specs.declared.objects.Pod.{Pod}
 use Rattle.jc_types.specs.Keys.{same_uid}
 use Rattle.jc_types.specs.Log.{Life, Never, Live, Gone, living, life, pod_in, put_pod, drop_pod, pods_in, pods_of, RisesFrom, IsRising}
-use Rattle.jc_types.proofs.KeyFacts.{same_uid-eq, same_uid-itself, same_uid-either_way}
+use Rattle.jc_types.proofs.KeyFacts.{same_uid-eq, same_uid-itself}
 use Rattle.jc_types.proofs.ListFacts.{Each-weaker, Each-filter, Each-passes}
 
 -- A pod of the UID among the pods.

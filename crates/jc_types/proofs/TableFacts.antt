@@ -1,10 +1,10 @@
 -- Facts on tables: what a row that is put or taken leaves at each key.
-use Rattle.std.proofs.Common.{◌≡◌, Bool, true, false, cond, not, List, [], ◌∷◌, Option, Some, None, IsSome, is_some, refl, sym, ap, ◌∙◌, true≢false}
-use Rattle.std.specs.Map.{lookup, remove_entry, set_value, keys_of}
+use Rattle.std.proofs.Common.{◌≡◌, Bool, true, false, cond, List, [], ◌∷◌, Some, None, IsSome, is_some, refl, sym, ap, ◌∙◌, true≢false}
+use Rattle.std.specs.Map.{lookup, remove_entry, set_value}
 use Rattle.std.specs.List.{AllByRecursion as Each}
-use Rattle.std.proofs.lemmas.Bool.{both_ways, cond-true, cond-false, false_from_ne_true}
+use Rattle.std.proofs.lemmas.Bool.{cond-false}
 use Rattle.jc_types.specs.Tables.{at, puts, takes, Sets}
-use Rattle.jc_types.proofs.KeyFacts.{same_either_way, same_from_eq}
+use Rattle.jc_types.proofs.KeyFacts.{same_either_way}
 use Rattle.jc_types.proofs.ListFacts.{Each-weaker}
 
 module _ {K V : Type 0} (same : K → K → Bool) where
@@ -90,7 +90,7 @@ module _ {K V : Type 0} (same : K → K → Bool) where
             below false s = rest
 
     -- A key that no row has is none of those after a put at another key.
-    Each-puts : (a k : K) (v : V) (rows : List (K × V)) → same a k ≡ false → Each (λ other. same a other.0 ≡ false) rows → Each (λ other. same a other.0 ≡ false) (puts same rows k v)
+    pub Each-puts : (a k : K) (v : V) (rows : List (K × V)) → same a k ≡ false → Each (λ other. same a other.0 ≡ false) rows → Each (λ other. same a other.0 ≡ false) (puts same rows k v)
     Each-puts a k v [] f h = (f, tt)
     Each-puts a k v (row ∷ rows) f h = by (same k row.0) (Each-puts a k v rows f h.1)
       where
@@ -108,7 +108,7 @@ module _ {K V : Type 0} (same : K → K → Bool) where
         by false t rest = (Each-puts row.0 k v rows (same_either_way same eq itself row.0 k ∙ t) h.0, rest)
 
     -- What holds of each row holds of each that is left.
-    Each-takes : (P : K × V → Type 0) (k : K) (rows : List (K × V)) → Each P rows → Each P (takes same rows k)
+    pub Each-takes : (P : K × V → Type 0) (k : K) (rows : List (K × V)) → Each P rows → Each P (takes same rows k)
     Each-takes P k [] h = tt
     Each-takes P k (row ∷ rows) h = by (same k row.0) (Each-takes P k rows h.1)
       where

@@ -1,6 +1,6 @@
 -- Facts on logs whose entries are writes of the store, and one induction for what lasts: `persists`.
-use Rattle.std.proofs.Common.{◌≡◌, ℕ, zero, suc, ◌+◌, ◌-◌, ◌<◌, ◌≤◌, ◌==◌, nat_lt, Bool, true, false, cond, not, List, [], ◌∷◌, length, Option, Some, None, is_some, refl, sym, ap, ◌∙◌, subst, arith, ltb-true, ltb-false, eqb-true, true≢false}
-use Rattle.std.proofs.lemmas.Bool.{cond-true, cond-false, not-true, not_from_false, or_cases, or_left, or_right}
+use Rattle.std.proofs.Common.{◌≡◌, ℕ, suc, ◌≤◌, ◌==◌, nat_lt, Bool, true, false, cond, not, List, [], ◌∷◌, length, Option, Some, None, is_some, refl, sym, ap, ◌∙◌, subst, arith, ltb-true, ltb-false, eqb-true, true≢false}
+use Rattle.std.proofs.lemmas.Bool.{cond-true, not-true, not_from_false}
 use Rattle.jc_types.specs.declared.numbers.Uid.{Uid}
 use Rattle.jc_types.specs.declared.objects.Entry.{Entry}
 use Rattle.jc_types.specs.declared.objects.Entry.TheVariants.{JobPut, JobGone, PodPut, PodGone}
@@ -8,10 +8,9 @@ use Rattle.jc_types.specs.declared.objects.Job.{Job}
 use Rattle.jc_types.specs.declared.objects.Key.{Key}
 use Rattle.jc_types.specs.declared.objects.Pod.{Pod}
 use Rattle.jc_types.specs.Keys.{same_key, same_uid}
-use Rattle.jc_types.specs.Pods.{goes}
-use Rattle.jc_types.specs.Log.{Life, Never, Live, Gone, upto, entry_at, job_in, life, is_lost, is_born, births}
-use Rattle.jc_types.specs.Writes.{version_of, JobStep, PodStep, IsNewPod, CanJob, CanPut, CanGo, CanEnd, Can, Writes, Allowed, Follows, Stored, Legal}
-use Rattle.jc_types.proofs.KeyFacts.{same_key-eq, same_key-itself, same_uid-eq, same_uid-itself}
+use Rattle.jc_types.specs.Log.{Life, Never, Live, Gone, upto, entry_at, job_in, life, is_lost, is_born}
+use Rattle.jc_types.specs.Writes.{version_of, PodStep, CanPut, Writes, Allowed, Follows, Stored, Legal}
+use Rattle.jc_types.proofs.KeyFacts.{same_key-eq, same_uid-eq, same_uid-itself}
 use Rattle.jc_types.proofs.LogFacts.{upto-fixed, upto-all, entry_at-place}
 
 module _ (A : List Entry → Entry → Type 0) where

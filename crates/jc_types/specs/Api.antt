@@ -4,7 +4,7 @@
 --     Answered                     a reply, and the entry that was appended, where one was
 --     grown log entry              the log with that entry
 --     create_job_gives log ..      the answer to a request at a log; so for each request
-use Rattle.std.specs.Prelude.{◌≡◌, ℕ, ℤ, Bool, true, false, not, ◌&&◌, ◌||◌, ◌==◌, nat_eq, nat_lt, List, [], ◌∷◌, ◌++◌, map, find, fold, Option, Some, None, is_some, unwrap_or, Result, Ok, Err, if◌then◌else◌}
+use Rattle.std.specs.Prelude.{◌≡◌, ℕ, ℤ, Bool, true, false, not, ◌&&◌, ◌==◌, nat_eq, nat_lt, List, [], ◌∷◌, ◌++◌, map, find, fold, Option, Some, None, unwrap_or, Result, Ok, Err, if◌then◌else◌}
 use Rattle.std.specs.List.{list_any}
 use Rattle.std.specs.Cmp.Lexicographic.{pointwise}
 use Rattle.std.specs.declared.alloc.AllocError.{AllocError}
@@ -23,7 +23,6 @@ use Rattle.jc_types.specs.declared.objects.Phase.{Phase}
 use Rattle.jc_types.specs.declared.objects.Phase.TheVariants.{Pending, Running, Succeeded, Failed}
 use Rattle.jc_types.specs.declared.objects.Pod.{Pod}
 use Rattle.jc_types.specs.declared.policies.Pattern.{Pattern}
-use Rattle.jc_types.specs.declared.replies.Field.{Field}
 use Rattle.jc_types.specs.declared.replies.Field.TheVariants.{Completions, Parallelism, BackoffLimit, Deadline}
 use Rattle.jc_types.specs.declared.replies.Reply.{Reply}
 use Rattle.jc_types.specs.declared.replies.Reply.TheVariants.{Created, Written, Unchanged, Released, Removed, Conflict, NotFound, AlreadyExists, Immutable, Invalid, Final, BadStep, NoContainer, NotTracked}
@@ -33,7 +32,7 @@ use Rattle.jc_types.specs.declared.statuses.JobStatus.{JobStatus}
 use Rattle.jc_types.specs.Keys.{same_uid}
 use Rattle.jc_types.specs.Log.{job_in, pod_in, next_uid, next_version, made_for}
 use Rattle.jc_types.specs.Pods.{goes, is_final, is_marked}
-use Rattle.jc_types.specs.Sames.{same_bool, same_option, same_status, same_container, same_pattern}
+use Rattle.jc_types.specs.Sames.{same_option, same_limits, same_status, same_container, same_pattern}
 
 -- A reply, and the entry that was appended, where one was.
 pub record Answered : Type 0 where
@@ -123,13 +122,6 @@ changed_spec spec change = record spec {
   deadline = given_or change.deadline spec.deadline;
   backoff_limit = unwrap_or change.backoff_limit spec.backoff_limit;
 }
-
--- The members that a change may give agree.
-abbrev pub same_limits : JobSpec → JobSpec → Bool
-same_limits a b =
-    (a.parallelism == b.parallelism) && (same_option nat_eq a.completions b.completions
-    && (same_bool a.suspend b.suspend && (same_option nat_eq a.deadline b.deadline
-    && (a.backoff_limit == b.backoff_limit))))
 
 abbrev pub with_spec : List Entry → Job → JobSpec → Job
 with_spec log job spec = record job { version = next_version log; spec = spec }

@@ -117,6 +117,11 @@ abbrev pub jobs_in : List Entry → List (Key × Job)
 jobs_in [] = []
 jobs_in (e ∷ older) = jobs_after e (jobs_in older)
 
+-- The Jobs are in ascending UID, none twice, and none below the bound.
+abbrev pub RowsRise : ℕ → List (Key × Job) → Type 0
+RowsRise low [] = Unit {0}
+RowsRise low (row ∷ rows) = (low ≤ row.1.uid.0) × RowsRise (row.1.uid.0 + 1) rows
+
 -- With the pod before the first of a greater UID, or in the place of that of its own.
 abbrev pub put_pod : Pod → List Pod → List Pod
 put_pod pod [] = pod ∷ []

@@ -1,7 +1,6 @@
 -- When a specification of a Job is valid (batch/v1, KEP-2214, KEP-3329, KEP-3998, with the bounds of this
 -- project).
-use Rattle.std.specs.Prelude.{◌≡◌, ℕ, ◌+◌, ◌<◌, ◌≤◌, ◌≢◌, List, ◌++◌, length, Option, IfSome, IsSome, All, AllPairs}
-use Rattle.jc_types.specs.declared.policies.SuccessPolicy.{SuccessPolicy}
+use Rattle.std.specs.Prelude.{◌≡◌, ◌+◌, ◌<◌, ◌≤◌, ◌≢◌, ◌++◌, length, IfSome, IsSome, All, AllPairs}
 use Rattle.jc_types.specs.declared.policies.SuccessRule.{SuccessRule}
 use Rattle.jc_types.specs.declared.specifications.JobSpec.{JobSpec}
 use Rattle.jc_types.specs.declared.specifications.Mode.TheVariants.{Indexed}

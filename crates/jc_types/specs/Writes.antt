@@ -9,10 +9,7 @@
 --     Follows A log         A holds of each entry and those before it
 --     Stored log            each entry is a write of the store
 --     Legal log             each entry is allowed
-use Rattle.std.specs.Prelude.{◌≡◌, ℕ, ◌+◌, true, false, List, [], ◌∷◌, length, map, Option, Some, None, ◌≢◌}
-use Rattle.jc_moment.specs.declared.moment.Moment.{Moment}
-use Rattle.jc_types.specs.declared.numbers.Version.{Version}
-use Rattle.jc_types.specs.declared.objects.Container.{Container}
+use Rattle.std.specs.Prelude.{◌≡◌, ℕ, ◌+◌, true, false, List, [], ◌∷◌, length, map, Option, Some, None}
 use Rattle.jc_types.specs.declared.objects.Entry.{Entry}
 use Rattle.jc_types.specs.declared.objects.Entry.TheVariants.{JobPut, JobGone, PodPut, PodGone}
 use Rattle.jc_types.specs.declared.objects.Job.{Job}

@@ -14,8 +14,9 @@ ghost use Rattle.jc_types.specs.declared.runs.History.{History};
 ghost use Rattle.jc_types.specs.declared.runs.Past.{Past};
 ghost use Rattle.jc_types.specs.Deeds.{deed, deeds};
 ghost use Rattle.jc_types.specs.Keys.{same_key, same_uid};
-ghost use Rattle.jc_types.specs.Log.{Gone, IsRising, Live, Never, entry_at, has_job, is_born, is_job_of, is_lost, job_in, jobs_in, life, next_uid, pod_in, pods_in, upto};
+ghost use Rattle.jc_types.specs.Log.{Gone, IsRising, Live, Never, RowsRise, entry_at, has_job, is_born, is_job_of, is_lost, job_in, jobs_in, life, next_uid, pod_in, pods_in, put_pod, upto};
 ghost use Rattle.jc_types.specs.Plain.{job_at, pod_at};
+ghost use Rattle.jc_types.specs.Sames.{IsExact, same_basis, same_job, same_pod, same_spec, same_status};
 ghost use Rattle.jc_types.specs.Tables.{at};
 ghost use Rattle.jc_types.specs.Uids.{Ascends, is_in, join, merge};
 ghost use Rattle.jc_types.specs.Writes.{Legal, Stored, version_of};
@@ -84,4 +85,20 @@ pub fn objects_stand_at_their_versions()
     ensures pod { (u : Uid) (log : List Entry) (pod : Pod) → Stored log → life u log ≡ Live pod → entry_at pod.version.0 log ≡ Some (PodPut pod) }
     ensures pod_stood { (u : Uid) (log : List Entry) (pod : Pod) → Stored log → life u log ≡ Live pod → life u (upto pod.version.0 log) ≡ Live pod }
     ensures gone { (u : Uid) (m n : ℕ) (log : List Entry) → Stored log → m ≤ n → life u (upto m log) ≡ Gone → life u (upto n log) ≡ Gone }
+{}
+
+/// The table of Jobs of a log of writes of the store is in ascending UID, and a new pod comes last in
+/// the list of pods.
+pub fn what_is_new_comes_last()
+    ensures jobs { (log : List Entry) → Stored log → RowsRise 0 (jobs_in log) }
+    ensures pod { (log : List Entry) (pod : Pod) → Stored log → pod.uid ≡ next_uid log → put_pod pod (pods_in log) ≡ pods_in log ++ pod ∷ [] }
+{}
+
+/// The tests of equality that compute are true just of equal values.
+pub fn tests_are_exact()
+    ensures status { IsExact same_status }
+    ensures spec { IsExact same_spec }
+    ensures job { IsExact same_job }
+    ensures pod { IsExact same_pod }
+    ensures basis { IsExact same_basis }
 {}

@@ -28,7 +28,7 @@ pub use actions::{
 pub use copying::{Bytes, Copied, Same, Want};
 pub use laws::{
     deeds_grow, lists_merge, logs_read_plainly, objects_stand_at_their_versions, pods_are_listed,
-    prefix_is_fixed, uids_never_return, writes_last,
+    prefix_is_fixed, tests_are_exact, uids_never_return, what_is_new_comes_last, writes_last,
 };
 pub use lists::ListOf;
 pub use numbers::{Uid, Uids, Version};

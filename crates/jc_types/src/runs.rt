@@ -96,13 +96,7 @@ impl Same for Shape {
 
 impl Copied for Shape {
     fn copy(&self) -> Result<Self, Want> {
-        Ok(Shape {
-            controllers: self.controllers,
-            workers: self.workers,
-            window: self.window,
-            events: self.events,
-            start: self.start,
-        })
+        Ok(*self)
     }
 }
 

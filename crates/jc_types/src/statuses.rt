@@ -66,12 +66,7 @@ pub struct JobStatus {
 
 impl Copied for Condition {
     fn copy(&self) -> Result<Self, Want> {
-        Ok(Condition {
-            kind: self.kind,
-            status: self.status,
-            reason: self.reason,
-            since: self.since,
-        })
+        Ok(*self)
     }
 }
 

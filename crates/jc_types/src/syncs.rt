@@ -53,16 +53,13 @@ pub struct CountIn {
 
 impl Copied for (Uid, Version) {
     fn copy(&self) -> Result<Self, Want> {
-        Ok((self.0, self.1))
+        Ok(*self)
     }
 }
 
 impl Copied for Backoff {
     fn copy(&self) -> Result<Self, Want> {
-        Ok(Backoff {
-            failures: self.failures,
-            last: self.last,
-        })
+        Ok(*self)
     }
 }
 
