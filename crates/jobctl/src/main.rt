@@ -1,0 +1,63 @@
+//! `jobctl`: plays a script of a cluster, read from standard input, and prints what its Jobs counted.
+#![tactic(auto)]
+
+use jc_ctl::{Cause, Status, run_program};
+use jc_io::{StdSink, StdSource};
+use std::process::ExitCode;
+use std::{env, io};
+
+// The words after the program's name.
+fn words(rt: &HostRuntime) -> io::Result<Vec<String>> {
+    let mut args = env::args(rt)?;
+    let _program = args.next();
+    Ok(args.collect(rt.alloc())?)
+}
+
+// Runs the program over standard input and output.
+fn run(rt: &HostRuntime) -> Status {
+    match words(rt) {
+        Ok(words) => {
+            let mut source = StdSource::new(rt.stdin());
+            let mut sink = StdSink::new(rt.stdout());
+            run_program(rt.alloc(), &words, &mut source, &mut sink)
+        }
+        Err(error) if error.kind() == io::ErrorKind::OutOfMemory => Status::Want,
+        // A word is not UTF-8.
+        Err(_) => Status::BadWords,
+    }
+}
+
+// Says on standard error why a run did not end well. That line may be lost without harm.
+fn tell(rt: &HostRuntime, status: Status) {
+    let _told = match status {
+        Status::Ok => Ok(()),
+        Status::BadWords => eprintln!(rt; "jobctl: bad words"),
+        Status::ReadFault => eprintln!(rt; "jobctl: read fault"),
+        Status::WriteFault => eprintln!(rt; "jobctl: write fault"),
+        Status::BadScript {
+            line,
+            cause: Cause::NotBuilt,
+        } => eprintln!(rt; "jobctl: line {line}: not built"),
+        Status::Want => eprintln!(rt; "jobctl: no memory"),
+        Status::TooLong => eprintln!(rt; "jobctl: input too long"),
+    };
+}
+
+// The status with which the process ends.
+fn value(status: Status) -> u8 {
+    match status {
+        Status::Ok => 0,
+        Status::BadWords => 2,
+        Status::ReadFault => 3,
+        Status::WriteFault => 4,
+        Status::BadScript { .. } => 5,
+        Status::Want => 7,
+        Status::TooLong => 8,
+    }
+}
+
+fn main(rt: HostRuntime) -> ExitCode {
+    let status = run(&rt);
+    tell(&rt, status);
+    ExitCode::from(value(status))
+}
