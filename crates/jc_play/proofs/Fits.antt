@@ -1,5 +1,5 @@
 -- The sums of each sync of a play fit their types, since the play comes to few places.
-use Rattle.std.proofs.Common.{◌≡◌, sym, subst, ap, List, lit<}
+use Rattle.std.proofs.Common.{sym, subst, List, lit<}
 use Rattle.jc_play.specs.declared.commands.Command.{Command}
 use Rattle.jc_play.specs.Deeds.{Deed}
 use Rattle.jc_play.specs.Play.{played, SyncFits}

@@ -13,8 +13,7 @@ use Rattle.jc_types.specs.declared.statuses.JobStatus.{JobStatus}
 use Rattle.jc_types.specs.declared.statuses.Reason.TheVariants.{CompletionsReached}
 use Rattle.jc_types.specs.Log.{job_in, upto}
 use Rattle.jc_play.specs.declared.commands.Command.{Command}
-use Rattle.jc_play.specs.declared.commands.Command.TheVariants as Command
-use Rattle.jc_play.specs.Deeds.{Deed, log_of}
+use Rattle.jc_play.specs.Deeds.{log_of}
 use Rattle.jc_play.specs.Ledger.{judged_succeeded, judged_failed}
 use Rattle.jc_play.specs.Play.{pi, played}
 

@@ -1,5 +1,5 @@
 -- What a play is given: its one Job, the moment at which all happens, and how a pod ends.
-use Rattle.std.specs.Prelude.{false, pos, List, [], ◌∷◌, map, Option, Some, None, codes, ℕ}
+use Rattle.std.specs.Prelude.{false, pos, List, [], ◌∷◌, map, Some, None, codes, ℕ}
 use Rattle.jc_moment.specs.declared.moment.Moment.{Moment}
 use Rattle.jc_types.specs.declared.actions.ContainerChange.{ContainerChange}
 use Rattle.jc_types.specs.declared.actions.PhaseChange.{PhaseChange}

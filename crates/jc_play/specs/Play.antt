@@ -1,9 +1,8 @@
 -- The play of a script's commands on one thread, by the store's answers.
-use Rattle.std.specs.Prelude.{ℕ, Bool, true, false, not, List, [], ◌∷◌, length, fold, Option, Some, None, if◌then◌else◌, ◌+◌, ◌-◌, ◌<◌, ◌^◌}
+use Rattle.std.specs.Prelude.{List, [], length, fold, Option, Some, None, if◌then◌else◌, ◌+◌, ◌-◌, ◌<◌, ◌^◌}
 use Rattle.jc_types.specs.declared.numbers.Uid.{Uid}
 use Rattle.jc_types.specs.declared.numbers.Version.{Version}
 use Rattle.jc_types.specs.declared.objects.Entry.{Entry}
-use Rattle.jc_types.specs.declared.objects.Key.{Key}
 use Rattle.jc_types.specs.declared.objects.Job.{Job}
 use Rattle.jc_types.specs.declared.statuses.JobStatus.{JobStatus}
 use Rattle.jc_types.specs.declared.objects.Pod.{Pod}
@@ -15,7 +14,6 @@ use Rattle.jc_types.specs.Api.{Answered, create_job_gives, create_pod_gives, wri
 use Rattle.jc_play.specs.declared.writers.Writer.{Writer}
 use Rattle.jc_play.specs.declared.writers.Writer.TheVariants.{Script, Sync}
 use Rattle.jc_play.specs.declared.commands.Command.{Command}
-use Rattle.jc_play.specs.declared.commands.Command.TheVariants as Command
 use Rattle.jc_play.specs.Deeds.{Deed, log_of, did}
 pub use Rattle.jc_play.specs.Given.{pi}
 use Rattle.jc_play.specs.Given.{the_moment, pi_spec, succeeds}

@@ -7,7 +7,6 @@ use Rattle.jc_types.specs.declared.numbers.Uid.{Uid}
 use Rattle.jc_types.specs.declared.objects.Pod.{Pod}
 use Rattle.jc_types.specs.declared.policies.Pattern.{Pattern}
 use Rattle.jc_types.specs.declared.policies.Truth.{Truth}
-use Rattle.jc_types.specs.declared.policies.Truth.TheVariants as Truth
 use Rattle.jc_types.specs.declared.statuses.CondKind.{CondKind}
 use Rattle.jc_types.specs.declared.statuses.CondKind.TheVariants.{SuccessCriteriaMet, Complete}
 use Rattle.jc_types.specs.declared.statuses.Condition.{Condition}

@@ -12,8 +12,8 @@ use super::given::the_moment;
 use jc_moment::Moment;
 use jc_ranges::Ranges;
 use jc_types::{
-    CondKind, Condition, Conditions, Copied, JobStatus, Pattern, Patterns, Phase, Pod, Reason, Truth, Uid,
-    Uids, Want,
+    CondKind, Condition, Conditions, Copied, JobStatus, Pattern, Patterns, Phase, Pod, Reason,
+    Truth, Uid, Uids, Want,
 };
 use std::alloc::Global;
 
@@ -230,7 +230,8 @@ fn says_met(condition: &Condition) -> bool
 {
     match condition.kind {
         CondKind::SuccessCriteriaMet => condition.status,
-        CondKind::Suspended | CondKind::FailureTarget | CondKind::Failed | CondKind::Complete => false,
+        CondKind::Suspended | CondKind::FailureTarget | CondKind::Failed | CondKind::Complete =>
+            false,
     }
 }
 
@@ -292,12 +293,7 @@ fn is_met(total: u64, listed: &Uids, pods: &[Pod]) -> bool
 }
 
 // The conditions, with SuccessCriteriaMet where it is met and does not stand yet.
-fn with_met(
-    status: &JobStatus,
-    pods: &[Pod],
-    total: u64,
-    listed: &Uids,
-) -> Result<Conditions, Want>
+fn with_met(status: &JobStatus, pods: &[Pod], total: u64, listed: &Uids) -> Result<Conditions, Want>
     requires total { total ≡ total_in status.now pods.now }
     requires listed { listed.now ≡ counted status.now pods.now }
     ensures { IfOk result (λ conditions. conditions ≡ with_met status.now pods.now) }

@@ -104,12 +104,7 @@ impl Journal {
     /// # Errors
     ///
     /// Want of memory; nothing was done.
-    pub fn create_job(
-        &mut self,
-        key: &Key,
-        spec: Arc<JobSpec>,
-        now: Moment,
-    ) -> Result<Reply, Want>
+    pub fn create_job(&mut self, key: &Key, spec: Arc<JobSpec>, now: Moment) -> Result<Reply, Want>
         ensures { DidOrKept Writer.Script self.old self.new
             (create_job_gives (log_of self.old) key.now spec now) result }
     {
