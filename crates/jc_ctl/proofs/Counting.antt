@@ -1,5 +1,5 @@
 -- Every script counts once.
-use Rattle.std.proofs.Common.{◌≡◌, ℕ, List, Option, Some, None, Result, Ok, Err}
+use Rattle.std.proofs.Common.{ℕ, List, Option, Some, None, Result, Ok, Err}
 use Rattle.std.specs.Prelude.{IfSome}
 use Rattle.jc_play.specs.declared.commands.Command.{Command}
 use Rattle.jc_play.proofs.Counts.{played_once}

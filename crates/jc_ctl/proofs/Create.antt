@@ -1,6 +1,6 @@
 -- The create line as a JSON value.
-use Rattle.std.proofs.Common.{◌≡◌, refl, ℕ, List, codes}
-use Rattle.serde_json.specs.Data.{Data, string, array, object, Items, no_items, item, Members, no_members, member}
+use Rattle.std.proofs.Common.{refl, ℕ, List, codes}
+use Rattle.serde_json.specs.Data.{Data, string, array, object, no_items, item, no_members, member}
 use Rattle.serde_json.proofs.OnLiterals.{serde_json_on_literals}
 use Rattle.jc_json.specs.Given.{IsTextOf}
 use Rattle.jc_ctl.specs.Commands.{create_text}

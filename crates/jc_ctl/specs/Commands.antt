@@ -1,13 +1,11 @@
 -- What a line of a script says.
-use Rattle.std.specs.Prelude.{ℕ, Bool, true, false, not, List, [], ◌∷◌, ◌&&◌, ℤ, pos, negsuc, codes, Option, Some, None, Result, Ok, Err, bytes_eq, option_and_then, if◌then◌else◌}
+use Rattle.std.specs.Prelude.{ℕ, Bool, List, [], ◌&&◌, ℤ, pos, negsuc, codes, Option, Some, None, option_and_then, if◌then◌else◌}
 use Rattle.std.specs.Result.{result_ok}
 use Rattle.serde_json.specs.Data.{Data}
 use Rattle.jc_json.specs.Line.{data_of}
 use Rattle.jc_json.specs.Field.{needed_number}
 use Rattle.jc_json.specs.Given.{has_members, text_is, number_is, is_written}
-use Rattle.jc_types.specs.declared.numbers.Uid.{Uid}
 use Rattle.jc_play.specs.declared.commands.Command.{Command}
-use Rattle.jc_play.specs.declared.commands.Command.TheVariants as Command
 
 -- The line that creates the Job `default/pi`.
 abbrev pub create_text : List ℕ

@@ -1,10 +1,9 @@
 -- What a run of the program answers.
-use Rattle.std.specs.Prelude.{ℕ, Bool, true, false, List, [], ◌∷◌, ◌≡◌, codes, bytes_eq, Result, Ok, Err}
+use Rattle.std.specs.Prelude.{ℕ, Bool, false, List, [], ◌∷◌, codes, bytes_eq, Result, Ok, Err}
 use Rattle.jc_play.specs.declared.commands.Command.{Command}
 use Rattle.jc_play.specs.Play.{played}
 use Rattle.jc_play.specs.Once.{OnceAtEach}
 use Rattle.jc_ctl.specs.declared.run.Status.{Status}
-use Rattle.jc_ctl.specs.declared.run.Status.TheVariants as Status
 use Rattle.jc_ctl.specs.declared.script.Cause.TheVariants.{NotBuilt}
 use Rattle.jc_ctl.specs.Script.{script_of}
 use Rattle.jc_ctl.specs.Report.{report_of}

@@ -6,14 +6,13 @@ use Rattle.std.specs.List.{IsDistinct}
 use Rattle.jc_types.specs.declared.numbers.Uid.{Uid}
 use Rattle.jc_types.specs.declared.objects.Key.{Key}
 use Rattle.jc_types.specs.declared.objects.Job.{Job}
-use Rattle.jc_types.specs.declared.objects.Phase.TheVariants.{Succeeded}
 use Rattle.jc_types.specs.Log.{same_uid, same_key, is_in, job_in, Life, Live, is_lost}
 use Rattle.jc_play.specs.declared.commands.Command.{Command}
 use Rattle.jc_play.specs.Deeds.{Deed, log_of}
 use Rattle.jc_play.specs.Ledger.{Record, recorded, record_of, records}
 use Rattle.jc_play.specs.Once.{CountsOnce, Takings, Once, OnceAtEach}
 use Rattle.jc_play.specs.Play.{pi, played}
-use Rattle.jc_play.proofs.Places.{pod_at, job_1, job_3, job_5, job_7, deeds_1, deeds_2, deeds_3, deeds_4, deeds_5, deeds_6, deeds_7, Place, Unmade, Made, Opened, Ended, Counted, deeds_at, place_of, played_at}
+use Rattle.jc_play.proofs.Places.{ended_pod, job_1, job_3, job_5, job_7, deeds_1, deeds_2, deeds_3, deeds_4, deeds_5, deeds_6, deeds_7, Place, Unmade, Made, Opened, Ended, Counted, deeds_at, place_of, played_at}
 
 -- The log has one Job at most, that of `pi`.
 abbrev OneJob : List Deed → Job → Type 0
@@ -87,7 +86,7 @@ once_4 = once deeds_4 job_3 one_3 (unjudged deeds_4 job_3 refl refl refl) (tt, t
 
 -- The fifth version judges the pod and lists it, and the Job of that version stands at the sixth too.
 judged : Record
-judged = recorded 4 5 (pod_at 4 Succeeded true)
+judged = recorded 4 5 (ended_pod 4 true)
 
 is_listed-found : (is_it : Bool) (one : Record) → (is_it || false) ≡ true → cond is_it (Some one) None ≡ Some one
 is_listed-found true one is_listed = refl
@@ -119,7 +118,7 @@ takings_6 = ((λ is_taken had. record { found = judged; is_found = refl; before 
 
 -- The seventh counts the pod in the total and lists it no more: its finalizer is gone.
 is_found-lost : (is_it : Bool) (one r : Record) (before : Life) → cond is_it (Some one) None ≡ Some r
-    → is_lost (cond is_it (Live (pod_at 6 Succeeded false)) before) ≡ true
+    → is_lost (cond is_it (Live (ended_pod 6 false)) before) ≡ true
 is_found-lost true one r before is_found = refl
 is_found-lost false one r before is_found = absurd (cc)
 

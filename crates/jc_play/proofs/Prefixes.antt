@@ -1,5 +1,5 @@
 -- The first entries of a log that stands oldest first, and newest first.
-use Rattle.std.proofs.Common.{◌≡◌, refl, sym, ◌∙◌, ap, ℕ, ◌+◌, ◌≤◌, ◌<◌, min, List, [], ◌∷◌, ◌++◌, length, reverse, take, drop, nat_lt, nat_le, true, false, Bool, cond, arith}
+use Rattle.std.proofs.Common.{◌≡◌, refl, sym, ◌∙◌, ap, ℕ, ◌+◌, ◌≤◌, min, List, [], ◌∷◌, ◌++◌, length, reverse, take, drop, nat_lt, nat_le, true, false, Bool, cond, arith}
 use Rattle.std.proofs.lemmas.List.{reverse-append, length-reverse, length-append, take-append-drop, length-take-le, take_all}
 use Rattle.jc_types.specs.declared.objects.Entry.{Entry}
 use Rattle.jc_types.specs.Log.{upto}

@@ -1,13 +1,12 @@
 -- What the code keeps of the records follows the records.
-use Rattle.std.proofs.Common.{◌≡◌, refl, sym, ◌∙◌, ap, ℕ, Bool, true, false, cond, not, List, [], ◌∷◌, ◌++◌, ◌&&◌, ◌||◌, ◌==◌, min, reverse, take, map, filter, length, find, Option, Some, None, is_some, suc}
-use Rattle.std.specs.List.{list_any}
+use Rattle.std.proofs.Common.{◌≡◌, refl, sym, ◌∙◌, ap, ℕ, Bool, true, false, cond, not, List, [], ◌∷◌, ◌++◌, ◌&&◌, ◌||◌, ◌==◌, min, reverse, take, map, filter, length, Some, is_some, suc}
 use Rattle.std.proofs.lemmas.List.{map-append}
 use Rattle.std.proofs.lemmas.List.Elements.{filter_agree}
 use Rattle.std.proofs.lemmas.Simd.{map-map}
 use Rattle.jc_types.specs.declared.numbers.Uid.{Uid}
 use Rattle.jc_types.specs.declared.objects.Pod.{Pod}
 use Rattle.jc_play.specs.declared.ledger.Tally.{Tally}
-use Rattle.jc_play.specs.Outcomes.{outcome, is_alive, is_success, is_failure}
+use Rattle.jc_play.specs.Outcomes.{outcome, is_alive}
 use Rattle.jc_types.specs.declared.objects.Entry.{Entry}
 use Rattle.jc_types.specs.Log.{pods_of, upto}
 use Rattle.jc_play.specs.Ledger.{Record, record_of, is_fresh, recorded, bump, chosen, records}

@@ -1,6 +1,6 @@
 -- The ledger of a Job: which of its pods the accepted writes of its status have judged. It knows no uncounted lists and
 -- no totals.
-use Rattle.std.specs.Prelude.{ℕ, Bool, true, false, not, List, [], ◌∷◌, ◌++◌, ◌==◌, ◌+◌, ◌&&◌, length, map, filter, find, Option, Some, None, is_some, if◌then◌else◌}
+use Rattle.std.specs.Prelude.{ℕ, Bool, not, List, [], ◌∷◌, ◌++◌, ◌==◌, ◌+◌, ◌&&◌, length, map, filter, find, Option, is_some, if◌then◌else◌}
 use Rattle.jc_types.specs.declared.numbers.Uid.{Uid}
 use Rattle.jc_types.specs.declared.objects.Pod.{Pod}
 use Rattle.jc_types.specs.declared.objects.Entry.{Entry}

@@ -1,5 +1,5 @@
 -- What it means that a history of deeds counts each pod once.
-use Rattle.std.specs.Prelude.{ℕ, Bool, true, false, not, List, [], ◌∷◌, ◌==◌, ◌+◌, ◌<◌, ◌≡◌, ◌&&◌, length, Option, Some, None}
+use Rattle.std.specs.Prelude.{Bool, true, false, List, [], ◌∷◌, ◌+◌, ◌<◌, ◌≡◌, length, Some}
 use Rattle.std.specs.List.{IsDistinct}
 use Rattle.jc_types.specs.declared.numbers.Uid.{Uid}
 use Rattle.jc_types.specs.declared.objects.Key.{Key}
@@ -11,7 +11,7 @@ use Rattle.jc_types.specs.Log.{same_uid, is_in, job_in, Life, Never, Live, Gone,
 use Rattle.jc_play.specs.declared.writers.Writer.{Writer}
 use Rattle.jc_play.specs.declared.writers.Writer.TheVariants.{Script, Sync}
 use Rattle.jc_play.specs.Deeds.{Deed, log_of}
-use Rattle.jc_play.specs.Outcomes.{Outcome, Success, is_success}
+use Rattle.jc_play.specs.Outcomes.{Outcome, Success}
 use Rattle.jc_play.specs.Ledger.{Record, record_of, records, judged_succeeded}
 
 -- A record of the UID with the outcome.

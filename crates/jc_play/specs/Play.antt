@@ -1,27 +1,23 @@
 -- The play of a script's commands on one thread, by the store's answers.
-use Rattle.std.specs.Prelude.{ℕ, Bool, true, false, not, List, [], ◌∷◌, length, fold, Option, Some, None, codes, if◌then◌else◌, ◌+◌, ◌<◌, ◌^◌}
+use Rattle.std.specs.Prelude.{List, [], length, fold, Option, Some, None, if◌then◌else◌, ◌+◌, ◌-◌, ◌<◌, ◌^◌}
 use Rattle.jc_types.specs.declared.numbers.Uid.{Uid}
 use Rattle.jc_types.specs.declared.numbers.Version.{Version}
 use Rattle.jc_types.specs.declared.objects.Entry.{Entry}
-use Rattle.jc_types.specs.declared.objects.Key.{Key}
 use Rattle.jc_types.specs.declared.objects.Job.{Job}
-use Rattle.jc_types.specs.declared.objects.JobStatus.{JobStatus}
+use Rattle.jc_types.specs.declared.statuses.JobStatus.{JobStatus}
 use Rattle.jc_types.specs.declared.objects.Pod.{Pod}
-use Rattle.jc_types.specs.declared.objects.Phase.TheVariants.{Succeeded}
 use Rattle.jc_types.specs.declared.replies.Reply.{Reply}
-use Rattle.jc_types.specs.declared.replies.Reply.TheVariants.{Created, Written, Unchanged, Released, Conflict, NotFound, AlreadyExists, Final, BadStep, NotTracked}
+use Rattle.jc_types.specs.declared.replies.Reply.TheVariants.{Written}
 use Rattle.jc_types.specs.Log.{job_in, pods_of}
-use Rattle.jc_types.specs.Api.{Answered, same_status, create_job_gives, create_pod_gives, write_status_gives, release_gives, report_phase_gives}
+use Rattle.jc_types.specs.Sames.{same_status}
+use Rattle.jc_types.specs.Api.{Answered, create_job_gives, create_pod_gives, write_status_gives, release_gives, report_phase_gives}
 use Rattle.jc_play.specs.declared.writers.Writer.{Writer}
 use Rattle.jc_play.specs.declared.writers.Writer.TheVariants.{Script, Sync}
 use Rattle.jc_play.specs.declared.commands.Command.{Command}
-use Rattle.jc_play.specs.declared.commands.Command.TheVariants as Command
 use Rattle.jc_play.specs.Deeds.{Deed, log_of, did}
+pub use Rattle.jc_play.specs.Given.{pi}
+use Rattle.jc_play.specs.Given.{the_moment, pi_spec, succeeds}
 use Rattle.jc_play.specs.Sync.{first_status, second_status, due, is_wanted}
-
--- The key of the one Job, `default/pi`.
-abbrev pub pi : Key
-pi = record { namespace = codes "default"; name = codes "pi" }
 
 -- A sync under way: the deeds so far, and the version that its next status write sends, or none where a refused status
 -- write ended it.
@@ -30,26 +26,19 @@ pub record Stage : Type 0 where
   pub sends : Option Version
 
 -- Makes the wanted pod.
-abbrev pub after_create : Writer → Uid → List Pod → List Deed → List Deed
+abbrev pub after_create : Writer → Job → List Pod → List Deed → List Deed
 after_create writer job pods deeds =
-    if is_wanted pods then did writer deeds (create_pod_gives (log_of deeds) job).entry else deeds
+    if is_wanted pods then did writer deeds (create_pod_gives (log_of deeds) job None the_moment).entry else deeds
 
--- Writes a status where it differs from the one that stands.
+-- The version that the next status write sends, by the reply to this one.
 abbrev pub sent : Reply → Option Version
 sent (Written version) = Some version
-sent (Created uid version) = None
-sent (Unchanged version) = None
-sent (Released version) = None
-sent (Conflict current) = None
-sent NotFound = None
-sent AlreadyExists = None
-sent (Final phase) = None
-sent (BadStep from to) = None
-sent NotTracked = None
+sent reply = None
 
 abbrev pub staged : Writer → List Deed → Answered → Stage
 staged writer deeds answered = record { deeds = did writer deeds answered.entry; sends = sent answered.reply }
 
+-- Writes a status where it differs from the one that stands.
 abbrev pub after_status : Writer → Job → Version → JobStatus → JobStatus → List Deed → Stage
 after_status writer job version stands status deeds =
     if same_status stands status then record { deeds = deeds; sends = Some version }
@@ -74,7 +63,7 @@ abbrev pub synced_over : Writer → Job → List Pod → List Deed → List Deed
 synced_over writer job pods deeds =
     finished writer job pods
     (after_status writer job job.version job.status (first_status job.status pods)
-    (after_create writer job.uid pods deeds))
+    (after_create writer job pods deeds))
 
 abbrev pub synced_at : List Deed → Option Job → List Deed
 synced_at deeds None = deeds
@@ -86,20 +75,21 @@ synced deeds = synced_at deeds (job_in pi (log_of deeds))
 
 -- One command.
 abbrev pub after_command : List Deed → Command → List Deed
-after_command deeds Command.Create = did Script deeds (create_job_gives (log_of deeds) pi).entry
+after_command deeds Command.Create = did Script deeds (create_job_gives (log_of deeds) pi pi_spec the_moment).entry
 after_command deeds Command.Sync = synced deeds
-after_command deeds (Command.Finish pod) = did Script deeds (report_phase_gives (log_of deeds) pod Succeeded).entry
+after_command deeds (Command.Finish pod) = did Script deeds (report_phase_gives (log_of deeds) pod succeeds).entry
 
 -- The deeds of a script's commands, played in their order.
 abbrev pub played : List Command → List Deed
 played commands = fold after_command [] commands
 
--- The sums of a sync fit their types.
+-- The sums of a sync, and the numbers of the pods that it makes, fit their types.
 abbrev pub FitsAt : List Entry → Option Job → Type 0
 FitsAt log None = Unit {0}
 FitsAt log (Some job) =
     (length (pods_of job.uid log) < 2 ^ 31)
     × (job.status.succeeded + length job.status.uncounted_succeeded + length (pods_of job.uid log) < 2 ^ 64)
+    × (length log < 2 ^ 32 - 1)
 
 abbrev pub SyncFits : List Deed → Type 0
 SyncFits deeds = FitsAt (log_of deeds) (job_in pi (log_of deeds))

@@ -1,13 +1,22 @@
 -- What a sync plans for a Job that wants one success of one pod at a time, from the Job and its pods as they stand when
--- it begins.
-use Rattle.std.specs.Prelude.{ℕ, Bool, true, false, not, List, [], ◌∷◌, ◌==◌, ◌+◌, ◌&&◌, ◌||◌, nat_le, length, map, filter, if◌then◌else◌}
+-- it begins (batch/v1, KEP-2307).
+use Rattle.std.specs.Prelude.{ℕ, Bool, true, false, not, List, [], ◌∷◌, ◌++◌, ◌==◌, ◌+◌, ◌&&◌, ◌||◌, nat_le, length, map, filter, Option, Some, None, codes, bytes_eq, if◌then◌else◌}
 use Rattle.std.specs.List.{list_any}
+use Rattle.jc_moment.specs.declared.moment.Moment.{Moment}
 use Rattle.jc_types.specs.declared.numbers.Uid.{Uid}
-use Rattle.jc_types.specs.declared.objects.Job.{Job}
-use Rattle.jc_types.specs.declared.objects.JobStatus.{JobStatus}
 use Rattle.jc_types.specs.declared.objects.Pod.{Pod}
-use Rattle.jc_play.specs.Outcomes.{outcome, is_alive, is_success}
-use Rattle.jc_types.specs.Log.{is_in}
+use Rattle.jc_types.specs.declared.policies.Pattern.{Pattern}
+use Rattle.jc_types.specs.declared.policies.Truth.{Truth}
+use Rattle.jc_types.specs.declared.statuses.CondKind.{CondKind}
+use Rattle.jc_types.specs.declared.statuses.CondKind.TheVariants.{SuccessCriteriaMet, Complete}
+use Rattle.jc_types.specs.declared.statuses.Condition.{Condition}
+use Rattle.jc_types.specs.declared.statuses.JobStatus.{JobStatus}
+use Rattle.jc_types.specs.declared.statuses.Reason.TheVariants.{CompletionsReached}
+use Rattle.jc_types.specs.Pods.{is_open, is_active, is_marked}
+use Rattle.jc_types.specs.Sames.{same_kind}
+use Rattle.jc_types.specs.Uids.{is_in}
+use Rattle.jc_play.specs.Outcomes.{outcome, is_success}
+use Rattle.jc_play.specs.Given.{the_moment}
 
 abbrev pub is_listed : JobStatus → Pod → Bool
 is_listed status pod = is_in pod.uid status.uncounted_succeeded
@@ -29,49 +38,108 @@ total_in status pods =
 
 -- To release: the tracked pods that have ended or are listed.
 abbrev pub is_due : JobStatus → Pod → Bool
-is_due status pod = pod.tracked && (is_listed status pod || not (is_alive (outcome pod)))
+is_due status pod = pod.tracked && (is_listed status pod || not (is_open pod))
 
 abbrev pub due : JobStatus → List Pod → List Uid
 due status pods = map (λ (p : Pod). p.uid) (filter (is_due status) pods)
 
--- One pod is made where none is open or has succeeded.
+-- One pod is made where none is active or has succeeded.
 abbrev pub is_wanted : List Pod → Bool
-is_wanted pods = not (list_any (λ (p : Pod). is_alive (outcome p) || is_success (outcome p)) pods)
+is_wanted pods = not (list_any (λ (p : Pod). is_active p || is_success (outcome p)) pods)
 
--- The number of open pods, the new one with them.
-abbrev pub open_pods : List Pod → ℕ
-open_pods pods = length (filter (λ (p : Pod). is_alive (outcome p)) pods) + (if is_wanted pods then 1 else 0)
+-- The number of active pods, the new one with them.
+abbrev pub active_pods : List Pod → ℕ
+active_pods pods = length (filter is_active pods) + (if is_wanted pods then 1 else 0)
 
--- The Job has its one success, and none of its pods is open.
-abbrev pub is_done : JobStatus → List Pod → Bool
-is_done status pods =
-    nat_le 1 (total_in status pods + length (counted status pods))
-    && not (list_any (λ (p : Pod). is_alive (outcome p)) pods)
+-- An active pod is ready where its condition `Ready` is true.
+abbrev pub is_true : Truth → Bool
+is_true Truth.True = true
+is_true Truth.False = false
+is_true Truth.Unknown = false
+
+abbrev pub says_ready : Pattern → Bool
+says_ready pattern = bytes_eq pattern.kind (codes "Ready") && is_true pattern.truth
+
+abbrev pub is_ready : Pod → Bool
+is_ready pod = is_active pod && list_any says_ready pod.conditions
+
+-- A pod is terminating where it is marked for deletion and has not ended.
+abbrev pub is_terminating : Pod → Bool
+is_terminating pod = is_open pod && is_marked pod
+
+-- A condition of the kind stands.
+abbrev pub stands : CondKind → List Condition → Bool
+stands kind conditions = list_any (λ (c : Condition). same_kind c.kind kind && c.status) conditions
+
+-- A condition that comes now, since the wanted completions were reached.
+abbrev pub reached : CondKind → Condition
+reached kind = record { kind = kind; status = true; reason = CompletionsReached; since = the_moment }
+
+-- The Job has its one success, and none of its pods is active.
+abbrev pub is_met : JobStatus → List Pod → Bool
+is_met status pods =
+    nat_le 1 (total_in status pods + length (counted status pods)) && not (list_any is_active pods)
+
+-- The conditions, with SuccessCriteriaMet where it is met and does not stand yet.
+abbrev pub with_met : JobStatus → List Pod → List Condition
+with_met status pods =
+    if is_met status pods && not (stands SuccessCriteriaMet status.conditions)
+    then status.conditions ++ reached SuccessCriteriaMet ∷ []
+    else status.conditions
+
+-- A Job that has not started starts now.
+abbrev pub started : Option Moment → Option Moment
+started None = Some the_moment
+started (Some moment) = Some moment
+
+-- The status after counting in, but for its end.
+abbrev pub counted_in : JobStatus → List Pod → JobStatus
+counted_in status pods = record {
+  active = active_pods pods;
+  ready = length (filter is_ready pods);
+  terminating = length (filter is_terminating pods);
+  succeeded = total_in status pods;
+  failed = status.failed;
+  completed = [];
+  uncounted_succeeded = counted status pods;
+  uncounted_failed = status.uncounted_failed;
+  start = started status.start;
+  completion = status.completion;
+  conditions = with_met status pods;
+}
 
 abbrev pub is_none : List Uid → Bool
 is_none [] = true
 is_none (uid ∷ uids) = false
 
+-- A status may end where SuccessCriteriaMet stands and Complete does not, no pod is open, and no pod is listed.
+abbrev pub may_end : List Pod → JobStatus → Bool
+may_end pods status =
+    (stands SuccessCriteriaMet status.conditions && not (stands Complete status.conditions))
+    && (not (list_any is_open pods) && (is_none status.uncounted_succeeded && is_none status.uncounted_failed))
+
+-- With the end: Complete, and the moment of completion.
+abbrev pub with_end : Bool → JobStatus → JobStatus
+with_end ends status =
+    if ends then record status { completion = Some the_moment; conditions = status.conditions ++ reached Complete ∷ [] }
+    else status
+
 -- The first status counts in. It has the end where nothing is left to release.
 abbrev pub first_status : JobStatus → List Pod → JobStatus
-first_status status pods = record {
-  active = open_pods pods;
-  succeeded = total_in status pods;
-  uncounted_succeeded = counted status pods;
-  complete = status.complete || (is_done status pods && (is_none (counted status pods) && is_none (due status pods)));
-}
+first_status status pods =
+    with_end (may_end pods (counted_in status pods) && is_none (due status pods)) (counted_in status pods)
 
--- Counting out: what was released leaves the list and is in the total. The status has the end where the Job is done and
--- nothing is left in the list.
-abbrev pub counted_out : Bool → List Uid → JobStatus → JobStatus
-counted_out done released status = record {
-  active = status.active;
+-- Counting out: what was released leaves the list and is in the total.
+abbrev pub counted_out : List Uid → JobStatus → JobStatus
+counted_out released status = record status {
   succeeded = status.succeeded + length (filter (λ (u : Uid). is_in u released) status.uncounted_succeeded);
   uncounted_succeeded = filter (λ (u : Uid). not (is_in u released)) status.uncounted_succeeded;
-  complete = status.complete
-      || (done && is_none (filter (λ (u : Uid). not (is_in u released)) status.uncounted_succeeded));
 }
+
+-- With the end where the status may end.
+abbrev pub ended : List Pod → JobStatus → JobStatus
+ended pods status = with_end (may_end pods status) status
 
 -- The second status is the first after all releases.
 abbrev pub second_status : JobStatus → List Pod → JobStatus
-second_status status pods = counted_out (is_done status pods) (due status pods) (first_status status pods)
+second_status status pods = ended pods (counted_out (due status pods) (first_status status pods))

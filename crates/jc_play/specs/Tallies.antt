@@ -1,5 +1,5 @@
 -- The ledger's records as the code keeps them: of each only the pod's UID and the outcome.
-use Rattle.std.specs.Prelude.{ℕ, Bool, true, false, not, List, [], ◌∷◌, ◌++◌, ◌==◌, ◌&&◌, map, filter}
+use Rattle.std.specs.Prelude.{Bool, not, List, ◌++◌, ◌==◌, ◌&&◌, map, filter}
 use Rattle.std.specs.List.{list_any}
 use Rattle.jc_types.specs.declared.numbers.Uid.{Uid}
 use Rattle.jc_types.specs.declared.objects.Pod.{Pod}

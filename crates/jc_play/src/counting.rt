@@ -1,21 +1,83 @@
 //! What a sync plans: the two statuses, the pods to release and whether a pod is wanted.
 ghost use Rattle.std.specs.Prelude.{◌≡◌, ◌<◌, ◌≤◌, ◌+◌, ◌^◌, IfOk, length, map, filter, not, nat_le, ◌&&◌, ◌||◌};
 ghost use Rattle.std.specs.List.{list_any};
-ghost use Rattle.jc_types.specs.Log.{is_in};
-ghost use Rattle.jc_play.specs.Outcomes.{outcome, is_alive, is_success};
-ghost use Rattle.jc_play.specs.Sync.{is_listed, counts, counted, is_tracked_in, total_in, is_due, due, is_wanted, open_pods, is_done, first_status, second_status, counted_out};
+ghost use Rattle.jc_types.specs.declared.statuses.CondKind.TheVariants.{SuccessCriteriaMet, Complete};
+ghost use Rattle.jc_types.specs.Pods.{is_open, is_active, is_marked};
+ghost use Rattle.jc_types.specs.Sames.{same_kind};
+ghost use Rattle.jc_types.specs.Uids.{is_in};
+ghost use Rattle.jc_play.specs.Outcomes.{outcome, is_success};
+ghost use Rattle.jc_play.specs.Sync.{is_listed, counts, counted, is_tracked_in, total_in, is_due, due, is_wanted, active_pods, is_true, says_ready, is_ready, is_terminating, stands, reached, is_met, with_met, started, counted_in, is_none, may_end, with_end, first_status, counted_out, ended, second_status};
 
-use jc_types::{Copied, JobStatus, Phase, Pod, Uid, Uids, Want};
+use super::given::the_moment;
+use jc_moment::Moment;
+use jc_ranges::Ranges;
+use jc_types::{
+    CondKind, Condition, Conditions, Copied, JobStatus, Pattern, Patterns, Phase, Pod, Reason,
+    Truth, Uid, Uids, Want,
+};
 use std::alloc::Global;
 
 // Whether the pod is Pending or Running.
-fn alive(pod: &Pod) -> bool
-    ensures { result ≡ is_alive (outcome pod.now) }
+fn is_open(pod: &Pod) -> bool
+    ensures { result ≡ is_open pod.now }
 {
     match pod.phase {
         Phase::Pending | Phase::Running => true,
         Phase::Succeeded | Phase::Failed => false,
     }
+}
+
+// Whether the pod is marked for deletion.
+fn is_marked(pod: &Pod) -> bool
+    ensures { result ≡ is_marked pod.now }
+{
+    pod.marked.is_some()
+}
+
+// Whether the pod is open and not marked.
+fn is_active(pod: &Pod) -> bool
+    ensures { result ≡ is_active pod.now }
+{
+    is_open(pod) && !is_marked(pod)
+}
+
+// Whether the pod is marked and has not ended.
+fn is_terminating(pod: &Pod) -> bool
+    ensures { result ≡ is_terminating pod.now }
+{
+    is_open(pod) && is_marked(pod)
+}
+
+fn is_true(truth: Truth) -> bool
+    ensures { result ≡ is_true truth }
+{
+    match truth {
+        Truth::True => true,
+        Truth::False | Truth::Unknown => false,
+    }
+}
+
+// Whether the condition says that its pod is ready.
+fn says_ready(pattern: &Pattern) -> bool
+    ensures { result ≡ says_ready pattern.now }
+{
+    pattern.kind.as_str() == "Ready" && is_true(pattern.truth)
+}
+
+fn any_says_ready(patterns: &Patterns) -> bool
+    ensures { result ≡ list_any says_ready patterns.now }
+{
+    patterns
+        .as_slice()
+        .iter()
+        .any(|pattern| says_ready(pattern))
+}
+
+// Whether the pod is active and ready.
+fn is_ready(pod: &Pod) -> bool
+    ensures { result ≡ is_ready pod.now }
+{
+    is_active(pod) && any_says_ready(&pod.conditions)
 }
 
 // Whether the pod has succeeded.
@@ -46,11 +108,11 @@ fn is_counted(status: &JobStatus, pod: &Pod) -> bool
 fn is_to_release(status: &JobStatus, pod: &Pod) -> bool
     ensures { result ≡ is_due status.now pod.now }
 {
-    pod.tracked && (contains(&status.uncounted_succeeded, pod.uid) || !alive(pod))
+    pod.tracked && (contains(&status.uncounted_succeeded, pod.uid) || !is_open(pod))
 }
 
 // The UIDs of the pods that are counted in.
-fn counted_in(alloc: Global, status: &JobStatus, pods: &[Pod]) -> Result<Uids, Want>
+fn list_counted(alloc: Global, status: &JobStatus, pods: &[Pod]) -> Result<Uids, Want>
     ensures list { IfOk result (λ uids. uids ≡ counted status.now pods.now) }
     ensures bound { IfOk result (λ uids. length uids ≤ length pods.now) }
 {
@@ -64,6 +126,10 @@ fn counted_in(alloc: Global, status: &JobStatus, pods: &[Pod]) -> Result<Uids, W
 }
 
 /// The pods that a sync is to release, in ascending UID.
+///
+/// # Errors
+///
+/// Want of memory.
 pub fn to_release(alloc: Global, status: &JobStatus, pods: &[Pod]) -> Result<Uids, Want>
     ensures { IfOk result (λ uids. uids ≡ due status.now pods.now) }
 {
@@ -96,46 +162,120 @@ fn untracked(status: &JobStatus, pods: &[Pod]) -> usize
         .count()
 }
 
-// Whether the pod is open or has succeeded, so that no other is wanted.
-fn stands(pod: &Pod) -> bool
-    ensures { result ≡ (is_alive (outcome pod.now) || is_success (outcome pod.now)) }
+// Whether the pod is active or has succeeded, so that no other is wanted.
+fn suffices(pod: &Pod) -> bool
+    ensures { result ≡ (is_active pod.now || is_success (outcome pod.now)) }
 {
-    alive(pod) || succeeded(pod)
+    is_active(pod) || succeeded(pod)
 }
 
-fn any_stands(pods: &[Pod]) -> bool
-    ensures { result ≡ list_any (λ p. is_alive (outcome p) || is_success (outcome p)) pods.now }
+fn any_suffices(pods: &[Pod]) -> bool
+    ensures { result ≡ list_any (λ p. is_active p || is_success (outcome p)) pods.now }
 {
-    pods.iter().any(|pod| stands(pod))
+    pods.iter().any(|pod| suffices(pod))
 }
 
-/// Whether a pod is wanted: none is open or has succeeded.
+/// Whether a pod is wanted: none is active or has succeeded.
 pub fn wants_pod(pods: &[Pod]) -> bool
     ensures { result ≡ is_wanted pods.now }
 {
-    !any_stands(pods)
+    !any_suffices(pods)
 }
 
 fn any_open(pods: &[Pod]) -> bool
-    ensures { result ≡ list_any (λ p. is_alive (outcome p)) pods.now }
+    ensures { result ≡ list_any is_open pods.now }
 {
-    pods.iter().any(|pod| alive(pod))
+    pods.iter().any(|pod| is_open(pod))
 }
 
-fn open_among(pods: &[Pod]) -> usize
-    ensures open { result ≡ length (filter (λ p. is_alive (outcome p)) pods.now) }
+fn any_active(pods: &[Pod]) -> bool
+    ensures { result ≡ list_any is_active pods.now }
+{
+    pods.iter().any(|pod| is_active(pod))
+}
+
+fn active_among(pods: &[Pod]) -> usize
+    ensures active { result ≡ length (filter is_active pods.now) }
     ensures bound { result ≤ length pods.now }
 {
-    pods.iter().filter(|pod| alive(pod)).count()
+    pods.iter().filter(|pod| is_active(pod)).count()
 }
 
-// The number of open pods, with the wanted one.
-fn count_open(pods: &[Pod]) -> u32
+// The number of active pods, with the wanted one.
+fn count_active(pods: &[Pod]) -> u32
     requires { length pods.now < 2 ^ 31 }
-    ensures { result ≡ open_pods pods.now }
+    ensures { result ≡ active_pods pods.now }
 {
     let wanted = if wants_pod(pods) { 1 } else { 0 };
-    open_among(pods) as u32 + wanted
+    active_among(pods) as u32 + wanted
+}
+
+fn count_ready(pods: &[Pod]) -> usize
+    ensures ready { result ≡ length (filter is_ready pods.now) }
+    ensures bound { result ≤ length pods.now }
+{
+    pods.iter().filter(|pod| is_ready(pod)).count()
+}
+
+fn count_terminating(pods: &[Pod]) -> usize
+    ensures terminating { result ≡ length (filter is_terminating pods.now) }
+    ensures bound { result ≤ length pods.now }
+{
+    pods.iter().filter(|pod| is_terminating(pod)).count()
+}
+
+// Whether a condition SuccessCriteriaMet is true.
+fn says_met(condition: &Condition) -> bool
+    ensures { result ≡ (same_kind condition.now.kind SuccessCriteriaMet && condition.now.status) }
+{
+    match condition.kind {
+        CondKind::SuccessCriteriaMet => condition.status,
+        CondKind::Suspended | CondKind::FailureTarget | CondKind::Failed | CondKind::Complete =>
+            false,
+    }
+}
+
+fn met_stands(conditions: &Conditions) -> bool
+    ensures { result ≡ stands SuccessCriteriaMet conditions.now }
+{
+    conditions
+        .as_slice()
+        .iter()
+        .any(|condition| says_met(condition))
+}
+
+// Whether a condition Complete is true.
+fn says_complete(condition: &Condition) -> bool
+    ensures { result ≡ (same_kind condition.now.kind Complete && condition.now.status) }
+{
+    match condition.kind {
+        CondKind::Complete => condition.status,
+        CondKind::Suspended
+        | CondKind::FailureTarget
+        | CondKind::SuccessCriteriaMet
+        | CondKind::Failed => false,
+    }
+}
+
+fn complete_stands(conditions: &Conditions) -> bool
+    ensures { result ≡ stands Complete conditions.now }
+{
+    conditions
+        .as_slice()
+        .iter()
+        .any(|condition| says_complete(condition))
+}
+
+// A condition that comes now, for the completions are reached.
+fn reached(kind: CondKind) -> Condition
+    ensures { result ≡ reached kind }
+{
+    Condition {
+        kind,
+        status: true,
+        reason: Reason::CompletionsReached,
+        since: the_moment(),
+    }
 }
 
 // Whether a total and a list are not both nothing.
@@ -145,11 +285,103 @@ fn has_some(total: u64, listed: &Uids) -> bool
     total > 0 || listed.len() > 0
 }
 
-// Whether the Job has its one success and none of its pods is open.
-fn done(total: u64, listed: &Uids, pods: &[Pod]) -> bool
-    ensures { result ≡ (nat_le 1 (total + length listed.now) && not (list_any (λ p. is_alive (outcome p)) pods.now)) }
+// Whether the Job has its one success and none of its pods is active.
+fn is_met(total: u64, listed: &Uids, pods: &[Pod]) -> bool
+    ensures { result ≡ (nat_le 1 (total + length listed.now) && not (list_any is_active pods.now)) }
 {
-    has_some(total, listed) && !any_open(pods)
+    has_some(total, listed) && !any_active(pods)
+}
+
+// The conditions, with SuccessCriteriaMet where it is met and does not stand yet.
+fn with_met(status: &JobStatus, pods: &[Pod], total: u64, listed: &Uids) -> Result<Conditions, Want>
+    requires total { total ≡ total_in status.now pods.now }
+    requires listed { listed.now ≡ counted status.now pods.now }
+    ensures { IfOk result (λ conditions. conditions ≡ with_met status.now pods.now) }
+{
+    let mut conditions = status.conditions.copy()?;
+    if is_met(total, listed, pods) && !met_stands(&status.conditions) {
+        conditions.push(reached(CondKind::SuccessCriteriaMet))?;
+    }
+    Ok(conditions)
+}
+
+// When the Job has started: now, where it had not.
+fn started(start: Option<Moment>) -> Option<Moment>
+    ensures { result ≡ started start }
+{
+    match start {
+        None => Some(the_moment()),
+        Some(moment) => Some(moment),
+    }
+}
+
+// The status after counting in, but for its end.
+fn count_in(alloc: Global, status: &JobStatus, pods: &[Pod]) -> Result<JobStatus, Want>
+    requires few { length pods.now < 2 ^ 31 }
+    requires room { status.now.succeeded + length status.now.uncounted_succeeded + length pods.now < 2 ^ 64 }
+    ensures status { IfOk result (λ counted. counted ≡ counted_in status.now pods.now) }
+    ensures bound { IfOk result (λ counted. counted.succeeded + length counted.uncounted_succeeded
+        ≤ status.now.succeeded + length status.now.uncounted_succeeded + length pods.now) }
+{
+    let succeeded = status.succeeded + untracked(status, pods) as u64;
+    let listed = list_counted(alloc, status, pods)?;
+    let conditions = with_met(status, pods, succeeded, &listed)?;
+    Ok(JobStatus {
+        active: count_active(pods),
+        ready: count_ready(pods) as u32,
+        terminating: count_terminating(pods) as u32,
+        succeeded,
+        failed: status.failed,
+        completed: Ranges::new(alloc),
+        uncounted_succeeded: listed,
+        uncounted_failed: status.uncounted_failed.copy()?,
+        start: started(status.start),
+        completion: status.completion,
+        conditions,
+    })
+}
+
+fn is_none(uids: &Uids) -> bool
+    ensures { result ≡ is_none uids.now }
+{
+    match uids.as_slice() {
+        [] => true,
+        _ => false,
+    }
+}
+
+// Whether no pod is listed, as succeeded or as failed.
+fn lists_none(status: &JobStatus) -> bool
+    ensures { result ≡ (is_none status.now.uncounted_succeeded && is_none status.now.uncounted_failed) }
+{
+    is_none(&status.uncounted_succeeded) && is_none(&status.uncounted_failed)
+}
+
+// Whether the Job is to get the condition Complete, as far as its conditions say.
+fn awaits_end(conditions: &Conditions) -> bool
+    ensures { result ≡ (stands SuccessCriteriaMet conditions.now && not (stands Complete conditions.now)) }
+{
+    met_stands(conditions) && !complete_stands(conditions)
+}
+
+// Whether the status may end.
+fn may_end(pods: &[Pod], status: &JobStatus) -> bool
+    ensures { result ≡ may_end pods.now status.now }
+{
+    awaits_end(&status.conditions) && (!any_open(pods) && lists_none(status))
+}
+
+// The status, with the end where it ends.
+fn with_end(ends: bool, mut status: JobStatus) -> Result<JobStatus, Want>
+    ensures end { IfOk result (λ out. out ≡ with_end ends status) }
+    ensures total { IfOk result (λ out. out.succeeded ≡ status.succeeded) }
+    ensures listed { IfOk result (λ out. out.uncounted_succeeded ≡ status.uncounted_succeeded) }
+{
+    if ends {
+        status.conditions.push(reached(CondKind::Complete))?;
+        status.completion = Some(the_moment());
+    }
+    Ok(status)
 }
 
 /// The first status that a sync writes: the pods are counted in.
@@ -164,16 +396,10 @@ pub fn first_of(alloc: Global, status: &JobStatus, pods: &[Pod]) -> Result<JobSt
     ensures bound { IfOk result (λ first. first.succeeded + length first.uncounted_succeeded
         ≤ status.now.succeeded + length status.now.uncounted_succeeded + length pods.now) }
 {
-    let counted = counted_in(alloc, status, pods)?;
+    let first = count_in(alloc, status, pods)?;
     let due = to_release(alloc, status, pods)?;
-    let succeeded = status.succeeded + untracked(status, pods) as u64;
-    let ends = done(succeeded, &counted, pods) && (counted.len() == 0 && due.len() == 0);
-    Ok(JobStatus {
-        active: count_open(pods),
-        succeeded,
-        uncounted_succeeded: counted,
-        complete: status.complete || ends,
-    })
+    let ends = may_end(pods, &first) && is_none(&due);
+    with_end(ends, first)
 }
 
 // How many of the UIDs are among the others.
@@ -201,24 +427,21 @@ fn without(alloc: Global, uids: &Uids, others: &Uids) -> Result<Uids, Want>
 }
 
 // The status after the releases: what was released leaves the list and is in the total.
-fn count_out(
-    alloc: Global,
-    done: bool,
-    released: &Uids,
-    status: &JobStatus,
-) -> Result<JobStatus, Want>
-    requires { status.now.succeeded + length status.now.uncounted_succeeded < 2 ^ 64 }
-    ensures { IfOk result (λ out. out ≡ counted_out done released.now status.now) }
+fn count_out(alloc: Global, released: &Uids, mut status: JobStatus) -> Result<JobStatus, Want>
+    requires { status.succeeded + length status.uncounted_succeeded < 2 ^ 64 }
+    ensures { IfOk result (λ out. out ≡ counted_out released.now status) }
 {
-    let left = without(alloc, &status.uncounted_succeeded, released)?;
-    let moved = count_among(&status.uncounted_succeeded, released) as u64;
-    let ends = done && left.len() == 0;
-    Ok(JobStatus {
-        active: status.active,
-        succeeded: status.succeeded + moved,
-        uncounted_succeeded: left,
-        complete: status.complete || ends,
-    })
+    status.succeeded += count_among(&status.uncounted_succeeded, released) as u64;
+    status.uncounted_succeeded = without(alloc, &status.uncounted_succeeded, released)?;
+    Ok(status)
+}
+
+// The status, with the end where it may end.
+fn end(pods: &[Pod], status: JobStatus) -> Result<JobStatus, Want>
+    ensures { IfOk result (λ out. out ≡ ended pods.now status) }
+{
+    let ends = may_end(pods, &status);
+    with_end(ends, status)
 }
 
 /// The second status that a sync writes: what was released leaves the list and is in the total.
@@ -233,6 +456,6 @@ pub fn second_of(alloc: Global, status: &JobStatus, pods: &[Pod]) -> Result<JobS
 {
     let first = first_of(alloc, status, pods)?;
     let due = to_release(alloc, status, pods)?;
-    let ends = done(first.succeeded, &first.uncounted_succeeded, pods);
-    count_out(alloc, ends, &due, &first)
+    let out = count_out(alloc, &due, first)?;
+    end(pods, out)
 }

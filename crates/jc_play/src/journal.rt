@@ -1,13 +1,15 @@
 //! The store with who made each of its writes.
-ghost use Rattle.std.specs.Prelude.{◌≡◌, ◌<◌, [], length, option_copied, reverse, vec_len, vec_capacity, IfOk};
+ghost use Rattle.std.specs.Prelude.{◌≡◌, ◌<◌, ◌-◌, ◌^◌, [], length, option_copied, reverse, vec_len, vec_capacity, IfOk};
 ghost use Rattle.jc_types.specs.Log.{job_in, pods_of};
 ghost use Rattle.jc_types.specs.Api.{create_job_gives, create_pod_gives, write_status_gives, release_gives, report_phase_gives};
 ghost use Rattle.jc_play.specs.Deeds.{log_of, deeds_of, noted, DidOrKept};
-ghost use Rattle.jc_play.specs.Play.{pi};
 
 use super::writers::Writer;
+use jc_moment::Moment;
 use jc_store::Store;
-use jc_types::{Entry, Job, JobStatus, Key, Name, Phase, Pod, Reply, Uid, Version, Want};
+use jc_types::{
+    Arc, Entry, Job, JobSpec, JobStatus, Key, PhaseChange, Pod, Reply, Uid, Version, Want,
+};
 use std::alloc::Global;
 use std::marker::Model;
 
@@ -38,20 +40,6 @@ fn note(store: &Store, writers: &mut Vec<Writer>, writer: Writer)
     if store.log_len().0 > writers.len() as u64 {
         writers.push_reserved(writer);
     }
-}
-
-/// The key `default/pi`.
-///
-/// # Errors
-///
-/// Want of memory.
-pub fn pi_key(alloc: Global) -> Result<Key, Want>
-    ensures { IfOk result (λ key. key ≡ pi) }
-{
-    Ok(Key {
-        namespace: Name::from_text(alloc, "default")?,
-        name: Name::from_text(alloc, "pi")?,
-    })
 }
 
 impl Journal {
@@ -116,11 +104,12 @@ impl Journal {
     /// # Errors
     ///
     /// Want of memory; nothing was done.
-    pub fn create_job(&mut self, key: &Key) -> Result<Reply, Want>
-        ensures { DidOrKept Writer.Script self.old self.new (create_job_gives (log_of self.old) key.now) result }
+    pub fn create_job(&mut self, key: &Key, spec: Arc<JobSpec>, now: Moment) -> Result<Reply, Want>
+        ensures { DidOrKept Writer.Script self.old self.new
+            (create_job_gives (log_of self.old) key.now spec now) result }
     {
         self.writers.reserve(1)?;
-        let reply = self.store.create_job(key)?;
+        let reply = self.store.create_job(key, spec, now)?;
         note(&self.store, &mut self.writers, Writer::Script);
         Ok(reply)
     }
@@ -130,25 +119,34 @@ impl Journal {
     /// # Errors
     ///
     /// Want of memory; nothing was done.
-    pub fn report_phase(&mut self, pod: Uid, phase: Phase) -> Result<Reply, Want>
-        ensures { DidOrKept Writer.Script self.old self.new (report_phase_gives (log_of self.old) pod phase) result }
+    pub fn report_phase(&mut self, pod: Uid, change: &PhaseChange) -> Result<Reply, Want>
+        ensures { DidOrKept Writer.Script self.old self.new
+            (report_phase_gives (log_of self.old) pod change.now) result }
     {
         self.writers.reserve(1)?;
-        let reply = self.store.report_phase(pod, phase)?;
+        let reply = self.store.report_phase(pod, change)?;
         note(&self.store, &mut self.writers, Writer::Script);
         Ok(reply)
     }
 
-    /// Creates a pod of the owner.
+    /// Creates a pod of the owner, with that completion index.
     ///
     /// # Errors
     ///
     /// Want of memory; nothing was done.
-    pub fn create_pod(&mut self, writer: Writer, owner: &Job) -> Result<Reply, Want>
-        ensures { DidOrKept writer self.old self.new (create_pod_gives (log_of self.old) owner.now.uid) result }
+    pub fn create_pod(
+        &mut self,
+        writer: Writer,
+        owner: &Job,
+        index: Option<u32>,
+        now: Moment,
+    ) -> Result<Reply, Want>
+        requires { length (log_of self.old) < 2 ^ 32 - 1 }
+        ensures { DidOrKept writer self.old self.new
+            (create_pod_gives (log_of self.old) owner.now index now) result }
     {
         self.writers.reserve(1)?;
-        let reply = self.store.create_pod(owner)?;
+        let reply = self.store.create_pod(owner, index, now)?;
         note(&self.store, &mut self.writers, writer);
         Ok(reply)
     }

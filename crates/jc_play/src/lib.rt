@@ -3,15 +3,19 @@
 
 mod commands;
 mod counting;
+mod given;
 mod journal;
 pub mod laws;
 mod ledger;
 mod plays;
 mod syncs;
+#[cfg(test)]
+mod tests;
 mod writers;
 
 pub use commands::Command;
-pub use journal::{Journal, pi_key};
+pub use given::pi_key;
+pub use journal::Journal;
 pub use ledger::Verdicts;
 pub use plays::play;
 pub use writers::Writer;

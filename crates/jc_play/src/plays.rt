@@ -3,9 +3,10 @@ ghost use Rattle.std.specs.Prelude.{◌≡◌, IfOk, OnOk};
 ghost use Rattle.jc_play.specs.Play.{after_command, played, SyncFits};
 
 use super::commands::Command;
-use super::journal::{Journal, pi_key};
+use super::given::{pi_key, pi_spec, pod_succeeds, the_moment};
+use super::journal::Journal;
 use super::syncs::sync;
-use jc_types::{Phase, Want};
+use jc_types::{Arc, Want};
 use std::alloc::Global;
 
 // Plays one command.
@@ -16,12 +17,14 @@ fn apply(journal: &mut Journal, command: Command) -> Result<(), Want>
     match command {
         Command::Create => {
             let key = pi_key(journal.allocator())?;
-            journal.create_job(&key)?;
+            let spec = Arc::new(journal.allocator(), pi_spec(journal.allocator())?)?;
+            journal.create_job(&key, spec, the_moment())?;
             Ok(())
         }
         Command::Sync => sync(journal),
         Command::Finish { pod } => {
-            journal.report_phase(pod, Phase::Succeeded)?;
+            let change = pod_succeeds(journal.allocator())?;
+            journal.report_phase(pod, &change)?;
             Ok(())
         }
     }

@@ -1,20 +1,23 @@
 //! A sync of the Job.
-ghost use Rattle.std.specs.Prelude.{◌≡◌, ◌<◌, ◌+◌, ◌^◌, IfOk, OnOk, Some, None, fold, length};
+ghost use Rattle.std.specs.Prelude.{◌≡◌, ◌<◌, ◌+◌, ◌-◌, ◌^◌, IfOk, OnOk, Some, None, fold, length};
+ghost use Rattle.jc_play.specs.Deeds.{log_of};
 ghost use Rattle.jc_play.specs.Sync.{first_status};
 ghost use Rattle.jc_play.specs.Play.{after_create, after_status, Stage, after_release, finished_at, synced_over, synced, SyncFits};
 
 use super::counting::{first_of, second_of, to_release, wants_pod};
-use super::journal::{Journal, pi_key};
+use super::given::{pi_key, the_moment};
+use super::journal::Journal;
 use super::writers::Writer;
 use jc_store::is_equal_status;
 use jc_types::{Copied, Job, JobStatus, Pod, Reply, Uids, Version, Want};
 
 // Makes the wanted pod.
 fn make_wanted(journal: &mut Journal, writer: Writer, job: &Job, pods: &[Pod]) -> Result<(), Want>
-    ensures { OnOk result (journal.new ≡ after_create writer job.now.uid pods.now journal.old) }
+    requires { length (log_of journal.old) < 2 ^ 32 - 1 }
+    ensures { OnOk result (journal.new ≡ after_create writer job.now pods.now journal.old) }
 {
     if wants_pod(pods) {
-        journal.create_pod(writer, job)?;
+        journal.create_pod(writer, job, None, the_moment())?;
     }
     Ok(())
 }
@@ -78,6 +81,7 @@ fn finish(
 fn sync_over(journal: &mut Journal, writer: Writer, job: &Job, pods: &[Pod]) -> Result<(), Want>
     requires few { length pods.now < 2 ^ 31 }
     requires room { job.now.status.succeeded + length job.now.status.uncounted_succeeded + length pods.now < 2 ^ 64 }
+    requires short { length (log_of journal.old) < 2 ^ 32 - 1 }
     ensures { OnOk result (journal.new ≡ synced_over writer job.now pods.now journal.old) }
 {
     let first = first_of(journal.allocator(), &job.status, pods)?;

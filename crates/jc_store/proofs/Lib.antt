@@ -1,5 +1,5 @@
-pub mod Status
-pub mod Known
-pub mod Numbers
+mod Births
+mod Patterns
+mod Steps
 mod Table
 mod Versions

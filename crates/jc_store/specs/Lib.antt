@@ -1,3 +1,3 @@
-pub mod Entries
-pub mod Births
+pub mod Kept
 pub mod Places
+pub mod Steps

@@ -3,9 +3,14 @@
 //! The store keeps its log alone. What it says of a Job or a pod is read from the log, from the newest entry on.
 #![tactic(auto)]
 
+mod job_requests;
 mod look_ups;
-mod phases;
+mod new_objects;
+mod pod_requests;
 mod pod_table;
+mod pod_writes;
+mod reports;
+mod spec_changes;
 mod statuses;
 mod store;
 #[cfg(test)]

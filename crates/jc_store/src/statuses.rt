@@ -1,7 +1,7 @@
 //! Tests of equality.
 ghost use Rattle.std.specs.Prelude.{◌≡◌, Bool};
-ghost use Rattle.jc_types.specs.Api.{same_status};
-ghost use Rattle.jc_types.specs.Log.{same_key};
+ghost use Rattle.jc_types.specs.Keys.{same_key};
+ghost use Rattle.jc_types.specs.Sames.{same_status};
 
 use jc_types::{JobStatus, Key, Same};
 
@@ -16,5 +16,5 @@ pub fn is_equal_status(left: &JobStatus, right: &JobStatus) -> bool
 pub(super) fn is_equal_key(left: &Key, right: &Key) -> bool
     ensures { result ≡ same_key left.now right.now }
 {
-    left.is_same(right)
+    left == right
 }

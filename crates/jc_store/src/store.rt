@@ -1,15 +1,16 @@
-//! The store and its requests.
-ghost use Rattle.std.specs.Prelude.{◌≡◌, ◌<◌, ◌+◌, ◌^◌, ◌∷◌, [], List, reverse, length, option_copied, IfOk, OnOk, OnErr, None, Option};
-ghost use Rattle.jc_types.specs.Log.{births, job_in, life, living, pods_of, next_uid, next_version};
-ghost use Rattle.jc_types.specs.Api.{GivesOrKeeps, create_job_at, create_job_gives, create_pod_gives, write_status_gives, release_gives, report_phase_gives};
-ghost use Rattle.jc_store.specs.Births.{IsNumbered, IsFirst, IsLater};
-ghost use Rattle.jc_store.specs.Entries.{entry_at};
+//! The store, what can be read of it, and how entries are appended.
+ghost use Rattle.std.specs.Prelude.{◌≡◌, ◌<◌, ◌+◌, ◌^◌, ◌∷◌, [], List, reverse, length, option_copied, IfOk, OnOk, OnErr, None};
+ghost use Rattle.jc_types.specs.declared.objects.Entry.TheVariants.{JobGone, JobPut, PodPut};
+ghost use Rattle.jc_types.specs.Api.{pod_entry};
+ghost use Rattle.jc_types.specs.Log.{births, entry_at, job_in, life, made_for, pod_in, pods_of, next_uid, next_version};
+ghost use Rattle.jc_types.specs.Writes.{CanEnd, CanGo, IsNewPod, Stored, Writes};
+ghost use Rattle.jc_store.specs.Kept.{IsKept};
+ghost use Rattle.jc_store.specs.Steps.{StepsFrom};
 
 use super::look_ups;
-use super::phases::refusal;
 use super::pod_table::pods_among;
-use super::statuses::is_equal_status;
-use jc_types::{Copied, Entry, Job, JobStatus, Key, Phase, Pod, Reply, Uid, Uids, Version, Want};
+use super::pod_writes::pod_entry;
+use jc_types::{Entry, Job, Key, Pod, Uid, Version, Want};
 use std::alloc::Global;
 use std::marker::Model;
 
@@ -25,13 +26,13 @@ pub struct Store {
 impl Model for Store {
     ghost use Rattle.std.specs.Prelude.{List, reverse};
     ghost use Rattle.jc_types.specs.declared.objects.Entry.{Entry};
-    ghost use Rattle.jc_store.specs.Births.{IsNumbered};
+    ghost use Rattle.jc_store.specs.Kept.{IsKept};
 
     ghost Value = { List Entry };
 
     ghost view = { λ s. reverse s.log.items };
 
-    ghost invariant = { λ s. IsNumbered s.born (reverse s.log.items) };
+    ghost invariant = { λ s. IsKept s.born (reverse s.log.items) };
 }
 
 impl Store {
@@ -52,9 +53,10 @@ impl Store {
         Version(self.entries())
     }
 
-    /// The log, oldest first.
+    /// The log, oldest first. Each of its entries is a write of the store.
     pub fn log(&self) -> &[Entry]
-        ensures { reverse result.now ≡ self.now }
+        ensures entries { reverse result.now ≡ self.now }
+        ensures stored { Stored self.now }
     {
         self.log.as_slice()
     }
@@ -78,7 +80,7 @@ impl Store {
 
     /// The pod of a UID, as its last write left it.
     pub fn pod(&self, pod: Uid) -> Option<&Pod>
-        ensures { option_copied result ≡ living (life pod self.now) }
+        ensures { option_copied result ≡ pod_in pod self.now }
     {
         look_ups::pod_in(self.log.as_slice(), pod)
     }
@@ -91,190 +93,96 @@ impl Store {
     pub fn pods_of(&self, owner: Uid) -> Result<Vec<Pod>, Want>
         ensures { IfOk result (λ pods. pods.items ≡ pods_of owner self.now) }
     {
-        pods_among(*self.log.allocator(), self.log.as_slice(), owner)
+        pods_among(self.allocator(), self.log.as_slice(), owner)
     }
 
-    /// Creates a Job with an empty status, and replies `Created`. Where a Job has the key, it replies `AlreadyExists`.
-    ///
-    /// # Errors
-    ///
-    /// Want of memory; the log is then as before.
-    pub fn create_job(&mut self, key: &Key) -> Result<Reply, Want>
-        ensures { GivesOrKeeps self.old self.new (create_job_gives self.old key.now) result }
+    // Where the memory of new objects comes from.
+    pub(super) fn allocator(&self) -> Global {
+        *self.log.allocator()
+    }
+
+    // The version of the next write.
+    pub(super) fn next_version(&self) -> Version
+        ensures { result ≡ next_version self.now }
     {
-        match self.job(key) {
-            Some(_) => Ok(Reply::AlreadyExists),
-            None => self.add_job(key),
-        }
+        Version(self.entries() + 1)
     }
 
-    /// Creates a pod of a Job, Pending and with the finalizer of KEP-2307, and replies `Created`.
-    ///
-    /// # Errors
-    ///
-    /// Want of memory; the log is then as before.
-    pub fn create_pod(&mut self, owner: &Job) -> Result<Reply, Want>
-        ensures { GivesOrKeeps self.old self.new (create_pod_gives self.old owner.now.uid) result }
+    // The UID of the next Job or pod.
+    pub(super) fn next_uid(&self) -> Uid
+        ensures { result ≡ next_uid self.now }
     {
-        let uid = self.next_uid();
-        let version = self.next_version();
-        let pod = Pod {
-            uid,
-            version,
-            owner_uid: owner.uid,
-            phase: Phase::Pending,
-            tracked: true,
-        };
-        self.append_first(Entry::PodPut(pod))?;
-        Ok(Reply::Created { uid, version })
+        Uid(self.born() + 1)
     }
 
-    /// Writes a Job's status, and replies `Written`, or `Unchanged` where the Job has that status already.
-    ///
-    /// It replies `NotFound` where no Job has the key and the UID, and `Conflict` where the Job has another version: the
-    /// optimistic lock of Kubernetes' API.
-    ///
-    /// # Errors
-    ///
-    /// Want of memory; the log is then as before.
-    pub fn write_status(
-        &mut self,
-        key: &Key,
-        uid: Uid,
-        version: Version,
-        status: &JobStatus,
-    ) -> Result<Reply, Want>
-        ensures { GivesOrKeeps self.old self.new (write_status_gives self.old key.now uid version status.now) result }
+    // How many pods were made for an owner.
+    pub(super) fn made_for(&self, owner: Uid) -> u32
+        requires { length self.now < 2 ^ 32 }
+        ensures { result ≡ made_for owner self.now }
     {
-        let Some(job) = self.job(key) else {
-            return Ok(Reply::NotFound);
-        };
-        if job.uid.0 != uid.0 {
-            return Ok(Reply::NotFound);
-        }
-        if job.version.0 != version.0 {
-            return Ok(Reply::Conflict {
-                current: job.version,
-            });
-        }
-        if is_equal_status(&job.status, status) {
-            return Ok(Reply::Unchanged {
-                version: job.version,
-            });
-        }
-        let version = self.next_version();
-        let changed = Job {
-            key: job.key.copy()?,
-            uid: job.uid,
-            version,
-            status: status.copy()?,
-        };
-        self.append_later(Entry::JobPut(changed))?;
-        Ok(Reply::Written { version })
+        look_ups::made_for(self.log.as_slice(), owner)
     }
 
-    /// Takes a pod's finalizer, and replies `Released`. Where no pod with a finalizer has the UID, it replies `NotTracked`.
-    ///
-    /// # Errors
-    ///
-    /// Want of memory; the log is then as before.
-    pub fn release(&mut self, pod: Uid) -> Result<Reply, Want>
-        ensures { GivesOrKeeps self.old self.new (release_gives self.old pod) result }
-    {
-        let Some(found) = self.pod(pod) else {
-            return Ok(Reply::NotTracked);
-        };
-        if !found.tracked {
-            return Ok(Reply::NotTracked);
-        }
-        let version = self.next_version();
-        let released = Pod {
-            uid: found.uid,
-            version,
-            owner_uid: found.owner_uid,
-            phase: found.phase,
-            tracked: false,
-        };
-        self.append_later(Entry::PodPut(released))?;
-        Ok(Reply::Released { version })
-    }
-
-    /// Reports a pod's phase, and replies `Written`, or `Unchanged` where the pod has that phase already.
-    ///
-    /// It replies `NotFound` where no pod has the UID, `Final` where the pod has succeeded or failed, and `BadStep` where it
-    /// would go from Running back to Pending.
-    ///
-    /// # Errors
-    ///
-    /// Want of memory; the log is then as before.
-    pub fn report_phase(&mut self, pod: Uid, phase: Phase) -> Result<Reply, Want>
-        ensures { GivesOrKeeps self.old self.new (report_phase_gives self.old pod phase) result }
-    {
-        let Some(found) = self.pod(pod) else {
-            return Ok(Reply::NotFound);
-        };
-        if let Some(reply) = refusal(found, phase) {
-            return Ok(reply);
-        }
-        let version = self.next_version();
-        let changed = Pod {
-            uid: found.uid,
-            version,
-            owner_uid: found.owner_uid,
-            phase,
-            tracked: found.tracked,
-        };
-        self.append_later(Entry::PodPut(changed))?;
-        Ok(Reply::Written { version })
-    }
-
-    // Creates a Job, where no Job has the key.
-    fn add_job(&mut self, key: &Key) -> Result<Reply, Want>
-        ensures { GivesOrKeeps self.old self.new (create_job_at self.old key.now None) result }
-    {
-        let uid = self.next_uid();
-        let version = self.next_version();
-        let status = JobStatus {
-            active: 0,
-            succeeded: 0,
-            uncounted_succeeded: Uids::new(*self.log.allocator()),
-            complete: false,
-        };
-        let job = Job {
-            key: key.copy()?,
-            uid,
-            version,
-            status,
-        };
-        self.append_first(Entry::JobPut(job))?;
-        Ok(Reply::Created { uid, version })
-    }
-
-    // Appends the entry that makes a Job or a pod.
-    fn append_first(&mut self, entry: Entry) -> Result<(), Want>
-        requires { IsFirst entry self.old }
-        ensures added { OnOk result (self.new ≡ entry ∷ self.old) }
+    // Makes a Job, where its key has none.
+    pub(super) fn make_job(&mut self, job: Job) -> Result<(), Want>
+        requires version { job.version ≡ next_version self.old }
+        requires uid { job.uid ≡ next_uid self.old }
+        requires absent { job_in job.key self.old ≡ None }
+        ensures added { OnOk result (self.new ≡ JobPut job ∷ self.old) }
         ensures kept { OnErr result (self.new ≡ self.old) }
     {
         let born = self.born() + 1;
-        self.append(entry, born)?;
-        Ok(())
+        self.append(Entry::JobPut(job), born)
     }
 
-    // Appends an entry about a Job or a pod that was made before.
-    fn append_later(&mut self, entry: Entry) -> Result<(), Want>
-        requires { IsLater entry self.old }
-        ensures added { OnOk result (self.new ≡ entry ∷ self.old) }
+    // Writes a Job that is there.
+    pub(super) fn put_job(&mut self, job: Job) -> Result<(), Want>
+        requires version { job.version ≡ next_version self.old }
+        requires step { StepsFrom (job_in job.key self.old) job }
+        ensures added { OnOk result (self.new ≡ JobPut job ∷ self.old) }
         ensures kept { OnErr result (self.new ≡ self.old) }
     {
         let born = self.born();
-        self.append(entry, born)?;
-        Ok(())
+        self.append(Entry::JobPut(job), born)
+    }
+
+    // Takes a Job away. Its last state is as it was, but for the version.
+    pub(super) fn end_job(&mut self, job: Job) -> Result<(), Want>
+        requires version { job.version ≡ next_version self.old }
+        requires end { CanEnd (job_in job.key self.old) job }
+        ensures added { OnOk result (self.new ≡ JobGone job ∷ self.old) }
+        ensures kept { OnErr result (self.new ≡ self.old) }
+    {
+        let born = self.born();
+        self.append(Entry::JobGone(job), born)
+    }
+
+    // Makes a pod.
+    pub(super) fn make_pod(&mut self, pod: Pod) -> Result<(), Want>
+        requires version { pod.version ≡ next_version self.old }
+        requires new_pod { IsNewPod self.old pod }
+        ensures added { OnOk result (self.new ≡ PodPut pod ∷ self.old) }
+        ensures kept { OnErr result (self.new ≡ self.old) }
+    {
+        let born = self.born() + 1;
+        self.append(Entry::PodPut(pod), born)
+    }
+
+    // Writes a pod that is there. Where it is then marked, has ended and has no finalizer, it goes.
+    pub(super) fn put_pod(&mut self, pod: Pod) -> Result<(), Want>
+        requires version { pod.version ≡ next_version self.old }
+        requires step { CanGo (life pod.uid self.old) pod }
+        ensures added { OnOk result (self.new ≡ pod_entry pod ∷ self.old) }
+        ensures kept { OnErr result (self.new ≡ self.old) }
+    {
+        let born = self.born();
+        self.append(pod_entry(pod), born)
     }
 
     // Appends an entry, with which so many Jobs and pods were made.
     fn append(&mut self, entry: Entry, born: u64) -> Result<(), Want>
-        requires { IsNumbered born (entry ∷ self.old) }
+        requires writes { Writes self.old entry }
+        requires counted { born ≡ births (entry ∷ self.old) }
         ensures added { OnOk result (self.new ≡ entry ∷ self.old) }
         ensures kept { OnErr result (self.new ≡ self.old) }
     {
@@ -283,24 +191,9 @@ impl Store {
         Ok(())
     }
 
-    // The version of the next write.
-    fn next_version(&self) -> Version
-        ensures { result ≡ next_version self.now }
-    {
-        Version(self.entries() + 1)
-    }
-
-    // The UID of the next Job or pod.
-    fn next_uid(&self) -> Uid
-        ensures { result ≡ next_uid self.now }
-    {
-        Uid(self.born() + 1)
-    }
-
     // How many Jobs and pods were made. Each has an entry.
     fn born(&self) -> u64
-        ensures numbered { IsNumbered result self.now }
-        ensures value { result ≡ births self.now }
+        ensures kept { IsKept result self.now }
         ensures small { result + 1 < 2 ^ 64 }
     {
         let _entries = self.entries();

@@ -1,0 +1,14 @@
+pub mod KeyFacts
+pub mod ListFacts
+pub mod TableFacts
+pub mod LogFacts
+pub mod ObjectFacts
+pub mod WriteFacts
+pub mod PodFacts
+pub mod DeedFacts
+pub mod BirthFacts
+pub mod UidFacts
+pub mod PlaceFacts
+pub mod JobFacts
+pub mod SameFacts
+pub mod SameObjects

@@ -1,22 +1,38 @@
--- What the store answers to each request, and the entry that it appends, from the log alone. Refusals come in the order
--- in which the cases stand. A write that would leave its object equal appends nothing.
-use Rattle.std.specs.Prelude.{ℕ, Bool, true, false, not, List, [], ◌∷◌, ◌==◌, ◌&&◌, nat_eq, if◌then◌else◌}
-use Rattle.std.specs.Prelude.{Option, Some, None, Result, Ok, Err, ◌≡◌}
+-- What the store answers to each request, and the entry that it appends, from the log alone (Kubernetes' API
+-- conventions). Refusals come in the order in which the cases stand and append nothing. A write that would leave its
+-- object equal appends nothing.
+--     Answered                     a reply, and the entry that was appended, where one was
+--     grown log entry              the log with that entry
+--     create_job_gives log ..      the answer to a request at a log; so for each request
+use Rattle.std.specs.Prelude.{◌≡◌, ℕ, ℤ, Bool, true, false, not, ◌&&◌, ◌==◌, nat_eq, nat_lt, List, [], ◌∷◌, ◌++◌, map, find, fold, Option, Some, None, unwrap_or, Result, Ok, Err, if◌then◌else◌}
+use Rattle.std.specs.List.{list_any}
 use Rattle.std.specs.Cmp.Lexicographic.{pointwise}
 use Rattle.std.specs.declared.alloc.AllocError.{AllocError}
+use Rattle.jc_moment.specs.declared.moment.Moment.{Moment}
+use Rattle.jc_types.specs.declared.actions.ContainerChange.{ContainerChange}
+use Rattle.jc_types.specs.declared.actions.PhaseChange.{PhaseChange}
+use Rattle.jc_types.specs.declared.actions.SpecChange.{SpecChange}
 use Rattle.jc_types.specs.declared.numbers.Uid.{Uid}
 use Rattle.jc_types.specs.declared.numbers.Version.{Version}
-use Rattle.jc_types.specs.declared.objects.Key.{Key}
-use Rattle.jc_types.specs.declared.objects.Job.{Job}
-use Rattle.jc_types.specs.declared.objects.JobStatus.{JobStatus}
-use Rattle.jc_types.specs.declared.objects.Pod.{Pod}
-use Rattle.jc_types.specs.declared.objects.Phase.{Phase}
-use Rattle.jc_types.specs.declared.objects.Phase.TheVariants.{Pending, Running, Succeeded, Failed}
+use Rattle.jc_types.specs.declared.objects.Container.{Container}
 use Rattle.jc_types.specs.declared.objects.Entry.{Entry}
 use Rattle.jc_types.specs.declared.objects.Entry.TheVariants.{JobPut, JobGone, PodPut, PodGone}
+use Rattle.jc_types.specs.declared.objects.Job.{Job}
+use Rattle.jc_types.specs.declared.objects.Key.{Key}
+use Rattle.jc_types.specs.declared.objects.Phase.{Phase}
+use Rattle.jc_types.specs.declared.objects.Phase.TheVariants.{Pending, Running, Succeeded, Failed}
+use Rattle.jc_types.specs.declared.objects.Pod.{Pod}
+use Rattle.jc_types.specs.declared.policies.Pattern.{Pattern}
+use Rattle.jc_types.specs.declared.replies.Field.TheVariants.{Completions, Parallelism, BackoffLimit, Deadline}
 use Rattle.jc_types.specs.declared.replies.Reply.{Reply}
-use Rattle.jc_types.specs.declared.replies.Reply.TheVariants.{Created, Written, Unchanged, Released, Conflict, NotFound, AlreadyExists, Final, BadStep, NotTracked}
-use Rattle.jc_types.specs.Log.{same_uid, job_in, Life, Never, Live, Gone, life, living, next_version, next_uid, is_final}
+use Rattle.jc_types.specs.declared.replies.Reply.TheVariants.{Created, Written, Unchanged, Released, Removed, Conflict, NotFound, AlreadyExists, Immutable, Invalid, Final, BadStep, NoContainer, NotTracked}
+use Rattle.jc_types.specs.declared.specifications.JobSpec.{JobSpec}
+use Rattle.jc_types.specs.declared.specifications.Template.{Template}
+use Rattle.jc_types.specs.declared.statuses.JobStatus.{JobStatus}
+use Rattle.jc_types.specs.Keys.{same_uid}
+use Rattle.jc_types.specs.Log.{job_in, pod_in, next_uid, next_version, made_for}
+use Rattle.jc_types.specs.Pods.{goes, is_final, is_marked}
+use Rattle.jc_types.specs.Sames.{same_option, same_limits, same_status, same_container, same_pattern}
 
 -- A reply, and the entry that was appended, where one was.
 pub record Answered : Type 0 where
@@ -34,40 +50,101 @@ refused reply = record { reply = reply; entry = None }
 abbrev pub accepted : Reply → Entry → Answered
 accepted reply entry = record { reply = reply; entry = Some entry }
 
--- Whether two truth values are equal.
-abbrev pub same_bool : Bool → Bool → Bool
-same_bool true b = b
-same_bool false b = not b
+-- What a store call does to the log: with a reply it is the answer's, and want of memory leaves the log as it was.
+abbrev pub GivesOrKeeps : List Entry → List Entry → Answered → Result Reply AllocError → Type 0
+GivesOrKeeps old new answered (Ok reply) = (reply ≡ answered.reply) × (new ≡ grown old answered.entry)
+GivesOrKeeps old new answered (Err want) = new ≡ old
 
--- Whether two statuses are equal.
-abbrev pub same_status : JobStatus → JobStatus → Bool
-same_status a b =
-    (a.active == b.active) && ((a.succeeded == b.succeeded)
-    && (pointwise same_uid a.uncounted_succeeded b.uncounted_succeeded
-    && same_bool a.complete b.complete))
+-- ---- Jobs
 
 -- The status of a new Job.
 abbrev pub empty_status : JobStatus
-empty_status = record { active = 0; succeeded = 0; uncounted_succeeded = []; complete = false }
+empty_status = record {
+  active = 0;
+  ready = 0;
+  terminating = 0;
+  succeeded = 0;
+  failed = 0;
+  completed = [];
+  uncounted_succeeded = [];
+  uncounted_failed = [];
+  start = None;
+  completion = None;
+  conditions = [];
+}
 
 -- Create a Job. It is refused where a Job has the key.
-abbrev pub made_job : List Entry → Key → Job
-made_job log key = record { key = key; uid = next_uid log; version = next_version log; status = empty_status }
+abbrev pub made_job : List Entry → Key → JobSpec → Moment → Job
+made_job log key spec now = record {
+  key = key;
+  uid = next_uid log;
+  version = next_version log;
+  created = now;
+  spec = spec;
+  status = empty_status;
+}
 
-abbrev pub create_job_at : List Entry → Key → Option Job → Answered
-create_job_at log key (Some job) = refused AlreadyExists
-create_job_at log key None = accepted (Created (next_uid log) (next_version log)) (JobPut (made_job log key))
+abbrev pub create_job_at : List Entry → Key → JobSpec → Moment → Option Job → Answered
+create_job_at log key spec now (Some job) = refused AlreadyExists
+create_job_at log key spec now None =
+    accepted (Created (next_uid log) (next_version log)) (JobPut (made_job log key spec now))
 
-abbrev pub create_job_gives : List Entry → Key → Answered
-create_job_gives log key = create_job_at log key (job_in key log)
+abbrev pub create_job_gives : List Entry → Key → JobSpec → Moment → Answered
+create_job_gives log key spec now = create_job_at log key spec now (job_in key log)
 
--- Create a pod of an owner: Pending and tracked. It is never refused.
-abbrev pub made_pod : List Entry → Uid → Pod
-made_pod log owner =
-    record { uid = next_uid log; version = next_version log; owner_uid = owner; phase = Pending; tracked = true }
+-- Update a Job's specification: the members that are given take the place of the old ones. `completions` can't be
+-- changed, and the limits of the numbers are those of a valid specification.
+abbrev pub is_given_else : Option ℕ → Option ℕ → Bool
+is_given_else None old = false
+is_given_else (Some given) old = not (same_option nat_eq (Some given) old)
 
-abbrev pub create_pod_gives : List Entry → Uid → Answered
-create_pod_gives log owner = accepted (Created (next_uid log) (next_version log)) (PodPut (made_pod log owner))
+abbrev pub is_above : ℕ → Option ℕ → Bool
+is_above limit None = false
+is_above limit (Some given) = nat_lt limit given
+
+abbrev pub update_refusal : JobSpec → SpecChange → Option Reply
+update_refusal spec change =
+    if is_given_else change.completions spec.completions then Some (Immutable Completions)
+    else if is_above 5000 change.parallelism then Some (Invalid Parallelism)
+    else if is_above 2147483647 change.backoff_limit then Some (Invalid BackoffLimit)
+    else if is_above 2147483647 change.deadline then Some (Invalid Deadline)
+    else None
+
+abbrev pub given_or : Option ℕ → Option ℕ → Option ℕ
+given_or None old = old
+given_or (Some given) old = Some given
+
+abbrev pub changed_spec : JobSpec → SpecChange → JobSpec
+changed_spec spec change = record spec {
+  parallelism = unwrap_or change.parallelism spec.parallelism;
+  completions = given_or change.completions spec.completions;
+  suspend = unwrap_or change.suspend spec.suspend;
+  deadline = given_or change.deadline spec.deadline;
+  backoff_limit = unwrap_or change.backoff_limit spec.backoff_limit;
+}
+
+abbrev pub with_spec : List Entry → Job → JobSpec → Job
+with_spec log job spec = record job { version = next_version log; spec = spec }
+
+-- A given version differs from the object's.
+abbrev pub is_other : Option Version → Version → Bool
+is_other None current = false
+is_other (Some given) current = not (given.0 == current.0)
+
+abbrev pub update_unless : List Entry → Job → SpecChange → Option Reply → Answered
+update_unless log job change (Some reply) = refused reply
+update_unless log job change None =
+    if same_limits job.spec (changed_spec job.spec change) then refused (Unchanged job.version)
+    else accepted (Written (next_version log)) (JobPut (with_spec log job (changed_spec job.spec change)))
+
+abbrev pub update_spec_at : List Entry → Option Version → SpecChange → Option Job → Answered
+update_spec_at log version change None = refused NotFound
+update_spec_at log version change (Some job) =
+    if is_other version job.version then refused (Conflict job.version)
+    else update_unless log job change (update_refusal job.spec change)
+
+abbrev pub update_spec_gives : List Entry → Key → Option Version → SpecChange → Answered
+update_spec_gives log key version change = update_spec_at log version change (job_in key log)
 
 -- Write a Job's status. It is refused where no Job has the key and the UID, or where the Job has another version.
 abbrev pub with_status : List Entry → Job → JobStatus → Job
@@ -76,7 +153,7 @@ with_status log job status = record job { version = next_version log; status = s
 abbrev pub write_status_at : List Entry → Uid → Version → JobStatus → Option Job → Answered
 write_status_at log uid version status None = refused NotFound
 write_status_at log uid version status (Some job) =
-    if not (job.uid.0 == uid.0) then refused NotFound
+    if not (same_uid job.uid uid) then refused NotFound
     else if not (job.version.0 == version.0) then refused (Conflict job.version)
     else if same_status job.status status then refused (Unchanged job.version)
     else accepted (Written (next_version log)) (JobPut (with_status log job status))
@@ -84,44 +161,167 @@ write_status_at log uid version status (Some job) =
 abbrev pub write_status_gives : List Entry → Key → Uid → Version → JobStatus → Answered
 write_status_gives log key uid version status = write_status_at log uid version status (job_in key log)
 
+-- Delete a Job; its pods stay. It is refused where no Job has the key.
+abbrev pub gone_job : List Entry → Job → Job
+gone_job log job = record job { version = next_version log }
+
+abbrev pub delete_job_at : List Entry → Option Job → Answered
+delete_job_at log None = refused NotFound
+delete_job_at log (Some job) = accepted (Removed (next_version log)) (JobGone (gone_job log job))
+
+abbrev pub delete_job_gives : List Entry → Key → Answered
+delete_job_gives log key = delete_job_at log (job_in key log)
+
+-- ---- pods
+
+-- A write of a pod. One that leaves it marked, ended and without its finalizer takes it away.
+abbrev pub pod_entry : Pod → Entry
+pod_entry pod = if goes pod then PodGone pod else PodPut pod
+
+-- The containers of a new pod: those of the template and after them its init containers, without exit codes and
+-- restarts.
+abbrev pub new_container : Bool → List ℕ → Container
+new_container init name = record { name = name; init = init; exit = None; restarts = 0 }
+
+abbrev pub new_containers : Template → List Container
+new_containers template =
+    map (new_container false) template.containers ++ map (new_container true) template.inits
+
+-- Create a pod of a Job: Pending, tracked and unmarked. It is never refused, also where the Job is gone. Its serial is the
+-- number of pods that were made before it for the Job's UID.
+abbrev pub made_pod : List Entry → Job → Option ℕ → Moment → Pod
+made_pod log owner index now = record {
+  uid = next_uid log;
+  version = next_version log;
+  owner = owner.key;
+  owner_uid = owner.uid;
+  serial = made_for owner.uid log;
+  index = index;
+  restart = owner.spec.template.restart;
+  phase = Pending;
+  containers = new_containers owner.spec.template;
+  conditions = [];
+  marked = None;
+  tracked = true;
+  created = now;
+}
+
+abbrev pub create_pod_gives : List Entry → Job → Option ℕ → Moment → Answered
+create_pod_gives log owner index now =
+    accepted (Created (next_uid log) (next_version log)) (PodPut (made_pod log owner index now))
+
+-- Mark a pod for deletion. It is refused where there is no such pod, and changes nothing where the pod is marked.
+abbrev pub with_mark : List Entry → Pod → Moment → Pod
+with_mark log pod now = record pod { version = next_version log; marked = Some now }
+
+abbrev pub mark_pod_at : List Entry → Moment → Option Pod → Answered
+mark_pod_at log now None = refused NotFound
+mark_pod_at log now (Some pod) =
+    if is_marked pod then refused (Unchanged pod.version)
+    else accepted (Written (next_version log)) (pod_entry (with_mark log pod now))
+
+abbrev pub mark_pod_gives : List Entry → Uid → Moment → Answered
+mark_pod_gives log uid now = mark_pod_at log now (pod_in uid log)
+
 -- Take a pod's finalizer. It is refused where no tracked pod has the UID.
 abbrev pub without_finalizer : List Entry → Pod → Pod
 without_finalizer log pod = record pod { version = next_version log; tracked = false }
 
+abbrev pub released : List Entry → Pod → Answered
+released log pod = accepted (Released (next_version log)) (pod_entry (without_finalizer log pod))
+
 abbrev pub release_at : List Entry → Option Pod → Answered
 release_at log None = refused NotTracked
-release_at log (Some pod) =
-    if pod.tracked then accepted (Released (next_version log)) (PodPut (without_finalizer log pod))
-    else refused NotTracked
+release_at log (Some pod) = if pod.tracked then released log pod else refused NotTracked
 
 abbrev pub release_gives : List Entry → Uid → Answered
-release_gives log uid = release_at log (living (life uid log))
+release_gives log uid = release_at log (pod_in uid log)
 
--- Report a pod's phase. It is refused where no pod has the UID, where its phase is final, and where it would go from
--- Running back to Pending.
-abbrev pub with_phase : List Entry → Pod → Phase → Pod
-with_phase log pod phase = record pod { version = next_version log; phase = phase }
+-- Let a pod go: take its finalizer where it has the version that is given.
+abbrev pub let_go_at : List Entry → Version → Option Pod → Answered
+let_go_at log version None = refused NotFound
+let_go_at log version (Some pod) =
+    if not (pod.version.0 == version.0) then refused (Conflict pod.version)
+    else if pod.tracked then released log pod
+    else refused NotTracked
 
-abbrev pub phase_step : List Entry → Pod → Phase → Phase → Answered
-phase_step log pod Pending Pending = refused (Unchanged pod.version)
-phase_step log pod Pending Running = accepted (Written (next_version log)) (PodPut (with_phase log pod Running))
-phase_step log pod Pending Succeeded = accepted (Written (next_version log)) (PodPut (with_phase log pod Succeeded))
-phase_step log pod Pending Failed = accepted (Written (next_version log)) (PodPut (with_phase log pod Failed))
-phase_step log pod Running Pending = refused (BadStep Running Pending)
-phase_step log pod Running Running = refused (Unchanged pod.version)
-phase_step log pod Running Succeeded = accepted (Written (next_version log)) (PodPut (with_phase log pod Succeeded))
-phase_step log pod Running Failed = accepted (Written (next_version log)) (PodPut (with_phase log pod Failed))
-phase_step log pod Succeeded phase = refused (Final Succeeded)
-phase_step log pod Failed phase = refused (Final Failed)
+abbrev pub let_go_gives : List Entry → Uid → Version → Answered
+let_go_gives log uid version = let_go_at log version (pod_in uid log)
 
-abbrev pub report_phase_at : List Entry → Phase → Option Pod → Answered
-report_phase_at log phase None = refused NotFound
-report_phase_at log phase (Some pod) = phase_step log pod pod.phase phase
+-- Report a pod's phase, with exit codes, restart counts and conditions. A given exit code or count takes the place of the
+-- old one, and a given condition that of its kind, or it comes last.
+abbrev pub named : List ℕ → Container → Bool
+named name container = pointwise nat_eq container.name name
 
-abbrev pub report_phase_gives : List Entry → Uid → Phase → Answered
-report_phase_gives log uid phase = report_phase_at log phase (living (life uid log))
+abbrev pub given_exit : Option ℤ → Option ℤ → Option ℤ
+given_exit None old = old
+given_exit (Some given) old = Some given
 
--- What a store call does to the log: with a reply it is the answer's, and want of memory leaves the log as it was.
-abbrev pub GivesOrKeeps : List Entry → List Entry → Answered → Result Reply AllocError → Type 0
-GivesOrKeeps old new answered (Ok reply) = (reply ≡ answered.reply) × (new ≡ grown old answered.entry)
-GivesOrKeeps old new answered (Err want) = new ≡ old
+abbrev pub changed_by : Container → ContainerChange → Container
+changed_by container change =
+    if named change.name container
+    then record container { exit = given_exit change.exit container.exit; restarts = unwrap_or change.restarts container.restarts }
+    else container
+
+abbrev pub changed_container : List ContainerChange → Container → Container
+changed_container changes container = fold changed_by container changes
+
+abbrev pub put_pattern : List Pattern → Pattern → List Pattern
+put_pattern [] given = given ∷ []
+put_pattern (pattern ∷ patterns) given =
+    if pointwise nat_eq pattern.kind given.kind then given ∷ patterns
+    else pattern ∷ put_pattern patterns given
+
+abbrev pub with_report : List Entry → Pod → PhaseChange → Pod
+with_report log pod change = record pod {
+  version = next_version log;
+  phase = change.phase;
+  containers = map (changed_container change.containers) pod.containers;
+  conditions = fold put_pattern pod.conditions change.conditions;
+}
+
+abbrev pub same_phase : Phase → Phase → Bool
+same_phase Pending Pending = true
+same_phase Pending Running = false
+same_phase Pending Succeeded = false
+same_phase Pending Failed = false
+same_phase Running Pending = false
+same_phase Running Running = true
+same_phase Running Succeeded = false
+same_phase Running Failed = false
+same_phase Succeeded Pending = false
+same_phase Succeeded Running = false
+same_phase Succeeded Succeeded = true
+same_phase Succeeded Failed = false
+same_phase Failed Pending = false
+same_phase Failed Running = false
+same_phase Failed Succeeded = false
+same_phase Failed Failed = true
+
+-- What a report may change agrees.
+abbrev pub same_course_of : Pod → Pod → Bool
+same_course_of a b =
+    same_phase a.phase b.phase
+    && (pointwise same_container a.containers b.containers && pointwise same_pattern a.conditions b.conditions)
+
+-- The first change that names no container of the pod.
+abbrev pub is_unnamed : Pod → ContainerChange → Bool
+is_unnamed pod change = not (list_any (named change.name) pod.containers)
+
+abbrev pub report_unless : List Entry → Pod → PhaseChange → Option ContainerChange → Answered
+report_unless log pod change (Some unnamed) = refused (NoContainer unnamed.name)
+report_unless log pod change None =
+    if same_course_of pod (with_report log pod change) then refused (Unchanged pod.version)
+    else accepted (Written (next_version log)) (pod_entry (with_report log pod change))
+
+-- It is refused where there is no such pod, where its phase is final, where it would go from Running back to Pending, and
+-- where a container is named that it does not have.
+abbrev pub report_phase_at : List Entry → PhaseChange → Option Pod → Answered
+report_phase_at log change None = refused NotFound
+report_phase_at log change (Some pod) =
+    if is_final pod.phase then refused (Final pod.phase)
+    else if same_phase pod.phase Running && same_phase change.phase Pending then refused (BadStep Running Pending)
+    else report_unless log pod change (find (is_unnamed pod) change.containers)
+
+abbrev pub report_phase_gives : List Entry → Uid → PhaseChange → Answered
+report_phase_gives log uid change = report_phase_at log change (pod_in uid log)

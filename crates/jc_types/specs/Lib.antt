@@ -1,2 +1,11 @@
+pub mod Keys
+pub mod Tables
+pub mod Pods
 pub mod Log
+pub mod Plain
+pub mod Writes
+pub mod Uids
+pub mod Deeds
+pub mod Specs
+pub mod Sames
 pub mod Api

@@ -1,83 +1,187 @@
--- What a log of accepted writes says. The log stands newest first in every definition, so version n is the entry that
--- ends the tail of n entries, and the first n entries are a tail.
-use Rattle.std.specs.Prelude.{ℕ, Bool, true, false, not, List, [], ◌∷◌, ◌++◌, ◌==◌, ◌+◌, ◌&&◌, nat_eq, nat_lt, length, filter, if◌then◌else◌}
-use Rattle.std.specs.Prelude.{Option, Some, None}
-use Rattle.std.specs.List.{list_any}
-use Rattle.std.specs.Cmp.Lexicographic.{pointwise}
+-- What a log says. A log is read NEWEST FIRST: in `e ∷ older` the entry e was written last. The version
+-- of an entry is the number of entries up to it, itself among them, so the length of the log that ends
+-- with it.
+--     upto n log          the first n entries that were written
+--     entry_at v log      the entry of version v
+--     job_in k log        the Job of the key, as the last entry about it says
+--     life u log          the life of a pod's UID: never there, there as this pod, or gone
+--     pod_in u log        the pod of the UID, as the last entry about it says
+--     is_lost life        the pod was there, and is without its finalizer or gone
+--     jobs_in log         the Jobs that are there, by key, in the order in which their keys came
+--     pods_in log         the pods that are there, in ascending UID
+--     IsRising pods       the pods are in ascending UID, none twice
+--     pods_of j log       those among them that were made for the Job of UID j
+--     pods_under k log    those among them that were made for a Job of the key
+--     is_born j log       a Job of this UID was put
+--     has_job j k log     a Job of this UID was put under this key
+--     births log       how many Jobs and pods were made
+--     made_for j log      how many pods were made for the Job of UID j
+--     next_uid log        the UID of the next Job or pod
+--     next_version log    the version of the next entry
+use Rattle.std.specs.Prelude.{ℕ, ◌+◌, ◌≤◌, ◌==◌, nat_lt, Bool, true, false, not, ◌&&◌, List, [], ◌∷◌, length, if◌then◌else◌, Option, Some, None, filter}
 use Rattle.jc_types.specs.declared.numbers.Uid.{Uid}
 use Rattle.jc_types.specs.declared.numbers.Version.{Version}
-use Rattle.jc_types.specs.declared.objects.Key.{Key}
-use Rattle.jc_types.specs.declared.objects.Job.{Job}
-use Rattle.jc_types.specs.declared.objects.Pod.{Pod}
-use Rattle.jc_types.specs.declared.objects.Phase.{Phase}
-use Rattle.jc_types.specs.declared.objects.Phase.TheVariants.{Pending, Running, Succeeded, Failed}
 use Rattle.jc_types.specs.declared.objects.Entry.{Entry}
 use Rattle.jc_types.specs.declared.objects.Entry.TheVariants.{JobPut, JobGone, PodPut, PodGone}
+use Rattle.jc_types.specs.declared.objects.Job.{Job}
+use Rattle.jc_types.specs.declared.objects.Key.{Key}
+use Rattle.jc_types.specs.declared.objects.Pod.{Pod}
+pub use Rattle.jc_types.specs.Keys.{same_key, same_uid}
+pub use Rattle.jc_types.specs.Pods.{is_final}
+pub use Rattle.jc_types.specs.Uids.{is_in}
+use Rattle.jc_types.specs.Tables.{puts, takes}
 
--- Whether two UIDs are equal, and whether a UID is in a list.
-abbrev pub same_uid : Uid → Uid → Bool
-same_uid a b = a.0 == b.0
+module _ {A : Type 0} where
+  -- The first n that were written.
+  abbrev pub upto : ℕ → List A → List A
+  upto n [] = []
+  upto n (e ∷ older) = if nat_lt (length older) n then e ∷ older else upto n older
 
-abbrev pub is_in : Uid → List Uid → Bool
-is_in uid uids = list_any (λ (u : Uid). u.0 == uid.0) uids
+  -- That of version v, counted from 1.
+  abbrev pub entry_at : ℕ → List A → Option A
+  entry_at v [] = None
+  entry_at v (e ∷ older) = if length (e ∷ older) == v then Some e else entry_at v older
 
--- Whether two keys are equal.
-abbrev pub same_key : Key → Key → Bool
-same_key a b = pointwise nat_eq a.namespace b.namespace && pointwise nat_eq a.name b.name
+-- ---- the Job of a key
 
--- The Job of a key: what the last entry about the key says.
+-- The Job of the key after one more entry.
 abbrev pub job_after : Key → Entry → Option Job → Option Job
-job_after key (JobPut job) before = if same_key job.key key then Some job else before
-job_after key (JobGone job) before = if same_key job.key key then None else before
-job_after key (PodPut pod) before = before
-job_after key (PodGone pod) before = before
+job_after k (JobPut job) before = if same_key job.key k then Some job else before
+job_after k (JobGone job) before = if same_key job.key k then None else before
+job_after k (PodPut pod) before = before
+job_after k (PodGone pod) before = before
 
+-- The Job of the key.
 abbrev pub job_in : Key → List Entry → Option Job
-job_in key [] = None
-job_in key (entry ∷ older) = job_after key entry (job_in key older)
+job_in k [] = None
+job_in k (e ∷ older) = job_after k e (job_in k older)
 
--- The life of a pod's UID: no pod has had it yet, a pod has it, or its pod is gone.
+-- The Job, if there is one, has this UID.
+abbrev pub is_job_of : Uid → Option Job → Bool
+is_job_of j None = false
+is_job_of j (Some job) = same_uid job.uid j
+
+-- ---- the life of a pod's UID
+
+-- No pod had the UID, or this one has it, or it had one that is gone.
 pub data Life : Type 0 where
   Never : Life
   Live : Pod → Life
   Gone : Life
 
+-- The life after one more entry.
 abbrev pub life_after : Uid → Entry → Life → Life
-life_after uid (PodPut pod) before = if pod.uid.0 == uid.0 then Live pod else before
-life_after uid (PodGone pod) before = if pod.uid.0 == uid.0 then Gone else before
-life_after uid (JobPut job) before = before
-life_after uid (JobGone job) before = before
+life_after u (JobPut job) before = before
+life_after u (JobGone job) before = before
+life_after u (PodPut pod) before = if same_uid pod.uid u then Live pod else before
+life_after u (PodGone pod) before = if same_uid pod.uid u then Gone else before
 
+-- The life of the UID.
 abbrev pub life : Uid → List Entry → Life
-life uid [] = Never
-life uid (entry ∷ older) = life_after uid entry (life uid older)
+life u [] = Never
+life u (e ∷ older) = life_after u e (life u older)
 
--- The pod that has the UID, where one has.
+-- The pod that lives.
 abbrev pub living : Life → Option Pod
 living Never = None
 living (Live pod) = Some pod
 living Gone = None
 
--- A pod was there and has no finalizer any more.
-abbrev pub is_lost : Life → Bool
-is_lost Never = false
-is_lost (Live pod) = not pod.tracked
-is_lost Gone = true
+-- The pod of the UID.
+abbrev pub pod_in : Uid → List Entry → Option Pod
+pod_in u log = living (life u log)
 
--- Whether a Job has had the UID.
-abbrev pub is_born : Uid → List Entry → Bool
-is_born uid [] = false
-is_born uid (JobPut job ∷ older) = if job.uid.0 == uid.0 then true else is_born uid older
-is_born uid (JobGone job ∷ older) = is_born uid older
-is_born uid (PodPut pod ∷ older) = is_born uid older
-is_born uid (PodGone pod ∷ older) = is_born uid older
-
--- How many Jobs and pods were made: the entries that are the first about their UID.
+-- There was no pod.
 abbrev pub is_never : Life → Bool
 is_never Never = true
 is_never (Live pod) = false
 is_never Gone = false
 
+-- The pod was there, and is without its finalizer or gone.
+abbrev pub is_lost : Life → Bool
+is_lost Never = false
+is_lost (Live pod) = not pod.tracked
+is_lost Gone = true
+
+-- ---- the tables
+
+-- The table of Jobs after one more entry.
+abbrev pub jobs_after : Entry → List (Key × Job) → List (Key × Job)
+jobs_after (JobPut job) table = puts same_key table job.key job
+jobs_after (JobGone job) table = takes same_key table job.key
+jobs_after (PodPut pod) table = table
+jobs_after (PodGone pod) table = table
+
+-- The Jobs that are there, by key, in the order in which their keys came.
+abbrev pub jobs_in : List Entry → List (Key × Job)
+jobs_in [] = []
+jobs_in (e ∷ older) = jobs_after e (jobs_in older)
+
+-- The Jobs are in ascending UID, none twice, and none below the bound.
+abbrev pub RowsRise : ℕ → List (Key × Job) → Type 0
+RowsRise low [] = Unit {0}
+RowsRise low (row ∷ rows) = (low ≤ row.1.uid.0) × RowsRise (row.1.uid.0 + 1) rows
+
+-- With the pod before the first of a greater UID, or in the place of that of its own.
+abbrev pub put_pod : Pod → List Pod → List Pod
+put_pod pod [] = pod ∷ []
+put_pod pod (q ∷ pods) =
+    if nat_lt pod.uid.0 q.uid.0 then pod ∷ q ∷ pods
+    else if pod.uid.0 == q.uid.0 then pod ∷ pods
+    else q ∷ put_pod pod pods
+
+-- Without the pod of the UID.
+abbrev pub drop_pod : Uid → List Pod → List Pod
+drop_pod u pods = filter (λ pod. not (same_uid pod.uid u)) pods
+
+-- The list of pods after one more entry.
+abbrev pub pods_after : Entry → List Pod → List Pod
+pods_after (JobPut job) pods = pods
+pods_after (JobGone job) pods = pods
+pods_after (PodPut pod) pods = put_pod pod pods
+pods_after (PodGone pod) pods = drop_pod pod.uid pods
+
+-- The pods that are there, in ascending UID.
+abbrev pub pods_in : List Entry → List Pod
+pods_in [] = []
+pods_in (e ∷ older) = pods_after e (pods_in older)
+
+-- The pods are in ascending UID, none twice, and none below the bound.
+abbrev pub RisesFrom : ℕ → List Pod → Type 0
+RisesFrom low [] = Unit {0}
+RisesFrom low (pod ∷ pods) = (low ≤ pod.uid.0) × RisesFrom (pod.uid.0 + 1) pods
+
+-- The pods are in ascending UID, none twice.
+abbrev pub IsRising : List Pod → Type 0
+IsRising pods = RisesFrom 0 pods
+
+-- Those that were made for the Job of this UID.
+abbrev pub pods_of : Uid → List Entry → List Pod
+pods_of j log = filter (λ pod. same_uid pod.owner_uid j) (pods_in log)
+
+-- Those that were made for a Job of this key.
+abbrev pub pods_under : Key → List Entry → List Pod
+pods_under k log = filter (λ pod. same_key pod.owner k) (pods_in log)
+
+-- ---- what was made
+
+-- A Job of this UID was put.
+abbrev pub is_born : Uid → List Entry → Bool
+is_born j [] = false
+is_born j (JobPut job ∷ older) = if same_uid job.uid j then true else is_born j older
+is_born j (JobGone job ∷ older) = is_born j older
+is_born j (PodPut pod ∷ older) = is_born j older
+is_born j (PodGone pod ∷ older) = is_born j older
+
+-- A Job of this UID was put under this key.
+abbrev pub has_job : Uid → Key → List Entry → Bool
+has_job j k [] = false
+has_job j k (JobPut job ∷ older) = if same_uid job.uid j && same_key job.key k then true else has_job j k older
+has_job j k (JobGone job ∷ older) = has_job j k older
+has_job j k (PodPut pod ∷ older) = has_job j k older
+has_job j k (PodGone pod ∷ older) = has_job j k older
+
+-- How many Jobs and pods were made: the entries that are the first about their UID.
 abbrev pub births : List Entry → ℕ
 births [] = 0
 births (JobPut job ∷ older) = if is_born job.uid older then births older else births older + 1
@@ -85,42 +189,19 @@ births (JobGone job ∷ older) = births older
 births (PodPut pod ∷ older) = if is_never (life pod.uid older) then births older + 1 else births older
 births (PodGone pod ∷ older) = births older
 
--- The first n entries of a log.
-abbrev pub upto : ℕ → List Entry → List Entry
-upto n [] = []
-upto n (entry ∷ older) = if nat_lt (length older) n then entry ∷ older else upto n older
+-- How many pods were made for the Job of this UID.
+abbrev pub made_for : Uid → List Entry → ℕ
+made_for j [] = 0
+made_for j (JobPut job ∷ older) = made_for j older
+made_for j (JobGone job ∷ older) = made_for j older
+made_for j (PodPut pod ∷ older) =
+    if same_uid pod.owner_uid j && is_never (life pod.uid older) then made_for j older + 1 else made_for j older
+made_for j (PodGone pod ∷ older) = made_for j older
 
--- A table of pods in ascending UID, with one pod more, in place of the one with its UID where there is one.
-abbrev pub put_pod : Pod → List Pod → List Pod
-put_pod pod [] = pod ∷ []
-put_pod pod (first ∷ rest) =
-    if nat_lt pod.uid.0 first.uid.0 then pod ∷ first ∷ rest
-    else if pod.uid.0 == first.uid.0 then pod ∷ rest
-    else first ∷ put_pod pod rest
-
--- The pods that are there, in ascending UID.
-abbrev pub pods_in : List Entry → List Pod
-pods_in [] = []
-pods_in (PodPut pod ∷ older) = put_pod pod (pods_in older)
-pods_in (PodGone pod ∷ older) = filter (λ p. not (p.uid.0 == pod.uid.0)) (pods_in older)
-pods_in (JobPut job ∷ older) = pods_in older
-pods_in (JobGone job ∷ older) = pods_in older
-
--- The pods that are there of one owner, in ascending UID.
-abbrev pub pods_of : Uid → List Entry → List Pod
-pods_of owner log = filter (λ p. p.owner_uid.0 == owner.0) (pods_in log)
-
--- A phase that never changes.
-abbrev pub is_final : Phase → Bool
-is_final Pending = false
-is_final Running = false
-is_final Succeeded = true
-is_final Failed = true
-
--- The version of the next write.
-abbrev pub next_version : List Entry → Version
-next_version log = record { 0 = length log + 1 }
-
--- The UID of the next Job or pod: one more than were made.
+-- The UID of the next Job or pod: one more than the number of those that were made.
 abbrev pub next_uid : List Entry → Uid
 next_uid log = record { 0 = births log + 1 }
+
+-- The version of the next entry.
+abbrev pub next_version : List Entry → Version
+next_version log = record { 0 = length log + 1 }

@@ -1,18 +1,47 @@
-//! The plain data of the Job controller: Jobs, pods, the entries of the store's log and the replies of the store.
-//! The names are those of Kubernetes' batch/v1 and core/v1, and contracts see each value as plain data: a text as its
-//! bytes and a list as its items.
+//! The plain data of the Job controller: Jobs, pods and their log (Kubernetes batch/v1 and core/v1),
+//! the commands of a script, and the events, replies and history of a run.
+//!
+//! A contract sees a list as the list of its items, a text or a name as its bytes, and an `Arc` as the
+//! value behind it. So two values are equal where their parts are, whatever memory they stand in.
 #![tactic(auto)]
 
-pub mod copying;
-pub mod lists;
-pub mod numbers;
-pub mod objects;
-pub mod replies;
-pub mod texts;
+mod actions;
+mod copying;
+mod laws;
+mod lists;
+mod numbers;
+mod objects;
+mod policies;
+mod replies;
+mod runs;
+mod shared;
+mod specifications;
+mod statuses;
+mod syncs;
+mod texts;
+mod uid_words;
 
-pub use copying::{Copied, Same, Want};
-pub use lists::{ListOf, Uids};
-pub use numbers::{Uid, Version};
-pub use objects::{Entry, Job, JobStatus, Key, Phase, Pod};
-pub use replies::Reply;
-pub use texts::Name;
+pub use actions::{
+    Action1, Command, Commands, ContainerChange, ContainerChanges, End, Ends, Fault, PhaseChange,
+    Script, SpecChange,
+};
+pub use copying::{Bytes, Copied, Same, Want};
+pub use laws::{
+    deeds_grow, lists_merge, logs_read_plainly, objects_stand_at_their_versions, pods_are_listed,
+    prefix_is_fixed, tests_are_exact, uids_never_return, what_is_new_comes_last, writes_last,
+};
+pub use lists::ListOf;
+pub use numbers::{Uid, Uids, Version};
+pub use objects::{Container, Containers, Entries, Entry, Job, Jobs, Key, Kind, Phase, Pod, Pods};
+pub use policies::{
+    Action, Codes, FailurePolicy, FailureRule, FailureRules, Operator, Pattern, Patterns,
+    Requirement, SuccessPolicy, SuccessRule, SuccessRules, Truth,
+};
+pub use replies::{Answer, Field, Reply, Request};
+pub use runs::{Event, History, Past, Pasts, Shape, Sys};
+pub use shared::Arc;
+pub use specifications::{JobSpec, Mode, Replacement, Restart, Template};
+pub use statuses::{CondKind, Condition, Conditions, JobStatus, Reason};
+pub use syncs::{Backoff, Basis, CountIn, Indexes, PodVersions};
+pub use texts::{Name, Names, Text};
+pub use uid_words::uid_text;

@@ -1,85 +1,41 @@
-//! Lists that contracts see as their items.
-ghost use Rattle.std.specs.Prelude.{◌≡◌, ◌↔◌, ◌++◌, ◌∷◌, [], IfOk, IsTrue, OnOk, OnErr, length};
+//! Lists that share their memory with their copies.
 
-use super::copying::{Copied, Same, Want};
-use super::numbers::Uid;
+ghost use Rattle.std.specs.Prelude.{◌≡◌, ◌∷◌, ◌++◌, [], ◌↔◌, IfOk, IsTrue, OnErr, OnOk, length};
+
+use crate::copying::{Copied, Same, Want};
 use std::alloc::Global;
 use std::marker::Model;
+use std::sync;
 
-/// A list of items.
+/// A list. A contract sees the list of its items. Its copies share its memory, and the first item
+/// that is pushed while a copy is alive copies the items.
 #[derive(Drop)]
 pub struct ListOf<T> {
-    items: Vec<T>,
+    alloc: Global,
+    shared: Option<sync::Arc<Vec<T>>>,
 }
 
 impl<T> Model for ListOf<T> {
-    ghost use Rattle.std.specs.Prelude.{List};
+    ghost use Rattle.std.specs.Prelude.{List, []};
+    ghost use Rattle.std.specs.Option.{option_map_or};
 
     ghost Value = { List T };
 
-    ghost view = { λ l. l.items.items };
+    ghost view = { λ l. option_map_or (λ a. a.value.items) l.shared [] };
 }
 
-/// UIDs of pods.
-pub type Uids = ListOf<Uid>;
-
-impl<T> ListOf<T> {
-    /// The empty list. It takes no memory.
-    pub fn new(alloc: Global) -> ListOf<T>
-        ensures { result ≡ [] }
-    {
-        ListOf {
-            items: Vec::new(alloc),
-        }
+/// The items of a slice in a list of their own.
+fn copied_slice<T: Copied>(alloc: Global, items: &[T]) -> Result<Vec<T>, Want>
+    ensures { IfOk result (λ v. v.items ≡ items.now) }
+{
+    let mut copied = Vec::with_capacity(alloc, items.len())?;
+    for item in items {
+        copied.push(item.copy()?)?;
     }
-
-    /// How many items the list has.
-    pub fn len(&self) -> usize
-        ensures { result ≡ length self.now }
-    {
-        self.items.len()
-    }
-
-    /// The items in their order.
-    pub fn as_slice(&self) -> &[T]
-        ensures { result.now ≡ self.now }
-    {
-        self.items.as_slice()
-    }
+    Ok(copied)
 }
 
-impl<T: Copied> ListOf<T> {
-    /// Adds an item at the end.
-    ///
-    /// # Errors
-    ///
-    /// Want of memory; the list is then as before.
-    pub fn push(&mut self, item: T) -> Result<(), Want>
-        ensures added { OnOk result (self.new ≡ self.old ++ item ∷ []) }
-        ensures kept { OnErr result (self.new ≡ self.old) }
-    {
-        self.items.push(item)?;
-        Ok(())
-    }
-}
-
-impl<T: Copied> Copied for ListOf<T> {
-    fn copy(&self) -> Result<ListOf<T>, Want> {
-        let mut items = Vec::with_capacity(*self.items.allocator(), self.items.len())?;
-        for item in self.items.as_slice() {
-            items.push(item.copy()?)?;
-        }
-        Ok(ListOf { items })
-    }
-}
-
-impl<T: Same> Same for ListOf<T> {
-    fn is_same(&self, other: &ListOf<T>) -> bool {
-        same_slices(self.as_slice(), other.as_slice())
-    }
-}
-
-// Whether the two slices have equal items.
+/// Whether both slices have equal items in the same places.
 fn same_slices<T: Same>(left: &[T], right: &[T]) -> bool
     ensures { IsTrue result ↔ (left.now ≡ right.now) }
 {
@@ -92,4 +48,83 @@ fn same_slices<T: Same>(left: &[T], right: &[T]) -> bool
         }
     }
     true
+}
+
+impl<T> ListOf<T> {
+    /// The empty list. It takes no memory.
+    pub fn new(alloc: Global) -> Self
+        ensures { result ≡ [] }
+    {
+        ListOf {
+            alloc,
+            shared: None,
+        }
+    }
+
+    /// The number of items.
+    pub fn len(&self) -> usize
+        ensures { result ≡ length self.now }
+    {
+        self.as_slice().len()
+    }
+
+    /// Whether there is no item.
+    pub fn is_empty(&self) -> bool
+        ensures { IsTrue result ↔ (self.now ≡ []) }
+    {
+        self.as_slice().is_empty()
+    }
+
+    /// The items in their order.
+    pub fn as_slice(&self) -> &[T]
+        ensures { result.now ≡ self.now }
+    {
+        match &self.shared {
+            None => &[],
+            Some(items) => items.as_slice(),
+        }
+    }
+}
+
+impl<T: Copied> ListOf<T> {
+    /// Adds an item at the end.
+    ///
+    /// # Errors
+    /// `Want` where there is no memory; the list is then as before.
+    pub fn push(&mut self, item: T) -> Result<(), Want>
+        ensures added { OnOk result (self.new ≡ self.old ++ item ∷ []) }
+        ensures kept { OnErr result (self.new ≡ self.old) }
+    {
+        if let Some(shared) = &mut self.shared {
+            if let Some(items) = sync::Arc::get_mut(shared) {
+                items.push(item)?;
+                return Ok(());
+            }
+        }
+        let mut items = copied_slice(self.alloc, self.as_slice())?;
+        items.push(item)?;
+        self.shared = Some(sync::Arc::new(self.alloc, items)?);
+        Ok(())
+    }
+}
+
+impl<T: Drop> Copied for ListOf<T> {
+    fn copy(&self) -> Result<Self, Want> {
+        match &self.shared {
+            None => Ok(ListOf {
+                alloc: self.alloc,
+                shared: None,
+            }),
+            Some(items) => Ok(ListOf {
+                alloc: self.alloc,
+                shared: Some(sync::Arc::try_clone(items)?),
+            }),
+        }
+    }
+}
+
+impl<T: Same> Same for ListOf<T> {
+    fn is_same(&self, other: &Self) -> bool {
+        same_slices(self.as_slice(), other.as_slice())
+    }
 }

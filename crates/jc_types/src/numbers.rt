@@ -1,30 +1,40 @@
-//! The numbers that name objects and writes.
-ghost use Rattle.std.specs.Prelude.{◌≡◌, ◌↔◌, IfOk, IsTrue};
+//! Numbers with a meaning: UIDs and versions.
 
-use super::copying::{Copied, Same, Want};
+use crate::copying::{Copied, Same, Want};
+use crate::lists::ListOf;
 
-/// The number of a Job or a pod: 1 and up, and never used again. Jobs and pods share one counter.
+/// The UID of a Job or a pod: 1 and up, and never used again (`metadata.uid`).
 #[derive(Clone, Copy, PartialEq, Eq, PartialOrd, Ord, Hash, Debug)]
 pub struct Uid(pub u64);
 
-/// A place in the store's log, from 1; 0 is the empty log. An object's version is that of its last write.
+/// A place in the log of accepted writes, counted from 1; 0 is the empty log
+/// (`metadata.resourceVersion`).
 #[derive(Clone, Copy, PartialEq, Eq, PartialOrd, Ord, Hash, Debug)]
 pub struct Version(pub u64);
 
-impl Copied for Uid {
-    fn copy(&self) -> Result<Uid, Want> {
-        Ok(*self)
-    }
-}
+/// UIDs in an order of their own.
+pub type Uids = ListOf<Uid>;
 
-impl Copied for Version {
-    fn copy(&self) -> Result<Version, Want> {
+impl Copied for Uid {
+    fn copy(&self) -> Result<Self, Want> {
         Ok(*self)
     }
 }
 
 impl Same for Uid {
-    fn is_same(&self, other: &Uid) -> bool {
-        self.0 == other.0
+    fn is_same(&self, other: &Self) -> bool {
+        *self == *other
+    }
+}
+
+impl Copied for Version {
+    fn copy(&self) -> Result<Self, Want> {
+        Ok(*self)
+    }
+}
+
+impl Same for Version {
+    fn is_same(&self, other: &Self) -> bool {
+        *self == *other
     }
 }

@@ -1,19 +1,38 @@
-//! Jobs, pods and the entries of the log.
-ghost use Rattle.std.specs.Prelude.{◌≡◌, ◌↔◌, IfOk, IsTrue};
+//! Jobs and pods as the store keeps them, and the entries of its log.
 
-use super::copying::{Copied, Same, Want};
-use super::lists::Uids;
-use super::numbers::{Uid, Version};
-use super::texts::Name;
+use crate::copying::{Copied, Same, Want};
+use crate::lists::ListOf;
+use crate::numbers::{Uid, Version};
+use crate::policies::Patterns;
+use crate::shared::Arc;
+use crate::specifications::{JobSpec, Restart};
+use crate::statuses::JobStatus;
+use crate::texts::Name;
+use jc_moment::Moment;
 
-/// The name of a Job in its namespace.
-#[derive(Drop)]
+/// Where a Job stands: its namespace and its name in it.
+#[derive(PartialEq, Eq, PartialOrd, Ord, Hash, Drop)]
 pub struct Key {
     pub namespace: Name,
     pub name: Name,
 }
 
-/// Where a pod stands in its life, as core/v1 has it. Succeeded and Failed are final.
+/// A Job.
+#[derive(Drop)]
+pub struct Job {
+    pub key: Key,
+    pub uid: Uid,
+    /// The place of its last write in the log.
+    pub version: Version,
+    pub created: Moment,
+    pub spec: Arc<JobSpec>,
+    pub status: JobStatus,
+}
+
+/// Jobs in an order of their own.
+pub type Jobs = ListOf<Job>;
+
+/// How far a pod has come (`PodPhase` of core/v1).
 #[derive(Clone, Copy, PartialEq, Eq, Debug)]
 pub enum Phase {
     Pending,
@@ -22,39 +41,57 @@ pub enum Phase {
     Failed,
 }
 
-/// What the controller last wrote of a Job.
+/// A container of a pod.
 #[derive(Drop)]
-pub struct JobStatus {
-    /// The number of pods that are Pending or Running.
-    pub active: u32,
-    /// The number of succeeded pods that are counted and whose finalizer is gone.
-    pub succeeded: u64,
-    /// The succeeded pods that are counted while their finalizer may still be there.
-    pub uncounted_succeeded: Uids,
-    /// Whether the Job has come to its end.
-    pub complete: bool,
+pub struct Container {
+    pub name: Name,
+    /// Whether it is an init container.
+    pub init: bool,
+    /// Its exit code, once it has ended.
+    pub exit: Option<i32>,
+    /// How often it was restarted.
+    pub restarts: u32,
 }
 
-/// A Job.
-#[derive(Drop)]
-pub struct Job {
-    pub key: Key,
-    pub uid: Uid,
-    pub version: Version,
-    pub status: JobStatus,
-}
+/// The containers of a pod, and after them its init containers.
+pub type Containers = ListOf<Container>;
 
-/// A pod of a Job. It is tracked while it has the finalizer `batch.kubernetes.io/job-tracking` (KEP-2307).
+/// A pod of a Job.
 #[derive(Drop)]
 pub struct Pod {
     pub uid: Uid,
+    /// The place of its last write in the log.
     pub version: Version,
+    /// The key of the Job that it was made for.
+    pub owner: Key,
+    /// The UID of the Job that it was made for.
     pub owner_uid: Uid,
+    /// How many pods were made before it for the same owner UID.
+    pub serial: u32,
+    /// Its completion index, in an Indexed Job.
+    pub index: Option<u32>,
+    pub restart: Restart,
     pub phase: Phase,
+    pub containers: Containers,
+    pub conditions: Patterns,
+    /// When it was marked for deletion (`deletionTimestamp`).
+    pub marked: Option<Moment>,
+    /// Whether it has the finalizer `batch.kubernetes.io/job-tracking` (KEP-2307).
     pub tracked: bool,
+    pub created: Moment,
 }
 
-/// One accepted write: the object as it is after it, or the last state of one that is gone by it.
+/// Pods in ascending order of their UIDs.
+pub type Pods = ListOf<Pod>;
+
+/// The two kinds of objects.
+#[derive(Clone, Copy, PartialEq, Eq, Debug)]
+pub enum Kind {
+    Jobs,
+    Pods,
+}
+
+/// An accepted write: the object as it stands after it, or as it last stood before it went.
 #[derive(Drop)]
 pub enum Entry {
     JobPut(Job),
@@ -63,8 +100,11 @@ pub enum Entry {
     PodGone(Pod),
 }
 
+/// Entries in the order of their versions.
+pub type Entries = ListOf<Entry>;
+
 impl Copied for Key {
-    fn copy(&self) -> Result<Key, Want> {
+    fn copy(&self) -> Result<Self, Want> {
         Ok(Key {
             namespace: self.namespace.copy()?,
             name: self.name.copy()?,
@@ -72,51 +112,113 @@ impl Copied for Key {
     }
 }
 
-impl Same for Key {
-    fn is_same(&self, other: &Key) -> bool {
-        self.namespace.is_same(&other.namespace) && self.name.is_same(&other.name)
-    }
-}
-
-impl Copied for JobStatus {
-    fn copy(&self) -> Result<JobStatus, Want> {
-        Ok(JobStatus {
-            active: self.active,
-            succeeded: self.succeeded,
-            uncounted_succeeded: self.uncounted_succeeded.copy()?,
-            complete: self.complete,
-        })
-    }
-}
-
-impl Same for JobStatus {
-    fn is_same(&self, other: &JobStatus) -> bool {
-        self.active == other.active
-            && self.succeeded == other.succeeded
-            && self.uncounted_succeeded.is_same(&other.uncounted_succeeded)
-            && self.complete == other.complete
-    }
-}
-
 impl Copied for Job {
-    fn copy(&self) -> Result<Job, Want> {
+    fn copy(&self) -> Result<Self, Want> {
         Ok(Job {
             key: self.key.copy()?,
             uid: self.uid,
             version: self.version,
+            created: self.created,
+            spec: self.spec.copy()?,
             status: self.status.copy()?,
         })
     }
 }
 
+impl Copied for Container {
+    fn copy(&self) -> Result<Self, Want> {
+        Ok(Container {
+            name: self.name.copy()?,
+            init: self.init,
+            exit: self.exit,
+            restarts: self.restarts,
+        })
+    }
+}
+
 impl Copied for Pod {
-    fn copy(&self) -> Result<Pod, Want> {
+    fn copy(&self) -> Result<Self, Want> {
         Ok(Pod {
             uid: self.uid,
             version: self.version,
+            owner: self.owner.copy()?,
             owner_uid: self.owner_uid,
+            serial: self.serial,
+            index: self.index,
+            restart: self.restart,
             phase: self.phase,
+            containers: self.containers.copy()?,
+            conditions: self.conditions.copy()?,
+            marked: self.marked,
             tracked: self.tracked,
+            created: self.created,
         })
+    }
+}
+
+impl Copied for Entry {
+    fn copy(&self) -> Result<Self, Want> {
+        match self {
+            Entry::JobPut(job) => Ok(Entry::JobPut(job.copy()?)),
+            Entry::JobGone(job) => Ok(Entry::JobGone(job.copy()?)),
+            Entry::PodPut(pod) => Ok(Entry::PodPut(pod.copy()?)),
+            Entry::PodGone(pod) => Ok(Entry::PodGone(pod.copy()?)),
+        }
+    }
+}
+
+impl Same for Key {
+    fn is_same(&self, other: &Self) -> bool {
+        self.namespace.is_same(&other.namespace) && self.name.is_same(&other.name)
+    }
+}
+
+impl Same for Job {
+    fn is_same(&self, other: &Self) -> bool {
+        self.key.is_same(&other.key)
+            && self.uid == other.uid
+            && self.version == other.version
+            && self.created == other.created
+            && self.spec.is_same(&other.spec)
+            && self.status.is_same(&other.status)
+    }
+}
+
+impl Same for Container {
+    fn is_same(&self, other: &Self) -> bool {
+        self.name.is_same(&other.name)
+            && self.init == other.init
+            && self.exit == other.exit
+            && self.restarts == other.restarts
+    }
+}
+
+impl Same for Pod {
+    fn is_same(&self, other: &Self) -> bool {
+        self.uid == other.uid
+            && self.version == other.version
+            && self.owner.is_same(&other.owner)
+            && self.owner_uid == other.owner_uid
+            && self.serial == other.serial
+            && self.index == other.index
+            && self.restart == other.restart
+            && self.phase == other.phase
+            && self.containers.is_same(&other.containers)
+            && self.conditions.is_same(&other.conditions)
+            && self.marked.is_same(&other.marked)
+            && self.tracked == other.tracked
+            && self.created == other.created
+    }
+}
+
+impl Same for Entry {
+    fn is_same(&self, other: &Self) -> bool {
+        match (self, other) {
+            (Entry::JobPut(job), Entry::JobPut(job2)) => job.is_same(job2),
+            (Entry::JobGone(job), Entry::JobGone(job2)) => job.is_same(job2),
+            (Entry::PodPut(pod), Entry::PodPut(pod2)) => pod.is_same(pod2),
+            (Entry::PodGone(pod), Entry::PodGone(pod2)) => pod.is_same(pod2),
+            _ => false,
+        }
     }
 }

@@ -1,5 +1,5 @@
 use Rattle.jc_ctl.proofs.FirstLine.{some_line, one_line}
-use Rattle.std.proofs.Common.{◌∙◌, sym}
+use Rattle.std.proofs.Common.{sym}
 use Rattle.jc_ctl.proofs.lines.first_line.Goals as goal
 
 pub returns-in-Some-clause-lines : goal.returns-in-Some-clause-lines

@@ -1,4 +1,4 @@
-use Rattle.std.proofs.Common.{◌≡◌, ◌∙◌, ap, sym, subst, ℕ, List, Option, Some, None, Err, option_copied}
+use Rattle.std.proofs.Common.{◌∙◌, ap, sym, subst, ℕ, List, Some, Err, option_copied}
 use Rattle.std.proofs.lemmas.Result.{err_from_is_err_and}
 use Rattle.jc_play.specs.declared.commands.Command.{Command}
 use Rattle.jc_ctl.proofs.Reading.{IsReading, begins, ends_bad, ends_well}

@@ -1,5 +1,4 @@
-use Rattle.std.proofs.Common.{◌≡◌, ◌∙◌, ap, sym, ℕ, ◌+◌, ◌<◌, List, [], ◌∷◌, ◌++◌, length, vec_len, arith}
-use Rattle.jc_play.specs.declared.commands.Command.{Command}
+use Rattle.std.proofs.Common.{◌∙◌, ap, sym, ◌+◌, ◌<◌, [], ◌∷◌, ◌++◌, length, vec_len, arith}
 use Rattle.jc_ctl.specs.Script.{with_front, script_from, script_at}
 use Rattle.jc_ctl.proofs.Reading.{taken}
 use Rattle.jc_ctl.proofs.script.take_line.Goals as goal

@@ -1,7 +1,5 @@
-use Rattle.std.proofs.Common.{◌≡◌, sym, ◌∙◌, ap, List, length, reverse}
-use Rattle.jc_types.specs.declared.objects.Entry.{Entry}
-use Rattle.jc_types.specs.Log.{job_in, pods_of}
-use Rattle.jc_play.specs.Deeds.{Deed, log_of, deeds_of}
+use Rattle.std.proofs.Common.{◌∙◌, ap}
+use Rattle.jc_types.specs.Log.{job_in}
 use Rattle.jc_play.proofs.Logs.{seen_log}
 use Rattle.jc_play.proofs.journal.Journal.job.Goals as goal
 

@@ -1,8 +1,7 @@
-use Rattle.std.proofs.Common.{◌≡◌, sym, ◌∙◌, ap, List, length, reverse}
+use Rattle.std.proofs.Common.{◌∙◌, ap, List, length}
 use Rattle.std.proofs.lemmas.List.{length-map}
 use Rattle.jc_types.specs.declared.objects.Entry.{Entry}
-use Rattle.jc_types.specs.Log.{job_in, pods_of}
-use Rattle.jc_play.specs.Deeds.{Deed, log_of, deeds_of}
+use Rattle.jc_play.specs.Deeds.{Deed}
 use Rattle.jc_play.proofs.Logs.{seen_log}
 use Rattle.jc_play.proofs.journal.Journal.log_len.Goals as goal
 

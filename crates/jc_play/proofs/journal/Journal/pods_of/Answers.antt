@@ -1,8 +1,6 @@
-use Rattle.std.proofs.Common.{◌≡◌, sym, ◌∙◌, ap, List, length, reverse}
+use Rattle.std.proofs.Common.{◌∙◌, ap}
 use Rattle.std.proofs.lemmas.Result.{IfOk-weaker}
-use Rattle.jc_types.specs.declared.objects.Entry.{Entry}
-use Rattle.jc_types.specs.Log.{job_in, pods_of}
-use Rattle.jc_play.specs.Deeds.{Deed, log_of, deeds_of}
+use Rattle.jc_types.specs.Log.{pods_of}
 use Rattle.jc_play.proofs.Logs.{seen_log}
 use Rattle.jc_play.proofs.journal.Journal.pods_of.Goals as goal
 

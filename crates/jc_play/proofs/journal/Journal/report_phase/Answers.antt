@@ -1,5 +1,4 @@
-use Rattle.std.proofs.Common.{◌∙◌, ap, List, length, refl, reverse}
-use Rattle.jc_types.specs.declared.objects.Entry.{Entry}
+use Rattle.std.proofs.Common.{◌∙◌, ap, length, refl, reverse}
 use Rattle.jc_types.specs.Api.{report_phase_gives}
 use Rattle.jc_play.specs.declared.writers.Writer.TheVariants.{Script}
 use Rattle.jc_play.specs.Deeds.{deeds_of, noted}
@@ -9,10 +8,10 @@ use Rattle.jc_play.proofs.journal.Journal.report_phase.Goals as goal
 pub invariant_of-self-2 : goal.invariant_of-self-2
 invariant_of-self-2 c =
     all_written c.self.inside.store c.report_phase.new.self c.self.inside.writers.items c.note.new.writers.items Script
-    (report_phase_gives c.self.inside.store c.args.pod c.args.phase).entry c.self.invariant c.in_ok-reply.ensures.1 (c.note.ensures ∙ ap (noted (length c.report_phase.new.self) Script) c.in_ok-reserve.ensures.items)
+    (report_phase_gives c.self.inside.store c.args.pod c.args.change.now).entry c.self.invariant c.in_ok-reply.ensures.1 (c.note.ensures ∙ ap (noted (length c.report_phase.new.self) Script) c.in_ok-reserve.ensures.items)
 
 pub returns : goal.returns
 returns c =
-    answered (λ l. report_phase_gives l c.args.pod c.args.phase) c.self.inside.store c.report_phase.new.self c.self.inside.writers.items
+    answered (λ l. report_phase_gives l c.args.pod c.args.change.now) c.self.inside.store c.report_phase.new.self c.self.inside.writers.items
     c.note.new.writers.items c.args.self.now (deeds_of c.report_phase.new.self (reverse c.note.new.writers.items)) Script
     c.in_ok-reply.reply c.self.view_is refl c.self.invariant c.in_ok-reply.ensures (c.note.ensures ∙ ap (noted (length c.report_phase.new.self) Script) c.in_ok-reserve.ensures.items)

@@ -1,7 +1,6 @@
-use Rattle.std.proofs.Common.{◌≡◌, ◌∙◌, ap, refl, length, filter}
+use Rattle.std.proofs.Common.{◌∙◌, ap, refl, length, filter}
 use Rattle.jc_play.specs.declared.ledger.Tally.{Tally}
 use Rattle.jc_play.specs.Outcomes.{is_success, is_failure}
-use Rattle.jc_play.specs.Ledger.{Record}
 use Rattle.jc_play.proofs.Tallies.{counted}
 use Rattle.jc_play.proofs.journal.Journal.verdicts.Goals as goal
 

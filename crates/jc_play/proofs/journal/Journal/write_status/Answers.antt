@@ -1,5 +1,4 @@
-use Rattle.std.proofs.Common.{◌∙◌, ap, List, length, refl, reverse}
-use Rattle.jc_types.specs.declared.objects.Entry.{Entry}
+use Rattle.std.proofs.Common.{◌∙◌, ap, length, refl, reverse}
 use Rattle.jc_types.specs.Api.{write_status_gives}
 use Rattle.jc_play.specs.Deeds.{deeds_of, noted}
 use Rattle.jc_play.proofs.Logs.{answered, all_written}

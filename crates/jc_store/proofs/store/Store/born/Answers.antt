@@ -1,5 +1,5 @@
 use Rattle.std.proofs.Common.{arith, reverse, ap, length}
-use Rattle.jc_store.proofs.Numbers.{births_within}
+use Rattle.jc_store.proofs.Births.{births_within}
 use Rattle.jc_store.proofs.store.Store.born.Goals as goal
 
 pub returns-clause-small : goal.returns-clause-small

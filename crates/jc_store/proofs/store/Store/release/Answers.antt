@@ -1,5 +1,7 @@
-use Rattle.jc_store.proofs.Known.{living-made}
+use Rattle.jc_store.proofs.Steps.{goes_from_pod, release_step}
 use Rattle.jc_store.proofs.store.Store.release.Goals as goal
 
-pub append_later-requires : goal.append_later-requires
-append_later-requires c = living-made c.args.pod c.args.self.now c.in-Some.found.now c.in-Some.ensures
+pub put_pod-requires-clause-step : goal.put_pod-requires-clause-step
+put_pod-requires-clause-step c =
+    goes_from_pod c.args.pod c.args.self.now c.in-Some.found.now c.in_ok-released.released c.in-Some.ensures
+    (release_step c.in-Some.found.now c.next_version-version.result c.in_ok-released.released c.in_ok-released.ensures)

@@ -1,6 +1,7 @@
-use Rattle.std.proofs.Common.{sym}
-use Rattle.jc_store.proofs.Known.{job_in-born}
+use Rattle.jc_store.proofs.Steps.{status_step, steps_from_job}
 use Rattle.jc_store.proofs.store.Store.write_status.Goals as goal
 
-pub append_later-requires : goal.append_later-requires
-append_later-requires c = job_in-born c.args.key.now c.args.self.now c.in-Some.job.now (sym c.in-Some.ensures)
+pub put_job-requires-clause-step : goal.put_job-requires-clause-step
+put_job-requires-clause-step c =
+    steps_from_job c.args.key.now c.args.self.now c.in-Some.job.now c.in_ok-changed.changed c.in-Some.ensures
+    (status_step c.in-Some.job.now c.next_version-version.result c.args.status.now c.in_ok-changed.changed c.in_ok-changed.ensures)

@@ -1,0 +1,140 @@
+//! The rules of a failure policy and the first that matches.
+
+ghost use Rattle.std.specs.Prelude.{◌≡◌};
+ghost use Rattle.std.specs.List.{list_any};
+ghost use Rattle.jc_failpol.specs.Rules.{action_of, as_u32, code_meets, finds, has_code, has_condition, looks_at, matches, meets, place_of, same_truth};
+
+use jc_types::{
+    Action, Codes, Container, FailurePolicy, FailureRule, Name, Operator, Pattern, Patterns, Pod,
+    Requirement, Truth,
+};
+
+/// Whether an exit code is one of the values, or none of them.
+fn is_met(operator: Operator, values: &Codes, code: i32) -> bool
+    ensures { result ≡ meets operator values.now code }
+{
+    let is_value = values.as_slice().contains(&code);
+    match operator {
+        Operator::Within => is_value,
+        Operator::NotWithin => !is_value,
+    }
+}
+
+/// Whether a rule on exit codes looks at the container: it has ended with a code that is not 0, and the
+/// rule names it or none.
+fn is_looked_at(only: &Option<Name>, container: &Container) -> bool
+    ensures { result ≡ looks_at only.now container.now }
+{
+    match container.exit {
+        None => false,
+        Some(0) => false,
+        Some(_) => match only {
+            None => true,
+            Some(name) => container.name == *name,
+        },
+    }
+}
+
+/// Whether the exit code of a container meets the operator.
+fn is_code_met(operator: Operator, values: &Codes, container: &Container) -> bool
+    ensures { result ≡ code_meets operator values.now container.now.exit }
+{
+    match container.exit {
+        None => false,
+        Some(code) => is_met(operator, values, code),
+    }
+}
+
+/// Whether both are the same status of a condition.
+fn is_same_truth(left: Truth, right: Truth) -> bool
+    ensures { result ≡ same_truth left right }
+{
+    match (left, right) {
+        (Truth::True, Truth::True) => true,
+        (Truth::False, Truth::False) => true,
+        (Truth::Unknown, Truth::Unknown) => true,
+        _ => false,
+    }
+}
+
+/// Whether the pattern looks for the condition: the same type and the same status.
+fn is_found(pattern: &Pattern, condition: &Pattern) -> bool
+    ensures { result ≡ finds pattern.now condition.now }
+{
+    condition.kind.as_str() == pattern.kind.as_str()
+        && is_same_truth(condition.truth, pattern.truth)
+}
+
+/// Whether a container that the rule looks at has an exit code that meets the operator.
+fn shows_code(pod: &Pod, only: &Option<Name>, operator: Operator, values: &Codes) -> bool
+    ensures { result ≡ has_code only.now operator values.now pod.now.containers }
+{
+    pod.containers.as_slice().iter().any(|one| is_looked_at(only, one)
+        && is_code_met(operator, values, one))
+}
+
+/// Whether one of the pod's conditions is what the pattern looks for.
+fn shows_condition(pod: &Pod, pattern: &Pattern) -> bool
+    ensures { result ≡ has_condition pattern.now pod.now.conditions }
+{
+    pod.conditions
+        .as_slice()
+        .iter()
+        .any(|condition| is_found(pattern, condition))
+}
+
+/// Whether one of the patterns looks for one of the pod's conditions.
+fn shows_one_of(pod: &Pod, patterns: &Patterns) -> bool
+    ensures { result ≡ list_any (λ pattern. has_condition pattern pod.now.conditions) patterns.now }
+{
+    patterns
+        .as_slice()
+        .iter()
+        .any(|pattern| shows_condition(pod, pattern))
+}
+
+/// Whether the pod shows what the rule asks for.
+fn is_match(rule: &FailureRule, pod: &Pod) -> bool
+    ensures { result ≡ matches rule.now pod.now }
+{
+    match &rule.requirement {
+        Requirement::ExitCodes {
+            container,
+            operator,
+            values,
+        } => shows_code(pod, container, *operator, values),
+        Requirement::Conditions { patterns } => shows_one_of(pod, patterns),
+    }
+}
+
+/// The place of the first rule that matches.
+fn first_match(policy: &FailurePolicy, pod: &Pod) -> Option<usize>
+    ensures { result ≡ place_of policy.now pod.now }
+{
+    policy
+        .rules
+        .as_slice()
+        .iter()
+        .position(|rule| is_match(rule, pod))
+}
+
+/// What a failure policy does with a failed pod (KEP-3329): the action of the first rule that matches,
+/// and `Count` where none does. With it the place of that rule among the policy's rules, counted
+/// from 0; a place from 2^32 on is not given.
+///
+/// A rule on exit codes looks at the containers and init containers that ended with a code other than
+/// 0, and of these at the named one alone where it names one. It matches where one of those codes
+/// meets the operator. A rule on conditions matches where one of its patterns has the type and the
+/// status of one of the pod's conditions.
+pub fn action(policy: &FailurePolicy, pod: &Pod) -> (Action, Option<u32>)
+    ensures action { result.0 ≡ action_of policy.now pod.now }
+    ensures place { result.1 ≡ as_u32 (place_of policy.now pod.now) }
+{
+    match first_match(policy, pod) {
+        None => (Action::Count, None),
+        Some(place) => (
+            policy.rules.as_slice()[place].action,
+            u32::try_from(place).ok(),
+        ),
+    }
+}

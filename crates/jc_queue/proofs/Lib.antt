@@ -1,0 +1,4 @@
+pub mod CallFacts
+pub mod DelayFacts
+pub mod QueueFacts
+pub mod Steps

@@ -1,0 +1,7 @@
+use Rattle.std.proofs.Common.{◌≡◌, take}
+use Rattle.jc_queue.specs.Calls.{after, keys_got}
+use Rattle.jc_queue.proofs.calls.run.Given as goal
+
+-- The calls so far are made.
+abbrev pub invariant-loop-call : goal.invariant-loop-call
+invariant-loop-call l = (l.queue ≡ after l.fn.queue (take l.call-index l.calls)) × (l.keys.items ≡ keys_got l.fn.queue (take l.call-index l.calls))

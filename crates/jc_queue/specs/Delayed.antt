@@ -1,0 +1,91 @@
+-- The delays of keys as two tables, and what each call leaves of them.
+--     Delayed                  the moments at which keys are due, and their counts of failures
+--     delayed d k m            the key is due at m, or at its earlier moment
+--     failures_after d k       the key's count with one more failure, at most 7
+--     seconds_after n          the seconds to wait after n failures
+--     failed d k               with one more failure of the key
+--     retried d k now          the same, and the key due after the seconds to wait, unless that is past the last moment
+--     forgotten d k            without the count of the key
+--     is_before a b            the row a is due before the row b: at an earlier moment, or at the same with a lesser key
+--     first_of rows            the row that is due first
+--     due_key d now            the key that is due first, where its moment has come
+--     left_by d due            without the moment of the key that was due
+use Rattle.std.specs.Prelude.{ℕ, ◌+◌, ◌-◌, ◌^◌, Bool, ◌&&◌, ◌||◌, ◌==◌, nat_lt, nat_le, List, [], ◌∷◌, Option, Some, None, min, if◌then◌else◌}
+use Rattle.std.specs.Cmp.Lexicographic.{slice_cmp}
+use Rattle.std.specs.Option.{unwrap_or}
+use Rattle.std.specs.Ordering.{is_lt, nat_cmp, ordering_then}
+use Rattle.std.specs.declared.cmp.Ordering.{Ordering}
+use Rattle.jc_moment.specs.Range.{end_of_moments}
+use Rattle.jc_types.specs.declared.objects.Key.{Key}
+use Rattle.jc_types.specs.Keys.{same_key}
+use Rattle.jc_types.specs.Tables.{at, puts, takes}
+
+-- The moment at which each key is due, and how often in a row each key has failed.
+pub record Delayed : Type 0 where
+  pub moments : List (Key × ℕ)
+  pub failures : List (Key × ℕ)
+
+-- The moment, or the one that is there already where that is earlier.
+abbrev pub earlier : Option ℕ → ℕ → ℕ
+earlier None moment = moment
+earlier (Some there) moment = min there moment
+
+-- The key is due at the moment, or at its earlier one.
+abbrev pub delayed : Delayed → Key → ℕ → Delayed
+delayed d k moment = record { moments = puts same_key d.moments k (earlier (at same_key d.moments k) moment); failures = d.failures }
+
+-- The key's count with one more failure, at most 7.
+abbrev pub failures_after : Delayed → Key → ℕ
+failures_after d k = min (unwrap_or (at same_key d.failures k) 0 + 1) 7
+
+-- The seconds to wait after n failures in a row: twice as many after each, from 1 on, and at most 60.
+abbrev pub seconds_after : ℕ → ℕ
+seconds_after n = min (2 ^ (n - 1)) 60
+
+-- With one more failure of the key.
+abbrev pub failed : Delayed → Key → Delayed
+failed d k = record { moments = d.moments; failures = puts same_key d.failures k (failures_after d k) }
+
+-- The key is due at the moment, or at its earlier one; a moment past the last one is not added.
+abbrev pub delayed_within : Delayed → Key → ℕ → Delayed
+delayed_within d k moment = if nat_lt moment end_of_moments then delayed d k moment else d
+
+-- With one more failure of the key, which is due after the seconds to wait.
+abbrev pub retried : Delayed → Key → ℕ → Delayed
+retried d k now = delayed_within (failed d k) k (now + seconds_after (failures_after d k))
+
+-- Without the count of the key.
+abbrev pub forgotten : Delayed → Key → Delayed
+forgotten d k = record { moments = d.moments; failures = takes same_key d.failures k }
+
+-- The order of keys: by namespace and then by name, byte by byte.
+abbrev pub key_order : Key → Key → Ordering
+key_order a b = ordering_then (slice_cmp nat_cmp a.namespace b.namespace) (slice_cmp nat_cmp a.name b.name)
+
+-- The row a is due before the row b: at an earlier moment, or at the same with a lesser key.
+abbrev pub is_before : Key × ℕ → Key × ℕ → Bool
+is_before a b = nat_lt a.1 b.1 || (a.1 == b.1) && is_lt (key_order a.0 b.0)
+
+-- Of the row and another, where there is one, the one that is due first.
+abbrev pub sooner : Key × ℕ → Option (Key × ℕ) → Key × ℕ
+sooner row None = row
+sooner row (Some other) = if is_before other row then other else row
+
+-- The row that is due first.
+abbrev pub first_of : List (Key × ℕ) → Option (Key × ℕ)
+first_of [] = None
+first_of (row ∷ rows) = Some (sooner row (first_of rows))
+
+-- The key of the row, where its moment has come.
+abbrev pub key_by : Option (Key × ℕ) → ℕ → Option Key
+key_by None now = None
+key_by (Some row) now = if nat_le row.1 now then Some row.0 else None
+
+-- The key that is due first, where its moment has come.
+abbrev pub due_key : Delayed → ℕ → Option Key
+due_key d now = key_by (first_of d.moments) now
+
+-- Without the moment of the key that was due.
+abbrev pub left_by : Delayed → Option Key → Delayed
+left_by d None = d
+left_by d (Some k) = record { moments = takes same_key d.moments k; failures = d.failures }

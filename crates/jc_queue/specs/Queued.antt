@@ -1,0 +1,56 @@
+-- A work queue as three lists of keys, and what each call leaves of it.
+--     Queued             the line, the dirty keys and the keys that are processing
+--     is_in k keys       one of the keys is k
+--     without k keys     the keys without k
+--     added q k          a key that is not dirty becomes dirty and, where it is not processing, goes last
+--     got q              the first key of the line is processing, and dirty no more
+--     finished q k       the key is processing no more; where it is dirty it goes last
+--     IsQueue q          no key stands twice, and just the dirty keys that are not processing are in line
+use Rattle.std.specs.Prelude.{◌≡◌, Bool, not, ◌&&◌, List, [], ◌∷◌, ◌++◌, if◌then◌else◌}
+use Rattle.std.specs.List.{IsDistinct}
+use Rattle.std.specs.Set.{is_member, remove_key}
+use Rattle.jc_types.specs.declared.objects.Key.{Key}
+use Rattle.jc_types.specs.Keys.{same_key}
+
+-- The keys that wait in line, those that were added since they were last got, and those that were got and
+-- are not done.
+pub record Queued : Type 0 where
+  pub line : List Key
+  pub dirty : List Key
+  pub processing : List Key
+
+-- One of the keys is k.
+abbrev pub is_in : Key → List Key → Bool
+is_in k keys = is_member same_key keys k
+
+-- The keys without k.
+abbrev pub without : Key → List Key → List Key
+without k keys = remove_key (same_key k) keys
+
+-- A key that is dirty changes nothing. Another becomes dirty and, where it is not processing, goes to the
+-- line's end.
+abbrev pub added : Queued → Key → Queued
+added q k =
+    if is_in k q.dirty then q
+    else record { line = if is_in k q.processing then q.line else q.line ++ k ∷ []; dirty = q.dirty ++ k ∷ []; processing = q.processing }
+
+-- The first key of this line leaves it, is dirty no more, and is processing.
+abbrev pub got_first : List Key → Queued → Queued
+got_first [] q = q
+got_first (k ∷ rest) q = record { line = rest; dirty = without k q.dirty; processing = q.processing ++ k ∷ [] }
+
+-- The first key of the line is processing, and dirty no more. An empty line changes nothing.
+abbrev pub got : Queued → Queued
+got q = got_first q.line q
+
+-- The key is processing no more; where it is dirty it goes to the line's end.
+abbrev pub finished : Queued → Key → Queued
+finished q k =
+    record { line = if is_in k q.dirty then q.line ++ k ∷ [] else q.line; dirty = q.dirty; processing = without k q.processing }
+
+-- No key stands twice, and a key is in line just where it is dirty and not processing.
+pub record IsQueue (q : Queued) : Type 0 where
+  pub line_once : IsDistinct same_key q.line
+  pub dirty_once : IsDistinct same_key q.dirty
+  pub processing_once : IsDistinct same_key q.processing
+  pub waiting : (k : Key) → is_in k q.line ≡ (is_in k q.dirty && not (is_in k q.processing))

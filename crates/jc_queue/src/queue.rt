@@ -1,0 +1,150 @@
+//! The work queue: a line of keys without repeats, the dirty keys, and those that are processing.
+
+ghost use Rattle.std.specs.Prelude.{◌≡◌, ◌+◌, [], IfSome, OnErr, OnOk, false, length, position, slice_get, true};
+ghost use Rattle.std.specs.Option.{option_copied};
+ghost use Rattle.std.specs.Vec.{vec_capacity, vec_len};
+ghost use Rattle.jc_types.specs.Keys.{same_key};
+ghost use Rattle.jc_queue.specs.Queued.{IsQueue, added, finished, got, is_in, without};
+
+use indexmap::IndexSet;
+use jc_types::{Copied, Key, Want};
+use std::alloc::Global;
+use std::collections::VecDeque;
+use std::marker::Model;
+
+/// A work queue. A key that was added is dirty until it is got, and a key that was got is processing
+/// until it is done. The line holds the dirty keys that are not processing.
+#[derive(Drop)]
+pub struct Queue {
+    line: VecDeque<Key>,
+    dirty: IndexSet<Key>,
+    // Few: at most one for each worker.
+    processing: Vec<Key>,
+}
+
+impl Model for Queue {
+    ghost use Rattle.std.specs.Prelude.{◌+◌, ◌≤◌};
+    ghost use Rattle.std.specs.Vec.{vec_capacity, vec_len};
+    ghost use Rattle.std.specs.VecDeque.{deque_capacity, deque_len};
+    ghost use Rattle.jc_queue.specs.Queued.{IsQueue, Queued};
+
+    ghost Value = { Queued };
+
+    ghost view = { λ q. record { line = q.line.items; dirty = q.dirty.keys; processing = q.processing.items } };
+
+    // A key in line may come to be processing, and a processing key may come into line, with no memory.
+    ghost invariant = { λ q. IsQueue (record { line = q.line.items; dirty = q.dirty.keys; processing = q.processing.items }) × (deque_len q.line + vec_len q.processing ≤ deque_capacity q.line) × (deque_len q.line + vec_len q.processing ≤ vec_capacity q.processing) };
+}
+
+impl Queue {
+    /// The empty queue. It takes no memory.
+    pub fn new(alloc: Global) -> Self
+        ensures { result ≡ record { line = []; dirty = []; processing = [] } }
+    {
+        Queue {
+            line: VecDeque::new(alloc),
+            dirty: IndexSet::new(alloc),
+            processing: Vec::new(alloc),
+        }
+    }
+
+    /// Adds a key. A key that is dirty changes nothing; another becomes dirty and, where it is not
+    /// processing, goes to the line's end. The memory that `get` and `done` need is taken here.
+    ///
+    /// # Errors
+    /// `Want` where there is no memory for it; the queue is then as before.
+    pub fn add(&mut self, key: &Key) -> Result<(), Want>
+        ensures added { OnOk result (self.new ≡ added self.old key.now) }
+        ensures kept { OnErr result (self.new ≡ self.old) }
+    {
+        if self.dirty.contains(key) {
+            return Ok(());
+        }
+        if is_among(&self.processing, key) {
+            self.dirty.insert(key.copy()?)?;
+            return Ok(());
+        }
+        let waiting = key.copy()?;
+        self.line.reserve(self.processing.len() + 1)?;
+        self.processing.reserve(self.line.len() + 1)?;
+        self.dirty.insert(key.copy()?)?;
+        self.line.push_back_reserved(waiting);
+        Ok(())
+    }
+
+    /// Takes the first key from the line; it is then processing, and dirty no more. `None` exactly where
+    /// the line is empty. It takes no memory.
+    pub fn get(&mut self) -> Option<Key>
+        ensures first { result ≡ slice_get self.old.line 0 }
+        ensures got { self.new ≡ got self.old }
+        ensures apart { IfSome result (λ k. is_in k self.old.processing ≡ false) }
+    {
+        let key = self.line.pop_front()?;
+        let Some(held) = self.dirty.shift_take(&key) else {
+            unreachable!()
+        };
+        self.processing.push_reserved(held);
+        Some(key)
+    }
+
+    /// Ends the processing of a key; where it is dirty it goes to the line's end. It takes no memory.
+    pub fn done(&mut self, key: Key)
+        requires processing { is_in key self.old.processing ≡ true }
+        ensures finished { self.new ≡ finished self.old key }
+    {
+        take_out(&mut self.processing, &key);
+        if self.dirty.contains(&key) {
+            self.line.push_back_reserved(key);
+        }
+    }
+
+    /// The first key of the line; `None` exactly where the line is empty.
+    pub fn first(&self) -> Option<&Key>
+        ensures first { option_copied result ≡ slice_get self.now.line 0 }
+        ensures apart { IfSome result (λ k. is_in k.now self.now.processing ≡ false) }
+    {
+        self.line.front()
+    }
+
+    /// The number of keys in line.
+    pub fn len(&self) -> usize
+        ensures count { result ≡ length self.now.line }
+        ensures queue { IsQueue self.now }
+    {
+        self.line.len()
+    }
+
+    // The key that has been processing for longest.
+    pub(crate) fn oldest(&self) -> Option<&Key>
+        ensures { option_copied result ≡ slice_get self.now.processing 0 }
+    {
+        self.processing.first()
+    }
+}
+
+// Whether the key is among the keys.
+fn is_among(keys: &[Key], key: &Key) -> bool
+    ensures { result ≡ is_in key.now keys.now }
+{
+    keys.iter().any(|other| *key == *other)
+}
+
+// The place of the key among the keys.
+fn place_of(keys: &[Key], key: &Key) -> Option<usize>
+    ensures { result ≡ position (same_key key.now) keys.now }
+{
+    keys.iter().position(|other| *key == *other)
+}
+
+// Takes the key out of the keys.
+fn take_out(keys: &mut Vec<Key>, key: &Key)
+    requires there { is_in key.now keys.old.items ≡ true }
+    ensures items { keys.new.items ≡ without key.now keys.old.items }
+    ensures count { vec_len keys.new + 1 ≡ vec_len keys.old }
+    ensures capacity { vec_capacity keys.new ≡ vec_capacity keys.old }
+{
+    let Some(place) = place_of(keys, key) else {
+        unreachable!()
+    };
+    keys.remove(place);
+}

@@ -1,0 +1,10 @@
+-- What the law on the first rule that is met speaks of.
+--     IsLeast test xs n      n is the least place at which the test passes
+use Rattle.std.specs.Prelude.{◌≡◌, ℕ, ◌<◌, Bool, true, false, List, length}
+use Rattle.std.specs.List.{HoldsAt, AllWithin}
+
+-- n is the least place at which the test passes.
+pub record IsLeast {X : Type 0} (test : X → Bool) (xs : List X) (n : ℕ) : Type 0 where
+  pub within : n < length xs
+  pub passes : HoldsAt (λ x. test x ≡ true) xs n
+  pub least : AllWithin (λ x. test x ≡ false) xs 0 n

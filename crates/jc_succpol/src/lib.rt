@@ -1,0 +1,12 @@
+//! The success policy of an Indexed Job (KEP-3998): which of its rules the completed indexes meet.
+#![tactic(auto)]
+
+mod counting;
+mod laws;
+mod rules;
+
+pub use laws::first_met_decides;
+pub use rules::met;
+
+#[cfg(test)]
+mod tests;

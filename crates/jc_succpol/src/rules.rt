@@ -1,0 +1,45 @@
+//! The rules of a success policy and the first that is met.
+
+ghost use Rattle.std.specs.Prelude.{◌≡◌};
+ghost use Rattle.jc_succpol.specs.Rules.{as_u32, is_met, place_of};
+
+use crate::counting::{are_all_completed, completed_within};
+use jc_ranges::Ranges;
+use jc_types::{SuccessPolicy, SuccessRule};
+
+/// Whether the completed indexes meet the rule.
+fn is_rule_met(rule: &SuccessRule, completed: &Ranges) -> bool
+    ensures { result ≡ is_met rule.now completed.now }
+{
+    match (&rule.indexes, rule.count) {
+        (None, None) => false,
+        (Some(indexes), None) => are_all_completed(completed, indexes),
+        (None, Some(count)) => count <= completed.len(),
+        (Some(indexes), Some(count)) => count <= completed_within(indexes, completed),
+    }
+}
+
+/// The place of the first rule that is met.
+fn first_met(policy: &SuccessPolicy, completed: &Ranges) -> Option<usize>
+    ensures { result ≡ place_of policy.now completed.now }
+{
+    policy
+        .rules
+        .as_slice()
+        .iter()
+        .position(|rule| is_rule_met(rule, completed))
+}
+
+/// The place among a success policy's rules, counted from 0, of the first that the completed indexes
+/// meet (KEP-3998), and none where none is met; a place from 2^32 on is not given.
+///
+/// A rule with indexes alone needs all of them. A rule with a count alone needs that many completed
+/// indexes, and one with both needs that many of its own. A rule with neither is never met.
+pub fn met(policy: &SuccessPolicy, completed: &Ranges) -> Option<u32>
+    ensures { result ≡ as_u32 (place_of policy.now completed.now) }
+{
+    match first_met(policy, completed) {
+        None => None,
+        Some(place) => u32::try_from(place).ok(),
+    }
+}

@@ -1,0 +1,129 @@
+//! Rows by key, in the order in which their keys came.
+
+ghost use Rattle.std.specs.Prelude.{◌≡◌, ◌<◌, ◌^◌, ◌↔◌, [], IsSome, IsTrue, None, OnErr, OnOk, Some, is_some, length, map, slice_get};
+ghost use Rattle.std.specs.Map.Iter.{ShowsInOrder, deref, deref_pair};
+ghost use Rattle.std.specs.Option.{option_copied, option_map};
+ghost use Rattle.jc_types.specs.Tables.{at, puts, takes, Sets};
+
+use indexmap::IndexMap;
+use indexmap::map::Values;
+use jc_types::Want;
+use std::alloc::Global;
+use std::hash::Hash;
+use std::marker::Model;
+
+/// A table: rows of a key and a value, each key in one row. A new key's row goes last, a value that is
+/// written again stays in its place, and a row that is taken leaves the others in their order.
+#[derive(Drop)]
+pub struct Table<K: Eq + Hash, V> {
+    rows: IndexMap<K, V>,
+}
+
+impl<K: Eq + Hash, V> Model for Table<K, V> {
+    ghost use Rattle.std.specs.Prelude.{List};
+
+    ghost Value = { List (K × V) };
+
+    ghost view = { λ t. t.rows.entries };
+}
+
+impl<K: Eq + Hash, V> Table<K, V> {
+    /// The empty table. It takes no memory.
+    pub fn new(alloc: Global) -> Self
+        ensures { result ≡ [] }
+    {
+        Table {
+            rows: IndexMap::new(alloc),
+        }
+    }
+
+    /// The number of rows.
+    pub fn len(&self) -> usize
+        ensures { result ≡ length self.now }
+    {
+        self.rows.len()
+    }
+
+    /// Whether there is no row.
+    pub fn is_empty(&self) -> bool
+        ensures { IsTrue result ↔ (length self.now ≡ 0) }
+    {
+        self.rows.is_empty()
+    }
+
+    /// The value at the key; `None` exactly where no row has the key.
+    pub fn get(&self, key: &K) -> Option<&V>
+        ensures { option_copied result ≡ at K.eq self.now key.now }
+    {
+        self.rows.get(key)
+    }
+
+    /// Whether a row has the key.
+    pub fn contains(&self, key: &K) -> bool
+        ensures { result ≡ is_some (at K.eq self.now key.now) }
+    {
+        self.rows.contains_key(key)
+    }
+
+    /// The row of this place, counted from 0; `None` exactly from the number of rows on.
+    pub fn row(&self, place: usize) -> Option<(&K, &V)>
+        ensures row { option_map deref_pair result ≡ slice_get self.now place }
+        ensures found { IsSome result ↔ (place < length self.now) }
+    {
+        self.rows.get_index(place)
+    }
+
+    /// All values, in the order of the rows.
+    pub fn values(&self) -> Values<'_, K, V>
+        ensures values { result ≡ map (λ row. row.1) self.now }
+        ensures runs { ShowsInOrder (deref {X = V}) }
+        ensures fits { length self.now < 2 ^ 63 }
+    {
+        self.rows.values()
+    }
+}
+
+impl<K: Eq + Hash + Drop, V: Drop> Table<K, V> {
+    /// Writes the value at the key: in the place of the one that is there, or in a new row at the end.
+    ///
+    /// # Errors
+    /// `Want` where there is no memory for a new row; the table is then as before.
+    pub fn put(&mut self, key: K, value: V) -> Result<(), Want>
+        ensures sets { OnOk result (Sets K.eq self.old self.new key (Some value)) }
+        ensures puts { OnOk result (self.new ≡ puts K.eq self.old key value) }
+        ensures kept { OnErr result (self.new ≡ self.old) }
+        ensures new_key { OnErr result (at K.eq self.old key ≡ None) }
+    {
+        self.rows.insert(key, value)?;
+        Ok(())
+    }
+
+    /// Writes the value at a key that is there. It takes no memory.
+    pub fn replace(&mut self, key: &K, value: V)
+        requires { IsSome (at K.eq self.old key.now) }
+        ensures sets { Sets K.eq self.old self.new key.now (Some value) }
+        ensures puts { self.new ≡ puts K.eq self.old key.now value }
+    {
+        let Some(place) = self.rows.get_mut(key) else {
+            unreachable!()
+        };
+        *place = value;
+    }
+
+    /// Takes the row of the key out, and hands over its value; `None` exactly where no row has the key.
+    /// The other rows stay in their order.
+    pub fn take(&mut self, key: &K) -> Option<V>
+        ensures taken { result ≡ at K.eq self.old key.now }
+        ensures sets { Sets K.eq self.old self.new key.now None }
+        ensures rows { self.new ≡ takes K.eq self.old key.now }
+    {
+        self.rows.shift_remove(key)
+    }
+
+    /// Takes all rows out.
+    pub fn clear(&mut self)
+        ensures { self.new ≡ [] }
+    {
+        self.rows.clear();
+    }
+}

@@ -1,0 +1,145 @@
+//! Pods by UID, in ascending UID.
+
+ghost use Rattle.std.specs.Prelude.{◌≡◌, ◌<◌, ◌^◌, ◌↔◌, [], IsSome, IsTrue, None, OnErr, OnOk, find, length, nat_le, slice_get};
+ghost use Rattle.std.specs.Map.Iter.{ShowsInOrder, deref};
+ghost use Rattle.std.specs.Option.{option_copied};
+ghost use Rattle.jc_types.specs.declared.objects.Pod.{Pod};
+ghost use Rattle.jc_types.specs.Keys.{same_uid};
+ghost use Rattle.jc_types.specs.Log.{IsRising, drop_pod, put_pod};
+ghost use Rattle.jc_table.specs.Rows.{IsInOrder, place_from, pods_of};
+
+use indexmap::IndexMap;
+use indexmap::map::Values;
+use jc_types::{Pod, Uid, Want};
+use std::alloc::Global;
+use std::marker::Model;
+
+/// Pods in ascending UID, none twice.
+#[derive(Drop)]
+pub struct PodTable {
+    // Each pod in the row of its UID, in ascending UID.
+    rows: IndexMap<Uid, Pod>,
+}
+
+impl Model for PodTable {
+    ghost use Rattle.std.specs.Prelude.{List};
+    ghost use Rattle.jc_types.specs.declared.objects.Pod.{Pod};
+    ghost use Rattle.jc_table.specs.Rows.{pods_of, IsInOrder};
+
+    ghost Value = { List Pod };
+
+    ghost view = { λ t. pods_of t.rows.entries };
+
+    ghost invariant = { λ t. IsInOrder t.rows.entries };
+}
+
+/// The place of the first pod whose UID is at least this one, found by halving.
+fn place_from(rows: &IndexMap<Uid, Pod>, uid: Uid) -> usize
+    requires { IsInOrder rows.now.entries }
+    ensures { result ≡ place_from uid (pods_of rows.now.entries) }
+{
+    rows.partition_point(|row_uid, _pod| row_uid.0 < uid.0)
+}
+
+impl PodTable {
+    /// The empty table. It takes no memory.
+    pub fn new(alloc: Global) -> Self
+        ensures { result ≡ [] }
+    {
+        PodTable {
+            rows: IndexMap::new(alloc),
+        }
+    }
+
+    /// The number of pods.
+    pub fn len(&self) -> usize
+        ensures count { result ≡ length self.now }
+        ensures rising { IsRising self.now }
+    {
+        self.rows.len()
+    }
+
+    /// Whether there is no pod.
+    pub fn is_empty(&self) -> bool
+        ensures { IsTrue result ↔ (length self.now ≡ 0) }
+    {
+        self.rows.is_empty()
+    }
+
+    /// The pod of the UID; `None` exactly where none has it.
+    pub fn get(&self, uid: Uid) -> Option<&Pod>
+        ensures { option_copied result ≡ find (λ pod. same_uid pod.uid uid) self.now }
+    {
+        self.rows.get(&uid)
+    }
+
+    /// The pod with the least UID from this one on; `None` exactly where all are below it.
+    pub fn at_or_after(&self, uid: Uid) -> Option<&Pod>
+        ensures { option_copied result ≡ find (λ pod. nat_le uid.0 pod.uid.0) self.now }
+    {
+        self.place(place_from(&self.rows, uid))
+    }
+
+    /// The pod of this place, counted from 0; `None` exactly from the number of pods on.
+    pub fn place(&self, place: usize) -> Option<&Pod>
+        ensures { option_copied result ≡ slice_get self.now place }
+    {
+        let (_uid, pod) = self.rows.get_index(place)?;
+        Some(pod)
+    }
+
+    /// All pods, in ascending UID.
+    pub fn values(&self) -> Values<'_, Uid, Pod>
+        ensures pods { result ≡ self.now }
+        ensures runs { ShowsInOrder (deref {X = Pod}) }
+        ensures fits { length self.now < 2 ^ 63 }
+    {
+        self.rows.values()
+    }
+
+    /// Writes a pod: in the place of the one of its UID, or before the first of a greater UID.
+    ///
+    /// # Errors
+    /// `Want` where there is no memory for a new row; the table is then as before.
+    pub fn put(&mut self, pod: Pod) -> Result<(), Want>
+        ensures puts { OnOk result (self.new ≡ put_pod pod self.old) }
+        ensures kept { OnErr result (self.new ≡ self.old) }
+        ensures new_uid { OnErr result (find (λ p. same_uid p.uid pod.uid) self.old ≡ None) }
+    {
+        let uid = pod.uid;
+        if self.rows.contains_key(&uid) {
+            self.replace(pod);
+            return Ok(());
+        }
+        let place = place_from(&self.rows, uid);
+        self.rows.shift_insert(place, uid, pod)?;
+        Ok(())
+    }
+
+    /// Writes a pod in the place of the one of its UID. It takes no memory.
+    pub fn replace(&mut self, pod: Pod)
+        requires { IsSome (find (λ p. same_uid p.uid pod.uid) self.old) }
+        ensures { self.new ≡ put_pod pod self.old }
+    {
+        let uid = pod.uid;
+        let Some(place) = self.rows.get_mut(&uid) else {
+            unreachable!()
+        };
+        *place = pod;
+    }
+
+    /// Takes the pod of the UID out; `None` exactly where none has it. It takes no memory.
+    pub fn take(&mut self, uid: Uid) -> Option<Pod>
+        ensures taken { result ≡ find (λ pod. same_uid pod.uid uid) self.old }
+        ensures drops { self.new ≡ drop_pod uid self.old }
+    {
+        self.rows.shift_remove(&uid)
+    }
+
+    /// Takes all pods out.
+    pub fn clear(&mut self)
+        ensures { self.new ≡ [] }
+    {
+        self.rows.clear();
+    }
+}

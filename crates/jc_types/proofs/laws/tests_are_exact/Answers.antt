@@ -1,0 +1,18 @@
+use Rattle.jc_types.proofs.SameFacts.{status-exact}
+use Rattle.jc_types.proofs.SameObjects.{spec-exact, job-exact, pod-exact, basis-exact}
+use Rattle.jc_types.proofs.laws.tests_are_exact.Goals as goal
+
+pub returns-clause-status : goal.returns-clause-status
+returns-clause-status c = status-exact
+
+pub returns-clause-spec : goal.returns-clause-spec
+returns-clause-spec c = spec-exact
+
+pub returns-clause-job : goal.returns-clause-job
+returns-clause-job c = job-exact
+
+pub returns-clause-pod : goal.returns-clause-pod
+returns-clause-pod c = pod-exact
+
+pub returns-clause-basis : goal.returns-clause-basis
+returns-clause-basis c = basis-exact

@@ -1,0 +1,109 @@
+//! The specification of a Job (`JobSpec` of batch/v1).
+
+use crate::copying::{Copied, Same, Want};
+use crate::policies::{FailurePolicy, SuccessPolicy};
+use crate::texts::Names;
+
+/// How the completions of a Job are counted (`completionMode`, KEP-2214).
+#[derive(Clone, Copy, PartialEq, Eq, Debug)]
+pub enum Mode {
+    /// By the number of succeeded pods.
+    NonIndexed,
+    /// By index: each completion has a pod of its own.
+    Indexed,
+}
+
+/// When a pod is replaced (`podReplacementPolicy`).
+#[derive(Clone, Copy, PartialEq, Eq, Debug)]
+pub enum Replacement {
+    /// As soon as it is marked for deletion or has failed.
+    TerminatingOrFailed,
+    /// Only once it has failed (`Failed`).
+    FailedOnly,
+}
+
+/// What becomes of a container that exits (`restartPolicy`).
+#[derive(Clone, Copy, PartialEq, Eq, Debug)]
+pub enum Restart {
+    Never,
+    OnFailure,
+}
+
+/// What the pods of a Job are made from.
+#[derive(Drop)]
+pub struct Template {
+    pub restart: Restart,
+    /// The names of the containers.
+    pub containers: Names,
+    /// The names of the init containers.
+    pub inits: Names,
+}
+
+/// The wanted state of a Job.
+#[derive(Drop)]
+pub struct JobSpec {
+    /// How many pods may run at once.
+    pub parallelism: u32,
+    /// How many completions are wanted; none makes a work queue Job.
+    pub completions: Option<u32>,
+    pub mode: Mode,
+    pub suspend: bool,
+    /// The number of failed pods above which the Job fails.
+    pub backoff_limit: u32,
+    /// Seconds from the start time on (`activeDeadlineSeconds`).
+    pub deadline: Option<u32>,
+    pub replacement: Replacement,
+    pub failure: Option<FailurePolicy>,
+    pub success: Option<SuccessPolicy>,
+    pub template: Template,
+}
+
+impl Copied for Template {
+    fn copy(&self) -> Result<Self, Want> {
+        Ok(Template {
+            restart: self.restart,
+            containers: self.containers.copy()?,
+            inits: self.inits.copy()?,
+        })
+    }
+}
+
+impl Copied for JobSpec {
+    fn copy(&self) -> Result<Self, Want> {
+        Ok(JobSpec {
+            parallelism: self.parallelism,
+            completions: self.completions,
+            mode: self.mode,
+            suspend: self.suspend,
+            backoff_limit: self.backoff_limit,
+            deadline: self.deadline,
+            replacement: self.replacement,
+            failure: self.failure.copy()?,
+            success: self.success.copy()?,
+            template: self.template.copy()?,
+        })
+    }
+}
+
+impl Same for Template {
+    fn is_same(&self, other: &Self) -> bool {
+        self.restart == other.restart
+            && self.containers.is_same(&other.containers)
+            && self.inits.is_same(&other.inits)
+    }
+}
+
+impl Same for JobSpec {
+    fn is_same(&self, other: &Self) -> bool {
+        self.parallelism == other.parallelism
+            && self.completions == other.completions
+            && self.mode == other.mode
+            && self.suspend == other.suspend
+            && self.backoff_limit == other.backoff_limit
+            && self.deadline == other.deadline
+            && self.replacement == other.replacement
+            && self.failure.is_same(&other.failure)
+            && self.success.is_same(&other.success)
+            && self.template.is_same(&other.template)
+    }
+}

@@ -1,0 +1,130 @@
+//! What a sync of the Job controller starts from, and what it counts.
+
+use crate::copying::{Copied, Same, Want};
+use crate::lists::ListOf;
+use crate::numbers::{Uid, Uids, Version};
+use crate::objects::{Job, Key, Pods};
+use jc_moment::Moment;
+use jc_ranges::Ranges;
+
+/// Completion indexes of pods to make; none for a pod of a Job that is not Indexed.
+pub type Indexes = ListOf<Option<u32>>;
+
+/// Pods, each at the version at which it was seen.
+pub type PodVersions = ListOf<(Uid, Version)>;
+
+/// The failures of a key in a row, after which its next pods are held back.
+#[derive(Clone, Copy, PartialEq, Eq, Debug)]
+pub struct Backoff {
+    pub failures: u64,
+    /// When the last of them was seen.
+    pub last: Option<Moment>,
+}
+
+/// What one sync sees: the Job and the pods of its key in the caches of a controller.
+#[derive(Drop)]
+pub struct Basis {
+    pub key: Key,
+    pub job: Option<Job>,
+    pub pods: Pods,
+    /// The version of the Job cache.
+    pub jobs_at: Version,
+    /// The version of the pod cache.
+    pub pods_at: Version,
+    pub now: Moment,
+    pub backoff: Backoff,
+}
+
+/// The counts of a sync over its basis (KEP-2307).
+#[derive(Drop)]
+pub struct CountIn {
+    pub uncounted_succeeded: Uids,
+    pub uncounted_failed: Uids,
+    pub succeeded: u64,
+    pub failed: u64,
+    pub completed: Ranges,
+    /// The pods whose finalizer is to go.
+    pub releases: Uids,
+    /// How many successes are counted in now; of an Indexed Job, how many indexes.
+    pub new_succeeded: u32,
+    /// How many failures are counted in now.
+    pub new_failed: u32,
+}
+
+impl Copied for (Uid, Version) {
+    fn copy(&self) -> Result<Self, Want> {
+        Ok(*self)
+    }
+}
+
+impl Copied for Backoff {
+    fn copy(&self) -> Result<Self, Want> {
+        Ok(*self)
+    }
+}
+
+impl Copied for Basis {
+    fn copy(&self) -> Result<Self, Want> {
+        Ok(Basis {
+            key: self.key.copy()?,
+            job: self.job.copy()?,
+            pods: self.pods.copy()?,
+            jobs_at: self.jobs_at,
+            pods_at: self.pods_at,
+            now: self.now,
+            backoff: self.backoff.copy()?,
+        })
+    }
+}
+
+impl Copied for CountIn {
+    fn copy(&self) -> Result<Self, Want> {
+        Ok(CountIn {
+            uncounted_succeeded: self.uncounted_succeeded.copy()?,
+            uncounted_failed: self.uncounted_failed.copy()?,
+            succeeded: self.succeeded,
+            failed: self.failed,
+            completed: self.completed.copy()?,
+            releases: self.releases.copy()?,
+            new_succeeded: self.new_succeeded,
+            new_failed: self.new_failed,
+        })
+    }
+}
+
+impl Same for Backoff {
+    fn is_same(&self, other: &Self) -> bool {
+        self.failures == other.failures && self.last.is_same(&other.last)
+    }
+}
+
+impl Same for Basis {
+    fn is_same(&self, other: &Self) -> bool {
+        self.key.is_same(&other.key)
+            && self.job.is_same(&other.job)
+            && self.pods.is_same(&other.pods)
+            && self.jobs_at == other.jobs_at
+            && self.pods_at == other.pods_at
+            && self.now == other.now
+            && self.backoff.is_same(&other.backoff)
+    }
+}
+
+impl Same for (Uid, Version) {
+    fn is_same(&self, other: &Self) -> bool {
+        self.0 == other.0 && self.1 == other.1
+    }
+}
+
+impl Same for CountIn {
+    fn is_same(&self, other: &Self) -> bool {
+        self.uncounted_succeeded.is_same(&other.uncounted_succeeded)
+            && self.uncounted_failed.is_same(&other.uncounted_failed)
+            && self.succeeded == other.succeeded
+            && self.failed == other.failed
+            && self.completed.is_same(&other.completed)
+            && self.releases.is_same(&other.releases)
+            && self.new_succeeded == other.new_succeeded
+            && self.new_failed == other.new_failed
+    }
+}
