@@ -1,0 +1,2 @@
+mod CacheFacts
+mod ListedFacts

@@ -1,0 +1,22 @@
+use Rattle.std.proofs.Common.{Some, ap, sym, ◌∙◌}
+use Rattle.std.specs.Option.{option_copied_mut}
+use Rattle.jc_types.specs.Log.{put_pod}
+use Rattle.jc_cache.proofs.CacheFacts.{on_err, put-first, set-same}
+use Rattle.jc_cache.proofs.pods.put_pod.Goals as goal
+
+-- The pods of the owner are as before, and so are all rows.
+pub returns-in_err-put-clause-kept : goal.returns-in_err-put-clause-kept
+returns-in_err-put-clause-kept c =
+    on_err c.from_residual-in_err-put.result _
+    ((c.get_mut.follows.holds c.put.new.self).0
+    ∙ set-same c.args.pod.now.owner c.put.new.self c.args.rows.now.entries
+    (sym c.get_mut.ensures.value ∙ ap option_copied_mut c.in-Some.is ∙ ap Some (sym c.in_err-put.ensures.kept)))
+
+-- The owner had no row.
+pub returns-clause-puts : goal.returns-clause-puts
+returns-clause-puts c =
+    put-first c.args.rows.now.entries c.get_mut.follows.lender-at-none.entries c.insert.new.self.entries c.args.pod.now c.in_ok-again.again c.in_ok-owner.owner c.put-2.new.self
+    (λ i. (c.get_mut.follows.holds-at-none i).entries) c.in_ok-owner.ensures c.in_ok-again.ensures
+    (c.in_ok-put-2.ensures.puts ∙ ap (put_pod c.in_ok-again.again) c.new-pods.ensures)
+    (sym c.get_mut.ensures.value ∙ ap option_copied_mut c.in_default.is)
+    c.in_ok-insert.ensures.updates.0

@@ -1,0 +1,183 @@
+//! The cache of pods.
+
+ghost use Rattle.std.specs.Prelude.{◌≡◌, [], IfOk, None, OnErr, OnOk, Some, filter};
+ghost use Rattle.jc_types.specs.declared.objects.Key.{Key};
+ghost use Rattle.jc_types.specs.declared.objects.Entry.TheVariants.{PodGone, PodPut};
+ghost use Rattle.jc_types.specs.Keys.{same_key};
+ghost use Rattle.jc_types.specs.Log.{IsRising};
+ghost use Rattle.jc_cache.specs.Caches.{IsNext, owned_after, pods_at};
+
+use indexmap::IndexMap;
+use jc_table::PodTable;
+use jc_types::{Copied, Entry, Key, Pod, Pods, Version, Want};
+use std::alloc::Global;
+use std::marker::Model;
+
+/// The pods as a controller knows them, apart by the key of their owner, so that neither a delivery
+/// nor a look-up goes over the pods of other Jobs. A contract sees its number, or none, and the pods
+/// under each owner key.
+#[derive(Drop)]
+pub struct PodCache {
+    alloc: Global,
+    number: Option<Version>,
+    rows: IndexMap<Key, PodTable>,
+}
+
+impl Model for PodCache {
+    ghost use Rattle.jc_cache.specs.Caches.{CachedPods};
+
+    ghost Value = { CachedPods };
+
+    ghost view = { λ c. record { number = c.number; rows = c.rows.entries } };
+}
+
+/// Puts a pod among those of its owner.
+///
+/// # Errors
+/// `Want` where there is no memory for it; the rows are then as before.
+fn put_pod(alloc: Global, rows: &mut IndexMap<Key, PodTable>, pod: &Pod) -> Result<(), Want>
+    ensures puts { OnOk result ((k : Key) → pods_at k rows.new.entries ≡ owned_after k (PodPut pod.now) (pods_at k rows.old.entries)) }
+    ensures kept { OnErr result (rows.new.entries ≡ rows.old.entries) }
+{
+    let again = pod.copy()?;
+    if let Some(pods) = rows.get_mut(&pod.owner) {
+        pods.put(again)?;
+        return Ok(());
+    }
+    let owner = pod.owner.copy()?;
+    let mut pods = PodTable::new(alloc);
+    pods.put(again)?;
+    rows.insert(owner, pods)?;
+    Ok(())
+}
+
+/// Drops a pod from those of its owner; an owner without pods has no row.
+fn drop_pod(rows: &mut IndexMap<Key, PodTable>, pod: &Pod)
+    ensures { (k : Key) → pods_at k rows.new.entries ≡ owned_after k (PodGone pod.now) (pods_at k rows.old.entries) }
+{
+    let Some(pods) = rows.get_mut(&pod.owner) else {
+        return;
+    };
+    pods.take(pod.uid);
+    if pods.is_empty() {
+        rows.swap_remove(&pod.owner);
+    }
+}
+
+/// Takes one more entry in. One about a Job changes nothing.
+///
+/// # Errors
+/// `Want` where there is no memory for it; the rows are then as before.
+fn take_in(alloc: Global, rows: &mut IndexMap<Key, PodTable>, entry: &Entry) -> Result<(), Want>
+    ensures pods { OnOk result ((k : Key) → pods_at k rows.new.entries ≡ owned_after k entry.now (pods_at k rows.old.entries)) }
+    ensures kept { OnErr result (rows.new.entries ≡ rows.old.entries) }
+{
+    match entry {
+        Entry::PodPut(pod) => put_pod(alloc, rows, pod),
+        Entry::PodGone(pod) => {
+            drop_pod(rows, pod);
+            Ok(())
+        }
+        Entry::JobPut(_) | Entry::JobGone(_) => Ok(()),
+    }
+}
+
+/// The pods apart by owner, each in ascending UID as all of them are.
+fn rows_of(alloc: Global, pods: &[Pod]) -> Result<IndexMap<Key, PodTable>, Want>
+    requires { IsRising pods.now }
+    ensures { IfOk result (λ rows. (k : Key) → pods_at k rows.entries ≡ filter (λ pod. same_key pod.owner k) pods.now) }
+{
+    let mut rows = IndexMap::new(alloc);
+    for pod in pods {
+        put_pod(alloc, &mut rows, pod)?;
+    }
+    Ok(rows)
+}
+
+/// The pods of a table in a list of their own.
+fn listed(alloc: Global, table: &PodTable) -> Result<Pods, Want>
+    ensures pods { IfOk result (λ pods. pods ≡ table.now) }
+    ensures rising { IfOk result (λ pods. IsRising pods) }
+{
+    let mut pods = Pods::new(alloc);
+    for pod in table.values() {
+        pods.push(pod.copy()?)?;
+    }
+    let all = pods.len() == table.len();
+    prove!(all);
+    Ok(pods)
+}
+
+impl PodCache {
+    /// The cache without a number and without pods. It takes no memory.
+    pub fn empty(alloc: Global) -> PodCache
+        ensures number { result.number ≡ None }
+        ensures pods { result.rows ≡ [] }
+    {
+        PodCache {
+            alloc,
+            number: None,
+            rows: IndexMap::new(alloc),
+        }
+    }
+
+    /// The version up to which the cache has seen the log; `None` where it has no number.
+    pub fn at(&self) -> Option<Version>
+        ensures { result ≡ self.now.number }
+    {
+        self.number
+    }
+
+    /// The pods whose owner has the key, in ascending UID, whatever their owner's UID.
+    ///
+    /// # Errors
+    /// `Want` where there is no memory for them.
+    pub fn pods_of(&self, key: &Key) -> Result<Pods, Want>
+        ensures pods { IfOk result (λ pods. pods ≡ pods_at key.now self.now.rows) }
+        ensures rising { IfOk result (λ pods. IsRising pods) }
+    {
+        match self.rows.get(key) {
+            None => Ok(Pods::new(self.alloc)),
+            Some(pods) => listed(self.alloc, pods),
+        }
+    }
+
+    /// Fills the cache with what was listed at a version, in place of all that it had.
+    ///
+    /// # Errors
+    /// `Want` where there is no memory for it; the cache is then as before.
+    pub fn replace(&mut self, pods: Pods, at: Version) -> Result<(), Want>
+        requires { IsRising pods }
+        ensures number { OnOk result (self.new.number ≡ Some at) }
+        ensures pods { OnOk result ((k : Key) → pods_at k self.new.rows ≡ filter (λ pod. same_key pod.owner k) pods) }
+        ensures kept { OnErr result (self.new ≡ self.old) }
+    {
+        self.rows = rows_of(self.alloc, pods.as_slice())?;
+        self.number = Some(at);
+        Ok(())
+    }
+
+    /// Takes the next entry of the log in. An entry about a Job moves the number alone.
+    ///
+    /// # Errors
+    /// `Want` where there is no memory for it; the cache is then as before.
+    pub fn deliver(&mut self, entry: &Entry, version: Version) -> Result<(), Want>
+        requires { IsNext self.old.number version }
+        ensures number { OnOk result (self.new.number ≡ Some version) }
+        ensures pods { OnOk result ((k : Key) → pods_at k self.new.rows ≡ owned_after k entry.now (pods_at k self.old.rows)) }
+        ensures kept { OnErr result (self.new ≡ self.old) }
+    {
+        take_in(self.alloc, &mut self.rows, entry)?;
+        self.number = Some(version);
+        Ok(())
+    }
+
+    /// Forgets all pods and the number. It takes no memory.
+    pub fn forget(&mut self)
+        ensures number { self.new.number ≡ None }
+        ensures pods { self.new.rows ≡ [] }
+    {
+        self.rows.clear();
+        self.number = None;
+    }
+}
