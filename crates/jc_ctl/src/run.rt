@@ -1,8 +1,8 @@
 //! The top call.
-ghost use Rattle.std.specs.Prelude.{◌≡◌, ◌≢◌, ◌≤◌, ◌+◌, ◌↔◌, ◌⊎◌, ℕ, List, true, false, IfOk, IsOkAnd, IfSome, IsErrOf, Ok, Err, length, map, string_bytes};
+ghost use Rattle.std.specs.Prelude.{◌≡◌, ◌≢◌, ◌<◌, ◌≤◌, ◌+◌, ◌↔◌, ◌⊎◌, ℕ, List, true, false, IfOk, IsOkAnd, IfSome, IsErrOf, Ok, Err, length, map, string_bytes};
 ghost use Rattle.std.specs.Io.KnownBytes.{Appends, Keeps};
 ghost use Rattle.jc_io.specs.Faults.{Rose};
-ghost use Rattle.jc_io.specs.Moved.{AppendsFront, TakesCount};
+ghost use Rattle.jc_io.specs.Moved.{AppendsFront, TakesAtMost, TakesCount};
 ghost use Rattle.jc_ctl.specs.Script.{script_of};
 ghost use Rattle.jc_ctl.specs.Run.{in_grammar, most_bytes, answer_of, status_of, CountsOnceAtEach};
 
@@ -88,6 +88,8 @@ pub fn run_program<S: Source, K: Sink>(
         → IfSome (S.left source.old) (λ input. answer_of input ≡ Err line) }
     ensures too_long { result ≡ Status.TooLong
         → TakesCount (S.left source.old) (S.left source.new) (most_bytes + 1) }
+    // `TooLong` takes one byte more than a script may have, and no other end takes so many.
+    ensures not_too_long { result ≢ Status.TooLong → TakesAtMost (S.left source.old) (S.left source.new) most_bytes }
     ensures nothing_written { result ≢ Status.Ok → result ≢ Status.WriteFault
         → Keeps (K.held sink.old) (K.held sink.new) }
     ensures front { result ≡ Status.WriteFault → IfSome (S.left source.old) (λ input.
@@ -97,6 +99,10 @@ pub fn run_program<S: Source, K: Sink>(
         → ¬ Rose (S.faults source.old) (S.faults source.new) → ¬ Rose (K.faults sink.old) (K.faults sink.new)
         → IfSome (S.left source.old) (λ input. length input ≤ most_bytes
         → (result ≡ status_of (answer_of input)) ⊎ (result ≡ Status.Want)) }
+    // The same of a longer input.
+    ensures complete_too_long { in_grammar (map string_bytes words.now) ≡ true
+        → ¬ Rose (S.faults source.old) (S.faults source.new) → IfSome (S.left source.old) (λ input.
+        most_bytes < length input → (result ≡ Status.TooLong) ⊎ (result ≡ Status.Want)) }
 {
     if !are_known(words) {
         return Status::BadWords;

@@ -1,5 +1,4 @@
 -- Which rule of a pod failure policy decides about a failed pod (KEP-3329).
---     same_text a b                 both have the same bytes
 --     has_failed exit               a container that ended with a code other than 0
 --     looks_at only container       a rule on exit codes looks at the container
 --     meets operator values code    the code is one of the values, or none of them
@@ -8,7 +7,6 @@
 --     matches rule pod              the pod shows what the rule asks for
 --     place_of policy pod           the least place of a rule that matches
 --     action_of policy pod          the action of that rule, and Count where there is none
---     as_u32 place                  the place, if it is below 2 ^ 32
 use Rattle.std.specs.Prelude.{ℕ, ℤ, pos, ◌^◌, nat_lt, nat_eq, Bool, true, false, not, ◌&&◌, List, if◌then◌else◌, Option, Some, None, position, slice_get}
 use Rattle.std.specs.List.{list_any}
 use Rattle.std.specs.Option.{option_map_or}
@@ -25,12 +23,7 @@ use Rattle.jc_types.specs.declared.policies.Operator.TheVariants.{Within, NotWit
 use Rattle.jc_types.specs.declared.policies.Pattern.{Pattern}
 use Rattle.jc_types.specs.declared.policies.Requirement.{Requirement}
 use Rattle.jc_types.specs.declared.policies.Requirement.TheVariants.{ExitCodes, Conditions}
-use Rattle.jc_types.specs.declared.policies.Truth.{Truth}
-use Rattle.jc_types.specs.declared.policies.Truth.TheVariants as truth
-
--- Both have the same bytes.
-abbrev pub same_text : List ℕ → List ℕ → Bool
-same_text a b = pointwise nat_eq a b
+use Rattle.jc_types.specs.Sames.{same_pattern, same_text}
 
 -- The container has ended with a code other than 0.
 abbrev pub has_failed : Option ℤ → Bool
@@ -57,16 +50,9 @@ abbrev pub code_meets : Operator → List ℤ → Option ℤ → Bool
 code_meets operator values None = false
 code_meets operator values (Some code) = meets operator values code
 
--- Both are true, both false or both unknown.
-abbrev pub same_truth : Truth → Truth → Bool
-same_truth truth.True truth.True = true
-same_truth truth.False truth.False = true
-same_truth truth.Unknown truth.Unknown = true
-same_truth a b = false
-
 -- The condition has the kind and the truth that the pattern looks for.
 abbrev pub finds : Pattern → Pattern → Bool
-finds pattern condition = same_text condition.kind pattern.kind && same_truth condition.truth pattern.truth
+finds pattern condition = same_pattern condition pattern
 
 -- A container that the rule looks at has a code that meets its operator.
 abbrev pub has_code : Option (List ℕ) → Operator → List ℤ → List Container → Bool
@@ -98,8 +84,3 @@ action_at rules (Some place) = option_map_or (λ rule. rule.action) (slice_get r
 -- The action of the first rule that matches, and Count where none does.
 abbrev pub action_of : FailurePolicy → Pod → Action
 action_of policy pod = action_at policy.rules (place_of policy pod)
-
--- The place, if it is below 2 ^ 32.
-abbrev pub as_u32 : Option ℕ → Option ℕ
-as_u32 None = None
-as_u32 (Some place) = if nat_lt place (2 ^ 32) then Some place else None

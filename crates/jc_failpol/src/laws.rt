@@ -7,12 +7,13 @@ ghost use Rattle.jc_types.specs.declared.objects.Pod.{Pod};
 ghost use Rattle.jc_types.specs.declared.policies.FailurePolicy.{FailurePolicy};
 ghost use Rattle.jc_types.specs.declared.specifications.JobSpec.{JobSpec};
 ghost use Rattle.jc_types.specs.declared.specifications.Replacement.TheVariants.{FailedOnly, TerminatingOrFailed};
+ghost use Rattle.jc_types.specs.Firsts.{IsLeast};
 ghost use Rattle.jc_types.specs.Specs.{IsValidSpec};
 ghost use Rattle.jc_types.specs.Writes.{JobStep, PodStep};
 ghost use Rattle.jc_failpol.specs.declared.outcomes.Outcome.TheVariants.{Alive, Failed, Ignored, Succeeded};
 ghost use Rattle.jc_failpol.specs.Outcomes.{outcome_of};
 ghost use Rattle.jc_failpol.specs.Rules.{action_of, matches, place_of};
-ghost use Rattle.jc_failpol.specs.Steps.{IsLeast, SamePolicies, WaitsForEnd};
+ghost use Rattle.jc_failpol.specs.Steps.{SamePolicies, WaitsForEnd};
 
 /// The place of the first rule that matches is the least at which a rule matches, and where there is
 /// none no rule matches.

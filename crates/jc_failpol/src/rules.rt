@@ -2,11 +2,12 @@
 
 ghost use Rattle.std.specs.Prelude.{◌≡◌};
 ghost use Rattle.std.specs.List.{list_any};
-ghost use Rattle.jc_failpol.specs.Rules.{action_of, as_u32, code_meets, finds, has_code, has_condition, looks_at, matches, meets, place_of, same_truth};
+ghost use Rattle.jc_types.specs.Firsts.{as_u32};
+ghost use Rattle.jc_failpol.specs.Rules.{action_of, code_meets, finds, has_code, has_condition, looks_at, matches, meets, place_of};
 
 use jc_types::{
     Action, Codes, Container, FailurePolicy, FailureRule, Name, Operator, Pattern, Patterns, Pod,
-    Requirement, Truth,
+    Requirement, Same,
 };
 
 /// Whether an exit code is one of the values, or none of them.
@@ -45,24 +46,11 @@ fn is_code_met(operator: Operator, values: &Codes, container: &Container) -> boo
     }
 }
 
-/// Whether both are the same status of a condition.
-fn is_same_truth(left: Truth, right: Truth) -> bool
-    ensures { result ≡ same_truth left right }
-{
-    match (left, right) {
-        (Truth::True, Truth::True) => true,
-        (Truth::False, Truth::False) => true,
-        (Truth::Unknown, Truth::Unknown) => true,
-        _ => false,
-    }
-}
-
 /// Whether the pattern looks for the condition: the same type and the same status.
 fn is_found(pattern: &Pattern, condition: &Pattern) -> bool
     ensures { result ≡ finds pattern.now condition.now }
 {
-    condition.kind.as_str() == pattern.kind.as_str()
-        && is_same_truth(condition.truth, pattern.truth)
+    condition.is_same(pattern)
 }
 
 /// Whether a container that the rule looks at has an exit code that meets the operator.

@@ -1,12 +1,12 @@
 -- The deeds of a play: each accepted write with who made it, newest first.
-use Rattle.std.specs.Prelude.{ℕ, List, [], ◌∷◌, map, Option, Some, None}
-use Rattle.jc_types.specs.declared.objects.Entry.{Entry}
-use Rattle.std.specs.Prelude.{◌++◌, nat_lt, length, if◌then◌else◌, Result, Ok, Err, ◌≡◌}
+use Rattle.std.specs.Prelude.{◌≡◌, ℕ, nat_lt, List, [], ◌∷◌, ◌++◌, length, map, if◌then◌else◌, Option, Some, None, Result, Ok, Err}
 use Rattle.std.specs.declared.alloc.AllocError.{AllocError}
+use Rattle.jc_types.specs.declared.objects.Entry.{Entry}
 use Rattle.jc_types.specs.declared.replies.Reply.{Reply}
 use Rattle.jc_types.specs.Api.{Answered}
 use Rattle.jc_play.specs.declared.writers.Writer.{Writer}
 
+-- An accepted write, with who made it.
 pub record Deed : Type 0 where
   pub entry : Entry
   pub writer : Writer

@@ -13,7 +13,7 @@ use Rattle.jc_types.specs.declared.statuses.Condition.{Condition}
 use Rattle.jc_types.specs.declared.statuses.JobStatus.{JobStatus}
 use Rattle.jc_types.specs.declared.statuses.Reason.TheVariants.{CompletionsReached}
 use Rattle.jc_types.specs.Pods.{is_open, is_active, is_marked}
-use Rattle.jc_types.specs.Sames.{same_kind}
+pub use Rattle.jc_types.specs.Conditions.{stands}
 use Rattle.jc_types.specs.Uids.{is_in}
 use Rattle.jc_play.specs.Outcomes.{outcome, is_success}
 use Rattle.jc_play.specs.Given.{the_moment}
@@ -66,10 +66,6 @@ is_ready pod = is_active pod && list_any says_ready pod.conditions
 -- A pod is terminating where it is marked for deletion and has not ended.
 abbrev pub is_terminating : Pod → Bool
 is_terminating pod = is_open pod && is_marked pod
-
--- A condition of the kind stands.
-abbrev pub stands : CondKind → List Condition → Bool
-stands kind conditions = list_any (λ (c : Condition). same_kind c.kind kind && c.status) conditions
 
 -- A condition that comes now, since the wanted completions were reached.
 abbrev pub reached : CondKind → Condition

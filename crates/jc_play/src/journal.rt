@@ -63,7 +63,7 @@ impl Journal {
     pub fn log(&self) -> &[Entry]
         ensures { reverse result.now ≡ log_of self.now }
     {
-        self.store.log()
+        self.store.log().as_slice()
     }
 
     /// Who made each entry of the log, oldest first.

@@ -1,5 +1,5 @@
 mod Births
+mod Keeps
 mod Patterns
 mod Steps
-mod Table
 mod Versions

@@ -1,10 +1,9 @@
 //! The versioned object store: a log of accepted writes, and the requests that it answers.
 //!
-//! The store keeps its log alone. What it says of a Job or a pod is read from the log, from the newest entry on.
+//! Beside the log the store keeps tables of the Jobs and pods that are there, which its contracts do not name.
 #![tactic(auto)]
 
 mod job_requests;
-mod look_ups;
 mod new_objects;
 mod pod_requests;
 mod pod_table;

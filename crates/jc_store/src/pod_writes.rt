@@ -1,10 +1,9 @@
 //! What a write of a pod leaves, and the entry that it makes.
 ghost use Rattle.std.specs.Prelude.{◌≡◌, IfOk, false};
-ghost use Rattle.jc_types.specs.Api.{pod_entry};
 ghost use Rattle.jc_types.specs.Pods.{goes, is_final};
 
 use jc_moment::Moment;
-use jc_types::{Copied, Entry, Phase, Pod, Version, Want};
+use jc_types::{Copied, Phase, Pod, Version, Want};
 
 // Whether the phase is one that a pod never leaves.
 pub(super) fn is_final(phase: Phase) -> bool
@@ -17,21 +16,10 @@ pub(super) fn is_final(phase: Phase) -> bool
 }
 
 // Whether the pod is marked, has ended and has no finalizer.
-fn goes(pod: &Pod) -> bool
+pub(super) fn goes(pod: &Pod) -> bool
     ensures { result ≡ goes pod.now }
 {
     pod.marked.is_some() && !pod.tracked && is_final(pod.phase)
-}
-
-// The entry of a write of a pod.
-pub(super) fn pod_entry(pod: Pod) -> Entry
-    ensures { result ≡ pod_entry pod }
-{
-    if goes(&pod) {
-        Entry::PodGone(pod)
-    } else {
-        Entry::PodPut(pod)
-    }
 }
 
 // The pod marked for deletion.

@@ -3,7 +3,8 @@ ghost use Rattle.std.specs.Prelude.{◌≡◌, ◌&&◌, IfOk, fold, map, nat_eq
 ghost use Rattle.std.specs.Cmp.Lexicographic.{pointwise};
 ghost use Rattle.std.specs.List.{list_any};
 ghost use Rattle.jc_types.specs.declared.objects.Phase.TheVariants.{Pending, Running};
-ghost use Rattle.jc_types.specs.Api.{changed_by, changed_container, given_exit, is_unnamed, named, put_pattern, same_course_of, same_phase};
+ghost use Rattle.jc_types.specs.Api.{changed_by, changed_container, given_exit, is_unnamed, named, put_pattern, same_course_of};
+ghost use Rattle.jc_types.specs.Sames.{same_phase};
 ghost use Rattle.jc_types.specs.Sames.{same_container, same_pattern};
 
 use jc_types::{

@@ -1,26 +1,38 @@
 //! The store, what can be read of it, and how entries are appended.
-ghost use Rattle.std.specs.Prelude.{◌≡◌, ◌<◌, ◌+◌, ◌^◌, ◌∷◌, [], List, reverse, length, option_copied, IfOk, OnOk, OnErr, None};
-ghost use Rattle.jc_types.specs.declared.objects.Entry.TheVariants.{JobGone, JobPut, PodPut};
+ghost use Rattle.std.specs.Prelude.{◌≡◌, ◌<◌, ◌+◌, ◌-◌, ◌^◌, ◌∷◌, ◌++◌, [], reverse, length, option_copied, find, nat_le, false, true, IfOk, IsSome, OnOk, OnErr, None};
+ghost use Rattle.jc_types.specs.declared.numbers.Uid.{Uid};
+ghost use Rattle.jc_types.specs.declared.objects.Entry.TheVariants.{JobGone, JobPut, PodGone, PodPut};
 ghost use Rattle.jc_types.specs.Api.{pod_entry};
-ghost use Rattle.jc_types.specs.Log.{births, entry_at, job_in, life, made_for, pod_in, pods_of, next_uid, next_version};
-ghost use Rattle.jc_types.specs.Writes.{CanEnd, CanGo, IsNewPod, Stored, Writes};
-ghost use Rattle.jc_store.specs.Kept.{IsKept};
+ghost use Rattle.jc_types.specs.Keys.{same_key, same_uid};
+ghost use Rattle.jc_types.specs.Log.{RowsRise, births, entry_at, job_in, jobs_in, life, made_for, next_uid, next_version, pod_in, pods_in, pods_of, put_pod};
+ghost use Rattle.jc_types.specs.Pods.{goes};
+ghost use Rattle.jc_types.specs.Tables.{at, puts};
+ghost use Rattle.jc_types.specs.Writes.{CanEnd, CanGo, IsNewPod, Stored};
+ghost use Rattle.jc_store.specs.Kept.{count_of};
 ghost use Rattle.jc_store.specs.Steps.{StepsFrom};
 
-use super::look_ups;
-use super::pod_table::pods_among;
-use super::pod_writes::pod_entry;
-use jc_types::{Entry, Job, Key, Pod, Uid, Version, Want};
+use super::pod_table::owned;
+use super::pod_writes::goes;
+use jc_table::{PodTable, Table};
+use jc_types::{Copied, Entries, Entry, Job, Key, Pod, Uid, Version, Want};
 use std::alloc::Global;
 use std::marker::Model;
 
 /// The store. Contracts see it as its log, newest first.
 #[derive(Drop)]
 pub struct Store {
+    // Where the memory of new objects comes from.
+    alloc: Global,
     // Oldest first.
-    log: Vec<Entry>,
+    log: Entries,
     // How many Jobs and pods were made.
     born: u64,
+    // The Jobs that are there.
+    jobs: Table<Key, Job>,
+    // The pods that are there.
+    pods: PodTable,
+    // How many pods were made for each owner that had one.
+    made: Table<Uid, u32>,
 }
 
 impl Model for Store {
@@ -30,9 +42,63 @@ impl Model for Store {
 
     ghost Value = { List Entry };
 
-    ghost view = { λ s. reverse s.log.items };
+    ghost view = { λ s. reverse s.log };
 
-    ghost invariant = { λ s. IsKept s.born (reverse s.log.items) };
+    ghost invariant = { λ s. IsKept s.born s.jobs s.pods s.made (reverse s.log) };
+}
+
+// Makes a row for the owner's count, without a change of any count.
+fn keep_count(made: &mut Table<Uid, u32>, owner: Uid, count: u32) -> Result<(), Want>
+    requires { count ≡ count_of made.old owner }
+    ensures counts { (other : Uid) → count_of made.new other ≡ count_of made.old other }
+    ensures row { OnOk result (IsSome (at same_uid made.new owner)) }
+{
+    made.put(owner, count)?;
+    Ok(())
+}
+
+// Writes a new Job's row and its entry.
+fn add_job(
+    jobs: &mut Table<Key, Job>,
+    log: &mut Entries,
+    key: Key,
+    job: Job,
+    entry: Entry,
+) -> Result<(), Want>
+    requires { at same_key jobs.old key ≡ None }
+    ensures row { OnOk result (jobs.new ≡ puts same_key jobs.old key job) }
+    ensures entry { OnOk result (log.new ≡ log.old ++ entry ∷ []) }
+    ensures row_kept { OnErr result (jobs.new ≡ jobs.old) }
+    ensures entry_kept { OnErr result (log.new ≡ log.old) }
+{
+    let again = key.copy()?;
+    jobs.put(key, job)?;
+    match log.push(entry) {
+        Ok(()) => Ok(()),
+        Err(want) => {
+            jobs.take(&again);
+            Err(want)
+        }
+    }
+}
+
+// Writes a new pod and its entry.
+fn add_pod(pods: &mut PodTable, log: &mut Entries, pod: Pod, entry: Entry) -> Result<(), Want>
+    requires { find (λ p. same_uid p.uid pod.uid) pods.old ≡ None }
+    ensures row { OnOk result (pods.new ≡ put_pod pod pods.old) }
+    ensures entry { OnOk result (log.new ≡ log.old ++ entry ∷ []) }
+    ensures row_kept { OnErr result (pods.new ≡ pods.old) }
+    ensures entry_kept { OnErr result (log.new ≡ log.old) }
+{
+    let uid = pod.uid;
+    pods.put(pod)?;
+    match log.push(entry) {
+        Ok(()) => Ok(()),
+        Err(want) => {
+            pods.take(uid);
+            Err(want)
+        }
+    }
 }
 
 impl Store {
@@ -41,8 +107,12 @@ impl Store {
         ensures { result ≡ [] }
     {
         Store {
-            log: Vec::new(alloc),
+            alloc,
+            log: Entries::new(alloc),
             born: 0,
+            jobs: Table::new(alloc),
+            pods: PodTable::new(alloc),
+            made: Table::new(alloc),
         }
     }
 
@@ -54,11 +124,11 @@ impl Store {
     }
 
     /// The log, oldest first. Each of its entries is a write of the store.
-    pub fn log(&self) -> &[Entry]
+    pub fn log(&self) -> &Entries
         ensures entries { reverse result.now ≡ self.now }
         ensures stored { Stored self.now }
     {
-        self.log.as_slice()
+        &self.log
     }
 
     /// The entry of a version. There is none at 0 or past the log.
@@ -75,14 +145,36 @@ impl Store {
     pub fn job(&self, key: &Key) -> Option<&Job>
         ensures { option_copied result ≡ job_in key.now self.now }
     {
-        look_ups::job_in(self.log.as_slice(), key)
+        self.jobs.get(key)
     }
 
     /// The pod of a UID, as its last write left it.
     pub fn pod(&self, pod: Uid) -> Option<&Pod>
         ensures { option_copied result ≡ pod_in pod self.now }
     {
-        look_ups::pod_in(self.log.as_slice(), pod)
+        self.pods.get(pod)
+    }
+
+    /// The pod that is there with the least UID from this one on. There is none where all are below it.
+    pub fn pod_at_or_after(&self, uid: Uid) -> Option<&Pod>
+        ensures { option_copied result ≡ find (λ pod. nat_le uid.0 pod.uid.0) (pods_in self.now) }
+    {
+        self.pods.at_or_after(uid)
+    }
+
+    /// The Jobs that are there, by key, in ascending UID.
+    pub fn jobs(&self) -> &Table<Key, Job>
+        ensures rows { result.now ≡ jobs_in self.now }
+        ensures rising { RowsRise 0 result.now }
+    {
+        &self.jobs
+    }
+
+    /// The pods that are there, in ascending UID.
+    pub fn pods(&self) -> &PodTable
+        ensures { result.now ≡ pods_in self.now }
+    {
+        &self.pods
     }
 
     /// The pods of an owner that are there, in ascending UID.
@@ -93,12 +185,12 @@ impl Store {
     pub fn pods_of(&self, owner: Uid) -> Result<Vec<Pod>, Want>
         ensures { IfOk result (λ pods. pods.items ≡ pods_of owner self.now) }
     {
-        pods_among(self.allocator(), self.log.as_slice(), owner)
+        owned(self.alloc, &self.pods, owner)
     }
 
     // Where the memory of new objects comes from.
     pub(super) fn allocator(&self) -> Global {
-        *self.log.allocator()
+        self.alloc
     }
 
     // The version of the next write.
@@ -117,10 +209,9 @@ impl Store {
 
     // How many pods were made for an owner.
     pub(super) fn made_for(&self, owner: Uid) -> u32
-        requires { length self.now < 2 ^ 32 }
         ensures { result ≡ made_for owner self.now }
     {
-        look_ups::made_for(self.log.as_slice(), owner)
+        self.made.get(&owner).copied().unwrap_or(0)
     }
 
     // Makes a Job, where its key has none.
@@ -132,7 +223,11 @@ impl Store {
         ensures kept { OnErr result (self.new ≡ self.old) }
     {
         let born = self.born() + 1;
-        self.append(Entry::JobPut(job), born)
+        let entry = Entry::JobPut(job.copy()?);
+        let key = job.key.copy()?;
+        add_job(&mut self.jobs, &mut self.log, key, job, entry)?;
+        self.born = born;
+        Ok(())
     }
 
     // Writes a Job that is there.
@@ -142,8 +237,11 @@ impl Store {
         ensures added { OnOk result (self.new ≡ JobPut job ∷ self.old) }
         ensures kept { OnErr result (self.new ≡ self.old) }
     {
-        let born = self.born();
-        self.append(Entry::JobPut(job), born)
+        let entry = Entry::JobPut(job.copy()?);
+        let key = job.key.copy()?;
+        self.log.push(entry)?;
+        self.jobs.replace(&key, job);
+        Ok(())
     }
 
     // Takes a Job away. Its last state is as it was, but for the version.
@@ -153,19 +251,30 @@ impl Store {
         ensures added { OnOk result (self.new ≡ JobGone job ∷ self.old) }
         ensures kept { OnErr result (self.new ≡ self.old) }
     {
-        let born = self.born();
-        self.append(Entry::JobGone(job), born)
+        let key = job.key.copy()?;
+        self.log.push(Entry::JobGone(job))?;
+        self.jobs.take(&key);
+        Ok(())
     }
 
     // Makes a pod.
     pub(super) fn make_pod(&mut self, pod: Pod) -> Result<(), Want>
+        requires few { length self.old < 2 ^ 32 - 1 }
         requires version { pod.version ≡ next_version self.old }
         requires new_pod { IsNewPod self.old pod }
         ensures added { OnOk result (self.new ≡ PodPut pod ∷ self.old) }
         ensures kept { OnErr result (self.new ≡ self.old) }
     {
         let born = self.born() + 1;
-        self.append(Entry::PodPut(pod), born)
+        let entry = Entry::PodPut(pod.copy()?);
+        let owner = pod.owner_uid;
+        let count = self.made_for(owner);
+        let more = count + 1;
+        keep_count(&mut self.made, owner, count)?;
+        add_pod(&mut self.pods, &mut self.log, pod, entry)?;
+        self.made.replace(&owner, more);
+        self.born = born;
+        Ok(())
     }
 
     // Writes a pod that is there. Where it is then marked, has ended and has no finalizer, it goes.
@@ -175,25 +284,44 @@ impl Store {
         ensures added { OnOk result (self.new ≡ pod_entry pod ∷ self.old) }
         ensures kept { OnErr result (self.new ≡ self.old) }
     {
-        let born = self.born();
-        self.append(pod_entry(pod), born)
+        if goes(&pod) {
+            self.end_pod(pod)
+        } else {
+            self.write_pod(pod)
+        }
     }
 
-    // Appends an entry, with which so many Jobs and pods were made.
-    fn append(&mut self, entry: Entry, born: u64) -> Result<(), Want>
-        requires writes { Writes self.old entry }
-        requires counted { born ≡ births (entry ∷ self.old) }
-        ensures added { OnOk result (self.new ≡ entry ∷ self.old) }
+    // Writes a pod that is there and stays.
+    fn write_pod(&mut self, pod: Pod) -> Result<(), Want>
+        requires version { pod.version ≡ next_version self.old }
+        requires step { CanGo (life pod.uid self.old) pod }
+        requires stays { goes pod ≡ false }
+        ensures added { OnOk result (self.new ≡ PodPut pod ∷ self.old) }
         ensures kept { OnErr result (self.new ≡ self.old) }
     {
+        let entry = Entry::PodPut(pod.copy()?);
         self.log.push(entry)?;
-        self.born = born;
+        self.pods.replace(pod);
+        Ok(())
+    }
+
+    // Takes a pod away.
+    fn end_pod(&mut self, pod: Pod) -> Result<(), Want>
+        requires version { pod.version ≡ next_version self.old }
+        requires step { CanGo (life pod.uid self.old) pod }
+        requires goes { goes pod ≡ true }
+        ensures added { OnOk result (self.new ≡ PodGone pod ∷ self.old) }
+        ensures kept { OnErr result (self.new ≡ self.old) }
+    {
+        let uid = pod.uid;
+        self.log.push(Entry::PodGone(pod))?;
+        self.pods.take(uid);
         Ok(())
     }
 
     // How many Jobs and pods were made. Each has an entry.
     fn born(&self) -> u64
-        ensures kept { IsKept result self.now }
+        ensures value { result ≡ births self.now }
         ensures small { result + 1 < 2 ^ 64 }
     {
         let _entries = self.entries();

@@ -4,7 +4,6 @@
 --     count_within indexes completed   how many completed indexes are among the indexes
 --     is_met rule completed            the rule is met
 --     place_of policy completed        the least place of a rule that is met
---     as_u32 place                     the place, if it is below 2 ^ 32
 use Rattle.std.specs.Prelude.{ℕ, ◌^◌, nat_lt, nat_le, Bool, false, List, length, if◌then◌else◌, Option, Some, None, count_by, position}
 use Rattle.std.specs.List.{list_all}
 use Rattle.jc_types.specs.declared.policies.SuccessPolicy.{SuccessPolicy}
@@ -34,8 +33,3 @@ is_met rule completed = is_met_by rule.indexes rule.count completed
 -- The least place of a rule that is met.
 abbrev pub place_of : SuccessPolicy → List ℕ → Option ℕ
 place_of policy completed = position (λ rule. is_met rule completed) policy.rules
-
--- The place, if it is below 2 ^ 32.
-abbrev pub as_u32 : Option ℕ → Option ℕ
-as_u32 None = None
-as_u32 (Some place) = if nat_lt place (2 ^ 32) then Some place else None

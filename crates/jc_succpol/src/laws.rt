@@ -3,8 +3,8 @@
 
 ghost use Rattle.std.specs.Prelude.{◌≡◌, ℕ, All, List, None, Some, false};
 ghost use Rattle.jc_types.specs.declared.policies.SuccessPolicy.{SuccessPolicy};
+ghost use Rattle.jc_types.specs.Firsts.{IsLeast};
 ghost use Rattle.jc_succpol.specs.Rules.{is_met, place_of};
-ghost use Rattle.jc_succpol.specs.Steps.{IsLeast};
 
 /// The place of the first rule that is met is the least at which a rule is met, and where there is none
 /// no rule is met.

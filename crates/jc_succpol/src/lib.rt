@@ -6,7 +6,7 @@ mod laws;
 mod rules;
 
 pub use laws::first_met_decides;
-pub use rules::met;
+pub use rules::{is_met, met};
 
 #[cfg(test)]
 mod tests;

@@ -1,7 +1,8 @@
 //! The rules of a success policy and the first that is met.
 
-ghost use Rattle.std.specs.Prelude.{◌≡◌};
-ghost use Rattle.jc_succpol.specs.Rules.{as_u32, is_met, place_of};
+ghost use Rattle.std.specs.Prelude.{◌≡◌, is_some};
+ghost use Rattle.jc_types.specs.Firsts.{as_u32};
+ghost use Rattle.jc_succpol.specs.Rules.{is_met, place_of};
 
 use crate::counting::{are_all_completed, completed_within};
 use jc_ranges::Ranges;
@@ -28,6 +29,13 @@ fn first_met(policy: &SuccessPolicy, completed: &Ranges) -> Option<usize>
         .as_slice()
         .iter()
         .position(|rule| is_rule_met(rule, completed))
+}
+
+/// Whether the completed indexes meet a rule of the success policy (KEP-3998).
+pub fn is_met(policy: &SuccessPolicy, completed: &Ranges) -> bool
+    ensures { result ≡ is_some (place_of policy.now completed.now) }
+{
+    first_met(policy, completed).is_some()
 }
 
 /// The place among a success policy's rules, counted from 0, of the first that the completed indexes

@@ -1,7 +1,7 @@
 //! Success policies with sets of completed indexes, and the rule that is met. The first policies are those
 //! of the stories of KEP-3998.
 
-use crate::met;
+use crate::{is_met, met};
 use jc_ranges::Ranges;
 use jc_types::{SuccessPolicy, SuccessRule, SuccessRules};
 use std::alloc::Global;
@@ -83,6 +83,7 @@ fn meet(rt: &impl Abort, alloc: Global) -> Result<(), Fail> {
         let policy = policy(alloc, rules)?;
         let set = Ranges::parse(alloc, completed.as_bytes())?;
         assert_eq!(rt; met(&policy, &set), *want, "at {completed}");
+        assert_eq!(rt; is_met(&policy, &set), want.is_some(), "at {completed}");
     }
     Ok(())
 }

@@ -12,3 +12,4 @@ pub mod PlaceFacts
 pub mod JobFacts
 pub mod SameFacts
 pub mod SameObjects
+pub mod FirstFacts

@@ -19,8 +19,7 @@ use Rattle.jc_types.specs.declared.objects.Entry.{Entry}
 use Rattle.jc_types.specs.declared.objects.Entry.TheVariants.{JobPut, JobGone, PodPut, PodGone}
 use Rattle.jc_types.specs.declared.objects.Job.{Job}
 use Rattle.jc_types.specs.declared.objects.Key.{Key}
-use Rattle.jc_types.specs.declared.objects.Phase.{Phase}
-use Rattle.jc_types.specs.declared.objects.Phase.TheVariants.{Pending, Running, Succeeded, Failed}
+use Rattle.jc_types.specs.declared.objects.Phase.TheVariants.{Pending, Running}
 use Rattle.jc_types.specs.declared.objects.Pod.{Pod}
 use Rattle.jc_types.specs.declared.policies.Pattern.{Pattern}
 use Rattle.jc_types.specs.declared.replies.Field.TheVariants.{Completions, Parallelism, BackoffLimit, Deadline}
@@ -32,7 +31,7 @@ use Rattle.jc_types.specs.declared.statuses.JobStatus.{JobStatus}
 use Rattle.jc_types.specs.Keys.{same_uid}
 use Rattle.jc_types.specs.Log.{job_in, pod_in, next_uid, next_version, made_for}
 use Rattle.jc_types.specs.Pods.{goes, is_final, is_marked}
-use Rattle.jc_types.specs.Sames.{same_option, same_limits, same_status, same_container, same_pattern}
+use Rattle.jc_types.specs.Sames.{same_option, same_limits, same_status, same_text, same_phase, same_container, same_pattern}
 
 -- A reply, and the entry that was appended, where one was.
 pub record Answered : Type 0 where
@@ -251,7 +250,7 @@ let_go_gives log uid version = let_go_at log version (pod_in uid log)
 -- Report a pod's phase, with exit codes, restart counts and conditions. A given exit code or count takes the place of the
 -- old one, and a given condition that of its kind, or it comes last.
 abbrev pub named : List ℕ → Container → Bool
-named name container = pointwise nat_eq container.name name
+named name container = same_text container.name name
 
 abbrev pub given_exit : Option ℤ → Option ℤ → Option ℤ
 given_exit None old = old
@@ -269,7 +268,7 @@ changed_container changes container = fold changed_by container changes
 abbrev pub put_pattern : List Pattern → Pattern → List Pattern
 put_pattern [] given = given ∷ []
 put_pattern (pattern ∷ patterns) given =
-    if pointwise nat_eq pattern.kind given.kind then given ∷ patterns
+    if same_text pattern.kind given.kind then given ∷ patterns
     else pattern ∷ put_pattern patterns given
 
 abbrev pub with_report : List Entry → Pod → PhaseChange → Pod
@@ -279,24 +278,6 @@ with_report log pod change = record pod {
   containers = map (changed_container change.containers) pod.containers;
   conditions = fold put_pattern pod.conditions change.conditions;
 }
-
-abbrev pub same_phase : Phase → Phase → Bool
-same_phase Pending Pending = true
-same_phase Pending Running = false
-same_phase Pending Succeeded = false
-same_phase Pending Failed = false
-same_phase Running Pending = false
-same_phase Running Running = true
-same_phase Running Succeeded = false
-same_phase Running Failed = false
-same_phase Succeeded Pending = false
-same_phase Succeeded Running = false
-same_phase Succeeded Succeeded = true
-same_phase Succeeded Failed = false
-same_phase Failed Pending = false
-same_phase Failed Running = false
-same_phase Failed Succeeded = false
-same_phase Failed Failed = true
 
 -- What a report may change agrees.
 abbrev pub same_course_of : Pod → Pod → Bool

@@ -9,3 +9,7 @@ pub mod Deeds
 pub mod Specs
 pub mod Sames
 pub mod Api
+pub mod Firsts
+pub mod Bases
+pub mod Counts
+pub mod Conditions

@@ -14,7 +14,7 @@
 --     pods_under k log    those among them that were made for a Job of the key
 --     is_born j log       a Job of this UID was put
 --     has_job j k log     a Job of this UID was put under this key
---     births log       how many Jobs and pods were made
+--     births log           how many Jobs and pods were made
 --     made_for j log      how many pods were made for the Job of UID j
 --     next_uid log        the UID of the next Job or pod
 --     next_version log    the version of the next entry

@@ -1,6 +1,8 @@
 -- Whether two values are equal, as tests that compute. Each is tied to equality by a law.
 --     IsExact same         the test is true just of equal values
 --     same_option same     both are none, or both are there and the same
+--     same_text            two texts have the same bytes
+--     same_phase           two phases are the same
 --     same_condition       kind, status, reason and moment agree
 --     same_status          all members of two statuses agree
 --     same_container       all members of two containers agree
@@ -117,10 +119,14 @@ same_course a b =
 abbrev pub same_status : JobStatus → JobStatus → Bool
 same_status a b = same_counts a b && (same_lists a b && same_course a b)
 
+-- Both have the same bytes.
+abbrev pub same_text : List ℕ → List ℕ → Bool
+same_text a b = pointwise nat_eq a b
+
 -- All members of two containers agree.
 abbrev pub same_container : Container → Container → Bool
 same_container a b =
-    pointwise nat_eq a.name b.name
+    same_text a.name b.name
     && (same_bool a.init b.init && (same_option int_eq a.exit b.exit && (a.restarts == b.restarts)))
 
 -- The place of a truth among the three.
@@ -131,11 +137,7 @@ truth_place truth.Unknown = 2
 
 -- Kind and truth agree.
 abbrev pub same_pattern : Pattern → Pattern → Bool
-same_pattern a b = pointwise nat_eq a.kind b.kind && (truth_place a.truth == truth_place b.truth)
-
--- Both have the same bytes.
-abbrev pub same_text : List ℕ → List ℕ → Bool
-same_text a b = pointwise nat_eq a b
+same_pattern a b = same_text a.kind b.kind && (truth_place a.truth == truth_place b.truth)
 
 -- ---- specifications
 
@@ -213,11 +215,16 @@ same_job a b =
     same_key a.key b.key && (same_uid a.uid b.uid && ((a.version.0 == b.version.0) && ((a.created == b.created)
     && (same_spec a.spec b.spec && same_status a.status b.status))))
 
+-- The place of a phase among the phases.
 abbrev pub phase_place : Phase → ℕ
 phase_place Pending = 0
 phase_place Running = 1
 phase_place phase.Succeeded = 2
 phase_place phase.Failed = 3
+
+-- The phases are the same.
+abbrev pub same_phase : Phase → Phase → Bool
+same_phase a b = phase_place a == phase_place b
 
 -- What a pod keeps from its making on agrees.
 abbrev pub same_origin : Pod → Pod → Bool
@@ -229,7 +236,7 @@ same_origin a b =
 -- What writes of a pod change agrees.
 abbrev pub same_state : Pod → Pod → Bool
 same_state a b =
-    (a.version.0 == b.version.0) && ((phase_place a.phase == phase_place b.phase)
+    (a.version.0 == b.version.0) && (same_phase a.phase b.phase
     && (pointwise same_container a.containers b.containers && (pointwise same_pattern a.conditions b.conditions
     && (same_option nat_eq a.marked b.marked && same_bool a.tracked b.tracked))))
 

@@ -42,6 +42,6 @@ pub use runs::{Event, History, Past, Pasts, Shape, Sys};
 pub use shared::Arc;
 pub use specifications::{JobSpec, Mode, Replacement, Restart, Template};
 pub use statuses::{CondKind, Condition, Conditions, JobStatus, Reason};
-pub use syncs::{Backoff, Basis, CountIn, Indexes, PodVersions};
+pub use syncs::{Backoff, Basis, CountIn, Indexes, PodVersions, counts};
 pub use texts::{Name, Names, Text};
 pub use uid_words::uid_text;

@@ -1,5 +1,8 @@
 //! What a sync of the Job controller starts from, and what it counts.
 
+ghost use Rattle.std.specs.Prelude.{◌≡◌, ◌<◌, ◌^◌};
+ghost use Rattle.jc_types.specs.Counts.{counts as counts_of};
+
 use crate::copying::{Copied, Same, Want};
 use crate::lists::ListOf;
 use crate::numbers::{Uid, Uids, Version};
@@ -49,6 +52,19 @@ pub struct CountIn {
     pub new_succeeded: u32,
     /// How many failures are counted in now.
     pub new_failed: u32,
+}
+
+/// The failed count and the succeeded count of a Job (KEP-2307): each total with the length of its list
+/// of uncounted pods. Both are below 2^64.
+pub fn counts(counted: &CountIn) -> (u64, u64)
+    requires failed { (counts_of counted.now).0 < 2 ^ 64 }
+    requires succeeded { (counts_of counted.now).1 < 2 ^ 64 }
+    ensures { result ≡ counts_of counted.now }
+{
+    (
+        counted.failed + counted.uncounted_failed.len() as u64,
+        counted.succeeded + counted.uncounted_succeeded.len() as u64,
+    )
 }
 
 impl Copied for (Uid, Version) {

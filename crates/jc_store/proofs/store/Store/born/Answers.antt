@@ -1,7 +1,11 @@
-use Rattle.std.proofs.Common.{arith, reverse, ap, length}
+use Rattle.std.proofs.Common.{arith, reverse, ap, length, ◌∙◌}
+use Rattle.jc_types.specs.Log.{births}
 use Rattle.jc_store.proofs.Births.{births_within}
 use Rattle.jc_store.proofs.store.Store.born.Goals as goal
 
+pub returns-clause-value : goal.returns-clause-value
+returns-clause-value c = c.self.invariant.counted ∙ ap births c.self.view_is
+
 pub returns-clause-small : goal.returns-clause-small
 returns-clause-small c =
-    omega (arith, births_within (reverse c.self.inside.log.items), c.self.invariant.counted, ap length c.self.view_is, c.entries-entries.ensures.value, c.entries-entries.ensures.small)
+    omega (arith, births_within (reverse c.self.inside.log), c.self.invariant.counted, ap length c.self.view_is, c.entries-entries.ensures.value, c.entries-entries.ensures.small)

@@ -1,5 +1,13 @@
-use Rattle.jc_store.proofs.Births.{end_job-writes}
+use Rattle.std.proofs.Common.{ap, ◌∙◌}
+use Rattle.jc_types.specs.Keys.{same_key}
+use Rattle.jc_types.specs.Tables.{takes}
+use Rattle.jc_store.proofs.Keeps.{end_job-keeps}
 use Rattle.jc_store.proofs.store.Store.end_job.Goals as goal
 
-pub append-requires-clause-writes : goal.append-requires-clause-writes
-append-requires-clause-writes c = end_job-writes c.args.self.now c.args.job c.requires.version c.requires.end
+pub invariant_of-self-2 : goal.invariant_of-self-2
+invariant_of-self-2 c =
+    end_job-keeps c.self.inside.born c.self.inside.jobs c.take.new.self c.self.inside.pods c.self.inside.made
+    c.self.inside.log c.push.new.self c.args.self.now c.args.job c.self.invariant c.self.view_is
+    c.in_ok-push.ensures.added
+    (c.take.ensures.rows ∙ ap (λ k. takes same_key c.self.inside.jobs k) c.in_ok-key.ensures)
+    c.requires.version c.requires.end

@@ -10,4 +10,4 @@ returns-then-version-eq0 c =
 pub returns : goal.returns
 returns c =
     entry_read c.as_slice.result.now c.args.self.now c.args.version.0 c.get.result
-    (sym c.self.view_is ∙ ap reverse (sym c.as_slice.ensures.value)) c.if-version-eq0.false c.get.ensures.lookup
+    (sym c.self.view_is ∙ ap reverse (sym c.as_slice.ensures)) c.if-version-eq0.false c.get.ensures.lookup

@@ -1,12 +1,33 @@
-use Rattle.std.proofs.Common.{ap, sym, ◌+◌, ◌∙◌}
-use Rattle.jc_store.proofs.Births.{made_pod-births, made_pod-writes}
+use Rattle.std.proofs.Common.{◌+◌, ◌++◌, ◌∷◌, [], ap, sym, subst, ◌∙◌, arith}
+use Rattle.jc_types.specs.declared.objects.Entry.TheVariants.{PodPut}
+use Rattle.jc_types.specs.Log.{living, made_for}
+use Rattle.jc_types.specs.Writes.{Stored}
+use Rattle.jc_store.proofs.Births.{made_within, new_never}
+use Rattle.jc_store.proofs.Keeps.{make_pod-keeps, pod_there}
 use Rattle.jc_store.proofs.store.Store.make_pod.Goals as goal
 
-pub append-requires-clause-writes : goal.append-requires-clause-writes
-append-requires-clause-writes c =
-    made_pod-writes c.args.self.now c.args.pod c.born-born.ensures.kept.stored c.requires.version c.requires.new_pod
+pub overflow_add-more : goal.overflow_add-more
+overflow_add-more c =
+    omega (arith, made_within c.args.pod.owner_uid c.args.self.now, c.made_for-count.ensures, c.requires.few)
 
-pub append-requires-clause-counted : goal.append-requires-clause-counted
-append-requires-clause-counted c =
-    ap (λ n. n + 1) c.born-born.ensures.kept.counted
-    ∙ sym (made_pod-births c.args.self.now c.args.pod c.born-born.ensures.kept.stored c.requires.new_pod)
+pub keep_count-requires : goal.keep_count-requires
+keep_count-requires c =
+    c.made_for-count.ensures
+    ∙ ap (made_for c.args.pod.owner_uid) (sym c.self.view_is)
+    ∙ sym (c.self.invariant.made_before c.args.pod.owner_uid)
+
+pub add_pod-requires : goal.add_pod-requires
+add_pod-requires c =
+    pod_there c.self.inside.pods c.self.inside.log c.args.self.now c.args.pod.uid c.self.invariant.pods_there c.self.view_is
+    ∙ ap living (new_never c.args.self.now c.args.pod (subst Stored c.self.view_is c.self.invariant.stored) c.requires.new_pod)
+
+pub replace-requires : goal.replace-requires
+replace-requires c = c.in_ok-keep_count.ensures.row
+
+pub invariant_of-self-2 : goal.invariant_of-self-2
+invariant_of-self-2 c =
+    make_pod-keeps c.self.inside.born (c.born-born.result + 1) c.self.inside.jobs c.self.inside.pods c.add_pod.new.pods c.self.inside.made
+    c.keep_count.new.made c.replace.new.self c.self.inside.log c.add_pod.new.log c.args.self.now c.args.pod
+    c.made_for-count.result c.self.invariant c.self.view_is
+    (c.in_ok-add_pod.ensures.entry ∙ ap (λ p. c.self.inside.log ++ PodPut p ∷ []) c.in_ok-copy.ensures) c.in_ok-add_pod.ensures.row c.keep_count.ensures.counts c.made_for-count.ensures c.replace.ensures.sets
+    (ap (λ n. n + 1) c.born-born.ensures.value) c.requires.version c.requires.new_pod

@@ -1,10 +1,19 @@
-use Rattle.std.proofs.Common.{sym, ◌∙◌}
-use Rattle.jc_store.proofs.Births.{put_job-births, put_job-writes}
+use Rattle.std.proofs.Common.{◌∷◌, ◌++◌, [], IsSome, ap, sym, subst, ◌∙◌}
+use Rattle.jc_types.specs.declared.objects.Entry.TheVariants.{JobPut}
+use Rattle.jc_types.specs.Keys.{same_key}
+use Rattle.jc_types.specs.Tables.{at, puts}
+use Rattle.jc_store.proofs.Keeps.{job_row, put_job-keeps}
 use Rattle.jc_store.proofs.store.Store.put_job.Goals as goal
 
-pub append-requires-clause-writes : goal.append-requires-clause-writes
-append-requires-clause-writes c = put_job-writes c.args.self.now c.args.job c.requires.version c.requires.step
+pub replace-requires : goal.replace-requires
+replace-requires c =
+    subst (λ k. IsSome (at same_key c.self.inside.jobs k)) (sym c.in_ok-key.ensures)
+    (job_row c.self.inside.jobs c.self.inside.log c.args.self.now c.args.job c.self.invariant.jobs_there c.self.view_is c.requires.step)
 
-pub append-requires-clause-counted : goal.append-requires-clause-counted
-append-requires-clause-counted c =
-    c.born-born.ensures.kept.counted ∙ sym (put_job-births c.args.self.now c.args.job c.requires.step)
+pub invariant_of-self-2 : goal.invariant_of-self-2
+invariant_of-self-2 c =
+    put_job-keeps c.self.inside.born c.self.inside.jobs c.replace.new.self c.self.inside.pods c.self.inside.made
+    c.self.inside.log c.push.new.self c.args.self.now c.args.job c.self.invariant c.self.view_is
+    (c.in_ok-push.ensures.added ∙ ap (λ j. c.self.inside.log ++ JobPut j ∷ []) c.in_ok-copy.ensures)
+    (c.replace.ensures.puts ∙ ap (λ k. puts same_key c.self.inside.jobs k c.args.job) c.in_ok-key.ensures)
+    c.requires.version c.requires.step

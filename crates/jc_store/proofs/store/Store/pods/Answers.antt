@@ -1,0 +1,6 @@
+use Rattle.std.proofs.Common.{ap, ◌∙◌}
+use Rattle.jc_types.specs.Log.{pods_in}
+use Rattle.jc_store.proofs.store.Store.pods.Goals as goal
+
+pub returns : goal.returns
+returns c = c.self.invariant.pods_there ∙ ap pods_in c.self.view_is

@@ -1,0 +1,10 @@
+-- A pod that was put where none had its UID is taken again.
+use Rattle.std.proofs.Common.{ap, ◌∙◌}
+use Rattle.jc_types.specs.Log.{drop_pod}
+use Rattle.jc_store.proofs.Keeps.{drop-put}
+use Rattle.jc_store.proofs.store.add_pod.Goals as goal
+
+pub returns-in-Err-clause-row_kept : goal.returns-in-Err-clause-row_kept
+returns-in-Err-clause-row_kept c =
+    c.take.ensures.drops ∙ ap (drop_pod c.args.pod.uid) c.in_ok-put.ensures.puts
+    ∙ drop-put c.args.pod c.args.pods.now c.requires

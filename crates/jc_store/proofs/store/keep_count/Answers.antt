@@ -1,0 +1,9 @@
+use Rattle.jc_store.proofs.Keeps.{counts_with_row, row_put}
+use Rattle.jc_store.proofs.store.keep_count.Goals as goal
+
+pub returns-clause-counts : goal.returns-clause-counts
+returns-clause-counts c =
+    counts_with_row c.args.made.now c.put.new.self c.args.owner c.args.count c.requires c.in_ok-put.ensures.sets
+
+pub returns-clause-row : goal.returns-clause-row
+returns-clause-row c = row_put c.args.made.now c.put.new.self c.args.owner c.args.count c.in_ok-put.ensures.sets
