@@ -1,8 +1,9 @@
 -- The row that is due first is found from the last row on, and taken out by its place.
-use Rattle.std.proofs.Common.{◌≡◌, ℕ, zero, suc, true, false, cond, List, [], ◌∷◌, Option, Some, is_some, drop, refl, sym, ap, ◌∙◌, subst, true≢false}
+use Rattle.std.proofs.Common.{◌≡◌, ℕ, zero, suc, true, false, cond, List, [], ◌∷◌, Option, Some, is_some, drop, take, refl, sym, ap, ◌∙◌, subst, true≢false}
 use Rattle.std.specs.List.{AllByRecursion as Each, IsDistinct, remove, slice_get}
 use Rattle.std.specs.Map.{keys_of}
 use Rattle.std.specs.Option.{option_and_then, option_map, unwrap_or}
+use Rattle.indexmap.specs.IndexMap.{insert_entry}
 use Rattle.jc_types.specs.declared.objects.Key.{Key}
 use Rattle.jc_types.specs.Keys.{same_key}
 use Rattle.jc_types.specs.Tables.{takes}
@@ -21,10 +22,10 @@ first_from rows after place chosen other next rest e =
     at (row ∷ rows) (suc place) = at rows place
 
 -- What holds of each key holds of the key at a place.
-key_at : (P : Key → Type 0) (rows : List (Key × ℕ)) (place : ℕ) (row : Key × ℕ) → Each P (keys_of rows) → Some row ≡ slice_get rows place → P row.0
+key_at : {X : Type 0} (P : Key → Type 0) (rows : List (Key × X)) (place : ℕ) (row : Key × X) → Each P (keys_of rows) → Some row ≡ slice_get rows place → P row.0
 key_at P [] zero row h e = absurd (true≢false (ap is_some e))
 key_at P [] (suc place) row h e = absurd (true≢false (ap is_some e))
-key_at P (first ∷ rows) zero row h e = subst (λ (row : Key × ℕ). P row.0) (sym (ap (λ o. unwrap_or o row) e)) h.0
+key_at {X = X} P (first ∷ rows) zero row h e = subst (λ (row : Key × X). P row.0) (sym (ap (λ o. unwrap_or o row) e)) h.0
 key_at P (first ∷ rows) (suc place) row h e = key_at P rows place row h.1 e
 
 -- The removal at a place is the removal of the row of its key.
@@ -39,3 +40,24 @@ remove-row (first ∷ rows) (suc place) row d e =
     let other : same_key row.0 first.0 ≡ false = same_key-either_way row.0 first.0 ∙ key_at (λ k. same_key first.0 k ≡ false) rows place row d.0 e in
     ap (λ rest. first ∷ rest) (remove-row rows place row d.1 e)
     ∙ sym (ap (λ b. cond b rows (first ∷ takes same_key rows row.0)) other)
+
+-- The rows before a place and the row at it are the rows up to the next place.
+pub rows-next : {X : Type 0} (rows : List (Key × X)) (place : ℕ) (key : Key) (value : X) → IsDistinct same_key (keys_of rows) → Some (key, value) ≡ slice_get rows place → insert_entry same_key (take place rows) key value ≡ take (suc place) rows
+unfolding IsDistinct
+rows-next [] zero key value d e = absurd (true≢false (ap is_some e))
+rows-next [] (suc place) key value d e = absurd (true≢false (ap is_some e))
+rows-next (first ∷ rows) zero key value d e =
+    ap (λ o. unwrap_or o (key, value) ∷ []) e ∙ ap (λ rest. first ∷ rest) (sym (none rows))
+  where
+    none : {Y : Type 0} (xs : List Y) → take zero xs ≡ []
+    none [] = refl
+    none (x ∷ xs) = refl
+rows-next (first ∷ rows) (suc place) key value d e =
+    let other : same_key key first.0 ≡ false = same_key-either_way key first.0 ∙ key_at (λ k. same_key first.0 k ≡ false) rows place (key, value) d.0 e in
+    ap (λ b. cond b ((first.0, value) ∷ take place rows) (first ∷ insert_entry same_key (take place rows) key value)) other
+    ∙ ap (λ rest. first ∷ rest) (rows-next rows place key value d.1 e)
+
+-- The row that is copied next.
+pub row-copied : {X : Type 0} (rows before after : List (Key × X)) (place next : ℕ) (key again : Key) (value same : X) → next ≡ suc place → IsDistinct same_key (keys_of rows) → Some (key, value) ≡ slice_get rows place → again ≡ key → same ≡ value → before ≡ take place rows → after ≡ insert_entry same_key before again same → after ≡ take next rows
+row-copied rows before after place next key again value same n d e k v b a =
+    a ∙ (λ i. insert_entry same_key (b i) (k i) (v i)) ∙ rows-next rows place key value d e ∙ ap (λ m. take m rows) (sym n)

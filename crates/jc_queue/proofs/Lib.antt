@@ -1,4 +1,6 @@
+pub mod BackFacts
 pub mod CallFacts
 pub mod DelayFacts
+pub mod DueFacts
 pub mod QueueFacts
 pub mod Steps

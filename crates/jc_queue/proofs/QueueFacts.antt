@@ -21,12 +21,12 @@ and-false true = refl
 and-false false = refl
 
 -- None of the keys is k, as one test.
-none_is : (k : Key) (keys : List Key) → Each (λ y. same_key k y ≡ false) keys → is_in k keys ≡ false
+pub none_is : (k : Key) (keys : List Key) → Each (λ y. same_key k y ≡ false) keys → is_in k keys ≡ false
 none_is k [] h = refl
 none_is k (x ∷ xs) h = ap (λ b. b || is_in k xs) h.0 ∙ none_is k xs h.1
 
 -- A key that goes last is among the keys, beside those that were.
-is_in-last : (q k : Key) (keys : List Key) → is_in q (keys ++ k ∷ []) ≡ (is_in q keys || same_key q k)
+pub is_in-last : (q k : Key) (keys : List Key) → is_in q (keys ++ k ∷ []) ≡ (is_in q keys || same_key q k)
 is_in-last q k keys = list_any-append (same_key q) keys (k ∷ []) ∙ ap (λ b. is_in q keys || b) (or-false (same_key q k))
 
 -- A key that is not among the keys may go last.
@@ -34,7 +34,7 @@ each-last : (y k : Key) (keys : List Key) → same_key y k ≡ false → Each (�
 each-last y k [] f h = (f, tt)
 each-last y k (z ∷ zs) f h = (h.0, each-last y k zs f h.1)
 
-distinct-last : (k : Key) (keys : List Key) → is_in k keys ≡ false → IsDistinct same_key keys → IsDistinct same_key (keys ++ k ∷ [])
+pub distinct-last : (k : Key) (keys : List Key) → is_in k keys ≡ false → IsDistinct same_key keys → IsDistinct same_key (keys ++ k ∷ [])
 unfolding IsDistinct
 distinct-last k [] h d = (tt, tt)
 distinct-last k (x ∷ xs) h d = by (same_key k x) refl h (distinct-last k xs)
@@ -52,7 +52,7 @@ each-without P k (x ∷ xs) h = by (same_key k x) (each-without P k xs h.1)
     by true rest = h.1
     by false rest = (h.0, rest)
 
-distinct-without : (k : Key) (keys : List Key) → IsDistinct same_key keys → IsDistinct same_key (without k keys)
+pub distinct-without : (k : Key) (keys : List Key) → IsDistinct same_key keys → IsDistinct same_key (without k keys)
 unfolding IsDistinct
 distinct-without k [] d = tt
 distinct-without k (x ∷ xs) d = by (same_key k x) (distinct-without k xs d.1)
@@ -62,7 +62,7 @@ distinct-without k (x ∷ xs) d = by (same_key k x) (distinct-without k xs d.1)
     by false rest = (each-without (λ y. same_key x y ≡ false) k xs d.0, rest)
 
 -- Just k is among the keys no more.
-is_in-without : (q k : Key) (keys : List Key) → IsDistinct same_key keys → is_in q (without k keys) ≡ (not (same_key k q) && is_in q keys)
+pub is_in-without : (q k : Key) (keys : List Key) → IsDistinct same_key keys → is_in q (without k keys) ≡ (not (same_key k q) && is_in q keys)
 unfolding IsDistinct
 is_in-without q k [] d = by (same_key k q)
   where

@@ -10,8 +10,13 @@
 --     first_of rows            the row that is due first
 --     due_key d now            the key that is due first, where its moment has come
 --     left_by d due            without the moment of the key that was due
-use Rattle.std.specs.Prelude.{ℕ, ◌+◌, ◌-◌, ◌^◌, Bool, ◌&&◌, ◌||◌, ◌==◌, nat_lt, nat_le, List, [], ◌∷◌, Option, Some, None, min, if◌then◌else◌}
+--     is_due now row           the row's moment has come
+--     in_turn rows             the rows in the order in which they are due
+--     due_keys d now           the keys that are due, in this order
+--     left_after d now         without their moments
+use Rattle.std.specs.Prelude.{ℕ, ◌+◌, ◌-◌, ◌^◌, Bool, not, ◌&&◌, ◌||◌, ◌==◌, nat_lt, nat_le, List, [], ◌∷◌, Option, Some, None, min, filter, if◌then◌else◌}
 use Rattle.std.specs.Cmp.Lexicographic.{slice_cmp}
+use Rattle.std.specs.Map.{keys_of}
 use Rattle.std.specs.Option.{unwrap_or}
 use Rattle.std.specs.Ordering.{is_lt, nat_cmp, ordering_then}
 use Rattle.std.specs.declared.cmp.Ordering.{Ordering}
@@ -89,3 +94,25 @@ due_key d now = key_by (first_of d.moments) now
 abbrev pub left_by : Delayed → Option Key → Delayed
 left_by d None = d
 left_by d (Some k) = record { moments = takes same_key d.moments k; failures = d.failures }
+
+-- The row's moment has come.
+abbrev pub is_due : ℕ → Key × ℕ → Bool
+is_due now row = nat_le row.1 now
+
+-- The row among rows that stand in turn: behind those that are due before it.
+abbrev pub put_in_turn : Key × ℕ → List (Key × ℕ) → List (Key × ℕ)
+put_in_turn row [] = row ∷ []
+put_in_turn row (first ∷ rows) = if is_before first row then first ∷ put_in_turn row rows else row ∷ first ∷ rows
+
+-- The rows in the order in which they are due.
+abbrev pub in_turn : List (Key × ℕ) → List (Key × ℕ)
+in_turn [] = []
+in_turn (row ∷ rows) = put_in_turn row (in_turn rows)
+
+-- The keys that are due, in the order in which they are due.
+abbrev pub due_keys : Delayed → ℕ → List Key
+due_keys d now = keys_of (in_turn (filter (is_due now) d.moments))
+
+-- Without the moments of the keys that are due.
+abbrev pub left_after : Delayed → ℕ → Delayed
+left_after d now = record { moments = filter (λ row. not (is_due now row)) d.moments; failures = d.failures }

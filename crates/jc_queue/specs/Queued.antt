@@ -5,6 +5,8 @@
 --     added q k          a key that is not dirty becomes dirty and, where it is not processing, goes last
 --     got q              the first key of the line is processing, and dirty no more
 --     finished q k       the key is processing no more; where it is dirty it goes last
+--     sent_back q        the first key of the line goes last
+--     retracted q k      the key is in line and dirty no more
 --     IsQueue q          no key stands twice, and just the dirty keys that are not processing are in line
 use Rattle.std.specs.Prelude.{◌≡◌, Bool, not, ◌&&◌, List, [], ◌∷◌, ◌++◌, if◌then◌else◌}
 use Rattle.std.specs.List.{IsDistinct}
@@ -47,6 +49,19 @@ got q = got_first q.line q
 abbrev pub finished : Queued → Key → Queued
 finished q k =
     record { line = if is_in k q.dirty then q.line ++ k ∷ [] else q.line; dirty = q.dirty; processing = without k q.processing }
+
+-- The first key of this line goes to the line's end.
+abbrev pub sent_back_first : List Key → Queued → Queued
+sent_back_first [] q = q
+sent_back_first (k ∷ rest) q = record { line = rest ++ k ∷ []; dirty = q.dirty; processing = q.processing }
+
+-- The first key of the line goes to the line's end; it stays dirty. An empty line changes nothing.
+abbrev pub sent_back : Queued → Queued
+sent_back q = sent_back_first q.line q
+
+-- The key is in line and dirty no more.
+abbrev pub retracted : Queued → Key → Queued
+retracted q k = record { line = without k q.line; dirty = without k q.dirty; processing = q.processing }
 
 -- No key stands twice, and a key is in line just where it is dirty and not processing.
 pub record IsQueue (q : Queued) : Type 0 where

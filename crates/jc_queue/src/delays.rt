@@ -1,6 +1,6 @@
 //! The delays of keys: at most one moment a key, and a count of failures a key.
 
-ghost use Rattle.std.specs.Prelude.{◌≡◌, ◌<◌, ◌≤◌, [], IsOk, OnErr, OnOk, slice_get};
+ghost use Rattle.std.specs.Prelude.{◌≡◌, ◌<◌, ◌≤◌, [], IfOk, IsOk, OnErr, OnOk, length, slice_get};
 ghost use Rattle.std.specs.List.{IsDistinct};
 ghost use Rattle.std.specs.Map.{keys_of};
 ghost use Rattle.std.specs.Map.Iter.{deref_pair};
@@ -111,6 +111,14 @@ impl Delays {
         Some(key)
     }
 
+    /// The number of keys that are delayed.
+    pub fn len(&self) -> usize
+        ensures count { result ≡ length self.now.moments }
+        ensures once { IsDistinct same_key (keys_of self.now.moments) }
+    {
+        self.moments.len()
+    }
+
     /// The earliest moment; `None` exactly where no key is delayed. No key has two moments.
     pub fn next_moment(&self) -> Option<Moment>
         ensures moment { result ≡ option_map (λ row. row.1) (first_of self.now.moments) }
@@ -122,10 +130,34 @@ impl Delays {
     }
 }
 
+impl Copied for Delays {
+    fn copy(&self) -> Result<Delays, Want> {
+        let alloc = *self.moments.allocator();
+        Ok(Delays {
+            moments: copied_rows(alloc, &self.moments)?,
+            failures: copied_rows(alloc, &self.failures)?,
+        })
+    }
+}
+
+// Copies of the rows, in their order.
+fn copied_rows<V: Copied>(alloc: Global, rows: &IndexMap<Key, V>) -> Result<IndexMap<Key, V>, Want>
+    ensures { IfOk result (λ copied. copied.entries ≡ rows.now.entries) }
+{
+    let mut copied = IndexMap::new(alloc);
+    for place in 0..rows.len() {
+        let Some((key, value)) = rows.get_index(place) else {
+            unreachable!()
+        };
+        copied.insert(key.copy()?, value.copy()?)?;
+    }
+    Ok(copied)
+}
+
 // Keeps the moment for the key; of two moments of a key the earlier.
 fn keep_earlier(moments: &mut IndexMap<Key, Moment>, key: Key, moment: Moment) -> Result<(), Want>
-    ensures kept { OnOk result (moments.new.entries ≡ puts same_key moments.old.entries key (earlier (at same_key moments.old.entries key) moment)) }
-    ensures err { OnErr result (moments.new.entries ≡ moments.old.entries) }
+    ensures earlier { OnOk result (moments.new.entries ≡ puts same_key moments.old.entries key (earlier (at same_key moments.old.entries key) moment)) }
+    ensures kept { OnErr result (moments.new.entries ≡ moments.old.entries) }
     ensures succeeds { 0 < spare moments.old → IsOk result }
 {
     let kept = match moments.get(&key) {

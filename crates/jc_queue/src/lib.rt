@@ -6,10 +6,12 @@
 
 mod calls;
 mod delays;
+mod laws;
 mod queue;
 #[cfg(test)]
 mod tests;
 
 pub use calls::{Call, gets_no_processing_key, run};
 pub use delays::Delays;
+pub use laws::{calls_keep_a_queue, due_keys_leave_one_by_one, what_was_added_is_taken_back};
 pub use queue::Queue;

@@ -1,10 +1,12 @@
 //! The work queue: a line of keys without repeats, the dirty keys, and those that are processing.
 
-ghost use Rattle.std.specs.Prelude.{◌≡◌, ◌+◌, [], IfSome, OnErr, OnOk, false, length, position, slice_get, true};
+ghost use Rattle.std.specs.Prelude.{◌≡◌, ◌+◌, ◌++◌, ◌≤◌, ◌<◌, [], IfOk, IfSome, OnErr, OnOk, false, length, position, slice_get, true};
+ghost use Rattle.std.specs.List.{IsDistinct};
 ghost use Rattle.std.specs.Option.{option_copied};
 ghost use Rattle.std.specs.Vec.{vec_capacity, vec_len};
+ghost use Rattle.std.specs.VecDeque.{deque_capacity, deque_len};
 ghost use Rattle.jc_types.specs.Keys.{same_key};
-ghost use Rattle.jc_queue.specs.Queued.{IsQueue, added, finished, got, is_in, without};
+ghost use Rattle.jc_queue.specs.Queued.{IsQueue, added, finished, got, is_in, retracted, sent_back, without};
 
 use indexmap::IndexSet;
 use jc_types::{Copied, Key, Want};
@@ -106,6 +108,33 @@ impl Queue {
         self.line.front()
     }
 
+    /// Sends the first key of the line to the line's end; it stays dirty. An empty line changes nothing.
+    /// It takes no memory.
+    pub fn send_back(&mut self)
+        ensures { self.new ≡ sent_back self.old }
+    {
+        let Some(key) = self.line.pop_front() else {
+            return;
+        };
+        self.line.push_back_reserved(key);
+    }
+
+    /// Takes a key back: it is in line and dirty no more, as before it was added. It takes no memory.
+    pub fn retract(&mut self, key: &Key)
+        ensures { self.new ≡ retracted self.old key.now }
+    {
+        take_from_line(&mut self.line, key);
+        self.dirty.shift_remove(key);
+    }
+
+    /// Whether the key is dirty.
+    pub fn is_dirty(&self, key: &Key) -> bool
+        ensures dirty { result ≡ is_in key.now self.now.dirty }
+        ensures queue { IsQueue self.now }
+    {
+        self.dirty.contains(key)
+    }
+
     /// The number of keys in line.
     pub fn len(&self) -> usize
         ensures count { result ≡ length self.now.line }
@@ -120,6 +149,75 @@ impl Queue {
     {
         self.processing.first()
     }
+}
+
+impl Copied for Queue {
+    fn copy(&self) -> Result<Queue, Want> {
+        let alloc = *self.line.allocator();
+        let (front, back) = self.line.as_slices();
+        let mut line = copied(alloc, front, back)?;
+        let mut processing = copied(alloc, self.processing.as_slice(), &[])?;
+        let dirty = copied_set(alloc, self.dirty.as_slice())?;
+        line.reserve(processing.len())?;
+        processing.reserve(line.len())?;
+        Ok(Queue {
+            line: VecDeque::from_vec(line),
+            dirty,
+            processing,
+        })
+    }
+}
+
+// Copies of the keys in front and of those at the back.
+fn copied(alloc: Global, front: &[Key], back: &[Key]) -> Result<Vec<Key>, Want>
+    ensures { IfOk result (λ keys. keys.items ≡ front.now ++ back.now) }
+{
+    let mut keys = Vec::new(alloc);
+    push_copies(&mut keys, front)?;
+    push_copies(&mut keys, back)?;
+    Ok(keys)
+}
+
+// Adds copies of more keys at the end.
+fn push_copies(keys: &mut Vec<Key>, more: &[Key]) -> Result<(), Want>
+    ensures { OnOk result (keys.new.items ≡ keys.old.items ++ more.now) }
+{
+    for key in more {
+        keys.push(key.copy()?)?;
+    }
+    Ok(())
+}
+
+// A set of copies of the keys, in their order.
+fn copied_set(alloc: Global, keys: &[Key]) -> Result<IndexSet<Key>, Want>
+    requires once { IsDistinct same_key keys.now }
+    ensures { IfOk result (λ set. set.keys ≡ keys.now) }
+{
+    let mut set = IndexSet::new(alloc);
+    for key in keys {
+        set.insert(key.copy()?)?;
+    }
+    Ok(set)
+}
+
+// The place of the key in line.
+fn place_in_line(line: &VecDeque<Key>, key: &Key) -> Option<usize>
+    ensures place { result ≡ position (same_key key.now) line.now.items }
+    ensures within { IfSome result (λ place. place < deque_len line.now) }
+{
+    line.iter().position(|other| *key == *other)
+}
+
+// Takes the key out of the line, where it is in it.
+fn take_from_line(line: &mut VecDeque<Key>, key: &Key)
+    ensures items { line.new.items ≡ without key.now line.old.items }
+    ensures fewer { deque_len line.new ≤ deque_len line.old }
+    ensures capacity { deque_capacity line.new ≡ deque_capacity line.old }
+{
+    let Some(place) = place_in_line(line, key) else {
+        return;
+    };
+    line.remove(place);
 }
 
 // Whether the key is among the keys.

@@ -1,0 +1,2 @@
+pub mod LawFacts
+pub mod TurnFacts

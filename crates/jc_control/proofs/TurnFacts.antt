@@ -1,0 +1,192 @@
+-- What the calls of a controller make of its parts is what the words on them say.
+use Rattle.std.proofs.Common.{◌≡◌, ℕ, ◌+◌, ◌≤◌, Bool, true, false, cond, ◌||◌, List, [], ◌∷◌, ◌++◌, length, take, map, Option, Some, None, is_some, slice_get, refl, sym, ap, ◌∙◌, subst, arith, true≢false}
+use Rattle.std.specs.List.{IsDistinct}
+use Rattle.std.specs.Map.{keys_of}
+use Rattle.std.specs.Option.{unwrap_or}
+use Rattle.jc_control.specs.Held.{AreKnown, Controlled, unknown}
+use Rattle.jc_control.specs.Turns.{Beginning, all_added, basis_of, begun, begun_at, begun_first, begun_unless, lag, noted, noted_at}
+use Rattle.jc_control.specs.declared.begins.Begin.TheVariants.{Begun}
+use Rattle.jc_control.specs.declared.known.Known.{Known}
+use Rattle.jc_queue.proofs.BackFacts.{retracted-added}
+use Rattle.jc_queue.proofs.DueFacts.{due_keys-none, due_keys-some, fewer-left, left_after-none, left_after-some, once-left}
+use Rattle.jc_queue.proofs.QueueFacts.{is_in-last}
+use Rattle.jc_queue.specs.Delayed.{Delayed, due_key, due_keys, left_after, left_by}
+use Rattle.jc_queue.specs.Queued.{IsQueue, Queued, added, finished, got, got_first, is_in, retracted, without}
+use Rattle.jc_types.specs.declared.numbers.Version.{Version}
+use Rattle.jc_types.specs.declared.objects.Key.{Key}
+use Rattle.jc_types.specs.declared.syncs.Basis.{Basis}
+use Rattle.jc_types.specs.Keys.{same_key}
+use Rattle.jc_types.specs.Tables.{Sets, at}
+use Rattle.jc_types.proofs.KeyFacts.{same_key-eq, same_key-itself}
+use Rattle.jc_types.proofs.TableFacts.{Sets-puts}
+
+-- ---- keys are added
+
+-- One key more.
+pub all_added-last : {X : Type 0} (key : X → Key) (q : Queued) (xs : List X) (x : X) → all_added q (map key (xs ++ x ∷ [])) ≡ added (all_added q (map key xs)) (key x)
+all_added-last key q [] x = refl
+all_added-last key q (y ∷ xs) x = all_added-last key (added q (key y)) xs x
+
+pub all_added-next : {X : Type 0} (key : X → Key) (q before after : Queued) (xs : List X) (i next : ℕ) (x : X) → take next xs ≡ take i xs ++ x ∷ [] → before ≡ all_added q (map key (take i xs)) → after ≡ added before (key x) → after ≡ all_added q (map key (take next xs))
+all_added-next key q before after xs i next x more b a =
+    a ∙ ap (λ q. added q (key x)) b ∙ sym (all_added-last key q (take i xs) x) ∙ ap (λ ys. all_added q (map key ys)) (sym more)
+
+-- Keys that are added change nothing of those that are processing.
+added-processing : (q : Queued) (k : Key) → (added q k).processing ≡ q.processing
+added-processing q k = by (is_in k q.dirty)
+  where
+    by : (b : Bool) → (cond {A = Queued} b q (record { line = cond (is_in k q.processing) q.line (q.line ++ k ∷ []); dirty = q.dirty ++ k ∷ []; processing = q.processing })).processing ≡ q.processing
+    by true = refl
+    by false = refl
+
+pub all_added-processing : (q : Queued) (keys : List Key) → (all_added q keys).processing ≡ q.processing
+all_added-processing q [] = refl
+all_added-processing q (k ∷ keys) = all_added-processing (added q k) keys ∙ added-processing q k
+
+-- The rows of the processing keys are still there.
+pub known_still : (q new : Queued) (keys : List Key) (rows : List (Key × Known)) → AreKnown q.processing rows → new ≡ all_added q keys → AreKnown new.processing rows
+known_still q new keys rows known e = subst (λ some. AreKnown some rows) (sym (ap (λ (q : Queued). q.processing) e ∙ all_added-processing q keys)) known
+
+-- ---- keys that are due
+
+-- What a queue and delays come to.
+abbrev pub ComesTo : Queued → Delayed → ℕ → Queued → Delayed → Type 0
+ComesTo q d now q₀ d₀ = (all_added q (due_keys d now) ≡ all_added q₀ (due_keys d₀ now)) × (left_after d now ≡ left_after d₀ now) × IsDistinct same_key (keys_of d.moments)
+
+-- One key moves.
+pub due-moves : (q new : Queued) (d left : Delayed) (now : ℕ) (k : Key) (q₀ : Queued) (d₀ : Delayed) → ComesTo q d now q₀ d₀ → Some k ≡ due_key d now → left ≡ left_by d (Some k) → new ≡ added q k → ComesTo new left now q₀ d₀
+due-moves q new d left now k q₀ d₀ h e l a = (
+  ap (λ d. all_added new (due_keys d now)) l ∙ ap (λ q. all_added q (due_keys (left_by d (Some k)) now)) a
+      ∙ ap (λ keys. all_added q keys) (sym (due_keys-some d now k h.2 (sym e))) ∙ h.0,
+  ap (λ d. left_after d now) l ∙ sym (left_after-some d now k h.2 (sym e)) ∙ h.1,
+  subst (λ (d : Delayed). IsDistinct same_key (keys_of d.moments)) (sym l) (once-left d k h.2),
+)
+
+pub due-fewer : (d left : Delayed) (now : ℕ) (k : Key) → IsDistinct same_key (keys_of d.moments) → Some k ≡ due_key d now → left ≡ left_by d (Some k) → length left.moments + 1 ≡ length d.moments
+due-fewer d left now k once e l = ap (λ (d : Delayed). length d.moments + 1) l ∙ fewer-left d now k once (sym e)
+
+-- No key is due.
+pub none-moves : (q : Queued) (d left : Delayed) (now : ℕ) (q₀ : Queued) (d₀ : Delayed) → ComesTo q d now q₀ d₀ → None ≡ due_key d now → left ≡ d → (q ≡ all_added q₀ (due_keys d₀ now)) × (left ≡ left_after d₀ now)
+none-moves q d left now q₀ d₀ h e l = (
+  sym (ap (λ keys. all_added q keys) (due_keys-none d now (sym e))) ∙ h.0,
+  l ∙ sym (left_after-none d now (sym e)) ∙ h.1,
+)
+
+-- No key is delayed.
+pub none_left : (q : Queued) (d : Delayed) (now : ℕ) (q₀ : Queued) (d₀ : Delayed) → ComesTo q d now q₀ d₀ → length d.moments ≤ 0 → (q ≡ all_added q₀ (due_keys d₀ now)) × (d ≡ left_after d₀ now)
+none_left q d now q₀ d₀ h few = by d.moments refl
+  where
+    by : (rows : List (Key × ℕ)) → d.moments ≡ rows → (q ≡ all_added q₀ (due_keys d₀ now)) × (d ≡ left_after d₀ now)
+    by [] e =
+        let empty : d ≡ record { moments = []; failures = d.failures } = λ i. record { moments = e i; failures = d.failures } in (
+          ap (λ d. all_added q (due_keys d now)) (sym empty) ∙ h.0,
+          empty ∙ ap (λ d. left_after d now) (sym empty) ∙ h.1,
+        )
+    by (row ∷ rows) e = let many = ap length e in absurd (omega (arith, few, many))
+
+-- ---- a delivery that found no memory
+
+-- The key that was added is taken back.
+pub taken_back : (old seen : Controlled) (mid new : Queued) (k : Key) → IsQueue old.held.queue → is_in k old.held.queue.dirty ≡ false → mid ≡ added old.held.queue k → seen ≡ record old { held = record old.held { queue = mid } } → new ≡ retracted seen.held.queue k → record seen { held = record seen.held { queue = new } } ≡ old
+taken_back old seen mid new k queue clean m s n =
+    (λ i. record seen { held = record seen.held { queue = n i } })
+    ∙ ap (λ (seen : Controlled). record seen { held = record seen.held { queue = retracted seen.held.queue k } }) s
+    ∙ ap (λ mid. record old { held = record old.held { queue = retracted mid k } }) m
+    ∙ ap (λ q. record old { held = record old.held { queue = q } }) (retracted-added old.held.queue k queue clean)
+
+-- ---- rows of what is known
+
+-- A row that is written leaves a row to each key.
+pub known_set : (keys : List Key) (rows new : List (Key × Known)) (k : Key) (known : Known) → AreKnown keys rows → Sets same_key rows new k (Some known) → AreKnown keys new
+known_set keys rows new k known h sets j busy = ap is_some (sets j) ∙ by (same_key k j)
+  where
+    by : (b : Bool) → is_some (cond b (Some known) (at same_key rows j)) ≡ true
+    by true = refl
+    by false = h j busy
+
+-- The key that is noted has a row, and so have all that had one.
+noted_keeps : (rows : List (Key × Known)) (k j : Key) → is_some (at same_key rows j) ≡ true → is_some (at same_key (noted rows k) j) ≡ true
+noted_keeps rows k j h = by (at same_key rows k)
+  where
+    by : (o : Option Known) → is_some (at same_key (noted_at o rows k) j) ≡ true
+    by None = ap is_some (Sets-puts same_key same_key-eq same_key-itself k unknown rows j) ∙ at_test (same_key k j)
+      where
+        at_test : (b : Bool) → is_some (cond b (Some unknown) (at same_key rows j)) ≡ true
+        at_test true = refl
+        at_test false = h
+    by (Some known) = h
+
+noted_there : (rows : List (Key × Known)) (k : Key) → is_some (at same_key (noted rows k) k) ≡ true
+noted_there rows k = by (at same_key rows k) refl
+  where
+    by : (o : Option Known) → at same_key rows k ≡ o → is_some (at same_key (noted_at o rows k) k) ≡ true
+    by None e =
+        ap is_some (Sets-puts same_key same_key-eq same_key-itself k unknown rows k
+        ∙ ap (λ b. cond b (Some unknown) (at same_key rows k)) (same_key-itself k))
+    by (Some known) e = ap is_some e
+
+or-right : (a b : Bool) → b ≡ true → (a || b) ≡ true
+or-right true b h = refl
+or-right false b h = h
+
+or-weaker : (a b c : Bool) → (b ≡ true → c ≡ true) → (a || b) ≡ true → (a || c) ≡ true
+or-weaker true b c w h = refl
+or-weaker false b c w h = w h
+
+in_without : (j k : Key) (keys : List Key) → is_in j (without k keys) ≡ true → is_in j keys ≡ true
+in_without j k [] h = h
+in_without j k (x ∷ keys) h = by (same_key k x) h (in_without j k keys)
+  where
+    by : (b : Bool) → is_in j (cond b keys (x ∷ without k keys)) ≡ true → (is_in j (without k keys) ≡ true → is_in j keys ≡ true) → (same_key j x || is_in j keys) ≡ true
+    by true h ih = or-right (same_key j x) (is_in j keys) h
+    by false h ih = or-weaker (same_key j x) (is_in j (without k keys)) (is_in j keys) ih h
+
+-- A key that is done needs no row.
+pub known_done : (q new : Queued) (k : Key) (rows : List (Key × Known)) → AreKnown q.processing rows → new ≡ finished q k → AreKnown new.processing rows
+known_done q new k rows known e = subst (λ (q : Queued). AreKnown q.processing rows) (sym e) (λ j busy. known j (in_without j k q.processing busy))
+
+-- ---- a begin
+
+-- The line begins with the key.
+pub head_is : (line : List Key) (k : Key) → Some k ≡ slice_get line 0 → (rest : List Key) × (line ≡ k ∷ rest)
+head_is [] k e = absurd (true≢false (ap is_some e))
+head_is (x ∷ line) k e = (line, ap (λ o. unwrap_or o k ∷ line) (sym e))
+
+-- The key that is got has a row.
+pub known_got : (q new : Queued) (k : Key) (rows after : List (Key × Known)) → Some k ≡ slice_get q.line 0 → AreKnown q.processing rows → after ≡ noted rows k → new ≡ got q → AreKnown new.processing after
+known_got q new k rows after first known a n =
+    subst (λ some. AreKnown some after) (sym processing) (subst (λ rows. AreKnown (q.processing ++ k ∷ []) rows) (sym a) rows_are)
+  where
+    processing : new.processing ≡ q.processing ++ k ∷ []
+    processing = let h = head_is q.line k first in ap (λ (q : Queued). q.processing) n ∙ ap (λ line. (got_first line q).processing) h.1
+
+    rows_are : AreKnown (q.processing ++ k ∷ []) (noted rows k)
+    rows_are j busy = by (is_in j q.processing) refl (same_key j k) refl (sym (is_in-last j k q.processing) ∙ busy)
+      where
+        by : (a : Bool) → is_in j q.processing ≡ a → (b : Bool) → same_key j k ≡ b → (a || b) ≡ true → is_some (at same_key (noted rows k) j) ≡ true
+        by true h b s e = noted_keeps rows k j (known j h)
+        by false h true s e = ap (λ j. is_some (at same_key (noted rows k) j)) (same_key-eq j k s) ∙ noted_there rows k
+        by false h false s e = absurd (true≢false (sym e))
+
+module _ (c : Controlled) (now : ℕ) (j p : Version) (k : Key) (jobs : Some j ≡ c.held.jobs_at) (pods : Some p ≡ c.held.pods_at) (first : Some k ≡ slice_get c.held.queue.line 0) (none : lag k c j p ≡ None) where
+  begun_is : begun now c ≡ begun_unless now c j p k None
+  begun_is =
+      (λ i. begun_at now c (sym jobs i) (sym pods i))
+      ∙ ap (λ line. begun_first now c j p line) (head_is c.held.queue.line k first).1
+      ∙ ap (λ lag. begun_unless now c j p k lag) none
+
+  -- The answer is the basis.
+  pub begun-answer : (basis : Basis) → basis ≡ basis_of now c j p k → Begun basis ≡ (begun now c).answer
+  begun-answer basis e = ap (λ b. Begun b) e ∙ sym (ap (λ (b : Beginning). b.answer) begun_is)
+
+  -- The key is got, and has a row.
+  pub begun-held : (queue : Queued) (known : List (Key × Known)) → queue ≡ got c.held.queue → known ≡ noted c.held.known k → record c.held { queue = queue; known = known } ≡ (begun now c).held
+  begun-held queue known q r =
+      (λ i. record c.held { queue = q i; known = r i }) ∙ sym (ap (λ (b : Beginning). b.held) begun_is)
+
+-- The key that is got is processing.
+pub got_busy : (q new : Queued) (k : Key) → Some k ≡ slice_get q.line 0 → new ≡ got q → is_in k new.processing ≡ true
+got_busy q new k first n =
+    let h = head_is q.line k first in
+    ap (λ (q : Queued). is_in k q.processing) (n ∙ ap (λ line. got_first line q) h.1)
+    ∙ is_in-last k k q.processing ∙ or-right (is_in k q.processing) (same_key k k) (same_key-itself k)
