@@ -1,0 +1,66 @@
+-- What a sync counts in and out (KEP-2307). A UID is listed once its pod is judged, in the list of its
+-- outcome then, and leaves the list for the total once the pod has lost its finalizer. `own` are the Job's
+-- own pods among those that the sync sees.
+--     stayed own uids              the listed UIDs that stay: of tracked pods
+--     left own uids                how many leave
+--     completed_in job own         the completed indexes afterwards
+--     counted_in job pods          lists, totals and set afterwards, the pods to release, and what is new
+--     counted_out status released  the status once the released pods have lost their finalizer
+use Rattle.std.specs.Prelude.{ℕ, ◌+◌, not, List, length, filter, count_by}
+use Rattle.jc_types.specs.declared.numbers.Uid.{Uid}
+use Rattle.jc_types.specs.declared.objects.Job.{Job}
+use Rattle.jc_types.specs.declared.objects.Pod.{Pod}
+use Rattle.jc_types.specs.declared.statuses.JobStatus.{JobStatus}
+use Rattle.jc_types.specs.declared.syncs.CountIn.{CountIn}
+use Rattle.jc_types.specs.Bases.{own_pods}
+use Rattle.jc_types.specs.Uids.{is_in, merge, uids_of}
+use Rattle.jc_failpol.specs.declared.outcomes.Outcome.TheVariants.{Succeeded, Failed}
+use Rattle.jc_account.specs.Judged.{has_tracked, newly, to_release}
+use Rattle.jc_account.specs.Modes.{completed_after, gain, listing, succeeded_after}
+
+-- The listed UIDs that stay, whatever has become of their pods but for the finalizer.
+abbrev pub stayed : List Pod → List Uid → List Uid
+stayed own uids = filter (has_tracked own) uids
+
+-- How many listed UIDs leave: their pod is not tracked, or not there.
+abbrev pub left : List Pod → List Uid → ℕ
+left own uids = count_by (λ u. not (has_tracked own u)) uids
+
+-- The completed indexes afterwards.
+abbrev pub completed_in : Job → List Pod → List ℕ
+completed_in job own = completed_after job.spec.mode job.status.completed (newly job own Succeeded)
+
+-- What is counted in, of the Job's own pods.
+abbrev pub counted_of : Job → List Pod → CountIn
+counted_of job own = record {
+  uncounted_succeeded = merge (stayed own job.status.uncounted_succeeded) (listing job.spec.mode (newly job own Succeeded));
+  uncounted_failed = merge (stayed own job.status.uncounted_failed) (uids_of (newly job own Failed));
+  succeeded = succeeded_after job.spec.mode (job.status.succeeded + left own job.status.uncounted_succeeded) (completed_in job own);
+  failed = job.status.failed + left own job.status.uncounted_failed;
+  completed = completed_in job own;
+  releases = uids_of (to_release job own);
+  new_succeeded = gain job.spec.mode (newly job own Succeeded) job.status.completed (completed_in job own);
+  new_failed = length (newly job own Failed);
+}
+
+-- What is counted in, of all pods that the sync sees.
+unfoldable pub counted_in : Job → List Pod → CountIn
+counted_in job pods = counted_of job (own_pods job pods)
+
+-- The UIDs that are not among the released ones.
+abbrev pub unreleased : List Uid → List Uid → List Uid
+unreleased released uids = filter (λ u. not (is_in u released)) uids
+
+-- How many are among the released ones.
+abbrev pub released_of : List Uid → List Uid → ℕ
+released_of released uids = count_by (λ u. is_in u released) uids
+
+-- The status once the released pods have lost their finalizer: each that was listed leaves its list and
+-- raises its total.
+unfoldable pub counted_out : JobStatus → List Uid → JobStatus
+counted_out status released = record status {
+  succeeded = status.succeeded + released_of released status.uncounted_succeeded;
+  failed = status.failed + released_of released status.uncounted_failed;
+  uncounted_succeeded = unreleased released status.uncounted_succeeded;
+  uncounted_failed = unreleased released status.uncounted_failed;
+}

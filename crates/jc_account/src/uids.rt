@@ -1,0 +1,101 @@
+//! Lists of UIDs.
+
+ghost use Rattle.std.specs.Prelude.{◌≡◌, ◌+◌, ◌≤◌, IfOk, OnOk, length, nat_le};
+ghost use Rattle.std.specs.List.{position};
+ghost use Rattle.jc_types.specs.declared.numbers.Uid.{Uid};
+ghost use Rattle.jc_types.specs.Uids.{is_in, merge, with_uid};
+ghost use Rattle.jc_account.specs.Accounts.{unreleased};
+
+use jc_types::{Uid, Uids, Want};
+use std::alloc::Global;
+
+/// Whether the UID is in the list.
+pub fn is_among(uid: Uid, uids: &[Uid]) -> bool
+    ensures { result ≡ is_in uid uids.now }
+{
+    uids.iter().any(|other| other.0 == uid.0)
+}
+
+/// The place of the first UID that is not below the given one.
+fn place_of(uid: Uid, uids: &[Uid]) -> Option<usize>
+    ensures { result ≡ position (λ (other : Uid). nat_le uid.0 other.0) uids.now }
+{
+    uids.iter().position(|other| uid.0 <= other.0)
+}
+
+/// Puts a UID before the first greater one; a list that has it there stays as it is.
+///
+/// # Errors
+/// `Want` where there is no memory for it.
+fn put(uids: &mut Vec<Uid>, uid: Uid) -> Result<(), Want>
+    ensures { OnOk result (uids.new.items ≡ with_uid uid uids.old.items) }
+{
+    match place_of(uid, uids.as_slice()) {
+        None => {
+            uids.push(uid)?;
+            Ok(())
+        }
+        Some(place) => {
+            if uids[place].0 == uid.0 {
+                return Ok(());
+            }
+            uids.insert(place, uid)?;
+            Ok(())
+        }
+    }
+}
+
+/// The UIDs of a slice in a list of their own.
+///
+/// # Errors
+/// `Want` where there is no memory for them.
+fn listed(alloc: Global, uids: &[Uid]) -> Result<Uids, Want>
+    ensures { IfOk result (λ list. list ≡ uids.now) }
+{
+    let mut list = Uids::new(alloc);
+    for uid in uids {
+        list.push(*uid)?;
+    }
+    Ok(list)
+}
+
+/// The UIDs with others, the last of these first.
+fn with_each(alloc: Global, uids: &[Uid], more: &[Uid]) -> Result<Vec<Uid>, Want>
+    ensures merged { IfOk result (λ all. all.items ≡ merge uids.now more.now) }
+    ensures few { IfOk result (λ all. length all.items ≤ length uids.now + length more.now) }
+{
+    let mut all = Vec::from_slice(alloc, uids)?;
+    for place in (0..more.len()).rev() {
+        put(&mut all, more[place])?;
+    }
+    Ok(all)
+}
+
+/// The UIDs with each of the others in its place.
+///
+/// # Errors
+/// `Want` where there is no memory for them.
+pub fn merged(alloc: Global, uids: &[Uid], more: &[Uid]) -> Result<Uids, Want>
+    ensures merged { IfOk result (λ list. list ≡ merge uids.now more.now) }
+    ensures few { IfOk result (λ list. length list ≤ length uids.now + length more.now) }
+{
+    let all = with_each(alloc, uids, more)?;
+    listed(alloc, all.as_slice())
+}
+
+/// The UIDs that are not among the released ones.
+///
+/// # Errors
+/// `Want` where there is no memory for them.
+pub fn unreleased(alloc: Global, released: &[Uid], uids: &[Uid]) -> Result<Uids, Want>
+    ensures rest { IfOk result (λ list. list ≡ unreleased released.now uids.now) }
+    ensures shorter { IfOk result (λ list. length list ≤ length uids.now) }
+{
+    let mut rest = Uids::new(alloc);
+    for uid in uids {
+        if !is_among(*uid, released) {
+            rest.push(*uid)?;
+        }
+    }
+    Ok(rest)
+}

@@ -1,0 +1,143 @@
+-- What settles how a Job will end (batch/v1, KEP-3329, KEP-3998). `own` are the Job's own pods; `failed`,
+-- `succeeded` and `completed` are its failed count, its succeeded count and the set of its completed indexes.
+--     restarts_of own                  the restarts of all containers of the open pods
+--     exceeds limit restarts           so many restarts are too many under the limit
+--     fails_job spec pod               the pod has failed, and the failure policy then fails the Job
+--     is_failed_by_pod, is_past_limit, is_overdue, is_policy_met, is_complete
+--                                      the five reasons, in their order
+--     first_line ..                    the first of them that holds, as a condition with its reason
+--     decided ..                       the same, unless how the Job will end is settled
+use Rattle.std.specs.Prelude.{ℕ, ◌==◌, nat_lt, nat_le, Bool, true, false, not, ◌&&◌, ◌||◌, List, filter, sum_by, if◌then◌else◌, Option, Some, None, is_some, option_and_then}
+use Rattle.std.specs.List.{list_any}
+use Rattle.jc_types.specs.declared.objects.Job.{Job}
+use Rattle.jc_types.specs.declared.objects.Pod.{Pod}
+use Rattle.jc_types.specs.declared.policies.Action.{Action}
+use Rattle.jc_types.specs.declared.policies.Action.TheVariants.{FailJob, Ignore, Count, FailIndex}
+use Rattle.jc_types.specs.declared.policies.FailurePolicy.{FailurePolicy}
+use Rattle.jc_types.specs.declared.policies.SuccessPolicy.{SuccessPolicy}
+use Rattle.jc_types.specs.declared.specifications.JobSpec.{JobSpec}
+use Rattle.jc_types.specs.declared.specifications.Restart.{Restart}
+use Rattle.jc_types.specs.declared.specifications.Restart.TheVariants.{Never, OnFailure}
+use Rattle.jc_types.specs.declared.statuses.CondKind.{CondKind}
+use Rattle.jc_types.specs.declared.statuses.CondKind.TheVariants.{FailureTarget, SuccessCriteriaMet}
+use Rattle.jc_types.specs.declared.statuses.JobStatus.{JobStatus}
+use Rattle.jc_types.specs.declared.statuses.Reason.{Reason}
+use Rattle.jc_types.specs.declared.statuses.Reason.TheVariants as reason
+use Rattle.jc_types.specs.declared.syncs.Basis.{Basis}
+use Rattle.jc_types.specs.declared.syncs.CountIn.{CountIn}
+use Rattle.jc_types.specs.Bases.{own_pods}
+use Rattle.jc_types.specs.Conditions.{has_target}
+use Rattle.jc_types.specs.Counts.{counts}
+use Rattle.jc_types.specs.Pods.{is_active, is_open, is_tracked}
+use Rattle.jc_failpol.specs.declared.outcomes.Outcome.{Outcome}
+use Rattle.jc_failpol.specs.declared.outcomes.Outcome.TheVariants as outcome
+use Rattle.jc_failpol.specs.Outcomes.{outcome_of}
+use Rattle.jc_failpol.specs.Rules.{action_of}
+use Rattle.jc_succpol.specs.Rules.{place_of}
+use Rattle.jc_finish.specs.Starts.{end_after, start_of}
+
+-- ---- the pods that have failed
+
+-- The outcome Failed.
+abbrev pub is_failure : Outcome → Bool
+is_failure outcome.Alive = false
+is_failure outcome.Succeeded = false
+is_failure outcome.Failed = true
+is_failure outcome.Ignored = false
+
+-- The action FailJob.
+abbrev pub is_fail_job : Action → Bool
+is_fail_job FailJob = true
+is_fail_job Ignore = false
+is_fail_job Count = false
+is_fail_job FailIndex = false
+
+-- The failure policy, where there is one, fails the Job for the pod.
+abbrev pub policy_fails_job : Option FailurePolicy → Pod → Bool
+policy_fails_job None pod = false
+policy_fails_job (Some policy) pod = is_fail_job (action_of policy pod)
+
+-- The pod has failed, and the failure policy then fails the Job.
+abbrev pub fails_job : JobSpec → Pod → Bool
+fails_job spec pod = is_failure (outcome_of spec pod) && policy_fails_job spec.failure pod
+
+-- ---- the restarts of containers
+
+-- The restarts of all containers of the pod.
+abbrev pub restarts_in : Pod → ℕ
+restarts_in pod = sum_by (λ container. container.restarts) pod.containers
+
+-- The restarts of all containers of the open pods.
+abbrev pub restarts_of : List Pod → ℕ
+restarts_of own = sum_by restarts_in (filter is_open own)
+
+-- As many restarts as the limit are too many, but under the limit 0 the first is.
+abbrev pub exceeds : ℕ → ℕ → Bool
+exceeds limit restarts = if limit == 0 then nat_lt 0 restarts else nat_le limit restarts
+
+-- The containers of the pods start anew after a failure.
+abbrev pub restarts_on_failure : Restart → Bool
+restarts_on_failure Never = false
+restarts_on_failure OnFailure = true
+
+-- ---- the five reasons, in their order
+
+-- 1. A tracked pod has failed, and the failure policy then fails the Job.
+abbrev pub is_failed_by_pod : JobSpec → List Pod → Bool
+is_failed_by_pod spec own = list_any (λ pod. is_tracked pod && fails_job spec pod) own
+
+-- 2. More pods have failed than the backoff limit, or containers that start anew have done so too often.
+abbrev pub is_past_limit : ℕ → JobSpec → List Pod → Bool
+is_past_limit failed spec own =
+    nat_lt spec.backoff_limit failed
+    || (restarts_on_failure spec.template.restart && exceeds spec.backoff_limit (restarts_of own))
+
+-- The second, where there is one, has come.
+abbrev pub has_come : Option ℕ → ℕ → Bool
+has_come None now = false
+has_come (Some second) now = nat_le second now
+
+-- 3. The Job is not suspended, and its deadline has come.
+abbrev pub is_overdue : ℕ → JobSpec → JobStatus → Bool
+is_overdue now spec status = not spec.suspend && has_come (end_after spec.deadline (start_of now spec status)) now
+
+-- 4. The completed indexes meet a rule of the success policy.
+abbrev pub is_policy_met : Option SuccessPolicy → List ℕ → Bool
+is_policy_met None completed = false
+is_policy_met (Some policy) completed = is_some (place_of policy completed)
+
+-- As many successes as completions are wanted; where none are, one is enough.
+abbrev pub is_enough : Option ℕ → ℕ → Bool
+is_enough None succeeded = nat_lt 0 succeeded
+is_enough (Some completions) succeeded = nat_le completions succeeded
+
+-- 5. No pod is active, and enough have succeeded.
+abbrev pub is_complete : ℕ → JobSpec → List Pod → Bool
+is_complete succeeded spec own = not (list_any is_active own) && is_enough spec.completions succeeded
+
+-- ---- the decision
+
+-- The first of the reasons that holds.
+abbrev pub first_line : ℕ → ℕ → List ℕ → ℕ → JobSpec → JobStatus → List Pod → Option (CondKind × Reason)
+first_line failed succeeded completed now spec status own =
+    if is_failed_by_pod spec own then Some (FailureTarget, reason.PodFailurePolicy)
+    else if is_past_limit failed spec own then Some (FailureTarget, reason.BackoffLimitExceeded)
+    else if is_overdue now spec status then Some (FailureTarget, reason.DeadlineExceeded)
+    else if is_policy_met spec.success completed then Some (SuccessCriteriaMet, reason.SuccessPolicy)
+    else if is_complete succeeded spec own then Some (SuccessCriteriaMet, reason.CompletionsReached)
+    else None
+
+-- Nothing is decided anew where how the Job will end is settled.
+abbrev pub decided : ℕ → ℕ → List ℕ → ℕ → JobSpec → JobStatus → List Pod → Option (CondKind × Reason)
+decided failed succeeded completed now spec status own =
+    if has_target status.conditions then None
+    else first_line failed succeeded completed now spec status own
+
+-- What is decided of a Job among the pods, by what a sync has counted.
+abbrev pub decided_for : CountIn → ℕ → List Pod → Job → Option (CondKind × Reason)
+decided_for counted now pods job =
+    decided (counts counted).0 (counts counted).1 counted.completed now job.spec job.status (own_pods job pods)
+
+-- What a sync decides of its basis's Job.
+abbrev pub decision_of : Basis → CountIn → Option (CondKind × Reason)
+decision_of basis counted = option_and_then (decided_for counted basis.now basis.pods) basis.job

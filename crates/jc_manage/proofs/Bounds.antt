@@ -1,0 +1,79 @@
+-- How many pods are made at most, and which indexes they get.
+use Rattle.std.proofs.Common.{◌≡◌, ℕ, ◌-◌, ◌≤◌, ◌==◌, Bool, true, false, cond, not, ◌&&◌, ◌||◌, ◌⊎◌, inl, inr, List, [], length, take, Option, Some, None, unwrap_or, refl, sym, ap, arith, true≢false}
+use Rattle.std.specs.List.{All, AllByRecursion as Each, range_with_len}
+use Rattle.std.proofs.lemmas.List.{length-map, length-replicate, length-take}
+use Rattle.std.proofs.lemmas.List.Elements.{All-from_recursion}
+use Rattle.jc_ranges.specs.Sets.{has}
+use Rattle.jc_types.specs.declared.objects.Job.{Job}
+use Rattle.jc_types.specs.declared.objects.Pod.{Pod}
+use Rattle.jc_types.specs.declared.specifications.Mode.{Mode}
+use Rattle.jc_types.specs.declared.specifications.Mode.TheVariants.{NonIndexed, Indexed}
+use Rattle.jc_types.specs.declared.specifications.Replacement.{Replacement}
+use Rattle.jc_types.specs.declared.specifications.Replacement.TheVariants.{TerminatingOrFailed, FailedOnly}
+use Rattle.jc_types.specs.declared.syncs.CountIn.{CountIn}
+use Rattle.jc_types.proofs.ListFacts.{Each-passes, Each-weaker}
+use Rattle.jc_manage.specs.Backoffs.{is_held_back}
+use Rattle.jc_manage.specs.Creations.{creatable, creates, ending, free, holds, is_free, job_lacks, job_wants, keepers, lacking, new_pods, tracked_active, wanted}
+
+new-few : (mode : Mode) (n : ℕ) (ms : List ℕ) → length (new_pods mode n ms) ≤ n
+new-few NonIndexed n ms = let no : Option ℕ = None in omega (arith, length-replicate n no)
+new-few Indexed n ms = omega (arith, length-map (take n ms) (λ (m : ℕ). Some m), length-take n ms)
+
+pub creatable-few : (target : Bool) (job : Job) (own : List Pod) (counted : CountIn) → length (creatable target job own counted) ≤ job_lacks job own counted
+creatable-few target job own counted =
+    by (job_lacks job own counted) _ target job.spec.suspend (new-few job.spec.mode (job_lacks job own counted) (free (unwrap_or job.spec.completions 0) counted.completed (keepers job.spec.replacement own)))
+  where
+    by : (n : ℕ) (made : List (Option ℕ)) (t s : Bool) → length made ≤ n → length (cond (t || s) [] made) ≤ n
+    by n made true s h = omega arith
+    by n made false true h = omega arith
+    by n made false false h = h
+
+pub creates-few : (opening : Option ℕ) (now : ℕ) (made : List (Option ℕ)) → length (creates opening now made) ≤ length made
+creates-few opening now made = by (is_held_back opening now)
+  where
+    by : (b : Bool) → length (cond b [] made) ≤ length made
+    by true = omega arith
+    by false = omega arith
+
+lacking-less : (replacement : Replacement) (w a m : ℕ) → lacking replacement w a m ≤ w - a
+lacking-less TerminatingOrFailed w a m = omega arith
+lacking-less FailedOnly w a m = omega arith
+
+pub lacks-few : (job : Job) (own : List Pod) (counted : CountIn) → job_lacks job own counted ≤ job_wants job own counted - length (tracked_active own)
+lacks-few job own counted = lacking-less job.spec.replacement (job_wants job own counted) (length (tracked_active own)) (length (ending own))
+
+pub lacks-ending : (job : Job) (own : List Pod) (counted : CountIn) → job.spec.replacement ≡ FailedOnly → job_lacks job own counted ≡ job_wants job own counted - length (tracked_active own) - length (ending own)
+lacks-ending job own counted h = ap (λ r. lacking r (job_wants job own counted) (length (tracked_active own)) (length (ending own))) h
+
+pub wanted-few : (parallelism completions succeeded a : ℕ) → wanted parallelism (Some completions) succeeded a ≤ parallelism
+wanted-few parallelism completions succeeded a = omega arith
+
+pub wanted-queue : (parallelism succeeded a : ℕ) → (wanted parallelism None succeeded a ≡ parallelism) ⊎ (wanted parallelism None succeeded a ≡ a)
+wanted-queue parallelism succeeded a = by (succeeded == 0)
+  where
+    by : (b : Bool) → (cond b parallelism a ≡ parallelism) ⊎ (cond b parallelism a ≡ a)
+    by true = inl refl
+    by false = inr refl
+
+left-false : (a b : Bool) → (not a && not b) ≡ true → a ≡ false
+left-false true b h = absurd (true≢false (sym h))
+left-false false b h = refl
+
+right-false : (a b : Bool) → (not a && not b) ≡ true → b ≡ false
+right-false true b h = absurd (true≢false (sym h))
+right-false false true h = absurd (true≢false (sym h))
+right-false false false h = refl
+
+module _ (completions : ℕ) (completed : List ℕ) (kept : List Pod) where
+  passes : Each (λ n. is_free completed kept n ≡ true) (free completions completed kept)
+  passes = Each-passes (is_free completed kept) (range_with_len 0 completions)
+
+  pub free-new : All (λ n. has n completed ≡ false) (free completions completed kept)
+  free-new =
+      All-from_recursion (λ n. has n completed ≡ false) (free completions completed kept)
+      (Each-weaker (λ n. is_free completed kept n ≡ true) (λ n. has n completed ≡ false) (λ n. left-false (has n completed) (holds kept n)) (free completions completed kept) passes)
+
+  pub free-unkept : All (λ n. holds kept n ≡ false) (free completions completed kept)
+  free-unkept =
+      All-from_recursion (λ n. holds kept n ≡ false) (free completions completed kept)
+      (Each-weaker (λ n. is_free completed kept n ≡ true) (λ n. holds kept n ≡ false) (λ n. right-false (has n completed) (holds kept n)) (free completions completed kept) passes)

@@ -1,0 +1,118 @@
+-- Which pods a Job makes (batch/v1, KEP-2214, KEP-3939). `own` are the Job's own pods.
+--     is_tracked_active pod               it is active and has the finalizer
+--     is_ending pod                       it is marked for deletion and still open
+--     active own, tracked_active own, ending own    those pods
+--     wanted .., job_wants ..             how many active tracked pods there should be
+--     lacking .., job_lacks ..            how many are to be made
+--     is_at n pod, holds pods n           the pod, or one of the pods, has the index n
+--     keepers replacement own             the pods that keep their index from new ones
+--     free replacement .. own             the indexes that a new pod may have, in order
+--     new_pods mode n free                the indexes of n new pods; none for pods without one
+--     creatable target job own counted    what the Job would make at once
+--     creates ..                          what it makes, as no pod is made before the opening
+--     next ..                             the moment of that, where it was what held pods back
+use Rattle.std.specs.Prelude.{ℕ, ◌-◌, ◌==◌, nat_eq, min, Bool, true, false, not, ◌&&◌, ◌||◌, if◌then◌else◌, List, [], ◌∷◌, map, filter, length, take, replicate, Option, Some, None, unwrap_or}
+use Rattle.std.specs.List.{list_any, range_with_len}
+use Rattle.jc_ranges.specs.Sets.{has}
+use Rattle.jc_types.specs.declared.objects.Job.{Job}
+use Rattle.jc_types.specs.declared.objects.Pod.{Pod}
+use Rattle.jc_types.specs.declared.specifications.Mode.{Mode}
+use Rattle.jc_types.specs.declared.specifications.Mode.TheVariants.{NonIndexed, Indexed}
+use Rattle.jc_types.specs.declared.specifications.Replacement.{Replacement}
+use Rattle.jc_types.specs.declared.specifications.Replacement.TheVariants.{TerminatingOrFailed, FailedOnly}
+use Rattle.jc_types.specs.declared.syncs.CountIn.{CountIn}
+use Rattle.jc_types.specs.Counts.{counts}
+use Rattle.jc_types.specs.Pods.{is_open, is_marked, is_active, is_tracked}
+use Rattle.jc_types.specs.Sames.{same_option}
+use Rattle.jc_manage.specs.Backoffs.{as_moment, is_held_back}
+
+-- Active, and with the finalizer.
+abbrev pub is_tracked_active : Pod → Bool
+is_tracked_active pod = is_active pod && is_tracked pod
+
+-- Marked for deletion, and still open.
+abbrev pub is_ending : Pod → Bool
+is_ending pod = is_open pod && is_marked pod
+
+abbrev pub active : List Pod → List Pod
+active own = filter is_active own
+
+abbrev pub tracked_active : List Pod → List Pod
+tracked_active own = filter is_tracked_active own
+
+abbrev pub ending : List Pod → List Pod
+ending own = filter is_ending own
+
+-- How many active pods there should be, where a are active. With completions: as many as may run at once, and no
+-- more than are left to succeed. Without: as many as may run at once, and once one has succeeded no new one.
+abbrev pub wanted : ℕ → Option ℕ → ℕ → ℕ → ℕ
+wanted parallelism (Some completions) succeeded a = min parallelism (completions - succeeded)
+wanted parallelism None succeeded a = if succeeded == 0 then parallelism else a
+
+-- How many pods are to be made, where a are active and m are ending. An ending pod counts until it has ended where
+-- pods are replaced only then.
+abbrev pub lacking : Replacement → ℕ → ℕ → ℕ → ℕ
+lacking TerminatingOrFailed wanted a m = wanted - a
+lacking FailedOnly wanted a m = wanted - a - m
+
+-- How many active tracked pods the Job should have.
+abbrev pub job_wants : Job → List Pod → CountIn → ℕ
+job_wants job own counted =
+    wanted job.spec.parallelism job.spec.completions (counts counted).1 (length (tracked_active own))
+
+-- How many pods the Job is to make.
+abbrev pub job_lacks : Job → List Pod → CountIn → ℕ
+job_lacks job own counted =
+    lacking job.spec.replacement (job_wants job own counted) (length (tracked_active own)) (length (ending own))
+
+-- The pod has the index.
+abbrev pub is_at : ℕ → Pod → Bool
+is_at n pod = same_option nat_eq (Some n) pod.index
+
+-- One of the pods has the index.
+abbrev pub holds : List Pod → ℕ → Bool
+holds pods n = list_any (is_at n) pods
+
+-- The pod keeps its index from new pods: it is active, or it is ending and pods are replaced only once they have
+-- ended.
+abbrev pub keeps : Replacement → Pod → Bool
+keeps TerminatingOrFailed pod = is_active pod
+keeps FailedOnly pod = is_active pod || is_ending pod
+
+abbrev pub keepers : Replacement → List Pod → List Pod
+keepers replacement own = filter (keeps replacement) own
+
+-- A new pod may have the index: it is not completed, and no pod keeps it.
+abbrev pub is_free : List ℕ → List Pod → ℕ → Bool
+is_free completed kept n = not (has n completed) && not (holds kept n)
+
+-- The indexes below `completions` that a new pod may have, in order.
+abbrev pub free : ℕ → List ℕ → List Pod → List ℕ
+free completions completed kept = filter (is_free completed kept) (range_with_len 0 completions)
+
+-- The indexes of n new pods, where these are free: the least of them, and as many as there are. Pods of a Job that
+-- is not Indexed have none.
+abbrev pub new_pods : Mode → ℕ → List ℕ → List (Option ℕ)
+new_pods NonIndexed n free = replicate n None
+new_pods Indexed n free = map (λ index. Some index) (take n free)
+
+-- What the Job would make at once; nothing where its end is settled or it is suspended.
+abbrev pub creatable : Bool → Job → List Pod → CountIn → List (Option ℕ)
+creatable target job own counted =
+    if target || job.spec.suspend then []
+    else new_pods job.spec.mode (job_lacks job own counted)
+    (free (unwrap_or job.spec.completions 0) counted.completed (keepers job.spec.replacement own))
+
+-- Of what would be made at once, nothing before the opening.
+abbrev pub creates : Option ℕ → ℕ → List (Option ℕ) → List (Option ℕ)
+creates opening now creatable = if is_held_back opening now then [] else creatable
+
+-- There is none.
+abbrev pub is_none_of : List (Option ℕ) → Bool
+is_none_of [] = true
+is_none_of (index ∷ indexes) = false
+
+-- The moment of the opening, where it held pods back.
+abbrev pub next : Option ℕ → ℕ → List (Option ℕ) → Option ℕ
+next opening now creatable =
+    if is_held_back opening now && not (is_none_of creatable) then as_moment opening else None

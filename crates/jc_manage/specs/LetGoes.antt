@@ -1,0 +1,91 @@
+-- Which pods a Job stops (batch/v1, KEP-2307, KEP-2214). `own` are the Job's own pods, `tracked` those of them that
+-- are active and tracked.
+--     marks target own                    the pods that are marked for deletion at once
+--     is_spare mode completed tracked p   the index of the pod is completed, or another holds it by right
+--     remaining mode completed tracked    those that are not spare
+--     goes_before mode q p                where there are too many, q goes before p
+--     is_one_of n mode pods p             p is one of the first n of the pods to go
+--     let_goes ..                         the pods whose finalizer goes first, each with its version
+use Rattle.std.specs.Prelude.{ℕ, ◌-◌, nat_lt, Bool, true, false, not, ◌&&◌, ◌||◌, if◌then◌else◌, List, [], map, filter, length, count_by, Option, Some, None}
+use Rattle.std.specs.List.{list_any}
+use Rattle.std.specs.Option.{option_map_or}
+use Rattle.jc_ranges.specs.Sets.{has}
+use Rattle.jc_types.specs.declared.numbers.Uid.{Uid}
+use Rattle.jc_types.specs.declared.numbers.Version.{Version}
+use Rattle.jc_types.specs.declared.objects.Job.{Job}
+use Rattle.jc_types.specs.declared.objects.Pod.{Pod}
+use Rattle.jc_types.specs.declared.specifications.Mode.{Mode}
+use Rattle.jc_types.specs.declared.specifications.Mode.TheVariants.{NonIndexed, Indexed}
+use Rattle.jc_types.specs.declared.syncs.CountIn.{CountIn}
+use Rattle.jc_types.specs.Pods.{is_active, is_tracked, is_pending}
+use Rattle.jc_types.specs.Sames.{same_bool}
+use Rattle.jc_types.specs.Uids.{uids_of}
+use Rattle.jc_manage.specs.Creations.{is_at, job_wants, tracked_active}
+
+-- The pod is marked at once: it is active and has no finalizer, or the Job's end is settled.
+abbrev pub is_to_mark : Bool → Pod → Bool
+is_to_mark target pod = is_active pod && (target || not (is_tracked pod))
+
+abbrev pub marks : Bool → List Pod → List Uid
+marks target own = uids_of (filter (is_to_mark target) own)
+
+-- The index of the pod is completed.
+abbrev pub is_done : List ℕ → Pod → Bool
+is_done completed pod = option_map_or (λ index. has index completed) pod.index false
+
+-- q has the index and a UID below that one.
+abbrev pub is_earlier : ℕ → ℕ → Pod → Bool
+is_earlier index uid q = is_at index q && nat_lt q.uid.0 uid
+
+-- A pod of smaller UID among them holds the index of p.
+abbrev pub is_doubled : List Pod → Pod → Bool
+is_doubled tracked p = option_map_or (λ index. list_any (is_earlier index p.uid.0) tracked) p.index false
+
+-- The pod of an Indexed Job is of no use: its index is completed, or an older pod holds it.
+abbrev pub is_spare : Mode → List ℕ → List Pod → Pod → Bool
+is_spare NonIndexed completed tracked p = false
+is_spare Indexed completed tracked p = is_done completed p || is_doubled tracked p
+
+abbrev pub remaining : Mode → List ℕ → List Pod → List Pod
+remaining mode completed tracked = filter (λ p. not (is_spare mode completed tracked p)) tracked
+
+-- The first index is below the second; none is below each.
+abbrev pub is_below : Option ℕ → Option ℕ → Bool
+is_below None None = false
+is_below None (Some n) = true
+is_below (Some m) None = false
+is_below (Some m) (Some n) = nat_lt m n
+
+-- q goes before p: of an Indexed Job the greater index goes first; else a pending pod before one that runs, and then
+-- the greater UID.
+abbrev pub goes_before : Mode → Pod → Pod → Bool
+goes_before Indexed q p = is_below p.index q.index
+goes_before NonIndexed q p =
+    if same_bool (is_pending q.phase) (is_pending p.phase) then nat_lt p.uid.0 q.uid.0 else is_pending q.phase
+
+-- Fewer than n of the pods go before p.
+abbrev pub is_one_of : ℕ → Mode → List Pod → Pod → Bool
+is_one_of n mode pods p = nat_lt (count_by (λ q. goes_before mode q p) pods) n
+
+-- The pod goes, where so many are wanted: it is spare, or one of the first to go of those that are not and are too
+-- many.
+abbrev pub is_let_go : Mode → List ℕ → ℕ → List Pod → Pod → Bool
+is_let_go mode completed wanted tracked p =
+    is_spare mode completed tracked p
+    || is_one_of (length (remaining mode completed tracked) - wanted) mode (remaining mode completed tracked) p
+
+-- A pod as it was seen.
+abbrev pub seen : Pod → Uid × Version
+seen pod = (pod.uid, pod.version)
+
+-- Those of the active tracked pods that go. All of them where the Job is suspended; none where its end is settled,
+-- since they are marked then.
+abbrev pub going : Bool → Job → List Pod → CountIn → List Pod
+going target job own counted =
+    if target then []
+    else if job.spec.suspend then tracked_active own
+    else filter (is_let_go job.spec.mode counted.completed (job_wants job own counted) (tracked_active own))
+    (tracked_active own)
+
+abbrev pub let_goes : Bool → Job → List Pod → CountIn → List (Uid × Version)
+let_goes target job own counted = map seen (going target job own counted)
