@@ -1,0 +1,115 @@
+-- How many pods a sync marks, lets go and makes at most.
+use Rattle.std.proofs.Common.{◌≡◌, ℕ, ◌+◌, ◌-◌, ◌≤◌, ◌==◌, Bool, true, false, cond, not, ◌&&◌, ◌||◌, List, [], ◌∷◌, length, filter, Option, Some, None, refl, arith}
+use Rattle.std.proofs.lemmas.List.{length-map}
+use Rattle.jc_types.specs.declared.objects.Job.{Job}
+use Rattle.jc_types.specs.declared.objects.Pod.{Pod}
+use Rattle.jc_types.specs.declared.syncs.CountIn.{CountIn}
+use Rattle.jc_types.specs.Counts.{counts}
+use Rattle.jc_types.specs.Pods.{is_active, is_marked, is_open, is_tracked}
+use Rattle.jc_manage.specs.Creations.{active, creatable, creates, ending, is_ending, is_tracked_active, job_wants, tracked_active, wanted}
+use Rattle.jc_manage.specs.LetGoes.{going, is_let_go, is_to_mark, let_goes, marks, seen}
+use Rattle.jc_manage.proofs.Bounds.{creatable-few, creates-few, lacks-few, wanted-few}
+
+-- 1 where it holds.
+abbrev bit : Bool → ℕ
+bit true = 1
+bit false = 0
+
+module _ {A : Type 0} where
+  filter-step : (f : A → Bool) (x : A) (xs : List A) → length (filter f (x ∷ xs)) ≡ bit (f x) + length (filter f xs)
+  filter-step f x xs = by (f x)
+    where
+      by : (b : Bool) → length (cond b (x ∷ filter f xs) (filter f xs)) ≡ bit b + length (filter f xs)
+      by true = omega arith
+      by false = omega arith
+
+  -- A part of a list is no longer than the list.
+  pub filter-few : (f : A → Bool) (xs : List A) → length (filter f xs) ≤ length xs
+  filter-few f [] = omega arith
+  filter-few f (x ∷ xs) = by (f x) (filter-step f x xs) (filter-few f xs)
+    where
+      by : (b : Bool) → length (filter f (x ∷ xs)) ≡ bit b + length (filter f xs) → length (filter f xs) ≤ length xs → length (filter f (x ∷ xs)) ≤ length (x ∷ xs)
+      by true e h = omega (arith, e, h)
+      by false e h = omega (arith, e, h)
+
+  -- Two parts that are apart, each in a third, are together no longer than it.
+  pub filters-within : (f g h : A → Bool) → ((x : A) → bit (f x) + bit (g x) ≤ bit (h x)) → (xs : List A) → length (filter f xs) + length (filter g xs) ≤ length (filter h xs)
+  filters-within f g h each [] = omega arith
+  filters-within f g h each (x ∷ xs) =
+      omega (arith, filter-step f x xs, filter-step g x xs, filter-step h x xs, each x, filters-within f g h each xs)
+
+-- ---- marks and let-goes
+
+apart-target : (a t : Bool) → bit (a && (true || not t)) + bit false ≤ bit a
+apart-target true t = omega arith
+apart-target false t = omega arith
+
+apart-own : (a t : Bool) → bit (a && (false || not t)) + bit (a && t) ≤ bit a
+apart-own true true = omega arith
+apart-own true false = omega arith
+apart-own false t = omega arith
+
+apart-open : (o m : Bool) → bit (o && not m) + bit (o && m) ≤ 1
+apart-open true true = omega arith
+apart-open true false = omega arith
+apart-open false m = omega arith
+
+filter-none : {A : Type 0} (xs : List A) → length (filter (λ x. false) xs) ≡ 0
+filter-none [] = refl
+filter-none (x ∷ xs) = filter-none xs
+
+-- What is let go is a part of the active tracked pods.
+going-few : (s : Bool) (tracked chosen : List Pod) → length chosen ≤ length tracked → length (cond s tracked chosen) ≤ length tracked
+going-few true tracked chosen h = omega arith
+going-few false tracked chosen h = h
+
+-- No more pods are marked and let go than are active.
+pub going-active : (target : Bool) (job : Job) (own : List Pod) (counted : CountIn) → length (marks target own) + length (let_goes target job own counted) ≤ length (active own)
+going-active true job own counted =
+    omega (
+      arith,
+      length-map (filter (is_to_mark true) own) (λ (pod : Pod). pod.uid),
+      filters-within (is_to_mark true) (λ pod. false) is_active (λ pod. apart-target (is_active pod) (is_tracked pod)) own,
+    )
+going-active false job own counted =
+    omega (
+      arith,
+      length-map (filter (is_to_mark false) own) (λ (pod : Pod). pod.uid),
+      length-map (going false job own counted) seen,
+      going-few job.spec.suspend (tracked_active own) (filter (is_let_go job.spec.mode counted.completed (job_wants job own counted) (tracked_active own)) (tracked_active own)) (filter-few (is_let_go job.spec.mode counted.completed (job_wants job own counted) (tracked_active own)) (tracked_active own)),
+      filters-within (is_to_mark false) is_tracked_active is_active (λ pod. apart-own (is_active pod) (is_tracked pod)) own,
+    )
+
+filter-all : {A : Type 0} (xs : List A) → length (filter (λ x. true) xs) ≡ length xs
+filter-all [] = refl
+filter-all (x ∷ xs) = omega (arith, filter-all xs)
+
+-- Active and ending pods are together no more than there are.
+pub open-few : (own : List Pod) → length (active own) + length (ending own) ≤ length own
+open-few own =
+    omega (
+      arith,
+      filter-all own,
+      filters-within is_active is_ending (λ pod. true) (λ pod. apart-open (is_open pod) (is_marked pod)) own,
+    )
+
+-- ---- creations
+
+wants-few : (completions : Option ℕ) (parallelism succeeded a : ℕ) → parallelism ≤ 5000 → wanted parallelism completions succeeded a - a ≤ 5000
+wants-few (Some completions) parallelism succeeded a h = omega (arith, wanted-few parallelism completions succeeded a, h)
+wants-few None parallelism succeeded a h = by (succeeded == 0)
+  where
+    by : (b : Bool) → cond b parallelism a - a ≤ 5000
+    by true = omega (arith, h)
+    by false = omega arith
+
+-- A sync makes at most 5,000 pods.
+pub creates-bounded : (opening : Option ℕ) (now : ℕ) (target : Bool) (job : Job) (own : List Pod) (counted : CountIn) → job.spec.parallelism ≤ 5000 → length (creates opening now (creatable target job own counted)) ≤ 5000
+creates-bounded opening now target job own counted h =
+    omega (
+      arith,
+      creates-few opening now (creatable target job own counted),
+      creatable-few target job own counted,
+      lacks-few job own counted,
+      wants-few job.spec.completions job.spec.parallelism (counts counted).1 (length (tracked_active own)) h,
+    )

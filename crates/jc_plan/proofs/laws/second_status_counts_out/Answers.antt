@@ -1,0 +1,14 @@
+-- The lemmas on the two statuses.
+use Rattle.jc_plan.proofs.ValueFacts.{second-completed, second-failed, second-failed_list, second-lists_none, second-succeeded, second-succeeded_list, values-same}
+use Rattle.jc_plan.proofs.laws.second_status_counts_out.Goals as goal
+
+pub returns : goal.returns
+returns c = record {
+  failed_list = second-failed_list;
+  succeeded_list = second-succeeded_list;
+  failed = second-failed;
+  succeeded = second-succeeded;
+  completed = second-completed;
+  empty = second-lists_none;
+  same = values-same;
+}

@@ -1,0 +1,42 @@
+-- All these pods are own pods, of which there are fewer than 2^31.
+use Rattle.std.proofs.Common.{◌&&◌, arith}
+use Rattle.jc_types.specs.Bases.{is_own, own_pods}
+use Rattle.jc_plan.specs.Numbers.{is_ready, keeps_on}
+use Rattle.jc_plan.proofs.Going.{filter-few, open-few}
+use Rattle.jc_plan.proofs.numbers.numbers_after.Goals as goal
+
+pub overflow_add-going : goal.overflow_add-going
+overflow_add-going c =
+    let pods = c.args.pods.now in
+    let own = own_pods c.args.job.now pods in
+    omega (arith, c.len.ensures, c.len-2.ensures, c.requires.few, c.requires.going, open-few own, filter-few (is_own c.args.job.now) pods)
+
+pub overflow_add-result : goal.overflow_add-result
+overflow_add-result c =
+    let pods = c.args.pods.now in
+    let own = own_pods c.args.job.now pods in
+    omega (arith, c.len-3.ensures, c.count_active.ensures, c.requires.few, c.requires.created, open-few own, filter-few (is_own c.args.job.now) pods)
+
+pub overflow_cast-result : goal.overflow_cast-result
+overflow_cast-result c =
+    let pods = c.args.pods.now in
+    let own = own_pods c.args.job.now pods in
+    omega (arith, c.len-3.ensures, c.count_active.ensures, c.requires.few, c.requires.created, open-few own, filter-few (is_own c.args.job.now) pods)
+
+pub overflow_cast-result-2 : goal.overflow_cast-result-2
+overflow_cast-result-2 c =
+    let pods = c.args.pods.now in
+    let own = own_pods c.args.job.now pods in
+    omega (arith, c.count_ready.ensures, c.requires.few, filter-few (λ pod. is_ready pod && keeps_on c.args.wants.now pod) own, filter-few (is_own c.args.job.now) pods)
+
+pub overflow_add-result-2 : goal.overflow_add-result-2
+overflow_add-result-2 c =
+    let pods = c.args.pods.now in
+    let own = own_pods c.args.job.now pods in
+    omega (arith, c.len.ensures, c.len-2.ensures, c.count_ending.ensures, c.requires.few, c.requires.going, open-few own, filter-few (is_own c.args.job.now) pods)
+
+pub overflow_cast-result-3 : goal.overflow_cast-result-3
+overflow_cast-result-3 c =
+    let pods = c.args.pods.now in
+    let own = own_pods c.args.job.now pods in
+    omega (arith, c.len.ensures, c.len-2.ensures, c.count_ending.ensures, c.requires.few, c.requires.going, open-few own, filter-few (is_own c.args.job.now) pods)

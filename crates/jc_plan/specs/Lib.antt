@@ -1,0 +1,5 @@
+pub mod Releases
+pub mod Numbers
+pub mod Statuses
+pub mod Plans
+pub mod Next

@@ -1,0 +1,51 @@
+-- The status that a Job comes to by one sync, were its pods counted at once (batch/v1): without uncounted UIDs,
+-- without two writes and without releases. `own` are the Job's own pods.
+--     succeeded_at mode ..         the succeeded total
+--     next_counted job own         what is counted, with nothing left uncounted
+--     next_given .., next_wants .. the target that is decided, and what is wanted of the pods
+--     next_status now backoff job own    the status
+use Rattle.std.specs.Prelude.{ℕ, ◌+◌, List, [], length, Option}
+use Rattle.jc_types.specs.declared.objects.Job.{Job}
+use Rattle.jc_types.specs.declared.objects.Pod.{Pod}
+use Rattle.jc_types.specs.declared.statuses.CondKind.{CondKind}
+use Rattle.jc_types.specs.declared.statuses.JobStatus.{JobStatus}
+use Rattle.jc_types.specs.declared.statuses.Reason.{Reason}
+use Rattle.jc_types.specs.declared.syncs.Backoff.{Backoff}
+use Rattle.jc_types.specs.declared.syncs.CountIn.{CountIn}
+use Rattle.jc_types.specs.Counts.{counts}
+use Rattle.jc_account.specs.Accounts.{completed_in}
+use Rattle.jc_account.specs.Judged.{newly}
+use Rattle.jc_account.specs.Modes.{gain, succeeded_after}
+use Rattle.jc_failpol.specs.declared.outcomes.Outcome.TheVariants.{Failed, Succeeded}
+use Rattle.jc_finish.specs.Decisions.{decided}
+use Rattle.jc_manage.specs.declared.results.Wants.{Wants}
+use Rattle.jc_plan.specs.Statuses.{filled, is_over, is_settled, wants_at}
+
+-- What is counted: each total with its list and with the pods that are judged now, and of an Indexed Job the
+-- completed indexes with those of the new successes. Nothing stays uncounted.
+abbrev pub next_counted : Job → List Pod → CountIn
+next_counted job own = record {
+  uncounted_succeeded = [];
+  uncounted_failed = [];
+  succeeded = succeeded_after job.spec.mode (job.status.succeeded + length job.status.uncounted_succeeded + length (newly job own Succeeded)) (completed_in job own);
+  failed = job.status.failed + length job.status.uncounted_failed + length (newly job own Failed);
+  completed = completed_in job own;
+  releases = [];
+  new_succeeded = gain job.spec.mode (newly job own Succeeded) job.status.completed (completed_in job own);
+  new_failed = length (newly job own Failed);
+}
+
+-- The target that is decided with these counts.
+abbrev pub next_given : ℕ → Job → List Pod → Option (CondKind × Reason)
+next_given now job own =
+    decided (counts (next_counted job own)).0 (counts (next_counted job own)).1 (next_counted job own).completed now job.spec job.status own
+
+-- What is wanted of the pods with these counts.
+abbrev pub next_wants : ℕ → Backoff → Job → List Pod → Wants
+next_wants now backoff job own =
+    wants_at now backoff (is_settled job (next_given now job own)) job own (next_counted job own)
+
+-- The status: its end is due where a target stands or is decided and no pod is open.
+unfoldable pub next_status : ℕ → Backoff → Job → List Pod → JobStatus
+next_status now backoff job own =
+    filled now job own (next_counted job own) (next_given now job own) (next_wants now backoff job own) (is_over (is_settled job (next_given now job own)) own)

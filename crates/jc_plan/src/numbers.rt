@@ -1,0 +1,79 @@
+//! The numbers of pods that a status tells.
+
+ghost use Rattle.std.specs.Prelude.{◌≡◌, ◌+◌, ◌<◌, ◌≤◌, ◌^◌, filter, length};
+ghost use Rattle.jc_types.specs.Bases.{own_pods};
+ghost use Rattle.jc_manage.specs.Creations.{active, ending};
+ghost use Rattle.jc_plan.specs.Numbers.{active_after, ending_after, is_let_go_of, keeps_on, ready_after};
+
+use crate::pods::{is_active, is_among, is_ending, is_own, is_ready};
+use jc_manage::Wants;
+use jc_types::{Job, Pod, PodVersions, Uid};
+
+/// How many pods are active, ready and terminating once the requests of a sync are made.
+#[derive(Clone, Copy)]
+pub struct Numbers {
+    pub active: u32,
+    pub ready: u32,
+    pub terminating: u32,
+}
+
+/// How many of the Job's own pods are active.
+fn count_active(job: &Job, pods: &[Pod]) -> usize
+    ensures { result ≡ length (active (own_pods job.now pods.now)) }
+{
+    pods.iter()
+        .filter(|pod| is_own(job, pod))
+        .filter(|pod| is_active(pod))
+        .count()
+}
+
+/// How many of the Job's own pods are marked and still open.
+fn count_ending(job: &Job, pods: &[Pod]) -> usize
+    ensures { result ≡ length (ending (own_pods job.now pods.now)) }
+{
+    pods.iter()
+        .filter(|pod| is_own(job, pod))
+        .filter(|pod| is_ending(pod))
+        .count()
+}
+
+/// Whether the pod of the UID is let go.
+fn is_let_go(uid: Uid, rows: &PodVersions) -> bool
+    ensures { result ≡ is_let_go_of uid rows.now }
+{
+    rows.as_slice().iter().any(|row| row.0.0 == uid.0)
+}
+
+/// Whether the pod is neither marked nor let go.
+fn keeps_on(wants: &Wants, pod: &Pod) -> bool
+    ensures { result ≡ keeps_on wants.now pod.now }
+{
+    !is_among(pod.uid, &wants.marks) && !is_let_go(pod.uid, &wants.let_goes)
+}
+
+/// How many of the Job's own pods are ready and are neither marked nor let go.
+fn count_ready(job: &Job, pods: &[Pod], wants: &Wants) -> usize
+    ensures { result ≡ ready_after wants.now (own_pods job.now pods.now) }
+{
+    pods.iter()
+        .filter(|pod| is_own(job, pod))
+        .filter(|pod| is_ready(pod) && keeps_on(wants, pod))
+        .count()
+}
+
+/// The numbers of the Job's own pods once what the sync wants of them is done.
+pub fn numbers_after(job: &Job, pods: &[Pod], wants: &Wants) -> Numbers
+    requires few { length pods.now < 2 ^ 31 }
+    requires created { length wants.now.creates ≤ 5000 }
+    requires going { length wants.now.marks + length wants.now.let_goes ≤ length (active (own_pods job.now pods.now)) }
+    ensures active { result.active ≡ active_after wants.now (own_pods job.now pods.now) }
+    ensures ready { result.ready ≡ ready_after wants.now (own_pods job.now pods.now) }
+    ensures terminating { result.terminating ≡ ending_after wants.now (own_pods job.now pods.now) }
+{
+    let going = wants.marks.len() + wants.let_goes.len();
+    Numbers {
+        active: (count_active(job, pods) + wants.creates.len() - going) as u32,
+        ready: count_ready(job, pods, wants) as u32,
+        terminating: (count_ending(job, pods) + going) as u32,
+    }
+}

@@ -1,0 +1,88 @@
+//! Tests of pods.
+
+ghost use Rattle.std.specs.Prelude.{◌≡◌};
+ghost use Rattle.std.specs.List.{list_any};
+ghost use Rattle.jc_types.specs.Bases.{is_own};
+ghost use Rattle.jc_types.specs.Pods.{is_active, is_marked, is_open};
+ghost use Rattle.jc_types.specs.Uids.{is_in};
+ghost use Rattle.jc_manage.specs.Creations.{is_ending};
+ghost use Rattle.jc_plan.specs.Numbers.{is_ready, is_true, says_ready};
+
+use jc_types::{Job, Pattern, Patterns, Phase, Pod, Truth, Uid, Uids};
+
+/// Whether the pod was made for the Job, by UID.
+pub fn is_own(job: &Job, pod: &Pod) -> bool
+    ensures { result ≡ is_own job.now pod.now }
+{
+    pod.owner_uid.0 == job.uid.0
+}
+
+/// Whether the pod is pending or running.
+pub fn is_open(pod: &Pod) -> bool
+    ensures { result ≡ is_open pod.now }
+{
+    match pod.phase {
+        Phase::Pending | Phase::Running => true,
+        Phase::Succeeded | Phase::Failed => false,
+    }
+}
+
+// Whether the pod is marked for deletion.
+fn is_marked(pod: &Pod) -> bool
+    ensures { result ≡ is_marked pod.now }
+{
+    pod.marked.is_some()
+}
+
+/// Whether the pod is open and not marked.
+pub fn is_active(pod: &Pod) -> bool
+    ensures { result ≡ is_active pod.now }
+{
+    is_open(pod) && !is_marked(pod)
+}
+
+/// Whether the pod is marked and still open.
+pub fn is_ending(pod: &Pod) -> bool
+    ensures { result ≡ is_ending pod.now }
+{
+    is_open(pod) && is_marked(pod)
+}
+
+fn is_true(truth: Truth) -> bool
+    ensures { result ≡ is_true truth }
+{
+    match truth {
+        Truth::True => true,
+        Truth::False | Truth::Unknown => false,
+    }
+}
+
+// Whether the condition says that its pod is ready.
+fn says_ready(condition: &Pattern) -> bool
+    ensures { result ≡ says_ready condition.now }
+{
+    condition.kind.as_str() == "Ready" && is_true(condition.truth)
+}
+
+fn any_says_ready(conditions: &Patterns) -> bool
+    ensures { result ≡ list_any says_ready conditions.now }
+{
+    conditions
+        .as_slice()
+        .iter()
+        .any(|condition| says_ready(condition))
+}
+
+/// Whether the pod is active and ready.
+pub fn is_ready(pod: &Pod) -> bool
+    ensures { result ≡ is_ready pod.now }
+{
+    is_active(pod) && any_says_ready(&pod.conditions)
+}
+
+/// Whether the UID is in the list.
+pub fn is_among(uid: Uid, uids: &Uids) -> bool
+    ensures { result ≡ is_in uid uids.now }
+{
+    uids.as_slice().iter().any(|other| other.0 == uid.0)
+}

@@ -1,0 +1,235 @@
+//! The two statuses of a sync.
+
+ghost use Rattle.std.specs.Prelude.{◌≡◌, ◌⊎◌, ◌+◌, ◌<◌, ◌≤◌, ◌&&◌, ◌||◌, ◌^◌, IfOk, IfSome, IsSome, IsTrue, Some, false, is_some, length, true};
+ghost use Rattle.std.specs.List.{list_any};
+ghost use Rattle.jc_types.specs.Bases.{own_pods};
+ghost use Rattle.jc_account.specs.Accounts.{counted_out};
+ghost use Rattle.jc_types.specs.Conditions.{has_end, has_target, stands};
+ghost use Rattle.jc_types.specs.Pods.{is_open};
+ghost use Rattle.jc_types.specs.Sames.{same_kind};
+ghost use Rattle.jc_finish.specs.Settled.{is_target_kind, settled_of};
+ghost use Rattle.jc_finish.specs.Starts.{start_of};
+ghost use Rattle.jc_manage.specs.Creations.{active};
+ghost use Rattle.jc_plan.specs.Statuses.{completed_at, conditions_at, ended, filled, first_of, is_first_due, is_none, is_over, is_second_due, is_settled, lists_none, second_after, second_of};
+
+use crate::numbers::{Numbers, numbers_after};
+use crate::pods::{is_open, is_own};
+use jc_account::count_out;
+use jc_finish::{settle_conditions, start_in_force};
+use jc_manage::Wants;
+use jc_moment::Moment;
+use jc_types::{
+    Basis, CondKind, Condition, Conditions, Copied, CountIn, Job, JobStatus, Pod, Reason, Uids,
+    Want,
+};
+use std::alloc::Global;
+
+// Whether the condition is of the kind and true.
+fn is_standing(kind: CondKind, condition: &Condition) -> bool
+    ensures { result ≡ (same_kind condition.now.kind kind && condition.now.status) }
+{
+    condition.kind == kind && condition.status
+}
+
+// Whether a true condition of the kind is among them.
+fn stands(kind: CondKind, conditions: &Conditions) -> bool
+    ensures { result ≡ stands kind conditions.now }
+{
+    conditions
+        .as_slice()
+        .iter()
+        .any(|condition| is_standing(kind, condition))
+}
+
+// Whether how the Job will end is settled.
+fn has_target(conditions: &Conditions) -> bool
+    ensures { result ≡ has_target conditions.now }
+{
+    stands(CondKind::FailureTarget, conditions) || stands(CondKind::SuccessCriteriaMet, conditions)
+}
+
+// Whether the Job has ended.
+fn has_end(conditions: &Conditions) -> bool
+    ensures { result ≡ has_end conditions.now }
+{
+    stands(CondKind::Failed, conditions) || stands(CondKind::Complete, conditions)
+}
+
+/// Whether how the Job ends is settled, before the sync or by it.
+pub fn is_settled(job: &Job, given: Option<(CondKind, Reason)>) -> bool
+    ensures { result ≡ is_settled job.now given }
+{
+    has_target(&job.status.conditions) || given.is_some()
+}
+
+// When the Job completed.
+fn completed_at(now: Moment, status: &JobStatus, conditions: &Conditions) -> Option<Moment>
+    ensures { result ≡ completed_at now status.now conditions.now }
+{
+    if stands(CondKind::Complete, conditions) && !has_end(&status.conditions) {
+        Some(now)
+    } else {
+        status.completion
+    }
+}
+
+// Whether there is none.
+fn is_none(uids: &Uids) -> bool
+    ensures { result ≡ is_none uids.now }
+{
+    match uids.as_slice() {
+        [] => true,
+        _ => false,
+    }
+}
+
+// Whether no UID is listed as uncounted.
+fn lists_none(succeeded: &Uids, failed: &Uids) -> bool
+    ensures { result ≡ lists_none succeeded.now failed.now }
+{
+    is_none(succeeded) && is_none(failed)
+}
+
+// Whether one of the Job's own pods is open.
+fn has_open(job: &Job, pods: &[Pod]) -> bool
+    ensures { result ≡ list_any is_open (own_pods job.now pods.now) }
+{
+    pods.iter().any(|pod| is_own(job, pod) && is_open(pod))
+}
+
+// Whether how the Job ends is settled and none of its pods is open.
+fn is_over(target: bool, job: &Job, pods: &[Pod]) -> bool
+    ensures { result ≡ is_over target (own_pods job.now pods.now) }
+{
+    target && !has_open(job, pods)
+}
+
+// Whether the end of the first status is due.
+fn is_first_due(target: bool, job: &Job, pods: &[Pod], counted: &CountIn) -> bool
+    ensures { result ≡ is_first_due target (own_pods job.now pods.now) counted.now }
+{
+    is_over(target, job, pods)
+        && (is_none(&counted.releases)
+            && lists_none(&counted.uncounted_succeeded, &counted.uncounted_failed))
+}
+
+// Whether the end of the second status is due.
+fn is_second_due(target: bool, job: &Job, pods: &[Pod], status: &JobStatus) -> bool
+    ensures { result ≡ is_second_due target (own_pods job.now pods.now) status.now }
+{
+    is_over(target, job, pods) && lists_none(&status.uncounted_succeeded, &status.uncounted_failed)
+}
+
+// The conditions of the Job after the sync, with its end where that is due.
+fn conditions_at(
+    alloc: Global,
+    basis: &Basis,
+    job: &Job,
+    given: Option<(CondKind, Reason)>,
+    due: bool,
+) -> Result<Conditions, Want>
+    requires this { basis.now.job ≡ Some job.now }
+    requires kind { IfSome given (λ target. is_target_kind target.0 ≡ true) }
+    requires fresh { IsSome given → has_target job.now.status.conditions ≡ false }
+    requires due { IsTrue due → is_settled job.now given ≡ true }
+    ensures { IfOk result (λ r. r ≡ conditions_at basis.entry.now.now job.now given due) }
+{
+    settle_conditions(alloc, basis, given, due)
+}
+
+// The start time in force of the Job.
+fn start_at(basis: &Basis, job: &Job) -> Option<Moment>
+    requires this { basis.now.job ≡ Some job.now }
+    ensures { result ≡ start_of basis.entry.now.now job.now.spec job.now.status }
+{
+    start_in_force(basis)
+}
+
+/// The status with what is counted, the numbers of pods, the start time and the conditions.
+fn filled(
+    counted: &CountIn,
+    numbers: Numbers,
+    start: Option<Moment>,
+    completion: Option<Moment>,
+    conditions: Conditions,
+) -> Result<JobStatus, Want>
+    ensures counts { IfOk result (λ r. (r.active ≡ numbers.active) × (r.ready ≡ numbers.ready) × (r.terminating ≡ numbers.terminating) × (r.succeeded ≡ counted.now.succeeded) × (r.failed ≡ counted.now.failed)) }
+    ensures lists { IfOk result (λ r. (r.completed ≡ counted.now.completed) × (r.uncounted_succeeded ≡ counted.now.uncounted_succeeded) × (r.uncounted_failed ≡ counted.now.uncounted_failed)) }
+    ensures course { IfOk result (λ r. (r.start ≡ start) × (r.completion ≡ completion) × (r.conditions ≡ conditions)) }
+{
+    Ok(JobStatus {
+        active: numbers.active,
+        ready: numbers.ready,
+        terminating: numbers.terminating,
+        succeeded: counted.succeeded,
+        failed: counted.failed,
+        completed: counted.completed.copy()?,
+        uncounted_succeeded: counted.uncounted_succeeded.copy()?,
+        uncounted_failed: counted.uncounted_failed.copy()?,
+        start,
+        completion,
+        conditions,
+    })
+}
+
+/// The first status of the Job, whether it is to be written or not.
+///
+/// # Errors
+/// `Want` where there is no memory for it.
+pub fn first_status(
+    alloc: Global,
+    basis: &Basis,
+    job: &Job,
+    counted: &CountIn,
+    given: Option<(CondKind, Reason)>,
+    wants: &Wants,
+) -> Result<JobStatus, Want>
+    requires this { basis.now.job ≡ Some job.now }
+    requires few { length basis.now.pods < 2 ^ 31 }
+    requires created { length wants.now.creates ≤ 5000 }
+    requires going { length wants.now.marks + length wants.now.let_goes ≤ length (active (own_pods job.now basis.now.pods)) }
+    requires kind { IfSome given (λ target. is_target_kind target.0 ≡ true) }
+    requires fresh { IsSome given → has_target job.now.status.conditions ≡ false }
+    ensures { IfOk result (λ r. r ≡ first_of basis.entry.now.now job.now (own_pods job.now basis.entry.now.pods) counted.now given wants.now) }
+{
+    let pods = basis.pods.as_slice();
+    let due = is_first_due(is_settled(job, given), job, pods, counted);
+    let numbers = numbers_after(job, pods, wants);
+    let conditions = conditions_at(alloc, basis, job, given, due)?;
+    let completion = completed_at(basis.now, &job.status, &conditions);
+    filled(
+        counted,
+        numbers,
+        start_at(basis, job),
+        completion,
+        conditions,
+    )
+}
+
+/// The second status of the Job, whether it is to be written or not: the first with the released UIDs
+/// counted out.
+///
+/// # Errors
+/// `Want` where there is no memory for it.
+pub fn second_status(
+    alloc: Global,
+    basis: &Basis,
+    job: &Job,
+    released: &Uids,
+    given: Option<(CondKind, Reason)>,
+    first: &JobStatus,
+) -> Result<JobStatus, Want>
+    requires this { basis.now.job ≡ Some job.now }
+    requires kind { IfSome given (λ target. is_target_kind target.0 ≡ true) }
+    requires fresh { IsSome given → has_target job.now.status.conditions ≡ false }
+    requires succeeded { first.now.succeeded + length first.now.uncounted_succeeded < 2 ^ 64 }
+    requires failed { first.now.failed + length first.now.uncounted_failed < 2 ^ 64 }
+    ensures { IfOk result (λ r. r ≡ second_after basis.entry.now.now job.now (own_pods job.now basis.entry.now.pods) given (counted_out first.now released.now)) }
+{
+    let mut second = count_out(alloc, first, released)?;
+    let due = is_second_due(is_settled(job, given), job, basis.pods.as_slice(), &second);
+    let conditions = conditions_at(alloc, basis, job, given, due)?;
+    second.completion = completed_at(basis.now, &job.status, &conditions);
+    second.conditions = conditions;
+    Ok(second)
+}
