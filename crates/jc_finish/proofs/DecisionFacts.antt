@@ -17,7 +17,8 @@ use Rattle.jc_types.specs.Pods.{is_tracked}
 use Rattle.jc_failpol.specs.declared.outcomes.Outcome.TheVariants as outcome
 use Rattle.jc_failpol.specs.Outcomes.{outcome_of}
 use Rattle.jc_failpol.specs.Rules.{action_of}
-use Rattle.jc_finish.specs.Decisions.{is_failure, is_fail_job, policy_fails_job, fails_job, is_failed_by_pod, is_past_limit, is_overdue, is_policy_met, is_complete, first_line, decided}
+use Rattle.jc_failpol.specs.FailJob.{is_failure, is_fail_job, policy_fails_job, fails_job}
+use Rattle.jc_finish.specs.Decisions.{is_failed_by_pod, is_past_limit, is_overdue, is_policy_met, is_complete, first_line, decided}
 use Rattle.jc_finish.specs.Settled.{is_target_kind}
 
 -- The first of five reasons that holds.

@@ -2,7 +2,6 @@
 -- `succeeded` and `completed` are its failed count, its succeeded count and the set of its completed indexes.
 --     restarts_of own                  the restarts of all containers of the open pods
 --     exceeds limit restarts           so many restarts are too many under the limit
---     fails_job spec pod               the pod has failed, and the failure policy then fails the Job
 --     is_failed_by_pod, is_past_limit, is_overdue, is_policy_met, is_complete
 --                                      the five reasons, in their order
 --     first_line ..                    the first of them that holds, as a condition with its reason
@@ -11,9 +10,6 @@ use Rattle.std.specs.Prelude.{ℕ, ◌==◌, nat_lt, nat_le, Bool, true, false, 
 use Rattle.std.specs.List.{list_any}
 use Rattle.jc_types.specs.declared.objects.Job.{Job}
 use Rattle.jc_types.specs.declared.objects.Pod.{Pod}
-use Rattle.jc_types.specs.declared.policies.Action.{Action}
-use Rattle.jc_types.specs.declared.policies.Action.TheVariants.{FailJob, Ignore, Count, FailIndex}
-use Rattle.jc_types.specs.declared.policies.FailurePolicy.{FailurePolicy}
 use Rattle.jc_types.specs.declared.policies.SuccessPolicy.{SuccessPolicy}
 use Rattle.jc_types.specs.declared.specifications.JobSpec.{JobSpec}
 use Rattle.jc_types.specs.declared.specifications.Restart.{Restart}
@@ -29,37 +25,9 @@ use Rattle.jc_types.specs.Bases.{own_pods}
 use Rattle.jc_types.specs.Conditions.{has_target}
 use Rattle.jc_types.specs.Counts.{counts}
 use Rattle.jc_types.specs.Pods.{is_active, is_open, is_tracked}
-use Rattle.jc_failpol.specs.declared.outcomes.Outcome.{Outcome}
-use Rattle.jc_failpol.specs.declared.outcomes.Outcome.TheVariants as outcome
-use Rattle.jc_failpol.specs.Outcomes.{outcome_of}
-use Rattle.jc_failpol.specs.Rules.{action_of}
+use Rattle.jc_failpol.specs.FailJob.{fails_job}
 use Rattle.jc_succpol.specs.Rules.{place_of}
 use Rattle.jc_finish.specs.Starts.{end_after, start_of}
-
--- ---- the pods that have failed
-
--- The outcome Failed.
-abbrev pub is_failure : Outcome → Bool
-is_failure outcome.Alive = false
-is_failure outcome.Succeeded = false
-is_failure outcome.Failed = true
-is_failure outcome.Ignored = false
-
--- The action FailJob.
-abbrev pub is_fail_job : Action → Bool
-is_fail_job FailJob = true
-is_fail_job Ignore = false
-is_fail_job Count = false
-is_fail_job FailIndex = false
-
--- The failure policy, where there is one, fails the Job for the pod.
-abbrev pub policy_fails_job : Option FailurePolicy → Pod → Bool
-policy_fails_job None pod = false
-policy_fails_job (Some policy) pod = is_fail_job (action_of policy pod)
-
--- The pod has failed, and the failure policy then fails the Job.
-abbrev pub fails_job : JobSpec → Pod → Bool
-fails_job spec pod = is_failure (outcome_of spec pod) && policy_fails_job spec.failure pod
 
 -- ---- the restarts of containers
 

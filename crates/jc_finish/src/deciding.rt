@@ -5,7 +5,8 @@ ghost use Rattle.std.specs.List.{list_any};
 ghost use Rattle.jc_types.specs.Bases.{own_pods};
 ghost use Rattle.jc_types.specs.Counts.{counts as counts_of};
 ghost use Rattle.jc_types.specs.Pods.{is_active};
-ghost use Rattle.jc_finish.specs.Decisions.{decided_for, decision_of, fails_job, first_line, is_complete, is_enough, is_failed_by_pod, is_overdue, is_past_limit, is_policy_met, policy_fails_job, restarts_on_failure};
+ghost use Rattle.jc_failpol.specs.FailJob.{fails_job, policy_fails_job};
+ghost use Rattle.jc_finish.specs.Decisions.{decided_for, decision_of, first_line, is_complete, is_enough, is_failed_by_pod, is_overdue, is_past_limit, is_policy_met, restarts_on_failure};
 
 use crate::restarting::{is_exceeded, is_made_for, is_still_open, restarts_of};
 use crate::standing::is_end_settled;

@@ -5,7 +5,7 @@ use Rattle.std.proofs.lemmas.Iterator.Search.{any_from_yields_List}
 use Rattle.jc_types.specs.Bases.{is_own}
 use Rattle.jc_types.specs.Pods.{is_tracked}
 use Rattle.jc_types.proofs.ListFacts.{any_filter}
-use Rattle.jc_finish.specs.Decisions.{fails_job}
+use Rattle.jc_failpol.specs.FailJob.{fails_job}
 use Rattle.jc_finish.proofs.deciding.is_failed_by_a_pod.Goals as goal
 
 pub returns : goal.returns
