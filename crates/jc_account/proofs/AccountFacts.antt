@@ -25,7 +25,8 @@ use Rattle.jc_failpol.specs.declared.outcomes.Outcome.{Outcome}
 use Rattle.jc_failpol.specs.declared.outcomes.Outcome.TheVariants.{Alive, Succeeded, Failed, Ignored}
 use Rattle.jc_failpol.specs.Outcomes.{outcome_of}
 use Rattle.jc_account.specs.Accounts.{completed_in, counted_in, counted_out, left, stayed, unreleased}
-use Rattle.jc_account.specs.Judged.{has_come_to, has_tracked, is_listed, is_new, is_staying, is_to_release, newly, outcome_place, same_outcome, staying, to_release}
+use Rattle.jc_states.specs.Listed.{is_listed}
+use Rattle.jc_account.specs.Judged.{has_come_to, has_tracked, is_new, is_staying, is_to_release, newly, outcome_place, same_outcome, staying, to_release}
 use Rattle.jc_account.specs.Modes.{completed_after, gain, gained, has_index, listing, succeeded_after}
 use Rattle.jc_account.proofs.ListedFacts.{among_apart, among_passing, apart_from, each, each_in, has-indexes, none_passes, one_passes_both}
 use Rattle.jc_account.proofs.Owned.{kept_and_others}

@@ -1,7 +1,6 @@
 -- Which pods of a Job a sync judges, and which lose their finalizer (KEP-2307). `own` are the Job's own
 -- pods among those that the sync sees.
 --     same_outcome a b             the outcomes are the same
---     is_listed status u           the UID is in one of the two lists of uncounted UIDs
 --     has_come_to job o pod        the pod is tracked and has this outcome
 --     is_new job o pod             it has, and is not listed
 --     newly job own o              those that are judged now with this outcome
@@ -15,13 +14,12 @@ use Rattle.std.specs.List.{list_any}
 use Rattle.jc_types.specs.declared.numbers.Uid.{Uid}
 use Rattle.jc_types.specs.declared.objects.Job.{Job}
 use Rattle.jc_types.specs.declared.objects.Pod.{Pod}
-use Rattle.jc_types.specs.declared.statuses.JobStatus.{JobStatus}
 use Rattle.jc_types.specs.Keys.{same_uid}
 use Rattle.jc_types.specs.Pods.{is_tracked}
-use Rattle.jc_types.specs.Uids.{is_in}
 use Rattle.jc_failpol.specs.declared.outcomes.Outcome.{Outcome}
 use Rattle.jc_failpol.specs.declared.outcomes.Outcome.TheVariants.{Alive, Succeeded, Failed, Ignored}
 use Rattle.jc_failpol.specs.Outcomes.{outcome_of}
+use Rattle.jc_states.specs.Listed.{is_listed}
 
 -- The place of an outcome among the outcomes.
 abbrev pub outcome_place : Outcome → ℕ
@@ -33,10 +31,6 @@ outcome_place Ignored = 3
 -- The outcomes are the same.
 abbrev pub same_outcome : Outcome → Outcome → Bool
 same_outcome a b = outcome_place a == outcome_place b
-
--- The UID is in one of the two lists of uncounted UIDs.
-abbrev pub is_listed : JobStatus → Uid → Bool
-is_listed status u = is_in u status.uncounted_succeeded || is_in u status.uncounted_failed
 
 -- The pod is tracked and has this outcome.
 abbrev pub has_come_to : Job → Outcome → Pod → Bool

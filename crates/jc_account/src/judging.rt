@@ -9,13 +9,13 @@ ghost use Rattle.jc_types.specs.Uids.{join, uids_of};
 ghost use Rattle.jc_failpol.specs.declared.outcomes.Outcome.TheVariants.{Succeeded};
 ghost use Rattle.jc_failpol.specs.Outcomes.{outcome_of};
 ghost use Rattle.jc_account.specs.Accounts.{completed_in, stayed};
-ghost use Rattle.jc_account.specs.Judged.{has_tracked, is_listed, is_new, is_to_release, newly, same_outcome, to_release};
+ghost use Rattle.jc_account.specs.Judged.{has_tracked, is_new, is_to_release, newly, same_outcome, to_release};
 ghost use Rattle.jc_account.specs.Modes.{indexes_of};
 
-use crate::uids::is_among;
 use jc_failpol::{Outcome, outcome};
 use jc_ranges::Ranges;
-use jc_types::{Job, JobSpec, JobStatus, Mode, Pod, Uid, Uids, Want};
+use jc_states::{is_listed, is_own};
+use jc_types::{Job, JobSpec, Mode, Pod, Uid, Uids, Want};
 use std::alloc::Global;
 
 /// Whether the pod has this outcome.
@@ -23,21 +23,6 @@ fn is_outcome(spec: &JobSpec, pod: &Pod, want: Outcome) -> bool
     ensures { result ≡ same_outcome (outcome_of spec.now pod.now) want }
 {
     outcome(spec, pod) == want
-}
-
-/// Whether the UID is in one of the lists of uncounted UIDs.
-fn is_listed(status: &JobStatus, uid: Uid) -> bool
-    ensures { result ≡ is_listed status.now uid }
-{
-    is_among(uid, status.uncounted_succeeded.as_slice())
-        || is_among(uid, status.uncounted_failed.as_slice())
-}
-
-/// Whether the pod was made for the Job, by UID.
-fn is_own(job: &Job, pod: &Pod) -> bool
-    ensures { result ≡ is_own job.now pod.now }
-{
-    pod.owner_uid.0 == job.uid.0
 }
 
 /// Whether the pod is the Job's own and is judged now with this outcome.
@@ -50,13 +35,19 @@ fn is_newly(job: &Job, want: Outcome, pod: &Pod) -> bool
         && !is_listed(&job.status, pod.uid)
 }
 
+/// Whether the finalizer of the Job's own pod is to go (KEP-2307): the pod has it, and has ended or is
+/// listed as uncounted.
+pub fn is_to_release(job: &Job, pod: &Pod) -> bool
+    ensures { result ≡ is_to_release job.now pod.now }
+{
+    pod.tracked && (!is_outcome(&job.spec, pod, Outcome::Alive) || is_listed(&job.status, pod.uid))
+}
+
 /// Whether the pod is the Job's own and its finalizer is to go.
-fn is_to_release(job: &Job, pod: &Pod) -> bool
+fn is_due(job: &Job, pod: &Pod) -> bool
     ensures { result ≡ is_own job.now pod.now && is_to_release job.now pod.now }
 {
-    is_own(job, pod)
-        && pod.tracked
-        && (!is_outcome(&job.spec, pod, Outcome::Alive) || is_listed(&job.status, pod.uid))
+    is_own(job, pod) && is_to_release(job, pod)
 }
 
 /// Whether the pod is tracked and has the UID.
@@ -107,7 +98,7 @@ pub fn releases(alloc: Global, job: &Job, pods: &[Pod]) -> Result<Uids, Want>
 {
     let mut uids = Uids::new(alloc);
     for pod in pods {
-        if is_to_release(job, pod) {
+        if is_due(job, pod) {
             uids.push(pod.uid)?;
         }
     }

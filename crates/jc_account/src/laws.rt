@@ -17,7 +17,8 @@ ghost use Rattle.jc_types.specs.Uids.{Ascends, is_in, uids_of};
 ghost use Rattle.jc_failpol.specs.declared.outcomes.Outcome.{Outcome};
 ghost use Rattle.jc_failpol.specs.declared.outcomes.Outcome.TheVariants.{Failed, Succeeded};
 ghost use Rattle.jc_account.specs.Accounts.{counted_in, counted_out, left, stayed};
-ghost use Rattle.jc_account.specs.Judged.{has_come_to, has_tracked, is_listed, is_to_release, newly, same_outcome, staying};
+ghost use Rattle.jc_states.specs.Listed.{is_listed};
+ghost use Rattle.jc_account.specs.Judged.{has_come_to, has_tracked, is_to_release, newly, same_outcome, staying};
 ghost use Rattle.jc_account.specs.Modes.{gained, has_index};
 
 /// The test of outcomes is true just of equal ones.

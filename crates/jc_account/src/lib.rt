@@ -8,6 +8,7 @@ mod laws;
 mod uids;
 
 pub use counting::{count_in, count_out};
+pub use judging::is_to_release;
 pub use laws::{
     indexes_are_counted_in, lists_are_counted_in, newly_judged_are_filters,
     outcomes_are_told_apart, released_lists_end_empty, releases_hold_the_lists,

@@ -3,18 +3,12 @@
 ghost use Rattle.std.specs.Prelude.{◌≡◌, ◌+◌, ◌≤◌, IfOk, OnOk, length, nat_le};
 ghost use Rattle.std.specs.List.{position};
 ghost use Rattle.jc_types.specs.declared.numbers.Uid.{Uid};
-ghost use Rattle.jc_types.specs.Uids.{is_in, merge, with_uid};
+ghost use Rattle.jc_types.specs.Uids.{merge, with_uid};
 ghost use Rattle.jc_account.specs.Accounts.{unreleased};
 
+use jc_states::is_among;
 use jc_types::{Uid, Uids, Want};
 use std::alloc::Global;
-
-/// Whether the UID is in the list.
-pub fn is_among(uid: Uid, uids: &[Uid]) -> bool
-    ensures { result ≡ is_in uid uids.now }
-{
-    uids.iter().any(|other| other.0 == uid.0)
-}
 
 /// The place of the first UID that is not below the given one.
 fn place_of(uid: Uid, uids: &[Uid]) -> Option<usize>

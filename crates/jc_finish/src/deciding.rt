@@ -8,12 +8,12 @@ ghost use Rattle.jc_types.specs.Pods.{is_active};
 ghost use Rattle.jc_failpol.specs.FailJob.{fails_job, policy_fails_job};
 ghost use Rattle.jc_finish.specs.Decisions.{decided_for, decision_of, first_line, is_complete, is_enough, is_failed_by_pod, is_overdue, is_past_limit, is_policy_met, restarts_on_failure};
 
-use crate::restarting::{is_exceeded, is_made_for, is_still_open, restarts_of};
-use crate::standing::is_end_settled;
+use crate::restarting::{is_exceeded, restarts_of};
 use crate::starting::start_of;
 use jc_failpol::{Outcome, action, outcome};
 use jc_moment::Moment;
 use jc_ranges::Ranges;
+use jc_states::{has_target, is_active, is_own};
 use jc_succpol::is_met;
 use jc_types::{
     Action, Basis, CondKind, CountIn, FailurePolicy, Job, JobSpec, JobStatus, Pod, Reason, Restart,
@@ -47,8 +47,7 @@ fn is_job_failed_by(spec: &JobSpec, pod: &Pod) -> bool
 fn is_failed_by_a_pod(job: &Job, pods: &[Pod]) -> bool
     ensures { result ≡ is_failed_by_pod job.now.spec (own_pods job.now pods.now) }
 {
-    pods.iter().any(|pod| is_made_for(pod, job.uid)
-        && (pod.tracked && is_job_failed_by(&*job.spec, pod)))
+    pods.iter().any(|pod| is_own(job, pod) && (pod.tracked && is_job_failed_by(&*job.spec, pod)))
 }
 
 // Whether the containers of the pods start anew after a failure.
@@ -69,7 +68,7 @@ fn is_limit_passed(job: &Job, pods: &[Pod], failed: u64) -> bool
 {
     let limit = job.spec.backoff_limit;
     failed > u64::from(limit)
-        || does_restart(job.spec.template.restart) && is_exceeded(limit, restarts_of(job.uid, pods))
+        || does_restart(job.spec.template.restart) && is_exceeded(limit, restarts_of(job, pods))
 }
 
 // Whether so many seconds have passed since the start.
@@ -106,7 +105,7 @@ fn is_success_policy_met(policy: &Option<SuccessPolicy>, completed: &Ranges) -> 
 fn has_active(job: &Job, pods: &[Pod]) -> bool
     ensures { result ≡ list_any is_active (own_pods job.now pods.now) }
 {
-    pods.iter().any(|pod| is_made_for(pod, job.uid) && (is_still_open(pod) && pod.marked.is_none()))
+    pods.iter().any(|pod| is_own(job, pod) && is_active(pod))
 }
 
 // Whether there are as many successes as completions are wanted; where none are, one is enough.
@@ -154,7 +153,7 @@ fn decide_job(now: Moment, job: &Job, pods: &[Pod], counted: &CountIn) -> Option
     requires succeeded { (counts_of counted.now).1 < 2 ^ 64 }
     ensures { result ≡ decided_for counted.now now pods.now job.now }
 {
-    if is_end_settled(&job.status.conditions) {
+    if has_target(&job.status.conditions) {
         return None;
     }
     first_reason(now, job, pods, counted)

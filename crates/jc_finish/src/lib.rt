@@ -6,7 +6,6 @@ mod deciding;
 mod laws;
 mod restarting;
 mod settling;
-mod standing;
 mod starting;
 
 pub use deciding::decide;

@@ -1,28 +1,11 @@
 //! How often the containers of a Job's pods were restarted.
 
-ghost use Rattle.std.specs.Prelude.{◌≡◌, ◌<◌, ◌^◌, filter, length};
-ghost use Rattle.jc_types.specs.Pods.{is_open};
-ghost use Rattle.jc_types.specs.Keys.{same_uid};
+ghost use Rattle.std.specs.Prelude.{◌≡◌, ◌<◌, ◌^◌, length};
+ghost use Rattle.jc_types.specs.Bases.{own_pods};
 ghost use Rattle.jc_finish.specs.Decisions.{exceeds, restarts_in, restarts_of};
 
-use jc_types::{Phase, Pod, Uid};
-
-/// Whether the pod was made for the Job of the UID.
-pub fn is_made_for(pod: &Pod, job: Uid) -> bool
-    ensures { result ≡ same_uid pod.now.owner_uid job }
-{
-    pod.owner_uid == job
-}
-
-/// Whether the pod has not ended.
-pub fn is_still_open(pod: &Pod) -> bool
-    ensures { result ≡ is_open pod.now }
-{
-    match pod.phase {
-        Phase::Pending | Phase::Running => true,
-        Phase::Succeeded | Phase::Failed => false,
-    }
-}
+use jc_states::{is_open, is_own};
+use jc_types::{Job, Pod};
 
 // The restarts of all containers of the pod.
 fn restarts_in(pod: &Pod) -> u128
@@ -36,15 +19,15 @@ fn restarts_in(pod: &Pod) -> u128
     restarts
 }
 
-/// The restarts of all containers of the open pods that were made for the Job of the UID. They fit 128
-/// bits: each of fewer than 2^31 pods has fewer than 2^96.
-pub fn restarts_of(job: Uid, pods: &[Pod]) -> u128
+/// The restarts of all containers of the Job's own open pods. They fit 128 bits: each of fewer than 2^31
+/// pods has fewer than 2^96.
+pub fn restarts_of(job: &Job, pods: &[Pod]) -> u128
     requires { length pods.now < 2 ^ 31 }
-    ensures { result ≡ restarts_of (filter (λ pod. same_uid pod.owner_uid job) pods.now) }
+    ensures { result ≡ restarts_of (own_pods job.now pods.now) }
 {
     let mut restarts = 0;
     for pod in pods {
-        if is_made_for(pod, job) && is_still_open(pod) {
+        if is_own(job, pod) && is_open(pod) {
             restarts += restarts_in(pod);
         }
     }

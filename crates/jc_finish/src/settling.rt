@@ -4,10 +4,11 @@ ghost use Rattle.std.specs.Prelude.{◌≡◌, ◌⊎◌, ◌∷◌, ◌++◌, [
 ghost use Rattle.std.specs.List.{list_any};
 ghost use Rattle.std.specs.Option.{option_copied};
 ghost use Rattle.jc_types.specs.Conditions.{has_target};
+ghost use Rattle.jc_types.specs.Sames.{same_kind};
 ghost use Rattle.jc_finish.specs.Settled.{end_kind, end_of, in_place, is_suspension, is_target, is_target_kind, settled_of, settled_suspended, suspension, true_since, with_end, with_suspension, with_target};
 
-use crate::standing::{has_ended, is_end_settled, is_same_kind, is_standing};
 use jc_moment::Moment;
+use jc_states::{has_end, has_target, stands};
 use jc_types::{Basis, CondKind, Condition, Conditions, Copied, Reason, Want};
 use std::alloc::Global;
 
@@ -38,6 +39,13 @@ fn suspension(since: Moment, suspend: bool) -> Condition
         reason,
         since,
     }
+}
+
+// Whether the kinds are the same.
+fn is_same_kind(left: CondKind, right: CondKind) -> bool
+    ensures { result ≡ same_kind left right }
+{
+    left == right
 }
 
 // Whether a Suspended condition is among them.
@@ -108,10 +116,7 @@ fn settled_suspended(
 ) -> Result<Conditions, Want>
     ensures { IfOk result (λ r. r ≡ settled_suspended now suspend is_given conditions.now) }
 {
-    if is_given
-        || is_end_settled(conditions)
-        || suspend == is_standing(CondKind::Suspended, conditions)
-    {
+    if is_given || has_target(conditions) || suspend == stands(CondKind::Suspended, conditions) {
         return conditions.copy();
     }
     with_suspension(alloc, conditions, suspension(now, suspend))
@@ -180,7 +185,7 @@ fn end_of(now: Moment, conditions: &Conditions) -> Option<Condition>
 fn with_end(now: Moment, due: bool, conditions: Conditions) -> Result<Conditions, Want>
     ensures { IfOk result (λ r. r ≡ with_end now due conditions) }
 {
-    if !due || has_ended(&conditions) {
+    if !due || has_end(&conditions) {
         return Ok(conditions);
     }
     match end_of(now, &conditions) {

@@ -3,8 +3,8 @@
 ghost use Rattle.std.specs.Prelude.{◌≡◌};
 ghost use Rattle.jc_finish.specs.Starts.{as_moment, begins, deadline_of, deadline_of_basis, end_after, start_of, start_of_basis};
 
-use crate::standing::{has_ended, is_end_settled, is_standing};
 use jc_moment::Moment;
+use jc_states::{has_end, has_target, stands};
 use jc_types::{Basis, CondKind, JobSpec, JobStatus};
 
 // Whether the Job starts now: for the first time, or since it is resumed.
@@ -12,8 +12,8 @@ fn begins_now(suspend: bool, status: &JobStatus) -> bool
     ensures { result ≡ begins suspend status.now.start status.now.conditions }
 {
     !suspend
-        && !(is_end_settled(&status.conditions) || has_ended(&status.conditions))
-        && (status.start.is_none() || is_standing(CondKind::Suspended, &status.conditions))
+        && !(has_target(&status.conditions) || has_end(&status.conditions))
+        && (status.start.is_none() || stands(CondKind::Suspended, &status.conditions))
 }
 
 /// The start time in force of a Job, in a sync at the moment `now`.
@@ -41,7 +41,7 @@ fn moment_after(seconds: Option<u32>, start: Option<Moment>) -> Option<Moment>
 fn deadline(now: Moment, spec: &JobSpec, status: &JobStatus) -> Option<Moment>
     ensures { result ≡ deadline_of now spec.now status.now }
 {
-    if spec.suspend || is_end_settled(&status.conditions) {
+    if spec.suspend || has_target(&status.conditions) {
         return None;
     }
     moment_after(spec.deadline, start_of(now, spec, status))

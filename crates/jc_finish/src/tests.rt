@@ -12,10 +12,10 @@ ghost use Rattle.jc_types.specs.Conditions.{has_target};
 ghost use Rattle.jc_finish.specs.Settled.{is_target_kind};
 
 use crate::settling::is_target_kind;
-use crate::standing::is_end_settled;
 use crate::{decide, next_deadline, settle_conditions, start_in_force};
 use jc_moment::Moment;
 use jc_ranges::Ranges;
+use jc_states::has_target;
 use jc_types::{
     Action, Arc, Backoff, Basis, Codes, CondKind, Condition, Conditions, Container, Containers,
     CountIn, FailurePolicy, FailureRule, FailureRules, Job, JobSpec, JobStatus, Key, Mode, Name,
@@ -713,7 +713,7 @@ fn may_settle(basis: &Basis, target: Target, end: bool) -> bool
     let Some(job) = &basis.job else {
         return false;
     };
-    let stands = is_end_settled(&job.status.conditions);
+    let stands = has_target(&job.status.conditions);
     match target {
         None => !end || stands,
         Some((kind, _)) => is_target_kind(kind) && !stands,

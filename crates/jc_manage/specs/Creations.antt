@@ -1,6 +1,5 @@
 -- Which pods a Job makes (batch/v1, KEP-2214, KEP-3939). `own` are the Job's own pods.
 --     is_tracked_active pod               it is active and has the finalizer
---     is_ending pod                       it is marked for deletion and still open
 --     active own, tracked_active own, ending own    those pods
 --     wanted .., job_wants ..             how many active tracked pods there should be
 --     lacking .., job_lacks ..            how many are to be made
@@ -22,17 +21,14 @@ use Rattle.jc_types.specs.declared.specifications.Replacement.{Replacement}
 use Rattle.jc_types.specs.declared.specifications.Replacement.TheVariants.{TerminatingOrFailed, FailedOnly}
 use Rattle.jc_types.specs.declared.syncs.CountIn.{CountIn}
 use Rattle.jc_types.specs.Counts.{counts}
-use Rattle.jc_types.specs.Pods.{is_open, is_marked, is_active, is_tracked}
+use Rattle.jc_types.specs.Pods.{is_active, is_tracked}
 use Rattle.jc_types.specs.Sames.{same_option}
+use Rattle.jc_states.specs.Pods.{is_ending}
 use Rattle.jc_manage.specs.Backoffs.{as_moment, is_held_back}
 
 -- Active, and with the finalizer.
 abbrev pub is_tracked_active : Pod → Bool
 is_tracked_active pod = is_active pod && is_tracked pod
-
--- Marked for deletion, and still open.
-abbrev pub is_ending : Pod → Bool
-is_ending pod = is_open pod && is_marked pod
 
 abbrev pub active : List Pod → List Pod
 active own = filter is_active own

@@ -7,8 +7,9 @@ ghost use Rattle.jc_types.specs.Bases.{is_own, own_pods};
 ghost use Rattle.jc_types.specs.Counts.{counts as counts_of};
 ghost use Rattle.jc_manage.specs.Creations.{creatable, free, holds, is_at, is_none_of, job_lacks, job_wants, keepers, keeps, lacking, new_pods, wanted};
 
-use crate::pods::{count_ending, count_tracked_active, is_active, is_ending, is_own};
+use crate::pods::{count_ending, count_tracked_active};
 use jc_ranges::Ranges;
+use jc_states::{is_active, is_ending, is_own};
 use jc_types::{CountIn, Indexes, Job, JobSpec, Mode, Pod, Replacement, Want, counts};
 use std::alloc::Global;
 

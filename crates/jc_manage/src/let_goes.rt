@@ -13,9 +13,10 @@ ghost use Rattle.jc_manage.specs.Steps.{goes_by, has_older, is_spare_by, rank_of
 
 use crate::creations::job_wants;
 use crate::lists::list_of;
-use crate::pods::{is_active, is_own, is_tracked_active};
+use crate::pods::is_tracked_active;
 use crate::ranks::{Rank, is_below, least_to_go, rank_of};
 use jc_ranges::Ranges;
+use jc_states::{is_active, is_own};
 use jc_types::{CountIn, Job, Mode, Pod, PodVersions, Uid, Uids, Version, Want};
 use std::alloc::Global;
 use std::collections::HashMap;

@@ -6,7 +6,8 @@ use Rattle.jc_types.specs.declared.objects.Pod.{Pod}
 use Rattle.jc_types.specs.declared.syncs.CountIn.{CountIn}
 use Rattle.jc_types.specs.Counts.{counts}
 use Rattle.jc_types.specs.Pods.{is_active, is_marked, is_open, is_tracked}
-use Rattle.jc_manage.specs.Creations.{active, creatable, creates, ending, is_ending, is_tracked_active, job_wants, tracked_active, wanted}
+use Rattle.jc_states.specs.Pods.{is_ending}
+use Rattle.jc_manage.specs.Creations.{active, creatable, creates, ending, is_tracked_active, job_wants, tracked_active, wanted}
 use Rattle.jc_manage.specs.LetGoes.{going, is_let_go, is_to_mark, let_goes, marks, seen}
 use Rattle.jc_manage.proofs.Bounds.{creatable-few, creates-few, lacks-few, wanted-few}
 

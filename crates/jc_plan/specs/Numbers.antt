@@ -1,36 +1,18 @@
 -- The numbers of a Job's pods that a status tells (batch/v1), as they will be once the requests of the sync are
 -- made. `own` are the Job's own pods, and `wants` what the sync wants of them.
---     says_ready condition      the condition `Ready` is true
---     is_ready pod              the pod is active and says so
 --     is_let_go_of uid rows     the pod of the UID is let go
 --     keeps_on wants pod        the pod is neither marked nor let go
 --     active_after wants own, ready_after wants own, ending_after wants own    the three numbers
-use Rattle.std.specs.Prelude.{ℕ, ◌+◌, ◌-◌, Bool, true, false, not, ◌&&◌, List, length, filter, codes, bytes_eq}
+use Rattle.std.specs.Prelude.{ℕ, ◌+◌, ◌-◌, Bool, not, ◌&&◌, List, length, filter}
 use Rattle.std.specs.List.{list_any}
 use Rattle.jc_types.specs.declared.numbers.Uid.{Uid}
 use Rattle.jc_types.specs.declared.numbers.Version.{Version}
 use Rattle.jc_types.specs.declared.objects.Pod.{Pod}
-use Rattle.jc_types.specs.declared.policies.Pattern.{Pattern}
-use Rattle.jc_types.specs.declared.policies.Truth.{Truth}
-use Rattle.jc_types.specs.declared.policies.Truth.TheVariants as truth
 use Rattle.jc_types.specs.Keys.{same_uid}
-use Rattle.jc_types.specs.Pods.{is_active}
 use Rattle.jc_types.specs.Uids.{is_in}
+use Rattle.jc_states.specs.Pods.{is_ready}
 use Rattle.jc_manage.specs.Creations.{active, ending}
 use Rattle.jc_manage.specs.declared.results.Wants.{Wants}
-
-abbrev pub is_true : Truth → Bool
-is_true truth.True = true
-is_true truth.False = false
-is_true truth.Unknown = false
-
--- The condition `Ready` of a pod is true.
-abbrev pub says_ready : Pattern → Bool
-says_ready condition = bytes_eq condition.kind (codes "Ready") && is_true condition.truth
-
--- The pod is active and ready.
-abbrev pub is_ready : Pod → Bool
-is_ready pod = is_active pod && list_any says_ready pod.conditions
 
 -- The pod of the UID is among those that are let go.
 abbrev pub is_let_go_of : Uid → List (Uid × Version) → Bool

@@ -7,7 +7,6 @@ mod numbers;
 mod parts;
 mod planning;
 mod plans;
-mod pods;
 mod releasing;
 mod statuses;
 

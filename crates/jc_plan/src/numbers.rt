@@ -5,8 +5,8 @@ ghost use Rattle.jc_types.specs.Bases.{own_pods};
 ghost use Rattle.jc_manage.specs.Creations.{active, ending};
 ghost use Rattle.jc_plan.specs.Numbers.{active_after, ending_after, is_let_go_of, keeps_on, ready_after};
 
-use crate::pods::{is_active, is_among, is_ending, is_own, is_ready};
 use jc_manage::Wants;
+use jc_states::{is_active, is_among, is_ending, is_own, is_ready};
 use jc_types::{Job, Pod, PodVersions, Uid};
 
 /// How many pods are active, ready and terminating once the requests of a sync are made.
@@ -48,7 +48,7 @@ fn is_let_go(uid: Uid, rows: &PodVersions) -> bool
 fn keeps_on(wants: &Wants, pod: &Pod) -> bool
     ensures { result ≡ keeps_on wants.now pod.now }
 {
-    !is_among(pod.uid, &wants.marks) && !is_let_go(pod.uid, &wants.let_goes)
+    !is_among(pod.uid, wants.marks.as_slice()) && !is_let_go(pod.uid, &wants.let_goes)
 }
 
 /// How many of the Job's own pods are ready and are neither marked nor let go.

@@ -1,15 +1,11 @@
 //! Which pods lose their finalizer.
 
 ghost use Rattle.std.specs.Prelude.{◌≡◌, IfOk};
-ghost use Rattle.jc_types.specs.Uids.{is_in};
-ghost use Rattle.jc_account.specs.Judged.{is_listed, is_to_release, same_outcome};
-ghost use Rattle.jc_failpol.specs.declared.outcomes.Outcome.TheVariants.{Alive};
-ghost use Rattle.jc_failpol.specs.Outcomes.{outcome_of};
 ghost use Rattle.jc_plan.specs.Releases.{is_due_of, is_foreign, is_orphan, is_released, released};
 
-use crate::pods::{is_among, is_own};
-use jc_failpol::{Outcome, outcome};
-use jc_types::{Basis, Job, JobSpec, JobStatus, Pod, Uid, Uids, Want};
+use jc_account::is_to_release;
+use jc_states::is_own;
+use jc_types::{Basis, Job, Pod, Uids, Want};
 use std::alloc::Global;
 
 /// Whether the pod was made for another Job, or there is none.
@@ -27,27 +23,6 @@ fn is_orphan(basis: &Basis, pod: &Pod) -> bool
     ensures { result ≡ is_orphan basis.entry.now pod.now }
 {
     pod.tracked && (is_foreign(&basis.job, pod) && pod.version.0 <= basis.jobs_at.0)
-}
-
-/// Whether the pod is still alive.
-fn is_alive(spec: &JobSpec, pod: &Pod) -> bool
-    ensures { result ≡ same_outcome (outcome_of spec.now pod.now) Alive }
-{
-    outcome(spec, pod) == Outcome::Alive
-}
-
-/// Whether the UID is in one of the lists of uncounted UIDs.
-fn is_listed(status: &JobStatus, uid: Uid) -> bool
-    ensures { result ≡ is_listed status.now uid }
-{
-    is_among(uid, &status.uncounted_succeeded) || is_among(uid, &status.uncounted_failed)
-}
-
-/// Whether the finalizer of the Job's own pod is to go.
-fn is_to_release(job: &Job, pod: &Pod) -> bool
-    ensures { result ≡ is_to_release job.now pod.now }
-{
-    pod.tracked && (!is_alive(&job.spec, pod) || is_listed(&job.status, pod.uid))
 }
 
 /// Whether the pod is the Job's own, and its finalizer is to go.

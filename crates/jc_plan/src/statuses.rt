@@ -4,56 +4,23 @@ ghost use Rattle.std.specs.Prelude.{◌≡◌, ◌⊎◌, ◌+◌, ◌<◌, ◌�
 ghost use Rattle.std.specs.List.{list_any};
 ghost use Rattle.jc_types.specs.Bases.{own_pods};
 ghost use Rattle.jc_account.specs.Accounts.{counted_out};
-ghost use Rattle.jc_types.specs.Conditions.{has_end, has_target, stands};
+ghost use Rattle.jc_types.specs.Conditions.{has_target};
 ghost use Rattle.jc_types.specs.Pods.{is_open};
-ghost use Rattle.jc_types.specs.Sames.{same_kind};
 ghost use Rattle.jc_finish.specs.Settled.{is_target_kind, settled_of};
 ghost use Rattle.jc_finish.specs.Starts.{start_of};
 ghost use Rattle.jc_manage.specs.Creations.{active};
 ghost use Rattle.jc_plan.specs.Statuses.{completed_at, conditions_at, ended, filled, first_of, is_first_due, is_none, is_over, is_second_due, is_settled, lists_none, second_after, second_of};
 
 use crate::numbers::{Numbers, numbers_after};
-use crate::pods::{is_open, is_own};
 use jc_account::count_out;
 use jc_finish::{settle_conditions, start_in_force};
 use jc_manage::Wants;
 use jc_moment::Moment;
+use jc_states::{has_end, has_target, is_open, is_own, stands};
 use jc_types::{
-    Basis, CondKind, Condition, Conditions, Copied, CountIn, Job, JobStatus, Pod, Reason, Uids,
-    Want,
+    Basis, CondKind, Conditions, Copied, CountIn, Job, JobStatus, Pod, Reason, Uids, Want,
 };
 use std::alloc::Global;
-
-// Whether the condition is of the kind and true.
-fn is_standing(kind: CondKind, condition: &Condition) -> bool
-    ensures { result ≡ (same_kind condition.now.kind kind && condition.now.status) }
-{
-    condition.kind == kind && condition.status
-}
-
-// Whether a true condition of the kind is among them.
-fn stands(kind: CondKind, conditions: &Conditions) -> bool
-    ensures { result ≡ stands kind conditions.now }
-{
-    conditions
-        .as_slice()
-        .iter()
-        .any(|condition| is_standing(kind, condition))
-}
-
-// Whether how the Job will end is settled.
-fn has_target(conditions: &Conditions) -> bool
-    ensures { result ≡ has_target conditions.now }
-{
-    stands(CondKind::FailureTarget, conditions) || stands(CondKind::SuccessCriteriaMet, conditions)
-}
-
-// Whether the Job has ended.
-fn has_end(conditions: &Conditions) -> bool
-    ensures { result ≡ has_end conditions.now }
-{
-    stands(CondKind::Failed, conditions) || stands(CondKind::Complete, conditions)
-}
 
 /// Whether how the Job ends is settled, before the sync or by it.
 pub fn is_settled(job: &Job, given: Option<(CondKind, Reason)>) -> bool

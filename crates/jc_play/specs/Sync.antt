@@ -1,20 +1,19 @@
 -- What a sync plans for a Job that wants one success of one pod at a time, from the Job and its pods as they stand when
 -- it begins (batch/v1, KEP-2307).
-use Rattle.std.specs.Prelude.{ℕ, Bool, true, false, not, List, [], ◌∷◌, ◌++◌, ◌==◌, ◌+◌, ◌&&◌, ◌||◌, nat_le, length, map, filter, Option, Some, None, codes, bytes_eq, if◌then◌else◌}
+use Rattle.std.specs.Prelude.{ℕ, Bool, true, false, not, List, [], ◌∷◌, ◌++◌, ◌==◌, ◌+◌, ◌&&◌, ◌||◌, nat_le, length, map, filter, Option, Some, None, if◌then◌else◌}
 use Rattle.std.specs.List.{list_any}
 use Rattle.jc_moment.specs.declared.moment.Moment.{Moment}
 use Rattle.jc_types.specs.declared.numbers.Uid.{Uid}
 use Rattle.jc_types.specs.declared.objects.Pod.{Pod}
-use Rattle.jc_types.specs.declared.policies.Pattern.{Pattern}
-use Rattle.jc_types.specs.declared.policies.Truth.{Truth}
 use Rattle.jc_types.specs.declared.statuses.CondKind.{CondKind}
 use Rattle.jc_types.specs.declared.statuses.CondKind.TheVariants.{SuccessCriteriaMet, Complete}
 use Rattle.jc_types.specs.declared.statuses.Condition.{Condition}
 use Rattle.jc_types.specs.declared.statuses.JobStatus.{JobStatus}
 use Rattle.jc_types.specs.declared.statuses.Reason.TheVariants.{CompletionsReached}
-use Rattle.jc_types.specs.Pods.{is_open, is_active, is_marked}
+use Rattle.jc_types.specs.Pods.{is_open, is_active}
 pub use Rattle.jc_types.specs.Conditions.{stands}
 use Rattle.jc_types.specs.Uids.{is_in}
+use Rattle.jc_states.specs.Pods.{is_ending, is_ready}
 use Rattle.jc_play.specs.Outcomes.{outcome, is_success}
 use Rattle.jc_play.specs.Given.{the_moment}
 
@@ -51,22 +50,6 @@ is_wanted pods = not (list_any (λ (p : Pod). is_active p || is_success (outcome
 abbrev pub active_pods : List Pod → ℕ
 active_pods pods = length (filter is_active pods) + (if is_wanted pods then 1 else 0)
 
--- An active pod is ready where its condition `Ready` is true.
-abbrev pub is_true : Truth → Bool
-is_true Truth.True = true
-is_true Truth.False = false
-is_true Truth.Unknown = false
-
-abbrev pub says_ready : Pattern → Bool
-says_ready pattern = bytes_eq pattern.kind (codes "Ready") && is_true pattern.truth
-
-abbrev pub is_ready : Pod → Bool
-is_ready pod = is_active pod && list_any says_ready pod.conditions
-
--- A pod is terminating where it is marked for deletion and has not ended.
-abbrev pub is_terminating : Pod → Bool
-is_terminating pod = is_open pod && is_marked pod
-
 -- A condition that comes now, since the wanted completions were reached.
 abbrev pub reached : CondKind → Condition
 reached kind = record { kind = kind; status = true; reason = CompletionsReached; since = the_moment }
@@ -93,7 +76,7 @@ abbrev pub counted_in : JobStatus → List Pod → JobStatus
 counted_in status pods = record {
   active = active_pods pods;
   ready = length (filter is_ready pods);
-  terminating = length (filter is_terminating pods);
+  terminating = length (filter is_ending pods);
   succeeded = total_in status pods;
   failed = status.failed;
   completed = [];

@@ -2,83 +2,20 @@
 ghost use Rattle.std.specs.Prelude.{◌≡◌, ◌<◌, ◌≤◌, ◌+◌, ◌^◌, IfOk, length, map, filter, not, nat_le, ◌&&◌, ◌||◌};
 ghost use Rattle.std.specs.List.{list_any};
 ghost use Rattle.jc_types.specs.declared.statuses.CondKind.TheVariants.{SuccessCriteriaMet, Complete};
-ghost use Rattle.jc_types.specs.Pods.{is_open, is_active, is_marked};
-ghost use Rattle.jc_types.specs.Sames.{same_kind};
+ghost use Rattle.jc_types.specs.Pods.{is_open, is_active};
 ghost use Rattle.jc_types.specs.Uids.{is_in};
+ghost use Rattle.jc_states.specs.Pods.{is_ending, is_ready};
 ghost use Rattle.jc_play.specs.Outcomes.{outcome, is_success};
-ghost use Rattle.jc_play.specs.Sync.{is_listed, counts, counted, is_tracked_in, total_in, is_due, due, is_wanted, active_pods, is_true, says_ready, is_ready, is_terminating, stands, reached, is_met, with_met, started, counted_in, is_none, may_end, with_end, first_status, counted_out, ended, second_status};
+ghost use Rattle.jc_play.specs.Sync.{counts, counted, is_tracked_in, total_in, is_due, due, is_wanted, active_pods, stands, reached, is_met, with_met, started, counted_in, is_none, may_end, with_end, first_status, counted_out, ended, second_status};
 
 use super::given::the_moment;
 use jc_moment::Moment;
 use jc_ranges::Ranges;
+use jc_states::{is_active, is_among, is_ending, is_open, is_ready, stands};
 use jc_types::{
-    CondKind, Condition, Conditions, Copied, JobStatus, Pattern, Patterns, Phase, Pod, Reason,
-    Truth, Uid, Uids, Want,
+    CondKind, Condition, Conditions, Copied, JobStatus, Phase, Pod, Reason, Uid, Uids, Want,
 };
 use std::alloc::Global;
-
-// Whether the pod is Pending or Running.
-fn is_open(pod: &Pod) -> bool
-    ensures { result ≡ is_open pod.now }
-{
-    match pod.phase {
-        Phase::Pending | Phase::Running => true,
-        Phase::Succeeded | Phase::Failed => false,
-    }
-}
-
-// Whether the pod is marked for deletion.
-fn is_marked(pod: &Pod) -> bool
-    ensures { result ≡ is_marked pod.now }
-{
-    pod.marked.is_some()
-}
-
-// Whether the pod is open and not marked.
-fn is_active(pod: &Pod) -> bool
-    ensures { result ≡ is_active pod.now }
-{
-    is_open(pod) && !is_marked(pod)
-}
-
-// Whether the pod is marked and has not ended.
-fn is_terminating(pod: &Pod) -> bool
-    ensures { result ≡ is_terminating pod.now }
-{
-    is_open(pod) && is_marked(pod)
-}
-
-fn is_true(truth: Truth) -> bool
-    ensures { result ≡ is_true truth }
-{
-    match truth {
-        Truth::True => true,
-        Truth::False | Truth::Unknown => false,
-    }
-}
-
-// Whether the condition says that its pod is ready.
-fn says_ready(pattern: &Pattern) -> bool
-    ensures { result ≡ says_ready pattern.now }
-{
-    pattern.kind.as_str() == "Ready" && is_true(pattern.truth)
-}
-
-fn any_says_ready(patterns: &Patterns) -> bool
-    ensures { result ≡ list_any says_ready patterns.now }
-{
-    patterns
-        .as_slice()
-        .iter()
-        .any(|pattern| says_ready(pattern))
-}
-
-// Whether the pod is active and ready.
-fn is_ready(pod: &Pod) -> bool
-    ensures { result ≡ is_ready pod.now }
-{
-    is_active(pod) && any_says_ready(&pod.conditions)
-}
 
 // Whether the pod has succeeded.
 fn succeeded(pod: &Pod) -> bool
@@ -90,25 +27,18 @@ fn succeeded(pod: &Pod) -> bool
     }
 }
 
-// Whether the UID is in the list.
-fn contains(uids: &Uids, uid: Uid) -> bool
-    ensures { result ≡ is_in uid uids.now }
-{
-    uids.as_slice().iter().any(|u| u.0 == uid.0)
-}
-
 // Whether the pod is counted in: it is tracked, and was listed or has succeeded.
 fn is_counted(status: &JobStatus, pod: &Pod) -> bool
     ensures { result ≡ counts status.now pod.now }
 {
-    pod.tracked && (contains(&status.uncounted_succeeded, pod.uid) || succeeded(pod))
+    pod.tracked && (is_among(pod.uid, status.uncounted_succeeded.as_slice()) || succeeded(pod))
 }
 
 // Whether the pod is to be released: it is tracked, and is listed or has ended.
 fn is_to_release(status: &JobStatus, pod: &Pod) -> bool
     ensures { result ≡ is_due status.now pod.now }
 {
-    pod.tracked && (contains(&status.uncounted_succeeded, pod.uid) || !is_open(pod))
+    pod.tracked && (is_among(pod.uid, status.uncounted_succeeded.as_slice()) || !is_open(pod))
 }
 
 // The UIDs of the pods that are counted in.
@@ -218,52 +148,10 @@ fn count_ready(pods: &[Pod]) -> usize
 }
 
 fn count_terminating(pods: &[Pod]) -> usize
-    ensures terminating { result ≡ length (filter is_terminating pods.now) }
+    ensures terminating { result ≡ length (filter is_ending pods.now) }
     ensures bound { result ≤ length pods.now }
 {
-    pods.iter().filter(|pod| is_terminating(pod)).count()
-}
-
-// Whether a condition SuccessCriteriaMet is true.
-fn says_met(condition: &Condition) -> bool
-    ensures { result ≡ (same_kind condition.now.kind SuccessCriteriaMet && condition.now.status) }
-{
-    match condition.kind {
-        CondKind::SuccessCriteriaMet => condition.status,
-        CondKind::Suspended | CondKind::FailureTarget | CondKind::Failed | CondKind::Complete =>
-            false,
-    }
-}
-
-fn met_stands(conditions: &Conditions) -> bool
-    ensures { result ≡ stands SuccessCriteriaMet conditions.now }
-{
-    conditions
-        .as_slice()
-        .iter()
-        .any(|condition| says_met(condition))
-}
-
-// Whether a condition Complete is true.
-fn says_complete(condition: &Condition) -> bool
-    ensures { result ≡ (same_kind condition.now.kind Complete && condition.now.status) }
-{
-    match condition.kind {
-        CondKind::Complete => condition.status,
-        CondKind::Suspended
-        | CondKind::FailureTarget
-        | CondKind::SuccessCriteriaMet
-        | CondKind::Failed => false,
-    }
-}
-
-fn complete_stands(conditions: &Conditions) -> bool
-    ensures { result ≡ stands Complete conditions.now }
-{
-    conditions
-        .as_slice()
-        .iter()
-        .any(|condition| says_complete(condition))
+    pods.iter().filter(|pod| is_ending(pod)).count()
 }
 
 // A condition that comes now, for the completions are reached.
@@ -299,7 +187,7 @@ fn with_met(status: &JobStatus, pods: &[Pod], total: u64, listed: &Uids) -> Resu
     ensures { IfOk result (λ conditions. conditions ≡ with_met status.now pods.now) }
 {
     let mut conditions = status.conditions.copy()?;
-    if is_met(total, listed, pods) && !met_stands(&status.conditions) {
+    if is_met(total, listed, pods) && !stands(CondKind::SuccessCriteriaMet, &status.conditions) {
         conditions.push(reached(CondKind::SuccessCriteriaMet))?;
     }
     Ok(conditions)
@@ -361,7 +249,7 @@ fn lists_none(status: &JobStatus) -> bool
 fn awaits_end(conditions: &Conditions) -> bool
     ensures { result ≡ (stands SuccessCriteriaMet conditions.now && not (stands Complete conditions.now)) }
 {
-    met_stands(conditions) && !complete_stands(conditions)
+    stands(CondKind::SuccessCriteriaMet, conditions) && !stands(CondKind::Complete, conditions)
 }
 
 // Whether the status may end.
@@ -409,7 +297,7 @@ fn count_among(uids: &Uids, others: &Uids) -> usize
 {
     uids.as_slice()
         .iter()
-        .filter(|uid| contains(others, **uid))
+        .filter(|uid| is_among(**uid, others.as_slice()))
         .count()
 }
 
@@ -419,7 +307,7 @@ fn without(alloc: Global, uids: &Uids, others: &Uids) -> Result<Uids, Want>
 {
     let mut left = Uids::new(alloc);
     for uid in uids.as_slice() {
-        if !contains(others, *uid) {
+        if !is_among(*uid, others.as_slice()) {
             left.push(*uid)?;
         }
     }

@@ -2,7 +2,7 @@ use Rattle.std.proofs.Common.{rules, tests}
 use Rattle.std.proofs.lemmas.Iterator.{YieldsList-from_slice}
 use Rattle.std.proofs.lemmas.Iterator.Consumers.{count_from_yields_List, YieldsList-from_filter, YieldsList-at}
 use Rattle.jc_types.specs.Bases.{is_own}
-use Rattle.jc_manage.specs.Creations.{is_ending}
+use Rattle.jc_states.specs.Pods.{is_ending}
 use Rattle.jc_manage.proofs.pods.count_ending.Goals as goal
 
 pub returns : goal.returns

@@ -1,7 +1,7 @@
 use Rattle.std.proofs.Common.{rules, tests}
 use Rattle.std.proofs.lemmas.Iterator.{YieldsList-from_slice}
 use Rattle.std.proofs.lemmas.Iterator.Consumers.{YieldsList-at, YieldsList-from_filter, count_from_yields_List}
-use Rattle.jc_play.specs.Sync.{is_ready}
+use Rattle.jc_states.specs.Pods.{is_ready}
 use Rattle.jc_play.proofs.counting.count_ready.Goals as goal
 
 pub returns-clause-ready : goal.returns-clause-ready

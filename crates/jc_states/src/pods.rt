@@ -1,23 +1,22 @@
-//! Tests of pods.
+//! What state a pod is in, and whose it is.
 
 ghost use Rattle.std.specs.Prelude.{◌≡◌};
 ghost use Rattle.std.specs.List.{list_any};
 ghost use Rattle.jc_types.specs.Bases.{is_own};
 ghost use Rattle.jc_types.specs.Pods.{is_active, is_marked, is_open};
-ghost use Rattle.jc_types.specs.Uids.{is_in};
-ghost use Rattle.jc_manage.specs.Creations.{is_ending};
-ghost use Rattle.jc_plan.specs.Numbers.{is_ready, is_true, says_ready};
+ghost use Rattle.jc_states.specs.Pods.{is_ending, is_ready, is_true, says_ready};
 
-use jc_types::{Job, Pattern, Patterns, Phase, Pod, Truth, Uid, Uids};
+use jc_types::{Job, Pattern, Patterns, Phase, Pod, Truth};
 
-/// Whether the pod was made for the Job, by UID.
+/// Whether the pod was made for the Job, by UID: one of the same key may have been made for an earlier
+/// Job.
 pub fn is_own(job: &Job, pod: &Pod) -> bool
     ensures { result ≡ is_own job.now pod.now }
 {
     pod.owner_uid.0 == job.uid.0
 }
 
-/// Whether the pod is pending or running.
+/// Whether the pod has not ended: it is pending or running.
 pub fn is_open(pod: &Pod) -> bool
     ensures { result ≡ is_open pod.now }
 {
@@ -27,27 +26,30 @@ pub fn is_open(pod: &Pod) -> bool
     }
 }
 
-// Whether the pod is marked for deletion.
-fn is_marked(pod: &Pod) -> bool
+/// Whether the pod is marked for deletion.
+pub fn is_marked(pod: &Pod) -> bool
     ensures { result ≡ is_marked pod.now }
 {
     pod.marked.is_some()
 }
 
-/// Whether the pod is open and not marked.
+/// Whether the pod is open and not marked, as a Job's number of active pods counts it (`active` of
+/// batch/v1).
 pub fn is_active(pod: &Pod) -> bool
     ensures { result ≡ is_active pod.now }
 {
     is_open(pod) && !is_marked(pod)
 }
 
-/// Whether the pod is marked and still open.
+/// Whether the pod is marked and still open, as a Job's number of terminating pods counts it
+/// (`terminating` of batch/v1).
 pub fn is_ending(pod: &Pod) -> bool
     ensures { result ≡ is_ending pod.now }
 {
     is_open(pod) && is_marked(pod)
 }
 
+// Whether the status of a condition is true.
 fn is_true(truth: Truth) -> bool
     ensures { result ≡ is_true truth }
 {
@@ -64,6 +66,7 @@ fn says_ready(condition: &Pattern) -> bool
     condition.kind.as_str() == "Ready" && is_true(condition.truth)
 }
 
+// Whether one of the conditions says so.
 fn any_says_ready(conditions: &Patterns) -> bool
     ensures { result ≡ list_any says_ready conditions.now }
 {
@@ -73,16 +76,10 @@ fn any_says_ready(conditions: &Patterns) -> bool
         .any(|condition| says_ready(condition))
 }
 
-/// Whether the pod is active and ready.
+/// Whether the pod is active and its condition `Ready` is true, as a Job's number of ready pods counts
+/// it (`ready` of batch/v1).
 pub fn is_ready(pod: &Pod) -> bool
     ensures { result ≡ is_ready pod.now }
 {
     is_active(pod) && any_says_ready(&pod.conditions)
-}
-
-/// Whether the UID is in the list.
-pub fn is_among(uid: Uid, uids: &Uids) -> bool
-    ensures { result ≡ is_in uid uids.now }
-{
-    uids.as_slice().iter().any(|other| other.0 == uid.0)
 }
