@@ -1,0 +1,157 @@
+-- A write of a status by a sync that was accepted: the Job that it puts, and what becomes of the ledgers.
+use Rattle.std.proofs.Common.{◌≡◌, ℕ, suc, Bool, true, false, cond, not, ◌&&◌, List, ◌∷◌, length, Option, Some, None, refl, sym, ap, ◌∙◌, subst, arith}
+use Rattle.std.specs.Prelude.{IfSome, option_map, option_and_then}
+use Rattle.std.proofs.lemmas.Bool.{and_from, cond-true, cond-false}
+use Rattle.jc_types.specs.declared.numbers.Uid.{Uid}
+use Rattle.jc_types.specs.declared.objects.Entry.{Entry}
+use Rattle.jc_types.specs.declared.objects.Entry.TheVariants.{JobPut}
+use Rattle.jc_types.specs.declared.objects.Job.{Job}
+use Rattle.jc_types.specs.declared.replies.Answer.{Answer}
+use Rattle.jc_types.specs.declared.replies.Reply.{Reply}
+use Rattle.jc_types.specs.Deeds.{Deed}
+use Rattle.jc_types.specs.Keys.{same_uid}
+use Rattle.jc_types.specs.Log.{upto, entry_at, job_in, pods_of}
+use Rattle.jc_types.specs.Writes.{CanJob, JobStep, Legal, Stored, Writes}
+use Rattle.jc_types.proofs.KeyFacts.{same_uid-eq, same_uid-itself}
+use Rattle.jc_types.proofs.LogFacts.{upto-fixed, length-upto, entry_at-place, entry_at-upto}
+use Rattle.jc_types.proofs.PlaceFacts.{job_in-entry}
+use Rattle.jc_types.proofs.WriteFacts.{Follows-upto, Stored-from_legal, job_in-key}
+use Rattle.jc_ledger.specs.declared.flights.Flight.{Flight}
+use Rattle.jc_ledger.specs.Facts.{IsAccepted}
+use Rattle.jc_ledger.specs.Flights.{known, IsBasisOf, IsSent, Flies}
+use Rattle.jc_ledger.specs.Ledger.{Judging, bump, chosen, is_status, judging_at, judging_of, judged_by, ledger_of}
+use Rattle.jc_ledger.specs.Syncs.{appends, request_of, step_sync}
+use Rattle.jc_ledger.specs.Tied.{made_as, Ties}
+use Rattle.jc_ledger.proofs.FrameFacts.{Ties-more}
+use Rattle.jc_ledger.proofs.LedgerFacts.{AllWithin, judging_of-more, ledger_of-more}
+use Rattle.jc_ledger.proofs.MadeFacts.{JobStep-then, job_in-was_made, made_as-more, put-step}
+use Rattle.jc_ledger.proofs.PutFacts.{Puts, ties_put, ties_from}
+
+-- ---- the Job
+
+-- The Job as it was made, of which `job` is what the sync saw, `current` what is there, and `new` what is put.
+pub record IsOneJob (log : List Entry) (flight : Flight) (job current new : Job) : Type 0 where
+  pub made : Job
+  pub is_made : made_as made.uid log ≡ Some made
+  pub there : job_in made.key log ≡ Some current
+  pub saw : entry_at job.version.0 log ≡ Some (JobPut job)
+  pub stands : entry_at current.version.0 log ≡ Some (JobPut current)
+  pub job_step : JobStep made job
+  pub current_step : JobStep made current
+  pub new_step : JobStep made new
+
+-- The entry is a step from the Job that is there.
+accepted-step : (d : Deed) (past : List Deed) (log : List Entry) (flight : Flight) (job current new : Job) (answer : Answer)
+    → IsAccepted d past log flight job current new answer → Legal (JobPut new ∷ log) → JobStep current new
+accepted-step d past log flight job current new answer a legal =
+    subst (λ (o : Option Job). CanJob log o new)
+    (ap (λ k. job_in k log) (a.key ∙ job_in-key flight.basis.key log current a.there) ∙ a.there) legal.0.writes.can
+
+-- The Job that the sync saw was put.
+saw-put : (log : List Entry) (flight : Flight) (job : Job) → Stored log → IsBasisOf log flight.basis → flight.basis.job ≡ Some job → entry_at job.version.0 log ≡ Some (JobPut job)
+saw-put log flight job stored basis seen =
+    let at = flight.basis.jobs_at.0 in
+    let e = job_in-entry flight.basis.key (upto at log) job (Follows-upto Writes at log stored) (sym basis.job ∙ seen) in
+    let place = (entry_at-place job.version.0 (upto at log) (JobPut job) e).1 in
+    let long = length-upto at log basis.jobs_at in
+    sym (entry_at-upto job.version.0 at log (omega (arith, place, long))) ∙ e
+
+-- All are one Job.
+pub one_job : (d : Deed) (past : List Deed) (log : List Entry) (flight : Flight) (job current new : Job) (answer : Answer)
+    → IsAccepted d past log flight job current new answer → Legal (JobPut new ∷ log) → IsBasisOf log flight.basis → IsOneJob log flight job current new
+one_job d past log flight job current new answer a legal basis =
+    let stored = Stored-from_legal log legal.1 in
+    let was = job_in-was_made flight.basis.key log current stored a.there in
+    let is_made : made_as was.made.uid log ≡ Some was.made = ap (λ j. made_as j log) (sym was.step.uid) ∙ was.is_made in
+    let key : was.made.key ≡ flight.basis.key = sym was.step.key ∙ job_in-key flight.basis.key log current a.there in
+    let saw = saw-put log flight job stored basis a.seen in
+    record {
+      made = was.made;
+      is_made = is_made;
+      there = ap (λ k. job_in k log) key ∙ a.there;
+      saw = saw;
+      stands = job_in-entry flight.basis.key log current stored a.there;
+      job_step = put-step job.version.0 log was.made job stored is_made saw (sym a.uid ∙ was.step.uid);
+      current_step = was.step;
+      new_step = JobStep-then was.made current new was.step (accepted-step d past log flight job current new answer a legal);
+    }
+
+-- The Job that is there has the status that the sync knows.
+pub current-known : (d : Deed) (past : List Deed) (log : List Entry) (flight : Flight) (job current new : Job) (answer : Answer)
+    → IsAccepted d past log flight job current new answer → Stored log → Flies log flight → current.status ≡ known flight job
+current-known d past log flight job current new answer a stored flies =
+    let sent = subst (λ (o : Option Job). IfSome o (λ j. IsSent log flight j)) a.seen flies.sent in
+    let stands = job_in-entry flight.basis.key log current stored a.there in
+    let same : Some (JobPut current) ≡ Some (JobPut sent.put) = sym stands ∙ ap (λ v. entry_at v log) (ap (λ v. v.0) a.version) ∙ sent.is_put in
+    ap (λ (o : Option Entry). (job_of o).status) same ∙ sent.status
+  where
+    job_of : Option Entry → Job
+    job_of None = current
+    job_of (Some (JobPut j)) = j
+    job_of (Some other) = current
+
+-- ---- the ledgers
+
+-- What the deed judges.
+pub judging_of-accepted : (d : Deed) (past : List Deed) (log : List Entry) (flight : Flight) (job current new : Job) (answer : Answer)
+    → IsAccepted d past log flight job current new answer → appends d past ≡ true → IsBasisOf log flight.basis
+    → judging_of d past log ≡ Some (record { job = job; seen = flight.basis.pods_at.0; at = suc (length log) })
+judging_of-accepted d past log flight job current new answer a appended basis =
+    let judging : ℕ → Job → Judging = λ n j. record { job = j; seen = flight.basis.pods_at.0; at = n } in
+    let grown = a.written.grown in
+    let long : d.length.0 ≡ suc (length log) = omega (arith, grown) in
+    let is : is_status (request_of d.reply) ≡ true = ap (λ (r : Reply). is_status (request_of r)) a.reply in
+    cond-true (is_status (request_of d.reply) && appends d past) (option_and_then (judging_at d.length.0 log) (step_sync d past)) None
+    (and_from (is_status (request_of d.reply)) (appends d past) is appended)
+    ∙ ap (option_and_then (judging_at d.length.0 log)) a.sync
+    ∙ ap (option_map (judging d.length.0)) (sym basis.job ∙ a.seen)
+    ∙ ap (λ n. Some (judging n job)) long
+
+-- The ledger of the Job is the one after the write, and every other is as before.
+pub ledger_of-accepted : (j : Uid) (d : Deed) (past : List Deed) (log : List Entry) (flight : Flight) (job current new : Job) (answer : Answer)
+    → IsAccepted d past log flight job current new answer → appends d past ≡ true → IsBasisOf log flight.basis → AllWithin (length log) past
+    → ledger_of j (d ∷ past) (JobPut new ∷ log) ≡ cond (same_uid job.uid j) (bump job (pods_of j (upto flight.basis.pods_at.0 log)) flight.basis.pods_at.0 (suc (length log)) (ledger_of j past log)) (ledger_of j past log)
+ledger_of-accepted j d past log flight job current new answer a appended basis within =
+    let y = flight.basis.pods_at.0 in
+    let old = ledger_of j past log in
+    ap (λ o. judged_by j (JobPut new ∷ log) o (ledger_of j past (JobPut new ∷ log)))
+    (judging_of-more d past (JobPut new) log within ∙ judging_of-accepted d past log flight job current new answer a appended basis)
+    ∙ ap (λ l. cond (same_uid job.uid j) (bump job (pods_of j (upto y (JobPut new ∷ log))) y (suc (length log)) l) l) (ledger_of-more j past (JobPut new) log within)
+    ∙ ap (λ (l : List Entry). cond (same_uid job.uid j) (bump job (pods_of j l) y (suc (length log)) old) old) (upto-fixed y (JobPut new) log basis.pods_at)
+
+-- What the entry puts over what is there, judging the Job's pods as the sync saw them, keeps all ledgers tied.
+pub ties-accepted : (d : Deed) (past : List Deed) (log : List Entry) (flight : Flight) (job current new made : Job) (answer : Answer)
+    → IsAccepted d past log flight job current new answer → appends d past ≡ true → IsBasisOf log flight.basis → AllWithin (length log) past
+    → job.uid ≡ made.uid
+    → Puts made log (ledger_of made.uid past log) job (chosen job (ledger_of made.uid past log).records (pods_of made.uid (upto flight.basis.pods_at.0 log))) flight.basis.pods_at.0 current new
+    → ((j : Uid) → Ties (made_as j log) log (ledger_of j past log))
+    → (j : Uid) → Ties (made_as j (JobPut new ∷ log)) (JobPut new ∷ log) (ledger_of j (d ∷ past) (JobPut new ∷ log))
+ties-accepted d past log flight job current new made answer a appended basis within uid p jobs j = by (same_uid job.uid j) refl
+  where
+    new_uid : new.uid ≡ job.uid
+    new_uid = (accepted-step d past log flight job current new answer a p.legal).uid ∙ a.uid
+
+    at_made : Ties (made_as made.uid (JobPut new ∷ log)) (JobPut new ∷ log) (ledger_of made.uid (d ∷ past) (JobPut new ∷ log))
+    at_made =
+        let old = ledger_of made.uid past log in
+        let at = flight.basis.pods_at.0 in
+        let pods = pods_of made.uid (upto at log) in
+        let after = bump job pods at (suc (length log)) old in
+        let is : ledger_of made.uid (d ∷ past) (JobPut new ∷ log) ≡ after =
+        ledger_of-accepted made.uid d past log flight job current new answer a appended basis within
+        ∙ cond-true (same_uid job.uid made.uid) after old (ap (λ v. same_uid v made.uid) uid ∙ same_uid-itself made.uid) in
+        subst (Ties (made_as made.uid (JobPut new ∷ log)) (JobPut new ∷ log)) (sym is)
+        (ties_from (JobPut new ∷ log) after made (made_as-more made.uid (JobPut new) log made p.is_made)
+        (ties_put made log old job (chosen job old.records pods) at current new p))
+
+    by : (b : Bool) → same_uid job.uid j ≡ b → Ties (made_as j (JobPut new ∷ log)) (JobPut new ∷ log) (ledger_of j (d ∷ past) (JobPut new ∷ log))
+    by true e =
+        subst (λ v. Ties (made_as v (JobPut new ∷ log)) (JobPut new ∷ log) (ledger_of v (d ∷ past) (JobPut new ∷ log))) (sym uid ∙ same_uid-eq job.uid j e) at_made
+    by false e =
+        let old = ledger_of j past log in
+        let at = flight.basis.pods_at.0 in
+        let is : ledger_of j (d ∷ past) (JobPut new ∷ log) ≡ old =
+        ledger_of-accepted j d past log flight job current new answer a appended basis within
+        ∙ cond-false (same_uid job.uid j) (bump job (pods_of j (upto at log)) at (suc (length log)) old) old e in
+        subst (Ties (made_as j (JobPut new ∷ log)) (JobPut new ∷ log)) (sym is)
+        (Ties-more j (JobPut new) log old p.legal (ap not (ap (λ v. same_uid v j) new_uid ∙ e)) (jobs j))

@@ -1,0 +1,119 @@
+-- The indexes that a ledger has done: they increase, so joining what is there changes nothing.
+use Rattle.std.proofs.Common.{◌≡◌, ℕ, zero, suc, ◌<◌, ◌≤◌, Bool, true, false, cond, eqb, ltb, ◌||◌, List, [], ◌∷◌, length, get_or, filter, Option, Some, None, refl, sym, ap, ◌∙◌, arith, true≢false}
+use Rattle.std.specs.Prelude.{IfSome}
+use Rattle.std.specs.List.{AllByRecursion as Each, cons_option}
+use Rattle.std.proofs.lemmas.Bool.{eqb-true, ltb-true, or_left}
+use Rattle.jc_ranges.specs.Sets.{IsIncreasing, has, with_member}
+use Rattle.jc_ranges.proofs.Order.{each_weaker, increasing_append, present}
+use Rattle.jc_types.specs.declared.numbers.Uid.{Uid}
+use Rattle.jc_types.specs.declared.objects.Entry.{Entry}
+use Rattle.jc_types.specs.declared.objects.Pod.{Pod}
+use Rattle.jc_types.specs.Deeds.{Deed}
+use Rattle.jc_types.specs.Keys.{same_uid}
+use Rattle.jc_types.specs.Log.{pods_of, upto}
+use Rattle.jc_types.specs.Uids.{join}
+use Rattle.jc_types.proofs.ListFacts.{Each-filter}
+use Rattle.jc_types.proofs.UidFacts.{has-join}
+use Rattle.jc_account.specs.Modes.{indexes_of}
+use Rattle.jc_ledger.specs.Ledger.{Ledger, Judging, chosen, successes, bump, judged_by, judging_of, ledger_of}
+
+-- ---- joins increase
+
+-- What passes a test has what the test says.
+each_passing : (P : ℕ → Type 0) (p : ℕ → Bool) → ((x : ℕ) → p x ≡ true → P x) → (xs : List ℕ) → Each P (filter p xs)
+each_passing P p f [] = tt
+each_passing P p f (x ∷ xs) = by (p x) refl (each_passing P p f xs)
+  where
+    by : (b : Bool) → p x ≡ b → Each P (filter p xs) → Each P (cond b (x ∷ filter p xs) (filter p xs))
+    by true e rest = (f x e, rest)
+    by false e rest = rest
+
+-- A filter keeps the order.
+increases_filter : (p : ℕ → Bool) (xs : List ℕ) → IsIncreasing xs → IsIncreasing (filter p xs)
+increases_filter p [] s = tt
+increases_filter p (x ∷ xs) s = by (p x) (Each-filter (λ y. x < y) p xs s.0) (increases_filter p xs s.1)
+  where
+    by : (b : Bool) → Each (λ y. x < y) (filter p xs) → IsIncreasing (filter p xs) → IsIncreasing (cond b (x ∷ filter p xs) (filter p xs))
+    by true above rest = (above, rest)
+    by false above rest = rest
+
+-- A member more keeps the order.
+pub increases_with : (n : ℕ) (xs : List ℕ) → IsIncreasing xs → IsIncreasing (with_member n xs)
+increases_with n xs s =
+    let front = filter (λ x. ltb x n) xs in
+    let back = filter (λ x. ltb n x) xs in
+    let below : Each (λ x. x < n) front = each_passing (λ x. x < n) (λ x. ltb x n) (λ x e. ltb-true x n e) xs in
+    let above : Each (λ x. n < x) back = each_passing (λ x. n < x) (λ x. ltb n x) (λ x e. ltb-true n x e) xs in
+    increasing_append front (n ∷ back) n (increases_filter (λ x. ltb x n) xs s) (above, increases_filter (λ x. ltb n x) xs s) below
+    (omega arith, each_weaker (λ x. n < x) (λ x. n ≤ x) (λ x q. omega arith) back above)
+
+-- Others that join keep the order.
+pub increases_join : (xs more : List ℕ) → IsIncreasing xs → IsIncreasing (join xs more)
+increases_join xs [] s = s
+increases_join xs (n ∷ more) s = increases_with n (join xs more) (increases_join xs more s)
+
+-- The indexes that a ledger has done increase.
+pub done-increases : (j : Uid) (deeds : List Deed) (log : List Entry) → IsIncreasing (ledger_of j deeds log).done
+done-increases j [] log = tt
+done-increases j (d ∷ past) log = by (judging_of d past log) (ledger_of j past log) (done-increases j past log)
+  where
+    by : (o : Option Judging) (ledger : Ledger) → IsIncreasing ledger.done → IsIncreasing (judged_by j log o ledger).done
+    by None ledger s = s
+    by (Some judging) ledger s = either (same_uid judging.job.uid j)
+      where
+        either : (b : Bool) → IsIncreasing (cond b (bump judging.job (pods_of j (upto judging.seen log)) judging.seen judging.at ledger) ledger).done
+        either true =
+            increases_join ledger.done (indexes_of (successes judging.job (chosen judging.job ledger.records (pods_of j (upto judging.seen log))))) s
+        either false = s
+
+-- ---- what is there may join
+
+-- A number that is there has a place.
+place_of : (n : ℕ) (xs : List ℕ) → has n xs ≡ true → (i : ℕ) × (i < length xs) × (get_or xs i 0 ≡ n)
+place_of n [] h = absurd (true≢false (sym h))
+place_of n (x ∷ xs) h = by (place_of n xs) (eqb x n) refl h
+  where
+    by : (has n xs ≡ true → (i : ℕ) × (i < length xs) × (get_or xs i 0 ≡ n)) → (b : Bool) → eqb x n ≡ b → (b || has n xs) ≡ true → (i : ℕ) × (i < length (x ∷ xs)) × (get_or (x ∷ xs) i 0 ≡ n)
+    by ih true e g = (zero, omega arith, eqb-true x n e)
+    by ih false e g = let at = ih g in (suc at.0, omega (arith, at.1), at.2)
+
+-- A member that is there changes nothing.
+pub with_known : (n : ℕ) (xs : List ℕ) → IsIncreasing xs → has n xs ≡ true → with_member n xs ≡ xs
+with_known n xs s h = let at = place_of n xs h in sym (present n xs at.0 s at.1 at.2)
+
+-- Others that are there change nothing.
+pub join-known : (xs more : List ℕ) → IsIncreasing xs → Each (λ n. has n xs ≡ true) more → join xs more ≡ xs
+join-known xs [] s all = refl
+join-known xs (n ∷ more) s all =
+    ap (with_member n) (join-known xs more s all.1) ∙ with_known n xs s all.0
+
+-- An index that is known changes nothing, whatever joins besides.
+join_one : (xs more : List ℕ) (index : Option ℕ) → IsIncreasing xs → IfSome index (λ n. has n xs ≡ true) → join xs (cons_option index more) ≡ join xs more
+join_one xs more None s h = refl
+join_one xs more (Some n) s h =
+    with_known n (join xs more) (increases_join xs more s) (has-join n xs more ∙ or_left (has n xs) (has n more) h)
+
+-- One more index after equal ones.
+join_more : (xs some more : List ℕ) (index : Option ℕ) → join xs some ≡ join xs more → join xs (cons_option index some) ≡ join xs (cons_option index more)
+join_more xs some more None e = e
+join_more xs some more (Some n) e = ap (with_member n) e
+
+-- Two tests say the same of a pod, or its index, if it has one, is known.
+pub data Alike (xs : List ℕ) (one other : Bool) (index : Option ℕ) : Type 0 where
+  Same : one ≡ other → Alike xs one other index
+  Known : IfSome index (λ n. has n xs ≡ true) → Alike xs one other index
+
+-- Indexes of pods by tests that are so alike join to the same.
+pub join-alike : (xs : List ℕ) (one other : Pod → Bool) (pods : List Pod) → IsIncreasing xs → Each (λ pod. Alike xs (one pod) (other pod) pod.index) pods
+    → join xs (indexes_of (filter one pods)) ≡ join xs (indexes_of (filter other pods))
+join-alike xs one other [] s all = refl
+join-alike xs one other (pod ∷ pods) s all = by (one pod) (other pod) all.0 (join-alike xs one other pods s all.1)
+  where
+    by : (a b : Bool) → Alike xs a b pod.index → join xs (indexes_of (filter one pods)) ≡ join xs (indexes_of (filter other pods))
+        → join xs (indexes_of (cond a (pod ∷ filter one pods) (filter one pods))) ≡ join xs (indexes_of (cond b (pod ∷ filter other pods) (filter other pods)))
+    by true true alike e = join_more xs (indexes_of (filter one pods)) (indexes_of (filter other pods)) pod.index e
+    by false false alike e = e
+    by true false (Same q) e = absurd (true≢false q)
+    by true false (Known k) e = join_one xs (indexes_of (filter one pods)) pod.index s k ∙ e
+    by false true (Same q) e = absurd (true≢false (sym q))
+    by false true (Known k) e = e ∙ sym (join_one xs (indexes_of (filter other pods)) pod.index s k)

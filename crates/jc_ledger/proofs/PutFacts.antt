@@ -1,0 +1,215 @@
+-- One more entry that puts the Job: an update, or a status that a sync writes and that judges the pods.
+use Rattle.std.proofs.Common.{◌≡◌, ℕ, suc, ◌+◌, ◌≤◌, ◌==◌, Bool, true, false, cond, List, [], ◌∷◌, length, map, filter, Option, Some, None, is_some, refl, sym, ap, ◌∙◌, subst, arith, eqb-true, eq-eqb, true≢false}
+use Rattle.std.specs.Prelude.{IfSome}
+use Rattle.std.specs.List.{AllByRecursion as Each, list_any}
+use Rattle.std.specs.Option.{option_map_or}
+use Rattle.std.proofs.lemmas.Bool.{cond-true, or_left, or_right}
+use Rattle.std.proofs.lemmas.Option.{IfSome_then}
+use Rattle.jc_ranges.specs.Sets.{has}
+use Rattle.jc_types.specs.declared.numbers.Uid.{Uid}
+use Rattle.jc_types.specs.declared.objects.Entry.{Entry}
+use Rattle.jc_types.specs.declared.objects.Entry.TheVariants.{JobPut}
+use Rattle.jc_types.specs.declared.objects.Job.{Job}
+use Rattle.jc_types.specs.declared.objects.Pod.{Pod}
+use Rattle.jc_types.specs.declared.specifications.Mode.TheVariants.{NonIndexed, Indexed}
+use Rattle.jc_types.specs.Deeds.{Deed}
+use Rattle.jc_types.specs.Keys.{same_key}
+use Rattle.jc_types.specs.Log.{upto, entry_at, job_in, life, Live, is_lost}
+use Rattle.jc_types.specs.Writes.{JobStep, Legal}
+use Rattle.jc_types.proofs.KeyFacts.{same_key-itself}
+use Rattle.jc_types.proofs.ListFacts.{Each-weaker, Each-both}
+use Rattle.jc_types.proofs.LogFacts.{upto-fixed, upto-all}
+use Rattle.jc_types.proofs.UidFacts.{has-join}
+use Rattle.jc_failpol.specs.declared.outcomes.Outcome.TheVariants.{Succeeded, Failed}
+use Rattle.jc_failpol.specs.Outcomes.{outcome_of}
+use Rattle.jc_states.specs.Listed.{is_listed}
+use Rattle.jc_account.specs.Judged.{same_outcome}
+use Rattle.jc_account.specs.Modes.{has_index, indexes_of}
+use Rattle.jc_account.proofs.ListedFacts.{has-indexes}
+use Rattle.jc_ledger.specs.declared.flights.Flight.{Flight}
+use Rattle.jc_ledger.specs.Ledger.{Record, record_of, recorded, is_verdict, judged_as, Ledger, successes, entered, ledger_of}
+use Rattle.jc_ledger.specs.Once.{is_listable}
+use Rattle.jc_ledger.specs.Tied.{made_as, IsTidy, IsSound, IsListing, IsCurrent, TiesJob, Ties, Tied}
+use Rattle.jc_ledger.proofs.FrameFacts.{IsSound-more}
+use Rattle.jc_ledger.proofs.MadeFacts.{outcome-step}
+use Rattle.jc_ledger.proofs.RecordFacts.{Found, Old, New, record_of-found, IsJudged-more}
+
+-- A pod that the write judges, as it stood among the first `seen` entries.
+pub record IsChosen (made : Job) (log : List Entry) (records : List Record) (seen : ℕ) (pod : Pod) : Type 0 where
+  pub stood : life pod.uid (upto seen log) ≡ Live pod
+  pub tracked : pod.tracked ≡ true
+  pub owner : pod.owner_uid ≡ made.uid
+  pub verdict : is_verdict (outcome_of made.spec pod) ≡ true
+  pub fresh : is_some (record_of pod.uid records) ≡ false
+
+-- The entry puts `new` over `current`, and judges the pods, whose sync saw `job`.
+pub record Puts (made : Job) (log : List Entry) (ledger : Ledger) (job : Job) (pods : List Pod) (seen_at : ℕ) (current new : Job) : Type 0 where
+  pub legal : Legal (JobPut new ∷ log)
+  pub is_made : made_as made.uid log ≡ Some made
+  pub ties : TiesJob made log ledger
+  pub there : job_in made.key log ≡ Some current
+  pub uid : current.uid ≡ made.uid
+  pub key : new.key ≡ made.key
+  pub seen : seen_at ≤ length log
+  pub step : JobStep made job
+  pub each : Each (IsChosen made log ledger.records seen_at) pods
+  pub tidy : IsTidy new
+  pub listed : IsListing (entered job pods seen_at (suc (length log)) ledger).records (suc (length log)) new.status
+  pub lost : (u : Uid) (r : Record) → record_of u (entered job pods seen_at (suc (length log)) ledger).records ≡ Some r → is_listable new.spec.mode r.outcome ≡ true
+      → is_listed new.status u ≡ false → is_lost (life u log) ≡ true
+  pub failed : new.status.failed + length new.status.uncounted_failed ≡ length (judged_as Failed (entered job pods seen_at (suc (length log)) ledger).records)
+  pub succeeded : new.spec.mode ≡ NonIndexed
+      → new.status.succeeded + length new.status.uncounted_succeeded ≡ length (judged_as Succeeded (entered job pods seen_at (suc (length log)) ledger).records)
+  pub completed : new.spec.mode ≡ Indexed → new.status.completed ≡ (entered job pods seen_at (suc (length log)) ledger).done
+
+-- ---- places
+
+-- The Job that an entry puts, once one more entry puts `new`: it is this one, or was put before.
+data Placed (v : ℕ) (log : List Entry) (new job : Job) : Type 0 where
+  Here : v ≡ suc (length log) → new ≡ job → Placed v log new job
+  Below : entry_at v log ≡ Some (JobPut job) → Placed v log new job
+
+placed : (v : ℕ) (log : List Entry) (new job : Job) → entry_at v (JobPut new ∷ log) ≡ Some (JobPut job) → Placed v log new job
+placed v log new job h = by (length (JobPut new ∷ log) == v) refl h
+  where
+    job_of : Option Entry → Job
+    job_of None = new
+    job_of (Some (JobPut j)) = j
+    job_of (Some other) = new
+
+    by : (b : Bool) → (length (JobPut new ∷ log) == v) ≡ b → cond b (Some (JobPut new)) (entry_at v log) ≡ Some (JobPut job) → Placed v log new job
+    by true t g = Here (sym (eqb-true (length (JobPut new ∷ log)) v t)) (ap job_of g)
+    by false t g = Below g
+
+-- ---- indexes
+
+-- An element that passes is among those that pass: what it has, one of them has.
+any_passing : {X : Type 0} (test : X → Bool) (xs : List X) → Each (λ x. test x ≡ true → (q : X → Bool) → q x ≡ true → list_any q (filter test xs) ≡ true) xs
+any_passing {X} test [] = tt
+any_passing {X} test (x ∷ xs) =
+    (here (test x) refl, Each-weaker (λ y. test y ≡ true → (q : X → Bool) → q y ≡ true → list_any q (filter test xs) ≡ true) (λ y. test y ≡ true → (q : X → Bool) → q y ≡ true → list_any q (filter test (x ∷ xs)) ≡ true) (λ y h t q k. more q (test x) (h t q k)) xs (any_passing test xs))
+  where
+    here : (b : Bool) → test x ≡ b → b ≡ true → (q : X → Bool) → q x ≡ true → list_any q (cond b (x ∷ filter test xs) (filter test xs)) ≡ true
+    here true e t q h = or_left (q x) (list_any q (filter test xs)) h
+    here false e t q h = absurd (true≢false (sym t))
+
+    more : (q : X → Bool) (b : Bool) → list_any q (filter test xs) ≡ true → list_any q (cond b (x ∷ filter test xs) (filter test xs)) ≡ true
+    more q true h = or_right (q x) (list_any q (filter test xs)) h
+    more q false h = h
+
+-- An index that a pod has is its index.
+has_own_index : (index : Option ℕ) → IfSome index (λ n. option_map_or (λ i. i == n) index false ≡ true)
+has_own_index None = tt
+has_own_index (Some n) = eq-eqb n n refl
+
+-- The index of a pod that passes is among those of the pods that pass.
+pub index_in : (test : Pod → Bool) (pods : List Pod) → Each (λ pod. test pod ≡ true → IfSome pod.index (λ n. has n (indexes_of (filter test pods)) ≡ true)) pods
+index_in test pods =
+    Each-weaker (λ pod. test pod ≡ true → (q : Pod → Bool) → q pod ≡ true → list_any q (filter test pods) ≡ true) (λ pod. test pod ≡ true → IfSome pod.index (λ n. has n (indexes_of (filter test pods)) ≡ true))
+    (λ pod h t. IfSome_then pod.index (has_own_index pod.index) (λ n is. has-indexes n (filter test pods) ∙ h t (has_index n) is)) pods (any_passing test pods)
+
+-- ---- the entry
+
+-- A pod that the write judges; its index, where it has succeeded, is among those that the ledger is given.
+abbrev IsEntered : Job → List Entry → Ledger → Job → List Pod → ℕ → Pod → Type 0
+IsEntered made log ledger job pods seen pod =
+    IsChosen made log ledger.records seen pod × (same_outcome (outcome_of job.spec pod) Succeeded ≡ true → IfSome pod.index (λ n. has n (indexes_of (successes job pods)) ≡ true))
+
+module _ (made : Job) (log : List Entry) (ledger : Ledger) (job : Job) (pods : List Pod) (seen : ℕ) (current new : Job) (p : Puts made log ledger job pods seen current new) where
+  -- The records and the set after the write.
+  abbrev after : Ledger
+  after = entered job pods seen (suc (length log)) ledger
+
+  -- A record is an old one, or that of a pod that the write judges.
+  found : (u : Uid) (r : Record) → record_of u after.records ≡ Some r → Found (IsEntered made log ledger job pods seen) u ledger.records job seen (suc (length log)) r
+  found u r h =
+      record_of-found (IsEntered made log ledger job pods seen) u ledger.records job seen (suc (length log)) pods r
+      (Each-both (IsChosen made log ledger.records seen) (λ pod. same_outcome (outcome_of job.spec pod) Succeeded ≡ true → IfSome pod.index (λ n. has n (indexes_of (successes job pods)) ≡ true)) pods p.each (index_in (λ pod. same_outcome (outcome_of job.spec pod) Succeeded) pods)) h
+
+  -- The record of a pod that the write judges is sound.
+  sound_new : (pod : Pod) → IsChosen made log ledger.records seen pod → IsSound made (JobPut new ∷ log) (recorded job seen (suc (length log)) pod)
+  sound_new pod c =
+      let within = p.seen in
+      let same = outcome-step made job pod p.step in
+      record {
+        before = omega (arith, within);
+        within = omega arith;
+        stood = ap (life pod.uid) (upto-fixed seen (JobPut new) log p.seen) ∙ c.stood;
+        tracked = c.tracked;
+        owner = c.owner;
+        judged = sym same;
+        verdict = ap is_verdict same ∙ c.verdict;
+      }
+
+  -- Each record is sound.
+  sound_found : (u : Uid) (r : Record) → Found (IsEntered made log ledger job pods seen) u ledger.records job seen (suc (length log)) r → IsSound made (JobPut new ∷ log) r
+  sound_found u r (Old e) = IsSound-more made (JobPut new) log r (p.ties.sound u r e)
+  sound_found u r (New none pod uid has is) = subst (IsSound made (JobPut new ∷ log)) (sym is) (sound_new pod has.0)
+
+  -- The index of each success is in the set.
+  index_found : made.spec.mode ≡ Indexed → (u : Uid) (r : Record) → r.outcome ≡ Succeeded → Found (IsEntered made log ledger job pods seen) u ledger.records job seen (suc (length log)) r
+      → IfSome r.pod.index (λ n. has n after.done ≡ true)
+  index_found mode u r s (Old e) =
+      IfSome_then r.pod.index (p.ties.indexes mode u r e s)
+      (λ n h. has-join n ledger.done (indexes_of (successes job pods)) ∙ or_left (has n ledger.done) (has n (indexes_of (successes job pods))) h)
+  index_found mode u r s (New none pod uid both is) =
+      subst (λ (x : Record). IfSome x.pod.index (λ n. has n after.done ≡ true)) (sym is)
+      (IfSome_then pod.index (both.1 (ap (λ o. same_outcome o Succeeded) (ap (λ (x : Record). x.outcome) (sym is) ∙ s)))
+      (λ n h. has-join n ledger.done (indexes_of (successes job pods)) ∙ or_right (has n ledger.done) (has n (indexes_of (successes job pods))) h))
+
+  -- Of the Job as it is put all is known.
+  current_new : IsCurrent (JobPut new ∷ log) after new
+  current_new =
+      let version : new.version.0 ≡ suc (length log) = p.legal.0.writes.version in
+      record {
+        lost = λ u r h listable unlisted.
+            ap (λ (l : List Entry). is_lost (life u l)) (upto-all new.version.0 (JobPut new ∷ log) (omega (arith, version))) ∙ p.lost u r h listable unlisted;
+        failed = p.failed;
+        succeeded = p.succeeded;
+        completed = p.completed;
+        seen = λ u r h. (let within = (sound_found u r (found u r h)).within in omega (arith, version, within));
+      }
+
+  -- The Job of the key is the one that is put.
+  now_new : (other : Job) → job_in made.key (JobPut new ∷ log) ≡ Some other → IsCurrent (JobPut new ∷ log) after other
+  now_new other h =
+      let is : Some new ≡ Some other =
+      sym (cond-true (same_key new.key made.key) (Some new) (job_in made.key log) (ap (λ k. same_key k made.key) p.key ∙ same_key-itself made.key)) ∙ h in
+      subst (IsCurrent (JobPut new ∷ log) after) (ap (λ (o : Option Job). elim o [ None ↦ new | Some x ↦ x ]) is) current_new
+
+  -- The Jobs that were put are tidy.
+  tidy_placed : (v : ℕ) (other : Job) → other.uid ≡ made.uid → Placed v log new other → IsTidy other
+  tidy_placed v other uid (Here at is) = subst IsTidy is p.tidy
+  tidy_placed v other uid (Below e) = p.ties.tidy v other e uid
+
+  -- What they list was judged by then.
+  listed_placed : (v : ℕ) (other : Job) → other.uid ≡ made.uid → Placed v log new other → IsListing after.records v other.status
+  listed_placed v other uid (Here at is) =
+      subst (λ (x : Job). IsListing after.records v x.status) is (subst (λ w. IsListing after.records w new.status) (sym at) p.listed)
+  listed_placed v other uid (Below e) =
+      let old = p.ties.listed v other e uid in
+      record {
+        failed = λ u h. IsJudged-more u ledger.records (map (recorded job seen (suc (length log))) pods) Failed v v (omega arith) (old.failed u h);
+        succeeded = λ u h. IsJudged-more u ledger.records (map (recorded job seen (suc (length log))) pods) Succeeded v v (omega arith) (old.succeeded u h);
+      }
+
+-- What ties the ledger goes over.
+pub ties_put : (made : Job) (log : List Entry) (ledger : Ledger) (job : Job) (pods : List Pod) (seen : ℕ) (current new : Job)
+    → Puts made log ledger job pods seen current new → TiesJob made (JobPut new ∷ log) (entered job pods seen (suc (length log)) ledger)
+ties_put made log ledger job pods seen current new p = record {
+  waits = p.ties.waits;
+  sound = λ u r h. sound_found made log ledger job pods seen current new p u r (found made log ledger job pods seen current new p u r h);
+  tidy = λ v other e uid. tidy_placed made log ledger job pods seen current new p v other uid (placed v log new other e);
+  listed = λ v other e uid. listed_placed made log ledger job pods seen current new p v other uid (placed v log new other e);
+  now = λ other h uid. now_new made log ledger job pods seen current new p other h;
+  indexes = λ mode u r h s. index_found made log ledger job pods seen current new p mode u r s (found made log ledger job pods seen current new p u r h);
+}
+
+-- The ledger of a Job that was made is tied.
+pub ties_of : (deeds : List Deed) (log : List Entry) (flights : List Flight) (made : Job) → Tied deeds log flights → made_as made.uid log ≡ Some made
+    → TiesJob made log (ledger_of made.uid deeds log)
+ties_of deeds log flights made t is = subst (λ (o : Option Job). Ties o log (ledger_of made.uid deeds log)) is (t.jobs made.uid)
+
+-- And conversely.
+pub ties_from : (log : List Entry) (ledger : Ledger) (made : Job) → made_as made.uid log ≡ Some made → TiesJob made log ledger → Ties (made_as made.uid log) log ledger
+ties_from log ledger made is ties = subst (λ (o : Option Job). Ties o log ledger) (sym is) ties

@@ -1,0 +1,158 @@
+-- A pod as a sync saw it, and what it has come to by now.
+use Rattle.std.proofs.Common.{◌≡◌, ◌≢◌, ℕ, ◌≤◌, Bool, true, false, cond, not, ◌&&◌, ◌||◌, List, [], ◌∷◌, find, Option, Some, None, is_some, IsSome, refl, sym, ap, ◌∙◌, subst, true≢false}
+use Rattle.std.specs.List.{list_any}
+use Rattle.std.proofs.lemmas.Bool.{and_parts, or_left, or_right}
+use Rattle.jc_types.specs.declared.numbers.Uid.{Uid}
+use Rattle.jc_types.specs.declared.objects.Entry.{Entry}
+use Rattle.jc_types.specs.declared.objects.Phase.{Phase}
+use Rattle.jc_types.specs.declared.objects.Phase.TheVariants as phase
+use Rattle.jc_types.specs.declared.objects.Pod.{Pod}
+use Rattle.jc_types.specs.declared.policies.FailurePolicy.{FailurePolicy}
+use Rattle.jc_types.specs.declared.specifications.JobSpec.{JobSpec}
+use Rattle.jc_types.specs.declared.specifications.Replacement.{Replacement}
+use Rattle.jc_types.specs.declared.specifications.Replacement.TheVariants.{TerminatingOrFailed, FailedOnly}
+use Rattle.jc_types.specs.declared.syncs.Basis.{Basis}
+use Rattle.jc_types.specs.Keys.{same_key, same_uid}
+use Rattle.jc_types.specs.Log.{upto, life, Never, Live, pods_in, pods_under}
+use Rattle.jc_types.specs.Pods.{is_final, is_marked, is_active}
+use Rattle.jc_types.specs.Writes.{PodStep, Stored}
+use Rattle.jc_types.proofs.KeyFacts.{same_key-eq}
+use Rattle.jc_types.proofs.ListFacts.{Each-filter, Each-passes, find_each}
+use Rattle.jc_types.proofs.PodFacts.{pods_in-live}
+use Rattle.jc_types.proofs.WriteFacts.{Kept, kept_to, kept_on}
+use Rattle.jc_failpol.specs.declared.outcomes.Outcome.{Outcome}
+use Rattle.jc_failpol.specs.declared.outcomes.Outcome.TheVariants.{Alive, Succeeded}
+use Rattle.jc_failpol.specs.FailJob.{is_failure, is_fail_job, policy_fails_job, fails_job}
+use Rattle.jc_failpol.specs.Outcomes.{counts_marked, failure_of, judged, outcome_of}
+use Rattle.jc_failpol.specs.Rules.{action_of}
+use Rattle.jc_failpol.specs.Steps.{WaitsForEnd}
+use Rattle.jc_failpol.proofs.Settled.{by_phase, phase_succeeded, failure_fails, final_once_ended, same_action, frozen}
+use Rattle.jc_ledger.specs.Flights.{IsBasisOf}
+
+-- ---- steps of a pod, one after another
+
+-- A pod keeps what it is.
+pub PodStep-itself : (pod : Pod) → PodStep pod pod
+PodStep-itself pod = record {
+  uid = refl;
+  owner = refl;
+  owner_uid = refl;
+  serial = refl;
+  index = refl;
+  restart = refl;
+  created = refl;
+  names = refl;
+  inits = refl;
+  untracked = λ h. h;
+  marked = λ h. refl;
+  begun = λ h. h;
+  phase = λ h. refl;
+  containers = λ h. refl;
+  conditions = λ h. refl;
+}
+
+-- Two steps keep what both keep.
+pub PodStep-then : (a b c : Pod) → PodStep a b → PodStep b c → PodStep a c
+PodStep-then a b c f g = record {
+  uid = g.uid ∙ f.uid;
+  owner = g.owner ∙ f.owner;
+  owner_uid = g.owner_uid ∙ f.owner_uid;
+  serial = g.serial ∙ f.serial;
+  index = g.index ∙ f.index;
+  restart = g.restart ∙ f.restart;
+  created = g.created ∙ f.created;
+  names = g.names ∙ f.names;
+  inits = g.inits ∙ f.inits;
+  untracked = λ h. g.untracked (f.untracked h);
+  marked = λ h. g.marked (ap is_some (f.marked h) ∙ h) ∙ f.marked h;
+  begun = λ h. f.begun (g.begun h);
+  phase = λ h. g.phase (ap is_final (f.phase h) ∙ h) ∙ f.phase h;
+  containers = λ h. g.containers (ap is_final (f.phase h) ∙ h) ∙ f.containers h;
+  conditions = λ h. g.conditions (ap is_final (f.phase h) ∙ h) ∙ f.conditions h;
+}
+
+-- A pod of a prefix came by steps to that of a longer one.
+pub step_to : (u : Uid) (m n : ℕ) (log : List Entry) → Stored log → m ≤ n → (old now : Pod) → life u (upto m log) ≡ Live old → life u (upto n log) ≡ Live now → PodStep old now
+step_to u m n log all le old now was is =
+    subst (Kept (PodStep old)) is (kept_to (PodStep old) (λ a b s k. PodStep-then old a b k s) u m n log all le old was (PodStep-itself old))
+
+-- And to that of the whole log.
+pub step_on : (u : Uid) (m : ℕ) (log : List Entry) → Stored log → (old now : Pod) → life u (upto m log) ≡ Live old → life u log ≡ Live now → PodStep old now
+step_on u m log all old now was is =
+    subst (Kept (PodStep old)) is (kept_on (PodStep old) (λ a b s k. PodStep-then old a b k s) u m log all old was (PodStep-itself old))
+
+-- What was there is known ever since.
+pub known_since : (u : Uid) (m : ℕ) (log : List Entry) → Stored log → (old : Pod) → life u (upto m log) ≡ Live old → life u log ≡ Never → ⊥
+known_since u m log all old was never =
+    subst (Kept (λ p. Unit {0})) never (kept_on (λ p. Unit {0}) (λ a b s k. tt) u m log all old was tt)
+
+-- ---- what a sync saw
+
+-- The pod stood so among the entries that the sync saw, and was made for a Job of its key.
+pub record Saw (log : List Entry) (basis : Basis) (seen : Pod) : Type 0 where
+  pub stood : life seen.uid (upto basis.pods_at.0 log) ≡ Live seen
+  pub owner : seen.owner ≡ basis.key
+
+-- So it is of each pod of the basis.
+pub saw : (log : List Entry) (basis : Basis) (seen : Pod) → IsBasisOf log basis → find (λ (p : Pod). same_uid p.uid seen.uid) basis.pods ≡ Some seen → Saw log basis seen
+saw log basis seen is found = record {
+  stood =
+      find_each (λ p. life p.uid (upto basis.pods_at.0 log) ≡ Live p) (λ p. same_uid p.uid seen.uid) (pods_under basis.key (upto basis.pods_at.0 log)) seen
+      (Each-filter (λ p. life p.uid (upto basis.pods_at.0 log) ≡ Live p) (λ p. same_key p.owner basis.key) (pods_in (upto basis.pods_at.0 log)) (pods_in-live (upto basis.pods_at.0 log)))
+      there;
+  owner =
+      same_key-eq seen.owner basis.key
+      (find_each (λ p. same_key p.owner basis.key ≡ true) (λ p. same_uid p.uid seen.uid) (pods_under basis.key (upto basis.pods_at.0 log)) seen
+      (Each-passes (λ p. same_key p.owner basis.key) (pods_in (upto basis.pods_at.0 log)))
+      there);
+}
+  where
+    there : find (λ (p : Pod). same_uid p.uid seen.uid) (pods_under basis.key (upto basis.pods_at.0 log)) ≡ Some seen
+    there = ap (find (λ (p : Pod). same_uid p.uid seen.uid)) (sym is.pods) ∙ found
+
+-- What is found by one test and passes another: some element passes the other.
+pub any_other : {X : Type 0} (test found : X → Bool) (xs : List X) (x : X) → find found xs ≡ Some x → test x ≡ true → list_any test xs ≡ true
+any_other {X = X} test found [] x h t = absurd (true≢false (sym (ap is_some h)))
+any_other {X = X} test found (y ∷ ys) x h t = by (any_other test found ys x) (found y) h
+  where
+    by : (find found ys ≡ Some x → test x ≡ true → list_any test ys ≡ true) → (b : Bool) → cond b (Some y) (find found ys) ≡ Some x → (test y || list_any test ys) ≡ true
+    by ih true g =
+        let same : y ≡ x = ap (λ (o : Option X). elim o [ None ↦ y | Some z ↦ z ]) g in
+        or_left (test y) (list_any test ys) (ap test same ∙ t)
+    by ih false g = or_right (test y) (list_any test ys) (ih g t)
+
+-- ---- outcomes
+
+-- A pod that is active is alive.
+pub active_alive : (spec : JobSpec) (pod : Pod) → is_active pod ≡ true → outcome_of spec pod ≡ Alive
+active_alive spec pod h = by pod.phase (is_marked pod) (counts_marked spec.replacement) (failure_of spec.failure pod) h
+  where
+    by : (p : Phase) (m c : Bool) (o : Outcome) → (not (is_final p) && not m) ≡ true → by_phase p (c && m) o ≡ Alive
+    by phase.Pending false true o g = refl
+    by phase.Pending false false o g = refl
+    by phase.Pending true c o g = absurd (true≢false (sym g))
+    by phase.Running false true o g = refl
+    by phase.Running false false o g = refl
+    by phase.Running true c o g = absurd (true≢false (sym g))
+    by phase.Succeeded m c o g = absurd (true≢false (sym g))
+    by phase.Failed m c o g = absurd (true≢false (sym g))
+
+-- A pod that has succeeded has the phase.
+pub succeeded_phase : (spec : JobSpec) (pod : Pod) → outcome_of spec pod ≡ Succeeded → pod.phase ≡ phase.Succeeded
+succeeded_phase spec pod h =
+    phase_succeeded pod.phase (counts_marked spec.replacement && is_marked pod) (failure_of spec.failure pod) (failure_fails spec.failure pod) h
+
+-- A pod that fails its Job has failed it since it ended.
+pub fails_early : (spec : JobSpec) (old new : Pod) → WaitsForEnd spec → PodStep old new → outcome_of spec old ≢ Alive → fails_job spec new ≡ true → fails_job spec old ≡ true
+fails_early spec old new waits step ended fails = by spec.replacement spec.failure waits ended fails
+  where
+    by : (r : Replacement) (f : Option FailurePolicy) → (IsSome f → r ≡ FailedOnly) → judged r f old ≢ Alive → (is_failure (judged r f new) && policy_fails_job f new) ≡ true → (is_failure (judged r f old) && policy_fails_job f old) ≡ true
+    by r None w e h = absurd (true≢false (sym (and_parts (is_failure (judged r None new)) false h).1))
+    by FailedOnly (Some policy) w e h =
+        let final = final_once_ended (Some policy) old e in
+        let outcome = frozen (Some policy) old new step e in
+        let action = same_action policy old new (step.containers final) (step.conditions final) in
+        let same : (is_failure (judged FailedOnly (Some policy) new) && is_fail_job (action_of policy new)) ≡ (is_failure (judged FailedOnly (Some policy) old) && is_fail_job (action_of policy old)) =
+        λ i. is_failure (outcome i) && is_fail_job (action i)
+        in sym same ∙ h
+    by TerminatingOrFailed (Some policy) w e h = absurd (true≢false (ap counts_marked (w refl)))

@@ -1,0 +1,146 @@
+-- What ties the ledger to the log, from event to event: the invariant of counting once. It speaks of a flat
+-- list of syncs under way, and of no controller, worker, queue or moment.
+--     made_as j log                  the Job of the UID as it was made, with what never changes of it
+--     IsTidy job                     the two lists ascend and are apart, and fit the completion mode
+--     IsSound made log r             a record is what the log says of its pod
+--     IsListing records v status     what the status of version v lists was judged by then
+--     IsCurrent ..                   what is known of the Job as it is now
+--     TiesJob made log ledger        all that ties the ledger of a Job
+--     TakesWell, AllWell             each finalizer that a sync took while the Job was there
+--     Tied deeds log flights         all that ties
+use Rattle.std.specs.Prelude.{◌≡◌, ℕ, ◌+◌, ◌<◌, ◌≤◌, true, false, ◌&&◌, List, [], ◌∷◌, length, if◌then◌else◌, Option, Some, None, is_some, IfSome}
+use Rattle.std.specs.List.{AllByRecursion as Each}
+use Rattle.jc_ranges.specs.Sets.{has}
+use Rattle.jc_types.specs.declared.numbers.Uid.{Uid}
+use Rattle.jc_types.specs.declared.objects.Entry.{Entry}
+use Rattle.jc_types.specs.declared.objects.Entry.TheVariants.{JobPut, JobGone, PodPut, PodGone}
+use Rattle.jc_types.specs.declared.objects.Job.{Job}
+use Rattle.jc_types.specs.declared.objects.Pod.{Pod}
+use Rattle.jc_types.specs.declared.specifications.Mode.TheVariants.{NonIndexed, Indexed}
+use Rattle.jc_types.specs.declared.statuses.JobStatus.{JobStatus}
+use Rattle.jc_types.specs.Deeds.{Deed}
+use Rattle.jc_types.specs.Keys.{same_uid}
+use Rattle.jc_types.specs.Log.{upto, entry_at, job_in, is_job_of, life, Live, is_lost}
+use Rattle.jc_types.specs.Uids.{Ascends, is_in}
+use Rattle.jc_types.specs.Writes.{Legal}
+use Rattle.jc_failpol.specs.declared.outcomes.Outcome.TheVariants.{Succeeded, Failed}
+use Rattle.jc_failpol.specs.Outcomes.{outcome_of}
+use Rattle.jc_failpol.specs.Steps.{WaitsForEnd}
+use Rattle.jc_states.specs.Listed.{is_listed}
+use Rattle.jc_ledger.specs.declared.flights.Flight.{Flight}
+use Rattle.jc_ledger.specs.Flights.{Flies}
+use Rattle.jc_ledger.specs.Ledger.{Record, record_of, is_verdict, judged_as, Ledger, ledger_of}
+use Rattle.jc_ledger.specs.Once.{IsJudged, is_listable, taking_of, IsJustified}
+use Rattle.jc_ledger.specs.Syncs.{reach, Began, began_of, request_of, appends}
+
+-- ---- what never changes of a Job
+
+-- The Job that was made first, if there is one, or this one, if it has the UID.
+abbrev pub made_after : Uid → Job → Option Job → Option Job
+made_after j job None = if same_uid job.uid j then Some job else None
+made_after j job (Some made) = Some made
+
+-- The Job of the UID as it was made.
+abbrev pub made_as : Uid → List Entry → Option Job
+made_as j [] = None
+made_as j (JobPut job ∷ older) = made_after j job (made_as j older)
+made_as j (JobGone job ∷ older) = made_as j older
+made_as j (PodPut pod ∷ older) = made_as j older
+made_as j (PodGone pod ∷ older) = made_as j older
+
+-- ---- the log and the records
+
+-- The lists of the status ascend and are apart. An Indexed Job lists no success, and its total is the number
+-- of its completed indexes; another Job completes none.
+pub record IsTidy (job : Job) : Type 0 where
+  pub failed : Ascends job.status.uncounted_failed
+  pub succeeded : Ascends job.status.uncounted_succeeded
+  pub apart : (u : Uid) → (is_in u job.status.uncounted_succeeded && is_in u job.status.uncounted_failed) ≡ false
+  pub none : job.spec.mode ≡ Indexed → job.status.uncounted_succeeded ≡ []
+  pub size : job.spec.mode ≡ Indexed → job.status.succeeded ≡ length job.status.completed
+  pub plain : job.spec.mode ≡ NonIndexed → job.status.completed ≡ []
+
+-- A record is what the log says of its pod: it stood so among the first `seen` entries, which are fewer than
+-- those up to the write that judged it.
+pub record IsSound (made : Job) (log : List Entry) (r : Record) : Type 0 where
+  pub before : r.seen < r.at
+  pub within : r.at ≤ length log
+  pub stood : life r.pod.uid (upto r.seen log) ≡ Live r.pod
+  pub tracked : r.pod.tracked ≡ true
+  pub owner : r.pod.owner_uid ≡ made.uid
+  pub judged : outcome_of made.spec r.pod ≡ r.outcome
+  pub verdict : is_verdict r.outcome ≡ true
+
+-- What the status of version v lists was judged so, by then.
+pub record IsListing (records : List Record) (v : ℕ) (status : JobStatus) : Type 0 where
+  pub failed : (u : Uid) → is_in u status.uncounted_failed ≡ true → IsJudged records u Failed v
+  pub succeeded : (u : Uid) → is_in u status.uncounted_succeeded ≡ true → IsJudged records u Succeeded v
+
+-- What is known of the Job as it is now. A judged pod that is not listed has lost its finalizer; totals and
+-- lists are the ledger's counts, and each record was made by the Job's version.
+pub record IsCurrent (log : List Entry) (ledger : Ledger) (job : Job) : Type 0 where
+  pub lost : (u : Uid) (r : Record) → record_of u ledger.records ≡ Some r → is_listable job.spec.mode r.outcome ≡ true
+      → is_listed job.status u ≡ false → is_lost (life u (upto job.version.0 log)) ≡ true
+  pub failed : job.status.failed + length job.status.uncounted_failed ≡ length (judged_as Failed ledger.records)
+  pub succeeded : job.spec.mode ≡ NonIndexed
+      → job.status.succeeded + length job.status.uncounted_succeeded ≡ length (judged_as Succeeded ledger.records)
+  pub completed : job.spec.mode ≡ Indexed → job.status.completed ≡ ledger.done
+  pub seen : (u : Uid) (r : Record) → record_of u ledger.records ≡ Some r → r.at ≤ job.version.0
+
+-- What ties the ledger of a Job to the log. What a version lists is said of every version: a cache that lags
+-- behind may hand out an old one.
+pub record TiesJob (made : Job) (log : List Entry) (ledger : Ledger) : Type 0 where
+  pub waits : WaitsForEnd made.spec
+  pub sound : (u : Uid) (r : Record) → record_of u ledger.records ≡ Some r → IsSound made log r
+  pub tidy : (v : ℕ) (job : Job) → entry_at v log ≡ Some (JobPut job) → job.uid ≡ made.uid → IsTidy job
+  pub listed : (v : ℕ) (job : Job) → entry_at v log ≡ Some (JobPut job) → job.uid ≡ made.uid → IsListing ledger.records v job.status
+  pub now : (job : Job) → job_in made.key log ≡ Some job → job.uid ≡ made.uid → IsCurrent log ledger job
+  pub indexes : made.spec.mode ≡ Indexed → (u : Uid) (r : Record) → record_of u ledger.records ≡ Some r → r.outcome ≡ Succeeded
+      → IfSome r.pod.index (λ index. has index ledger.done ≡ true)
+
+-- Of a Job that was not made, nothing was judged.
+abbrev pub Ties : Option Job → List Entry → Ledger → Type 0
+Ties None log ledger = (ledger.records ≡ []) × (ledger.done ≡ [])
+Ties (Some made) log ledger = TiesJob made log ledger
+
+-- Each pod that was made for an Indexed Job has an index.
+abbrev pub IsNumbered : List Entry → Type 0
+IsNumbered log = (u : Uid) (pod : Pod) → life u log ≡ Live pod
+    → IfSome (made_as pod.owner_uid log) (λ made. made.spec.mode ≡ Indexed → is_some pod.index ≡ true)
+
+-- ---- finalizers that syncs took
+
+-- If the deed took the finalizer of a pod while its Job was there, it was justified. That the Job was there
+-- is asked of the moment before, so that an old deed never has to be looked at again.
+abbrev pub TakesWell : Deed → List Deed → List Entry → Type 0
+TakesWell d past log =
+    IfSome (taking_of (request_of d.reply)) (λ taking. appends d past ≡ true
+    → (pod : Pod) → life taking.pod (upto (reach past) log) ≡ Live pod
+    → (made : Job) → made_as pod.owner_uid log ≡ Some made → is_job_of made.uid (job_in made.key (upto (reach past) log)) ≡ true
+    → IsJustified made (ledger_of made.uid past log).records d.length.0 log taking.lets_go pod)
+
+-- Each finalizer that a sync took.
+abbrev pub AllWell : List Deed → List Entry → Type 0
+AllWell [] log = Unit {0}
+AllWell (d ∷ past) log = TakesWell d past log × AllWell past log
+
+-- ---- all together
+
+-- The two numbers are places of the log.
+abbrev pub IsWithin : ℕ → Began → Type 0
+IsWithin n began = (began.jobs_at ≤ n) × (began.pods_at ≤ n)
+
+-- The lengths that the deeds tell do not fall, and end with that of the log.
+abbrev pub IsReached : List Deed → ℕ → Type 0
+IsReached [] n = n ≡ 0
+IsReached (d ∷ past) n = (d.length.0 ≡ n) × ((reach past ≤ n) × IsReached past (reach past))
+
+-- What ties a history of deeds, its log and the syncs under way.
+pub record Tied (deeds : List Deed) (log : List Entry) (flights : List Flight) : Type 0 where
+  pub legal : Legal log
+  pub reached : IsReached deeds (length log)
+  pub within : Each (λ d. IfSome (began_of d.reply) (IsWithin (length log))) deeds
+  pub jobs : (j : Uid) → Ties (made_as j log) log (ledger_of j deeds log)
+  pub numbered : IsNumbered log
+  pub taken : AllWell deeds log
+  pub flying : Each (Flies log) flights

@@ -1,0 +1,16 @@
+//! A sync under way, as the ledger sees it.
+
+use jc_types::{Arc, Basis, JobStatus, Uids, Version};
+
+/// A sync under way: from its begin to its end.
+#[derive(Drop)]
+pub struct Flight {
+    /// What it began with.
+    pub basis: Arc<Basis>,
+    /// Its first status, where that was written.
+    pub written: Option<JobStatus>,
+    /// The version that its next write of the status sends.
+    pub sends: Version,
+    /// The pods whose release was answered.
+    pub released: Uids,
+}
