@@ -5,3 +5,4 @@ pub mod Flights
 pub mod Tied
 pub mod Facts
 pub mod Runs
+pub mod Verdicts

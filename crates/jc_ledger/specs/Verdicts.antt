@@ -1,0 +1,110 @@
+-- What `verdicts` counts, and the words by which one pass over a history and its log comes to it.
+--     IsNumbered script history      each command event's number is a place in the script
+--     verdicts_of ledger             how many records have each outcome, and how many indexes there are
+--     deeds_of script events         the deeds of events, newest first
+--     has_begun script c w past      the event began a sync of the worker
+--     sync_at d past                 the sync whose write of a status the deed is
+--     Row, row_of record             what a count keeps of a record
+--     new_rows spec rows pods        the rows of the pods that a write judges
+--     IsCount rows done ledger       the rows and the indexes are those of the ledger
+--     HasSeen j log pods at          the pods are those of the Job among the first entries
+--     HasKeys j log keys             each key under which a Job of the UID was put is among the keys
+use Rattle.std.specs.Prelude.{◌≡◌, ℕ, ◌<◌, ◌≤◌, not, ◌&&◌, Bool, true, All, List, map, filter, reverse, take, length, if◌then◌else◌, Option, None, is_some}
+use Rattle.std.specs.List.{filter_map, list_any}
+use Rattle.jc_types.specs.declared.actions.Command.{Command}
+use Rattle.jc_types.specs.declared.actions.Script.{Script}
+use Rattle.jc_types.specs.declared.numbers.Uid.{Uid}
+use Rattle.jc_types.specs.declared.objects.Entry.{Entry}
+use Rattle.jc_types.specs.declared.objects.Key.{Key}
+use Rattle.jc_types.specs.declared.objects.Pod.{Pod}
+use Rattle.jc_types.specs.declared.runs.Event.{Event}
+use Rattle.jc_types.specs.declared.runs.Event.TheVariants as event
+use Rattle.jc_types.specs.declared.runs.History.{History}
+use Rattle.jc_types.specs.declared.runs.Past.{Past}
+use Rattle.jc_types.specs.declared.specifications.JobSpec.{JobSpec}
+use Rattle.jc_types.specs.Deeds.{Deed, deed}
+use Rattle.jc_types.specs.Keys.{same_key, same_uid}
+use Rattle.jc_types.specs.Log.{has_job, pods_of}
+use Rattle.jc_types.specs.Pods.{is_tracked}
+use Rattle.jc_failpol.specs.declared.outcomes.Outcome.TheVariants.{Succeeded, Failed}
+use Rattle.jc_failpol.specs.Outcomes.{outcome_of}
+use Rattle.jc_account.specs.Judged.{same_outcome}
+use Rattle.jc_ledger.specs.declared.rows.Row.{Row}
+use Rattle.jc_ledger.specs.declared.counts.Verdicts.{Verdicts}
+use Rattle.jc_ledger.specs.Syncs.{Began, began_by, request_of, step_sync, appends}
+use Rattle.jc_ledger.specs.Ledger.{Record, Ledger, judged_as, is_verdict, is_status}
+
+-- The number of a command event is a place among the commands.
+abbrev pub IsPlace : List Command → Event → Type 0
+IsPlace commands (event.Command lane number) = number < length commands
+IsPlace commands (event.System system) = Unit {0}
+
+-- Each command event's number is a place in the script.
+abbrev pub IsNumbered : Script → History → Type 0
+IsNumbered script history = All (λ (past : Past). IsPlace script.commands past.event) history.events
+
+-- How many records have each outcome, and how many indexes there are.
+abbrev pub verdicts_of : Ledger → Verdicts
+verdicts_of ledger = record {
+  succeeded = length (judged_as Succeeded ledger.records);
+  failed = length (judged_as Failed ledger.records);
+  indexes = length ledger.done;
+}
+
+-- The deeds of events, newest first.
+abbrev pub deeds_of : Script → List Past → List Deed
+deeds_of script events = reverse (map (deed script) events)
+
+-- The event began a sync of the worker.
+abbrev pub has_begun : Script → ℕ → ℕ → Past → Bool
+has_begun script c w past = is_some (began_by c w (deed script past))
+
+-- The sync whose accepted write of a status the deed is.
+abbrev pub sync_at : Deed → List Deed → Option Began
+sync_at d past = if is_status (request_of d.reply) && appends d past then step_sync d past else None
+
+-- ---- what a count keeps
+
+-- What a count keeps of a record.
+abbrev pub row_of : Record → Row
+row_of r = record { uid = r.pod.uid; outcome = r.outcome; index = r.pod.index }
+
+-- The row of a pod that a write judges.
+abbrev pub row_for : JobSpec → Pod → Row
+row_for spec pod = record { uid = pod.uid; outcome = outcome_of spec pod; index = pod.index }
+
+-- A row has the UID.
+abbrev pub is_row_of : Uid → Row → Bool
+is_row_of u row = same_uid row.uid u
+
+-- The pod is still to be judged, where these are the rows.
+abbrev pub is_due : JobSpec → List Row → Pod → Bool
+is_due spec rows pod =
+    is_tracked pod && (is_verdict (outcome_of spec pod) && not (list_any (is_row_of pod.uid) rows))
+
+-- The rows of the pods that a write judges.
+abbrev pub new_rows : JobSpec → List Row → List Pod → List Row
+new_rows spec rows pods = map (row_for spec) (filter (is_due spec rows) pods)
+
+-- The index of a success.
+abbrev pub success_index : Row → Option ℕ
+success_index row = if same_outcome row.outcome Succeeded then row.index else None
+
+-- The indexes of the successes.
+abbrev pub indexes_in : List Row → List ℕ
+indexes_in rows = filter_map success_index rows
+
+-- The rows and the indexes are those of the ledger.
+pub record IsCount (rows : List Row) (done : List ℕ) (ledger : Ledger) : Type 0 where
+  pub rows_are : rows ≡ map row_of ledger.records
+  pub done_is : done ≡ ledger.done
+
+-- The pods are those of the Job among the first entries of the log.
+pub record HasSeen (j : Uid) (log : List Entry) (pods : List Pod) (at : ℕ) : Type 0 where
+  pub within : at ≤ length log
+  pub pods_are : pods ≡ pods_of j (reverse (take at log))
+
+-- Each key under which a Job of the UID was put is among the keys. The log stands newest first.
+abbrev pub HasKeys : Uid → List Entry → List Key → Type 0
+HasKeys j log keys =
+    (k : Key) → has_job j k log ≡ true → list_any (λ other. same_key other k) keys ≡ true

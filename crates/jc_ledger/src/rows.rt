@@ -1,0 +1,137 @@
+//! What is kept of the judged pods of a Job.
+
+ghost use Rattle.std.specs.Prelude.{◌≡◌, ◌<◌, ◌^◌, ◌++◌, ◌∷◌, [], IfOk, OnOk, filter, length};
+ghost use Rattle.std.specs.List.{list_any};
+ghost use Rattle.jc_ranges.specs.Sets.{IsIncreasing, with_member};
+ghost use Rattle.jc_types.specs.Uids.{join};
+ghost use Rattle.jc_failpol.specs.Outcomes.{outcome_of};
+ghost use Rattle.jc_account.specs.Judged.{same_outcome};
+ghost use Rattle.jc_ledger.specs.declared.rows.Row.{Row};
+ghost use Rattle.jc_ledger.specs.Ledger.{is_verdict};
+ghost use Rattle.jc_ledger.specs.Verdicts.{indexes_in, is_due, is_row_of, new_rows, row_for, success_index};
+
+use jc_failpol::{Outcome, outcome};
+use jc_table::PodTable;
+use jc_types::{JobSpec, Pod, Uid, Want};
+use std::alloc::Global;
+
+/// A judged pod: its UID, what it was judged, and its completion index.
+#[derive(Clone, Copy)]
+pub struct Row {
+    pub uid: Uid,
+    pub outcome: Outcome,
+    pub index: Option<u32>,
+}
+
+/// Whether a row has the UID.
+fn is_known(uid: Uid, rows: &[Row]) -> bool
+    ensures { result ≡ list_any (is_row_of uid) rows.now }
+{
+    rows.iter().any(|row| row.uid.0 == uid.0)
+}
+
+/// Whether pods are judged so.
+fn is_verdict(outcome: Outcome) -> bool
+    ensures { result ≡ is_verdict outcome }
+{
+    outcome == Outcome::Succeeded || outcome == Outcome::Failed
+}
+
+/// Whether the pod is still to be judged.
+fn is_due(spec: &JobSpec, rows: &[Row], pod: &Pod) -> bool
+    ensures { result ≡ is_due spec.now rows.now pod.now }
+{
+    pod.tracked && is_verdict(outcome(spec, pod)) && !is_known(pod.uid, rows)
+}
+
+/// The row of a pod that is judged.
+fn row_for(spec: &JobSpec, pod: &Pod) -> Row
+    ensures { result ≡ row_for spec.now pod.now }
+{
+    Row {
+        uid: pod.uid,
+        outcome: outcome(spec, pod),
+        index: pod.index,
+    }
+}
+
+/// The rows of the pods that are still to be judged.
+pub fn new_rows(
+    alloc: Global,
+    spec: &JobSpec,
+    rows: &[Row],
+    pods: &PodTable,
+) -> Result<Vec<Row>, Want>
+    ensures { IfOk result (λ new. new.items ≡ new_rows spec.now rows.now pods.now) }
+{
+    let mut new = Vec::new(alloc);
+    for pod in pods.values() {
+        if is_due(spec, rows, pod) {
+            new.push(row_for(spec, pod))?;
+        }
+    }
+    Ok(new)
+}
+
+/// The index of a success.
+fn success_index(row: &Row) -> Option<u32>
+    ensures { result ≡ success_index row.now }
+{
+    if row.outcome == Outcome::Succeeded {
+        row.index
+    } else {
+        None
+    }
+}
+
+/// Puts an index in its place; a list that has it stays as it is.
+fn put_index(done: &mut Vec<u32>, index: u32) -> Result<(), Want>
+    requires { IsIncreasing done.old.items }
+    ensures { OnOk result (done.new.items ≡ with_member index done.old.items) }
+{
+    if let Err(place) = done.as_slice().binary_search(&index) {
+        done.insert(place, index)?;
+    }
+    Ok(())
+}
+
+/// Puts the index of a row in its place, where the row is a success that has one.
+fn put_row(done: &mut Vec<u32>, row: &Row) -> Result<(), Want>
+    requires { IsIncreasing done.old.items }
+    ensures { OnOk result (done.new.items ≡ join done.old.items (indexes_in (row.now ∷ []))) }
+{
+    if let Some(index) = success_index(row) {
+        put_index(done, index)?;
+    }
+    Ok(())
+}
+
+/// Puts the indexes of the successes in their places, the last first.
+fn put_indexes(done: &mut Vec<u32>, rows: &[Row]) -> Result<(), Want>
+    requires { IsIncreasing done.old.items }
+    ensures { OnOk result (done.new.items ≡ join done.old.items (indexes_in rows.now)) }
+{
+    for place in (0..rows.len()).rev() {
+        put_row(done, &rows[place])?;
+    }
+    Ok(())
+}
+
+/// Enters new rows, and the indexes of their successes.
+pub fn enter(rows: &mut Vec<Row>, done: &mut Vec<u32>, new: &[Row]) -> Result<(), Want>
+    requires { IsIncreasing done.old.items }
+    ensures rows { OnOk result (rows.new.items ≡ rows.old.items ++ new.now) }
+    ensures done { OnOk result (done.new.items ≡ join done.old.items (indexes_in new.now)) }
+{
+    put_indexes(done, new)?;
+    rows.extend_from_slice(new)?;
+    Ok(())
+}
+
+/// How many rows have the outcome.
+pub fn count(rows: &[Row], want: Outcome) -> u32
+    requires { length rows.now < 2 ^ 32 }
+    ensures { result ≡ length (filter (λ (row : Row). same_outcome row.outcome want) rows.now) }
+{
+    rows.iter().filter(|row| row.outcome == want).count() as u32
+}
