@@ -1,6 +1,7 @@
 -- A write of a status by a sync that was accepted: the Job that it puts, and what becomes of the ledgers.
 use Rattle.std.proofs.Common.{◌≡◌, ℕ, suc, Bool, true, false, cond, not, ◌&&◌, List, ◌∷◌, length, Option, Some, None, refl, sym, ap, ◌∙◌, subst, arith}
 use Rattle.std.specs.Prelude.{IfSome, option_map, option_and_then}
+use Rattle.std.specs.List.{AllByRecursion as Each}
 use Rattle.std.proofs.lemmas.Bool.{and_from, cond-true, cond-false}
 use Rattle.jc_types.specs.declared.numbers.Uid.{Uid}
 use Rattle.jc_types.specs.declared.objects.Entry.{Entry}
@@ -20,9 +21,11 @@ use Rattle.jc_ledger.specs.declared.flights.Flight.{Flight}
 use Rattle.jc_ledger.specs.Facts.{IsAccepted}
 use Rattle.jc_ledger.specs.Flights.{known, IsBasisOf, IsSent, Flies}
 use Rattle.jc_ledger.specs.Ledger.{Judging, bump, chosen, is_status, judging_at, judging_of, judged_by, ledger_of}
+use Rattle.jc_ledger.specs.Once.{taking_of}
 use Rattle.jc_ledger.specs.Syncs.{appends, request_of, step_sync}
-use Rattle.jc_ledger.specs.Tied.{made_as, Ties}
-use Rattle.jc_ledger.proofs.FrameFacts.{Ties-more}
+use Rattle.jc_ledger.specs.Tied.{made_as, Ties, Tied}
+use Rattle.jc_ledger.proofs.FrameFacts.{Ties-more, IsNumbered-job, grow}
+use Rattle.jc_ledger.proofs.JobLaws.{TakesWell-none}
 use Rattle.jc_ledger.proofs.LedgerFacts.{AllWithin, judging_of-more, ledger_of-more}
 use Rattle.jc_ledger.proofs.MadeFacts.{JobStep-then, job_in-was_made, made_as-more, put-step}
 use Rattle.jc_ledger.proofs.PutFacts.{Puts, ties_put, ties_from}
@@ -155,3 +158,20 @@ ties-accepted d past log flight job current new made answer a appended basis wit
         ∙ cond-false (same_uid job.uid j) (bump job (pods_of j (upto at log)) at (suc (length log)) old) old e in
         subst (Ties (made_as j (JobPut new ∷ log)) (JobPut new ∷ log)) (sym is)
         (Ties-more j (JobPut new) log old p.legal (ap not (ap (λ v. same_uid v j) new_uid ∙ e)) (jobs j))
+
+-- All that ties, once it is shown of the Job that is put and of the syncs under way.
+pub tied_accepted : (d : Deed) (past : List Deed) (log : List Entry) (flights next : List Flight) (flight : Flight) (job current new made : Job) (answer : Answer)
+    → Tied past log flights → IsAccepted d past log flight job current new answer → IsBasisOf log flight.basis → job.uid ≡ made.uid
+    → Puts made log (ledger_of made.uid past log) job (chosen job (ledger_of made.uid past log).records (pods_of made.uid (upto flight.basis.pods_at.0 log))) flight.basis.pods_at.0 current new
+    → Each (Flies (JobPut new ∷ log)) next → Tied (d ∷ past) (JobPut new ∷ log) next
+tied_accepted d past log flights next flight job current new made answer t a basis uid puts flying =
+    let g = grow d past (JobPut new) log flights t a.written in
+    record {
+      legal = g.legal;
+      reached = g.reached;
+      within = g.within;
+      jobs = ties-accepted d past log flight job current new made answer a g.appends basis t.within uid puts t.jobs;
+      numbered = IsNumbered-job (JobPut new) log g.legal refl t.numbered;
+      taken = (TakesWell-none d past (JobPut new ∷ log) (ap (λ (r : Reply). taking_of (request_of r)) a.reply), g.taken);
+      flying = flying;
+    }

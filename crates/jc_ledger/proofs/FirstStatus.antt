@@ -5,7 +5,6 @@ use Rattle.jc_types.specs.declared.objects.Entry.{Entry}
 use Rattle.jc_types.specs.declared.objects.Entry.TheVariants.{JobPut}
 use Rattle.jc_types.specs.declared.objects.Job.{Job}
 use Rattle.jc_types.specs.declared.replies.Answer.{Answer}
-use Rattle.jc_types.specs.declared.replies.Reply.{Reply}
 use Rattle.jc_types.specs.Deeds.{Deed}
 use Rattle.jc_types.specs.Log.{upto, entry_at, pods_of}
 use Rattle.jc_types.specs.Writes.{Legal}
@@ -15,14 +14,11 @@ use Rattle.jc_ledger.specs.declared.flights.Flight.{Flight}
 use Rattle.jc_ledger.specs.Facts.{WritesFirst, with_first}
 use Rattle.jc_ledger.specs.Flights.{IsSent, Flies}
 use Rattle.jc_ledger.specs.Ledger.{chosen, ledger_of}
-use Rattle.jc_ledger.specs.Once.{taking_of}
-use Rattle.jc_ledger.specs.Syncs.{request_of}
 use Rattle.jc_ledger.specs.Tied.{Tied}
-use Rattle.jc_ledger.proofs.AcceptFacts.{IsOneJob, one_job, ties-accepted}
-use Rattle.jc_ledger.proofs.JobLaws.{TakesWell-none}
+use Rattle.jc_ledger.proofs.AcceptFacts.{IsOneJob, one_job, tied_accepted}
 use Rattle.jc_ledger.proofs.DoneFacts.{done-increases}
 use Rattle.jc_ledger.proofs.FirstFacts.{IsFirst, first_puts}
-use Rattle.jc_ledger.proofs.FrameFacts.{AllFly-more, AllFly-one, AllFly-put, Flies-more, IsNumbered-job, grow}
+use Rattle.jc_ledger.proofs.FrameFacts.{AllFly-more, AllFly-one, AllFly-put, Flies-more, grow}
 use Rattle.jc_ledger.proofs.OwnFacts.{own-is, basis-rises}
 use Rattle.jc_ledger.proofs.PutFacts.{Puts, ties_of}
 
@@ -100,13 +96,6 @@ first_written d past log front back flight job current new answer t w =
     subst (λ (there : Job). Puts one.made log ledger job (chosen job ledger.records (pods_of one.made.uid (upto y log))) y there new)
     (current-seen d past log flight job current new answer one flies w)
     (first_puts one.made log ledger job flight.basis.pods y new (first-of d past log flights flight job current new answer one t flies g.legal w)) in
-    record {
-      legal = g.legal;
-      reached = g.reached;
-      within = g.within;
-      jobs = ties-accepted d past log flight job current new one.made answer a g.appends flies.basis t.within one.job_step.uid puts t.jobs;
-      numbered = IsNumbered-job (JobPut new) log g.legal refl t.numbered;
-      taken = (TakesWell-none d past (JobPut new ∷ log) (ap (λ (r : Reply). taking_of (request_of r)) a.reply), g.taken);
-      flying = AllFly-put (JobPut new ∷ log) front back flight (with_first flight new) (AllFly-more (JobPut new) log flights g.legal t.flying)
-          (flies-first d past log flight job current new answer one g.legal (Flies-more (JobPut new) log flight g.legal flies) w);
-    }
+    tied_accepted d past log flights (front ++ with_first flight new ∷ back) flight job current new one.made answer t a flies.basis one.job_step.uid puts
+    (AllFly-put (JobPut new ∷ log) front back flight (with_first flight new) (AllFly-more (JobPut new) log flights g.legal t.flying)
+    (flies-first d past log flight job current new answer one g.legal (Flies-more (JobPut new) log flight g.legal flies) w))

@@ -1,12 +1,11 @@
 -- The law on a second status: all that ties goes over.
-use Rattle.std.proofs.Common.{◌≡◌, List, ◌∷◌, ◌++◌, refl, sym, ap, ◌∙◌, subst}
+use Rattle.std.proofs.Common.{◌≡◌, List, ◌∷◌, ◌++◌, sym, ap, ◌∙◌, subst}
 use Rattle.std.specs.List.{AllByRecursion as Each}
 use Rattle.jc_types.specs.declared.objects.Entry.{Entry}
 use Rattle.jc_types.specs.declared.objects.Entry.TheVariants.{JobPut}
 use Rattle.jc_types.specs.declared.objects.Job.{Job}
 use Rattle.jc_types.specs.declared.objects.Pod.{Pod}
 use Rattle.jc_types.specs.declared.replies.Answer.{Answer}
-use Rattle.jc_types.specs.declared.replies.Reply.{Reply}
 use Rattle.jc_types.specs.declared.statuses.JobStatus.{JobStatus}
 use Rattle.jc_types.specs.Bases.{own_pods}
 use Rattle.jc_types.specs.Deeds.{Deed}
@@ -18,12 +17,9 @@ use Rattle.jc_ledger.specs.declared.flights.Flight.{Flight}
 use Rattle.jc_ledger.specs.Facts.{CountsIn, CountsOut, WritesSecond}
 use Rattle.jc_ledger.specs.Flights.{known, Flies}
 use Rattle.jc_ledger.specs.Ledger.{chosen, ledger_of}
-use Rattle.jc_ledger.specs.Once.{taking_of}
-use Rattle.jc_ledger.specs.Syncs.{request_of}
 use Rattle.jc_ledger.specs.Tied.{Tied}
-use Rattle.jc_ledger.proofs.AcceptFacts.{IsOneJob, one_job, current-known, ties-accepted}
-use Rattle.jc_ledger.proofs.JobLaws.{TakesWell-none}
-use Rattle.jc_ledger.proofs.FrameFacts.{AllFly-more, AllFly-one, IsNumbered-job, grow}
+use Rattle.jc_ledger.proofs.AcceptFacts.{IsOneJob, one_job, current-known, tied_accepted}
+use Rattle.jc_ledger.proofs.FrameFacts.{AllFly-more, AllFly-one, grow}
 use Rattle.jc_ledger.proofs.DoneFacts.{done-increases}
 use Rattle.jc_ledger.proofs.OwnFacts.{own-is, own-live}
 use Rattle.jc_ledger.proofs.PutFacts.{Puts, ties_of}
@@ -70,12 +66,5 @@ second_written d past log front back flight job current new answer t w =
     subst (λ (pods : List Pod). Puts one.made log ledger job (chosen job ledger.records pods) y current new) own
     (second-puts one.made log ledger job flight.basis.pods y current new
     (second-of d past log flights flight job current new answer one t flies g.legal w own)) in
-    record {
-      legal = g.legal;
-      reached = g.reached;
-      within = g.within;
-      jobs = ties-accepted d past log flight job current new one.made answer a g.appends flies.basis t.within one.job_step.uid puts t.jobs;
-      numbered = IsNumbered-job (JobPut new) log g.legal refl t.numbered;
-      taken = (TakesWell-none d past (JobPut new ∷ log) (ap (λ (r : Reply). taking_of (request_of r)) a.reply), g.taken);
-      flying = AllFly-more (JobPut new) log flights g.legal t.flying;
-    }
+    tied_accepted d past log flights flights flight job current new one.made answer t a flies.basis one.job_step.uid puts
+    (AllFly-more (JobPut new) log flights g.legal t.flying)
