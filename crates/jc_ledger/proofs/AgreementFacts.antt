@@ -102,6 +102,7 @@ pub data Agrees (ledger : Ledger) (job : Job) (u : Uid) : Type 0 where
   Listed : is_some (record_of u ledger.records) ≡ is_listed job.status u → Agrees ledger job u
   Old : (r : Record) → record_of u ledger.records ≡ Some r → r.outcome ≡ Succeeded → job.spec.mode ≡ Indexed → Agrees ledger job u
 
+-- For a tracked pod that the sync saw, listed and judged are one.
 pub agree : (made : Job) (log : List Entry) (ledger : Ledger) (job : Job) (y : ℕ) → Agreeing made log ledger job y → (u : Uid) (pod : Pod) → life u (upto y log) ≡ Live pod → pod.tracked ≡ true → Agrees ledger job u
 agree made log ledger job y a u pod live tracked = by (is_listed job.status u) refl (record_of u ledger.records) refl
   where
@@ -124,6 +125,7 @@ not_same false false e = refl
 not_same true false e = absurd (true≢false e)
 not_same false true e = absurd (true≢false (sym e))
 
+-- With `false`, no test holds.
 none : (b : Bool) → (b && false) ≡ false
 none true = refl
 none false = refl

@@ -214,6 +214,7 @@ IsNumbered-job (PodGone pod) log legal none num = absurd (true≢false (ap is_so
 live_one : (old new : Pod) → Live old ≡ Live new → old ≡ new
 live_one old new h = ap (λ (l : Life). elim l [ Never ↦ old | Live p ↦ p | Gone ↦ old ]) h
 
+-- A pod that is gone does not live.
 gone_live : (pod : Pod) → Gone ≡ Live pod → ⊥
 gone_live pod h = true≢false (ap (λ (l : Life). elim l [ Never ↦ false | Live p ↦ false | Gone ↦ true ]) h)
 
@@ -326,6 +327,7 @@ pub record Grown (d : Deed) (past : List Deed) (e : Entry) (log : List Entry) : 
   pub reach : reach past ≡ length log
   pub taken : AllWell past (e ∷ log)
 
+-- It has all of these.
 pub grow : (d : Deed) (past : List Deed) (e : Entry) (log : List Entry) (flights : List Flight) → Tied past log flights → IsWritten d log e → Grown d past e log
 grow d past e log flights t w =
     let is = reach-is past (length log) t.reached in

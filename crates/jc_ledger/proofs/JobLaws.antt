@@ -1,5 +1,5 @@
 -- A Job is created, updated or deleted, and a pod is written.
-use Rattle.std.proofs.Common.{◌≡◌, ℕ, suc, ◌+◌, ◌≤◌, ◌==◌, Bool, true, false, cond, ◌&&◌, List, [], ◌∷◌, ◌++◌, length, Option, Some, None, is_some, refl, sym, ap, ◌∙◌, subst, arith, eqb-true, true≢false}
+use Rattle.std.proofs.Common.{◌≡◌, ℕ, suc, ◌+◌, ◌≤◌, Bool, true, false, ◌&&◌, List, [], ◌∷◌, ◌++◌, length, Option, Some, None, is_some, refl, sym, ap, ◌∙◌, subst, arith, true≢false}
 use Rattle.std.proofs.lemmas.Bool.{cond-true, not_from_false}
 use Rattle.std.proofs.lemmas.List.{append-nil}
 use Rattle.jc_types.specs.declared.numbers.Uid.{Uid}
@@ -30,7 +30,7 @@ use Rattle.jc_ledger.specs.Tied.{made_as, made_after, IsTidy, IsListing, IsCurre
 use Rattle.jc_ledger.proofs.FrameFacts.{AllFly-more, puts_other, Ties-more, IsNumbered-job, IsNumbered-pod, grow}
 use Rattle.jc_ledger.proofs.LedgerFacts.{ledger_of-more, ledger_of-other}
 use Rattle.jc_ledger.proofs.MadeFacts.{JobStep-itself, made_as-more, made_as-unborn, put-was_made, job_in-was_made}
-use Rattle.jc_ledger.proofs.PutFacts.{Puts, ties_put, ties_of, ties_from}
+use Rattle.jc_ledger.proofs.PutFacts.{Puts, Placed, Here, Below, placed, ties_put, ties_of, ties_from}
 use Rattle.jc_ledger.proofs.QuietFacts.{IfSome-absent}
 use Rattle.jc_ledger.proofs.RecordFacts.{IsJudged-more}
 
@@ -114,29 +114,6 @@ IsCurrent-new log job e = record {
     sum : (n : ℕ) (uids : List Uid) → n ≡ 0 → uids ≡ [] → n + length uids ≡ 0
     sum n uids z empty = let none : length uids ≡ 0 = ap (λ (l : List Uid). length l) empty in omega (arith, z, none)
 
--- The entry of a version after one more that puts a Job: the new one, or an older one.
-data Puts-at (v : ℕ) (new : Job) (log : List Entry) (job : Job) : Type 0 where
-  Newest : new ≡ job → v ≡ suc (length log) → Puts-at v new log job
-  Older : entry_at v log ≡ Some (JobPut job) → Puts-at v new log job
-
--- A Job that was put is the one in the entry.
-job_of_entry : (new job : Job) → Some (JobPut new) ≡ Some (JobPut job) → new ≡ job
-job_of_entry new job h = ap job_of h
-  where
-    job_of : Option Entry → Job
-    job_of None = new
-    job_of (Some (JobPut x)) = x
-    job_of (Some (JobGone x)) = new
-    job_of (Some (PodPut x)) = new
-    job_of (Some (PodGone x)) = new
-
-puts_at : (v : ℕ) (new : Job) (log : List Entry) (job : Job) → entry_at v (JobPut new ∷ log) ≡ Some (JobPut job) → Puts-at v new log job
-puts_at v new log job h = by (length (JobPut new ∷ log) == v) refl h
-  where
-    by : (b : Bool) → (length (JobPut new ∷ log) == v) ≡ b → cond b (Some (JobPut new)) (entry_at v log) ≡ Some (JobPut job) → Puts-at v new log job
-    by true t g = Newest (job_of_entry new job g) (sym (eqb-true (length (JobPut new ∷ log)) v t))
-    by false t g = Older g
-
 -- No entry puts a Job that was not made.
 unmade_unput : (v : ℕ) (log : List Entry) (j : Uid) (job : Job) → Stored log → made_as j log ≡ None → job.uid ≡ j → entry_at v log ≡ Some (JobPut job) → ⊥
 unmade_unput v log j job stored none uid h =
@@ -153,19 +130,19 @@ TiesJob-new : (log : List Entry) (job : Job) → Stored log → made_as job.uid 
 TiesJob-new log job stored none waits empty = record {
   waits = waits;
   sound = λ u r found. absurd (nothing_found u r found);
-  tidy = λ v other put uid. tidy_at v other uid (puts_at v job log other put);
-  listed = λ v other put uid. listed_at v other uid (puts_at v job log other put);
+  tidy = λ v other put uid. tidy_at v other uid (placed v log job other put);
+  listed = λ v other put uid. listed_at v other uid (placed v log job other put);
   now = λ other there uid. subst (IsCurrent (JobPut job ∷ log) blank) (job_in-put log job other there) (IsCurrent-new (JobPut job ∷ log) job empty);
   indexes = λ m u r found. absurd (nothing_found u r found);
 }
   where
-    tidy_at : (v : ℕ) (other : Job) → other.uid ≡ job.uid → Puts-at v job log other → IsTidy other
-    tidy_at v other uid (Newest is place) = subst IsTidy is (IsTidy-new job empty)
-    tidy_at v other uid (Older put) = absurd (unmade_unput v log job.uid other stored none uid put)
+    tidy_at : (v : ℕ) (other : Job) → other.uid ≡ job.uid → Placed v log job other → IsTidy other
+    tidy_at v other uid (Here place is) = subst IsTidy is (IsTidy-new job empty)
+    tidy_at v other uid (Below put) = absurd (unmade_unput v log job.uid other stored none uid put)
 
-    listed_at : (v : ℕ) (other : Job) → other.uid ≡ job.uid → Puts-at v job log other → IsListing [] v other.status
-    listed_at v other uid (Newest is place) = subst (λ (x : Job). IsListing [] v x.status) is (IsListing-new v job empty)
-    listed_at v other uid (Older put) = absurd (unmade_unput v log job.uid other stored none uid put)
+    listed_at : (v : ℕ) (other : Job) → other.uid ≡ job.uid → Placed v log job other → IsListing [] v other.status
+    listed_at v other uid (Here place is) = subst (λ (x : Job). IsListing [] v x.status) is (IsListing-new v job empty)
+    listed_at v other uid (Below put) = absurd (unmade_unput v log job.uid other stored none uid put)
 
 -- A Job that was not made has an empty ledger.
 ledger-blank : (made : Option Job) (log : List Entry) (ledger : Ledger) → made ≡ None → Ties made log ledger → ledger ≡ blank

@@ -158,6 +158,7 @@ made-one log made job is uid w =
 pub put-step : (v : ℕ) (log : List Entry) (made job : Job) → Stored log → made_as made.uid log ≡ Some made → entry_at v log ≡ Some (JobPut job) → job.uid ≡ made.uid → JobStep made job
 put-step v log made job all is h uid = made-one log made job is uid (put-was_made v log job all h)
 
+-- And of the Job of a key.
 pub job_in-step : (k : Key) (log : List Entry) (made job : Job) → Stored log → made_as made.uid log ≡ Some made → job_in k log ≡ Some job → job.uid ≡ made.uid → JobStep made job
 job_in-step k log made job all is h uid = made-one log made job is uid (job_in-was_made k log job all h)
 
@@ -171,6 +172,7 @@ pub record WasMadeUnder (log : List Entry) (j : Uid) (k : Key) : Type 0 where
 pub WasMadeUnder-more : (e : Entry) (older : List Entry) (j : Uid) (k : Key) → WasMadeUnder older j k → WasMadeUnder (e ∷ older) j k
 WasMadeUnder-more e older j k w = record { made = w.made; is_made = made_as-more j e older w.made w.is_made; key = w.key }
 
+-- It was.
 pub has_job-was_made : (j : Uid) (k : Key) (log : List Entry) → Stored log → has_job j k log ≡ true → WasMadeUnder log j k
 has_job-was_made j k [] all h = absurd (true≢false (sym h))
 has_job-was_made j k (JobPut job ∷ older) all h = by (has_job-was_made j k older all.1) (same_uid job.uid j && same_key job.key k) refl h

@@ -37,6 +37,7 @@ Cause-step made job records w log lets_go pod step (IsIgnored is) = IsIgnored (o
 Cause-step made job records w log lets_go pod step (WasActive lets active) = WasActive lets active
 Cause-step made job records w log lets_go pod step (WasCompleted mode phase put) = WasCompleted (step.mode ∙ mode) phase (PutBefore-same _ made.uid job.uid w log (sym step.uid) put)
 
+-- What is justified by a Job is justified by a step of it.
 IsJustified-step : (made job : Job) (records : List Record) (w : ℕ) (log : List Entry) (lets_go : Bool) (pod : Pod) → JobStep made job → IsJustified made records w log lets_go pod → IsJustified job records w log lets_go pod
 IsJustified-step made job records w log lets_go pod step i = record {
   cause = Cause-step made job records w log lets_go pod step i.cause;

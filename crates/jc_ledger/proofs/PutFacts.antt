@@ -65,11 +65,12 @@ pub record Puts (made : Job) (log : List Entry) (ledger : Ledger) (job : Job) (p
 -- ---- places
 
 -- The Job that an entry puts, once one more entry puts `new`: it is this one, or was put before.
-data Placed (v : ℕ) (log : List Entry) (new job : Job) : Type 0 where
+pub data Placed (v : ℕ) (log : List Entry) (new job : Job) : Type 0 where
   Here : v ≡ suc (length log) → new ≡ job → Placed v log new job
   Below : entry_at v log ≡ Some (JobPut job) → Placed v log new job
 
-placed : (v : ℕ) (log : List Entry) (new job : Job) → entry_at v (JobPut new ∷ log) ≡ Some (JobPut job) → Placed v log new job
+-- It is one of the two.
+pub placed : (v : ℕ) (log : List Entry) (new job : Job) → entry_at v (JobPut new ∷ log) ≡ Some (JobPut job) → Placed v log new job
 placed v log new job h = by (length (JobPut new ∷ log) == v) refl h
   where
     job_of : Option Entry → Job

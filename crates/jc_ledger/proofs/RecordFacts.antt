@@ -69,6 +69,7 @@ found_new P u job seen at (pod ∷ pods) r all h = by (found_new P u job seen at
         }
     by ih false t g = ih g
 
+-- It is one of the two.
 pub record_of-found : (P : Pod → Type 0) (u : Uid) (records : List Record) (job : Job) (seen at : ℕ) (pods : List Pod) (r : Record) → Each P pods
     → record_of u (records ++ map (recorded job seen at) pods) ≡ Some r → Found P u records job seen at r
 record_of-found P u records job seen at pods r all h = by (record_of u records) refl
@@ -106,6 +107,7 @@ judged_new u job seen at (pod ∷ pods) outcome all h = by (judged_new u job see
           by_then = j.by_then;
         }
 
+-- A UID without a record gets that of the first pod that the write judges under it.
 pub IsJudged-new : (u : Uid) (records : List Record) (job : Job) (seen at : ℕ) (pods : List Pod) (outcome : Outcome)
     → record_of u records ≡ None → Each (λ pod. outcome_of job.spec pod ≡ outcome) (filter (λ pod. same_uid pod.uid u) pods)
     → is_in u (uids_of pods) ≡ true
