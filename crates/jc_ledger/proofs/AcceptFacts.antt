@@ -12,11 +12,11 @@ use Rattle.jc_types.specs.declared.replies.Reply.{Reply}
 use Rattle.jc_types.specs.Deeds.{Deed}
 use Rattle.jc_types.specs.Keys.{same_uid}
 use Rattle.jc_types.specs.Log.{upto, entry_at, job_in, pods_of}
-use Rattle.jc_types.specs.Writes.{CanJob, JobStep, Legal, Stored, Writes}
+use Rattle.jc_types.specs.Writes.{CanJob, JobStep, Legal, Stored}
 use Rattle.jc_types.proofs.KeyFacts.{same_uid-eq, same_uid-itself}
-use Rattle.jc_types.proofs.LogFacts.{upto-fixed, length-upto, entry_at-place, entry_at-upto}
+use Rattle.jc_types.proofs.LogFacts.{upto-fixed}
 use Rattle.jc_types.proofs.PlaceFacts.{job_in-entry}
-use Rattle.jc_types.proofs.WriteFacts.{Follows-upto, Stored-from_legal, job_in-key}
+use Rattle.jc_types.proofs.WriteFacts.{Stored-from_legal, job_in-key}
 use Rattle.jc_ledger.specs.declared.flights.Flight.{Flight}
 use Rattle.jc_ledger.specs.Facts.{IsAccepted}
 use Rattle.jc_ledger.specs.Flights.{known, IsBasisOf, IsSent, Flies}
@@ -29,6 +29,7 @@ use Rattle.jc_ledger.proofs.JobLaws.{TakesWell-none}
 use Rattle.jc_ledger.proofs.LedgerFacts.{AllWithin, judging_of-more, ledger_of-more}
 use Rattle.jc_ledger.proofs.MadeFacts.{JobStep-then, job_in-was_made, made_as-more, put-step}
 use Rattle.jc_ledger.proofs.PutFacts.{Puts, ties_put, ties_from}
+use Rattle.jc_ledger.proofs.QuietFacts.{seen_job-entry}
 
 -- ---- the Job
 
@@ -50,15 +51,6 @@ accepted-step d past log flight job current new answer a legal =
     subst (λ (o : Option Job). CanJob log o new)
     (ap (λ k. job_in k log) (a.key ∙ job_in-key flight.basis.key log current a.there) ∙ a.there) legal.0.writes.can
 
--- The Job that the sync saw was put.
-saw-put : (log : List Entry) (flight : Flight) (job : Job) → Stored log → IsBasisOf log flight.basis → flight.basis.job ≡ Some job → entry_at job.version.0 log ≡ Some (JobPut job)
-saw-put log flight job stored basis seen =
-    let at = flight.basis.jobs_at.0 in
-    let e = job_in-entry flight.basis.key (upto at log) job (Follows-upto Writes at log stored) (sym basis.job ∙ seen) in
-    let place = (entry_at-place job.version.0 (upto at log) (JobPut job) e).1 in
-    let long = length-upto at log basis.jobs_at in
-    sym (entry_at-upto job.version.0 at log (omega (arith, place, long))) ∙ e
-
 -- All are one Job.
 pub one_job : (d : Deed) (past : List Deed) (log : List Entry) (flight : Flight) (job current new : Job) (answer : Answer)
     → IsAccepted d past log flight job current new answer → Legal (JobPut new ∷ log) → IsBasisOf log flight.basis → IsOneJob log flight job current new
@@ -67,7 +59,7 @@ one_job d past log flight job current new answer a legal basis =
     let was = job_in-was_made flight.basis.key log current stored a.there in
     let is_made : made_as was.made.uid log ≡ Some was.made = ap (λ j. made_as j log) (sym was.step.uid) ∙ was.is_made in
     let key : was.made.key ≡ flight.basis.key = sym was.step.key ∙ job_in-key flight.basis.key log current a.there in
-    let saw = saw-put log flight job stored basis a.seen in
+    let saw = seen_job-entry flight.basis.key flight.basis.jobs_at.0 log job legal.1 basis.jobs_at (sym basis.job ∙ a.seen) in
     record {
       made = was.made;
       is_made = is_made;

@@ -2,6 +2,7 @@
 -- judges just the pods that are newly judged by what the sync counts in.
 use Rattle.std.proofs.Common.{◌≡◌, ℕ, ◌≤◌, Bool, true, false, not, ◌&&◌, List, filter, Option, Some, None, refl, sym, ap, ◌∙◌, subst, arith, true≢false, inl, inr}
 use Rattle.std.specs.Prelude.{IfSome, is_some}
+use Rattle.std.proofs.Math.Bool.{and-false}
 use Rattle.std.proofs.lemmas.Bool.{or_cases}
 use Rattle.jc_ranges.specs.Sets.{IsIncreasing, has}
 use Rattle.jc_types.specs.declared.numbers.Uid.{Uid}
@@ -125,16 +126,11 @@ not_same false false e = refl
 not_same true false e = absurd (true≢false e)
 not_same false true e = absurd (true≢false (sym e))
 
--- With `false`, no test holds.
-none : (b : Bool) → (b && false) ≡ false
-none true = refl
-none false = refl
-
 -- Fresh and failed is newly failed.
 fresh_failed : (t : Bool) (o : Outcome) (some listed : Bool) → (t ≡ true → o ≡ Failed → some ≡ listed) → ((t && (is_verdict o && not some)) && same_outcome o Failed) ≡ ((t && same_outcome o Failed) && not listed)
 fresh_failed false o some listed h = refl
 fresh_failed true Alive some listed h = refl
-fresh_failed true Succeeded some listed h = none (not some)
+fresh_failed true Succeeded some listed h = and-false (not some)
 fresh_failed true Failed some listed h = not_same some listed (h refl refl)
 fresh_failed true Ignored some listed h = refl
 
@@ -143,7 +139,7 @@ fresh_succeeded : (t : Bool) (o : Outcome) (some listed : Bool) → (t ≡ true 
 fresh_succeeded false o some listed h = refl
 fresh_succeeded true Alive some listed h = refl
 fresh_succeeded true Succeeded some listed h = not_same some listed (h refl refl)
-fresh_succeeded true Failed some listed h = none (not some)
+fresh_succeeded true Failed some listed h = and-false (not some)
 fresh_succeeded true Ignored some listed h = refl
 
 -- A failure is no success.

@@ -12,7 +12,7 @@ use Rattle.jc_types.specs.Deeds.{Deed}
 use Rattle.jc_types.specs.Keys.{same_uid}
 use Rattle.jc_types.specs.Log.{pods_of, upto}
 use Rattle.jc_types.specs.Uids.{join}
-use Rattle.jc_types.proofs.ListFacts.{Each-filter}
+use Rattle.jc_types.proofs.ListFacts.{Each-filter, Each-passes, Each-weaker}
 use Rattle.jc_types.proofs.UidFacts.{has-join}
 use Rattle.jc_account.specs.Modes.{indexes_of}
 use Rattle.jc_ledger.specs.Ledger.{Ledger, Judging, chosen, successes, bump, judged_by, judging_of, ledger_of}
@@ -21,12 +21,7 @@ use Rattle.jc_ledger.specs.Ledger.{Ledger, Judging, chosen, successes, bump, jud
 
 -- What passes a test has what the test says.
 each_passing : (P : ℕ → Type 0) (p : ℕ → Bool) → ((x : ℕ) → p x ≡ true → P x) → (xs : List ℕ) → Each P (filter p xs)
-each_passing P p f [] = tt
-each_passing P p f (x ∷ xs) = by (p x) refl (each_passing P p f xs)
-  where
-    by : (b : Bool) → p x ≡ b → Each P (filter p xs) → Each P (cond b (x ∷ filter p xs) (filter p xs))
-    by true e rest = (f x e, rest)
-    by false e rest = rest
+each_passing P p f xs = Each-weaker (λ x. p x ≡ true) P f (filter p xs) (Each-passes p xs)
 
 -- A filter keeps the order.
 increases_filter : (p : ℕ → Bool) (xs : List ℕ) → IsIncreasing xs → IsIncreasing (filter p xs)

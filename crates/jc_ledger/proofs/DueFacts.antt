@@ -46,8 +46,9 @@ use Rattle.jc_ledger.specs.Once.{IsJudged, PutBefore, Cause, WasJudged, IsIgnore
 use Rattle.jc_ledger.specs.Tied.{made_as, IsListing, IsSound, TiesJob, Tied}
 use Rattle.jc_ledger.proofs.FrameFacts.{AllFly-one}
 use Rattle.jc_ledger.proofs.MadeFacts.{outcome-step, fails_job-step, made_as-uid, made_as-upto, made_as-born, WasMadeUnder, has_job-was_made, put-step}
+use Rattle.jc_ledger.proofs.OwnFacts.{found_any}
 use Rattle.jc_ledger.proofs.PutFacts.{ties_of}
-use Rattle.jc_ledger.proofs.SeenFacts.{step_to, step_on, Saw, saw, any_other, active_alive, succeeded_phase, fails_early}
+use Rattle.jc_ledger.proofs.SeenFacts.{step_to, step_on, Saw, saw, active_alive, succeeded_phase, fails_early}
 use Rattle.jc_ledger.proofs.TakenFacts.{Justly}
 
 -- ---- a pod of the Job
@@ -185,7 +186,7 @@ newly_in job outcome pods seen found own come unlisted =
     newly-member seen.uid job (own_pods job pods) outcome
     ∙ and_from (not (is_listed job.status seen.uid)) (list_any (λ p. has_come_to job outcome p && same_uid p.uid seen.uid) (own_pods job pods)) (not_from_false (is_listed job.status seen.uid) unlisted)
     (any_filter (λ p. has_come_to job outcome p && same_uid p.uid seen.uid) (is_own job) pods
-    ∙ any_other (λ p. is_own job p && (has_come_to job outcome p && same_uid p.uid seen.uid)) (λ p. same_uid p.uid seen.uid) pods seen found
+    ∙ found_any (λ p. same_uid p.uid seen.uid) (λ p. is_own job p && (has_come_to job outcome p && same_uid p.uid seen.uid)) pods seen found
     (and_from (is_own job seen) (has_come_to job outcome seen && same_uid seen.uid seen.uid) own
     (and_from (has_come_to job outcome seen) (same_uid seen.uid seen.uid) come (same_uid-itself seen.uid))))
 
@@ -195,7 +196,7 @@ index_in : (job : Job) (pods : List Pod) (seen : Pod) (n : ℕ) → find (λ (p 
 index_in job pods seen n found own come unlisted index =
     any_filter (has_index n) (is_new job Succeeded) (own_pods job pods)
     ∙ any_filter (λ p. is_new job Succeeded p && has_index n p) (is_own job) pods
-    ∙ any_other (λ p. is_own job p && (is_new job Succeeded p && has_index n p)) (λ p. same_uid p.uid seen.uid) pods seen found
+    ∙ found_any (λ p. same_uid p.uid seen.uid) (λ p. is_own job p && (is_new job Succeeded p && has_index n p)) pods seen found
     (and_from (is_own job seen) (is_new job Succeeded seen && has_index n seen) own
     (and_from (is_new job Succeeded seen) (has_index n seen)
     (and_from (has_come_to job Succeeded seen) (not (is_listed job.status seen.uid)) come (not_from_false (is_listed job.status seen.uid) unlisted))

@@ -10,7 +10,7 @@ use Rattle.jc_types.specs.declared.objects.Pod.{Pod}
 use Rattle.jc_types.specs.Deeds.{Deed}
 use Rattle.jc_types.specs.Log.{Live, upto, entry_at, job_in, is_job_of, is_born, life}
 use Rattle.jc_types.specs.Writes.{JobStep, Allowed, Legal}
-use Rattle.jc_types.proofs.BirthFacts.{life_is_interval, Owned, owner_first}
+use Rattle.jc_types.proofs.BirthFacts.{life_is_interval}
 use Rattle.jc_types.proofs.KeyFacts.{same_uid-itself}
 use Rattle.jc_types.proofs.LogFacts.{upto-all}
 use Rattle.jc_types.proofs.PlaceFacts.{job_in-entry}
@@ -21,7 +21,8 @@ use Rattle.jc_ledger.specs.Once.{taking_of, PutBefore, Cause, WasJudged, IsIgnor
 use Rattle.jc_ledger.specs.Syncs.{reach, request_of}
 use Rattle.jc_ledger.specs.Tied.{made_as, IsTidy, IsListing, IsCurrent, TiesJob, TakesWell, AllWell, IsReached, Tied}
 use Rattle.jc_ledger.proofs.DistinctFacts.{ascends_distinct}
-use Rattle.jc_ledger.proofs.MadeFacts.{outcome-step, fails_job-step, job_in-was_made, has_job-was_made, made_as-born}
+use Rattle.jc_ledger.proofs.FrameFacts.{owner_made}
+use Rattle.jc_ledger.proofs.MadeFacts.{outcome-step, fails_job-step, job_in-was_made, made_as-born}
 use Rattle.jc_ledger.proofs.PutFacts.{ties_of}
 
 -- ---- finalizers
@@ -48,8 +49,7 @@ IsJustified-step made job records w log lets_go pod step i = record {
 owner_born : (u : Uid) (n : ℕ) (log : List Entry) (pod : Pod) → Legal log → life u (upto n log) ≡ Live pod → is_born pod.owner_uid (upto n log) ≡ true
 owner_born u n log pod legal lives =
     let prefix = Follows-upto Allowed n log legal in
-    let own = subst (Owned (upto n log)) lives (owner_first u (upto n log) prefix) in
-    let under = has_job-was_made pod.owner_uid pod.owner (upto n log) (Stored-from_legal (upto n log) prefix) own in
+    let under = owner_made u (upto n log) pod prefix lives in
     made_as-born pod.owner_uid (upto n log) under.made under.is_made
 
 -- A Job that is there was there when a pod of it was.

@@ -2,6 +2,7 @@
 use Rattle.std.proofs.Common.{◌≡◌, ℕ, ◌≤◌, Bool, true, false, cond, not, ◌&&◌, ◌||◌, List, [], ◌∷◌, find, Option, Some, None, refl, sym, ap, ◌∙◌, subst, true≢false}
 use Rattle.std.specs.List.{AllByRecursion as Each, list_any}
 use Rattle.std.proofs.lemmas.Bool.{and_from, or_left, or_right, not_from_false}
+use Rattle.std.proofs.Math.Bool.{and-false}
 use Rattle.jc_types.specs.declared.numbers.Uid.{Uid}
 use Rattle.jc_types.specs.declared.objects.Entry.{Entry}
 use Rattle.jc_types.specs.declared.objects.Job.{Job}
@@ -13,7 +14,6 @@ use Rattle.jc_types.specs.Keys.{same_key, same_uid}
 use Rattle.jc_types.specs.Log.{Life, Never, Live, Gone, upto, job_in, life, living, is_lost, pods_in, pods_of, IsRising}
 use Rattle.jc_types.specs.Pods.{is_tracked}
 use Rattle.jc_types.specs.Writes.{Allowed, Legal, Stored}
-use Rattle.jc_types.proofs.BirthFacts.{Owned, owner_first}
 use Rattle.jc_types.proofs.KeyFacts.{same_key-itself, same_uid-eq, same_uid-itself}
 use Rattle.jc_types.proofs.ListFacts.{Each-weaker, any_filter, filter_filter, filter_same}
 use Rattle.jc_types.proofs.PodFacts.{pods_in-among, pods_in-live, pods_in-rises, pods_of-live, pods_of-owned, rises_filter}
@@ -21,7 +21,8 @@ use Rattle.jc_types.proofs.WriteFacts.{Follows-upto, Stored-from_legal, job_in-k
 use Rattle.jc_account.specs.Judged.{has_tracked}
 use Rattle.jc_ledger.specs.Flights.{IsBasisOf}
 use Rattle.jc_ledger.specs.Tied.{made_as}
-use Rattle.jc_ledger.proofs.MadeFacts.{made_as-upto, job_in-was_made, has_job-was_made}
+use Rattle.jc_ledger.proofs.FrameFacts.{owner_made}
+use Rattle.jc_ledger.proofs.MadeFacts.{made_as-upto, job_in-was_made}
 
 -- The key under which a Job is found is that of all pods that were made for it.
 pub owner-key : (k : Key) (x y : ℕ) (log : List Entry) (job : Job) (pod : Pod) → Legal log → job_in k (upto x log) ≡ Some job
@@ -29,8 +30,7 @@ pub owner-key : (k : Key) (x y : ℕ) (log : List Entry) (job : Job) (pod : Pod)
 owner-key k x y log job pod legal there live own =
     let legal_y = Follows-upto Allowed y log legal in
     let stored_x = Stored-from_legal (upto x log) (Follows-upto Allowed x log legal) in
-    let owned = subst (Owned (upto y log)) live (owner_first pod.uid (upto y log) legal_y) in
-    let under = has_job-was_made pod.owner_uid pod.owner (upto y log) (Stored-from_legal (upto y log) legal_y) owned in
+    let under = owner_made pod.uid (upto y log) pod legal_y live in
     let was = job_in-was_made k (upto x log) job stored_x there in
     let one = made_as-upto pod.owner_uid y log under.made under.is_made in
     let other = made_as-upto job.uid x log was.made was.is_made in
@@ -49,15 +49,11 @@ own-is log basis job legal is saw =
     (Each-weaker (λ pod. life pod.uid seen ≡ Live pod) (λ pod. (same_key pod.owner k && is_own job pod) ≡ is_own job pod)
     (λ pod live. by pod live (is_own job pod) refl) (pods_in seen) (pods_in-live seen))
   where
-    none : (b : Bool) → (b && false) ≡ false
-    none true = refl
-    none false = refl
-
     by : (pod : Pod) → life pod.uid (upto basis.pods_at.0 log) ≡ Live pod → (b : Bool) → is_own job pod ≡ b → (same_key pod.owner basis.key && is_own job pod) ≡ is_own job pod
     by pod live true own =
         let key = owner-key basis.key basis.jobs_at.0 basis.pods_at.0 log job pod legal (sym is.job ∙ saw) live (same_uid-eq pod.owner_uid job.uid own) in
         ap (λ b. b && is_own job pod) (ap (λ o. same_key o basis.key) key ∙ same_key-itself basis.key)
-    by pod live false own = ap (λ b. same_key pod.owner basis.key && b) own ∙ none (same_key pod.owner basis.key) ∙ sym own
+    by pod live false own = ap (λ b. same_key pod.owner basis.key && b) own ∙ and-false (same_key pod.owner basis.key) ∙ sym own
 
 -- Pods that a sync saw ascend.
 pub basis-rises : (log : List Entry) (basis : Basis) → IsBasisOf log basis → IsRising basis.pods

@@ -1,7 +1,6 @@
 -- A pod as a sync saw it, and what it has come to by now.
-use Rattle.std.proofs.Common.{◌≡◌, ◌≢◌, ℕ, ◌≤◌, Bool, true, false, cond, not, ◌&&◌, ◌||◌, List, [], ◌∷◌, find, Option, Some, None, is_some, IsSome, refl, sym, ap, ◌∙◌, subst, true≢false}
-use Rattle.std.specs.List.{list_any}
-use Rattle.std.proofs.lemmas.Bool.{and_parts, or_left, or_right}
+use Rattle.std.proofs.Common.{◌≡◌, ◌≢◌, ℕ, ◌≤◌, Bool, true, false, not, ◌&&◌, List, find, Option, Some, None, is_some, IsSome, refl, sym, ap, ◌∙◌, subst, true≢false}
+use Rattle.std.proofs.lemmas.Bool.{and_parts}
 use Rattle.jc_types.specs.declared.numbers.Uid.{Uid}
 use Rattle.jc_types.specs.declared.objects.Entry.{Entry}
 use Rattle.jc_types.specs.declared.objects.Phase.{Phase}
@@ -109,17 +108,6 @@ saw log basis seen is found = record {
   where
     there : find (λ (p : Pod). same_uid p.uid seen.uid) (pods_under basis.key (upto basis.pods_at.0 log)) ≡ Some seen
     there = ap (find (λ (p : Pod). same_uid p.uid seen.uid)) (sym is.pods) ∙ found
-
--- What is found by one test and passes another: some element passes the other.
-pub any_other : {X : Type 0} (test found : X → Bool) (xs : List X) (x : X) → find found xs ≡ Some x → test x ≡ true → list_any test xs ≡ true
-any_other {X = X} test found [] x h t = absurd (true≢false (sym (ap is_some h)))
-any_other {X = X} test found (y ∷ ys) x h t = by (any_other test found ys x) (found y) h
-  where
-    by : (find found ys ≡ Some x → test x ≡ true → list_any test ys ≡ true) → (b : Bool) → cond b (Some y) (find found ys) ≡ Some x → (test y || list_any test ys) ≡ true
-    by ih true g =
-        let same : y ≡ x = ap (λ (o : Option X). elim o [ None ↦ y | Some z ↦ z ]) g in
-        or_left (test y) (list_any test ys) (ap test same ∙ t)
-    by ih false g = or_right (test y) (list_any test ys) (ih g t)
 
 -- ---- outcomes
 

@@ -5,6 +5,7 @@ use Rattle.std.specs.List.{AllByRecursion as Each, IsDistinct, cons_option}
 use Rattle.std.specs.Set.{is_member}
 use Rattle.std.proofs.lemmas.List.{length-append, length-map}
 use Rattle.std.proofs.lemmas.Map.Made.{length-le_from_is_member}
+use Rattle.std.proofs.lemmas.Bool.{or_right}
 use Rattle.jc_types.specs.declared.numbers.Uid.{Uid}
 use Rattle.jc_types.specs.declared.objects.Entry.{Entry}
 use Rattle.jc_types.specs.declared.objects.Entry.TheVariants.{JobPut, JobGone, PodPut, PodGone}
@@ -51,16 +52,11 @@ length-puts (PodGone pod ∷ older) = omega (arith, length-puts older)
 abbrev pub is_put : Uid → List Entry → Bool
 is_put u log = is_member same_uid (puts_of log) u
 
--- What holds of the second holds of either.
-or_second : (a b : Bool) → b ≡ true → (a || b) ≡ true
-or_second true b h = refl
-or_second false b h = h
-
 -- What was put stays put.
 put_more : (u : Uid) (e : Entry) (older : List Entry) → is_put u older ≡ true → is_put u (e ∷ older) ≡ true
 put_more u (JobPut job) older h = h
 put_more u (JobGone job) older h = h
-put_more u (PodPut pod) older h = or_second (same_uid u pod.uid) (is_put u older) h
+put_more u (PodPut pod) older h = or_right (same_uid u pod.uid) (is_put u older) h
 put_more u (PodGone pod) older h = h
 
 -- What was put among the first entries was put.
@@ -81,7 +77,7 @@ live_put u (PodPut new ∷ older) pod h = by (same_uid new.uid u) refl (live_put
   where
     by : (b : Bool) → same_uid new.uid u ≡ b → (life u older ≡ Live pod → is_put u older ≡ true) → cond b (Live new) (life u older) ≡ Live pod → is_put u (PodPut new ∷ older) ≡ true
     by true s ih g = ap (λ b. b || is_put u older) (same_uid-either_way u new.uid ∙ s)
-    by false s ih g = or_second (same_uid u new.uid) (is_put u older) (ih g)
+    by false s ih g = or_right (same_uid u new.uid) (is_put u older) (ih g)
 live_put u (PodGone gone ∷ older) pod h = by (same_uid gone.uid u) (live_put u older pod) h
   where
     by : (b : Bool) → (life u older ≡ Live pod → is_put u older ≡ true) → cond b Gone (life u older) ≡ Live pod → is_put u older ≡ true

@@ -1,6 +1,6 @@
 -- What is kept of a ledger: its rows, and the set of its indexes.
 use Rattle.std.proofs.Common.{◌≡◌, ℕ, ◌+◌, ◌<◌, ◌≤◌, Bool, true, false, cond, not, ◌&&◌, ◌||◌, ltb, List, [], ◌∷◌, ◌++◌, map, filter, find, length, get_or, drop, Option, Some, None, is_some, Result, refl, sym, ap, ◌∙◌, subst, arith}
-use Rattle.std.specs.List.{AllByRecursion, cons_option, list_any, insert}
+use Rattle.std.specs.List.{cons_option, list_any, insert}
 use Rattle.std.specs.List.Sorted.{IsBinarySearchResult}
 use Rattle.std.specs.Ordering.{nat_cmp}
 use Rattle.std.specs.Result.{MatchResult}
@@ -9,7 +9,7 @@ use Rattle.std.proofs.lemmas.List.{drop_more, map-append, length-map, length-app
 use Rattle.std.proofs.lemmas.List.Sorted.{searched}
 use Rattle.std.proofs.lemmas.Result.{MatchResult-weaker}
 use Rattle.jc_ranges.specs.Sets.{IsIncreasing, with_member}
-use Rattle.jc_ranges.proofs.Order.{each_weaker, increasing_append, non_decreasing, present, absent}
+use Rattle.jc_ranges.proofs.Order.{non_decreasing, present, absent}
 use Rattle.jc_types.specs.declared.numbers.Uid.{Uid}
 use Rattle.jc_types.specs.declared.objects.Job.{Job}
 use Rattle.jc_types.specs.declared.objects.Pod.{Pod}
@@ -34,47 +34,6 @@ pub searched_place : (n : ℕ) (xs ys : List ℕ) (r : Result ℕ ℕ) → ys �
 searched_place n xs ys r same s h =
     let found = searched xs n r (subst (λ zs. IsBinarySearchResult (λ y. nat_cmp y n) zs r) same h) (λ i j q k. non_decreasing xs s i j 0 q k) in
     MatchResult-weaker r found (λ i q. present n xs i s q.0 q.1) (λ i q. (absent n xs i q.0 q.1 q.2).1)
-
--- What each has, each that passes has.
-each_kept : (P : ℕ → Type 0) (p : ℕ → Bool) (xs : List ℕ) → AllByRecursion P xs → AllByRecursion P (filter p xs)
-each_kept P p [] a = tt
-each_kept P p (x ∷ xs) a =
-    elim (p x) as (λ b. AllByRecursion P (cond b (x ∷ filter p xs) (filter p xs))) [
-      | true ↦ (a.0, each_kept P p xs a.1)
-      | false ↦ each_kept P p xs a.1
-    ]
-
--- What passes a test has what the test says.
-each_tested : (P : ℕ → Type 0) (p : ℕ → Bool) → ((x : ℕ) → p x ≡ true → P x) → (xs : List ℕ) → AllByRecursion P (filter p xs)
-each_tested P p f [] = tt
-each_tested P p f (x ∷ xs) =
-    elim (p x) as (λ b. p x ≡ b → AllByRecursion P (cond b (x ∷ filter p xs) (filter p xs))) [
-      | true ↦ λ e. (f x e, each_tested P p f xs)
-      | false ↦ λ e. each_tested P p f xs
-    ] refl
-
--- Increasing numbers that pass a test increase.
-increasing_kept : (p : ℕ → Bool) (xs : List ℕ) → IsIncreasing xs → IsIncreasing (filter p xs)
-increasing_kept p [] s = tt
-increasing_kept p (x ∷ xs) s =
-    elim (p x) as (λ b. IsIncreasing (cond b (x ∷ filter p xs) (filter p xs))) [
-      | true ↦ (each_kept (λ y. x < y) p xs s.0, increasing_kept p xs s.1)
-      | false ↦ increasing_kept p xs s.1
-    ]
-
--- A member more keeps the order.
-pub increasing_with : (n : ℕ) (xs : List ℕ) → IsIncreasing xs → IsIncreasing (with_member n xs)
-increasing_with n xs s =
-    let back = filter (λ x. ltb n x) xs in
-    let below : AllByRecursion (λ x. x < n) (filter (λ x. ltb x n) xs) = each_tested (λ x. x < n) (λ x. ltb x n) (λ x e. ltb-true x n e) xs in
-    let above : AllByRecursion (λ x. n < x) back = each_tested (λ x. n < x) (λ x. ltb n x) (λ x e. ltb-true n x e) xs in
-    increasing_append (filter (λ x. ltb x n) xs) (n ∷ back) n (increasing_kept (λ x. ltb x n) xs s) (above, increasing_kept (λ x. ltb n x) xs s) below
-    (omega arith, each_weaker (λ x. n < x) (λ x. n ≤ x) (λ x q. omega (arith, q)) back above)
-
--- And so do all that join.
-pub increasing_join : (xs more : List ℕ) → IsIncreasing xs → IsIncreasing (join xs more)
-increasing_join xs [] s = s
-increasing_join xs (n ∷ more) s = increasing_with n (join xs more) (increasing_join xs more s)
 
 -- How many are below or above a number: at most all.
 parted : (n : ℕ) (xs : List ℕ) → length (filter (λ x. ltb x n) xs) + length (filter (λ x. ltb n x) xs) ≤ length xs

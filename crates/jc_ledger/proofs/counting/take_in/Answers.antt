@@ -4,7 +4,7 @@ use Rattle.jc_ranges.specs.Sets.{IsIncreasing}
 use Rattle.jc_types.specs.Deeds.{deed}
 use Rattle.jc_types.specs.Log.{pods_of}
 use Rattle.jc_ledger.specs.Verdicts.{deeds_of, indexes_in, new_rows}
-use Rattle.jc_ledger.proofs.VerdictRows.{increasing_join}
+use Rattle.jc_ledger.proofs.DoneFacts.{increases_join}
 use Rattle.jc_ledger.proofs.VerdictEvents.{taken_none, taken_other, taken_own, taken_unknown}
 use Rattle.jc_ledger.proofs.VerdictKeys.{keys_none}
 use Rattle.jc_ledger.proofs.counting.take_in.Goals as goal
@@ -32,7 +32,7 @@ returns-clause-counted c =
 pub returns-clause-order : goal.returns-clause-order
 returns-clause-order c =
     subst IsIncreasing (sym c.in_ok-judge.ensures.done)
-    (increasing_join c.args.book.now.done.items (indexes_in (new_rows c.in-Some-job_among.job.now.spec c.args.book.now.rows.items (pods_of c.in-Some-job_among.job.now.uid (reverse (take c.in-Begun.pods_at.0 c.args.log.now))))) c.requires.order)
+    (increases_join c.args.book.now.done.items (indexes_in (new_rows c.in-Some-job_among.job.now.spec c.args.book.now.rows.items (pods_of c.in-Some-job_among.job.now.uid (reverse (take c.in-Begun.pods_at.0 c.args.log.now))))) c.requires.order)
 
 pub returns-then-not-is_among-clause-counted : goal.returns-then-not-is_among-clause-counted
 returns-then-not-is_among-clause-counted c =
