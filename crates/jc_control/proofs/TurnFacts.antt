@@ -12,6 +12,7 @@ use Rattle.jc_queue.proofs.DueFacts.{due_keys-none, due_keys-some, fewer-left, l
 use Rattle.jc_queue.proofs.QueueFacts.{is_in-last}
 use Rattle.jc_queue.specs.Delayed.{Delayed, due_key, due_keys, left_after, left_by}
 use Rattle.jc_queue.specs.Queued.{IsQueue, Queued, added, finished, got, got_first, is_in, retracted, without}
+use Rattle.std.proofs.lemmas.Bool.{or_right}
 use Rattle.jc_types.specs.declared.numbers.Version.{Version}
 use Rattle.jc_types.specs.declared.objects.Key.{Key}
 use Rattle.jc_types.specs.declared.syncs.Basis.{Basis}
@@ -125,10 +126,6 @@ noted_there rows k = by (at same_key rows k) refl
         ∙ ap (λ b. cond b (Some unknown) (at same_key rows k)) (same_key-itself k))
     by (Some known) e = ap is_some e
 
-or-right : (a b : Bool) → b ≡ true → (a || b) ≡ true
-or-right true b h = refl
-or-right false b h = h
-
 or-weaker : (a b c : Bool) → (b ≡ true → c ≡ true) → (a || b) ≡ true → (a || c) ≡ true
 or-weaker true b c w h = refl
 or-weaker false b c w h = w h
@@ -138,7 +135,7 @@ in_without j k [] h = h
 in_without j k (x ∷ keys) h = by (same_key k x) h (in_without j k keys)
   where
     by : (b : Bool) → is_in j (cond b keys (x ∷ without k keys)) ≡ true → (is_in j (without k keys) ≡ true → is_in j keys ≡ true) → (same_key j x || is_in j keys) ≡ true
-    by true h ih = or-right (same_key j x) (is_in j keys) h
+    by true h ih = or_right (same_key j x) (is_in j keys) h
     by false h ih = or-weaker (same_key j x) (is_in j (without k keys)) (is_in j keys) ih h
 
 -- A key that is done needs no row.
@@ -189,4 +186,4 @@ pub got_busy : (q new : Queued) (k : Key) → Some k ≡ slice_get q.line 0 → 
 got_busy q new k first n =
     let h = head_is q.line k first in
     ap (λ (q : Queued). is_in k q.processing) (n ∙ ap (λ line. got_first line q) h.1)
-    ∙ is_in-last k k q.processing ∙ or-right (is_in k q.processing) (same_key k k) (same_key-itself k)
+    ∙ is_in-last k k q.processing ∙ or_right (is_in k q.processing) (same_key k k) (same_key-itself k)
