@@ -10,6 +10,3 @@ pub use texts::MomentFault;
 
 /// There was no memory.
 pub type Want = std::alloc::AllocError;
-
-#[cfg(test)]
-mod tests;

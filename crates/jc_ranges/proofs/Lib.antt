@@ -5,3 +5,7 @@ pub mod Cuts
 pub mod Named
 pub mod Rising
 pub mod Back
+pub mod Apart
+pub mod Counts
+pub mod Puts
+pub mod Writing

@@ -1,18 +1,14 @@
 -- Facts on increasing lists, and on what stands below, at and above a number in them.
-use Rattle.std.proofs.Common.{◌≡◌, ℕ, zero, suc, ◌+◌, ◌<◌, ◌≤◌, Bool, true, false, cond, ◌||◌, ◌&&◌, eqb, ltb, List, [], ◌∷◌, ◌++◌, length, get_or, take, drop, refl, sym, ap, ◌∙◌, subst, Result, Ok, Err, inl, inr, arith, take-append-drop}
-use Rattle.std.proofs.lemmas.Bool.{lt-ltb, le-ltb, eq-eqb, ne_eqb, or_right, cases_lt, cases_order, or_cases, eqb-true, false≢true, ltb-true}
+use Rattle.std.proofs.Common.{◌≡◌, ℕ, zero, suc, ◌+◌, ◌<◌, ◌≤◌, Bool, true, false, ◌||◌, ◌&&◌, eqb, ltb, List, [], ◌∷◌, ◌++◌, length, get_or, take, drop, refl, sym, ap, ◌∙◌, inl, inr, arith, take-append-drop}
+use Rattle.std.proofs.lemmas.Bool.{lt-ltb, le-ltb, eq-eqb, ne_eqb, or_right, cases_lt, cases_order, eqb-true}
 use Rattle.std.proofs.lemmas.List.{length-take-le, drop_more}
 use Rattle.std.proofs.lemmas.List.Elements.{All-from_recursion}
 use Rattle.std.proofs.lemmas.List.Folds.{list_any-append}
 use Rattle.std.proofs.lemmas.Map.Views.{any-filter_same}
 use Rattle.std.proofs.lemmas.List.Sums.{length-filter}
-use Rattle.std.proofs.lemmas.List.Sorted.{IsPartitionedBy-ltb, searched}
-use Rattle.std.proofs.lemmas.Result.{MatchResult-weaker}
-use Rattle.std.specs.List.Sorted.{IsPartitionedBy, IsPartitionPoint, IsBinarySearchResult}
-use Rattle.std.specs.Ordering.{nat_cmp}
-use Rattle.std.specs.Result.{MatchResult, is_ok}
 use Rattle.std.specs.List.{AllByRecursion, filter, insert}
-use Rattle.jc_ranges.specs.Sets.{IsIncreasing, IsSet, has, with_member, count_below, IsFirstMissing}
+use Rattle.jc_ranges.specs.Sets.{IsIncreasing, IsSet, has, with_member, count_below}
+use Rattle.jc_ranges.specs.declared.bounds.TheConstants.{GREATEST_INDEX}
 
 -- What holds of each element.
 pub each_weaker : (P Q : ℕ → Type 0) → ((y : ℕ) → P y → Q y) → (xs : List ℕ) → AllByRecursion P xs → AllByRecursion Q xs
@@ -22,32 +18,6 @@ each_weaker P Q f (x ∷ xs) a = (f x a.0, each_weaker P Q f xs a.1)
 pub each_append : (P : ℕ → Type 0) (xs ys : List ℕ) → AllByRecursion P xs → AllByRecursion P ys → AllByRecursion P (xs ++ ys)
 each_append P [] ys a b = b
 each_append P (x ∷ xs) ys a b = (a.0, each_append P xs ys a.1 b)
-
-each_filter : (P : ℕ → Type 0) (p : ℕ → Bool) (xs : List ℕ) → AllByRecursion P xs → AllByRecursion P (filter p xs)
-each_filter P p [] a = tt
-each_filter P p (x ∷ xs) a =
-    elim (p x) as (λ b. AllByRecursion P (cond b (x ∷ filter p xs) (filter p xs))) [
-      | true ↦ (a.0, each_filter P p xs a.1)
-      | false ↦ each_filter P p xs a.1
-    ]
-
--- What passes a test has what the test says.
-each_passing : (P : ℕ → Type 0) (p : ℕ → Bool) → ((x : ℕ) → p x ≡ true → P x) → (xs : List ℕ) → AllByRecursion P (filter p xs)
-each_passing P p f [] = tt
-each_passing P p f (x ∷ xs) =
-    elim (p x) as (λ b. p x ≡ b → AllByRecursion P (cond b (x ∷ filter p xs) (filter p xs))) [
-      | true ↦ λ e. (f x e, each_passing P p f xs)
-      | false ↦ λ e. each_passing P p f xs
-    ] refl
-
--- Increasing lists.
-increasing_filter : (p : ℕ → Bool) (xs : List ℕ) → IsIncreasing xs → IsIncreasing (filter p xs)
-increasing_filter p [] s = tt
-increasing_filter p (x ∷ xs) s =
-    elim (p x) as (λ b. IsIncreasing (cond b (x ∷ filter p xs) (filter p xs))) [
-      | true ↦ (each_filter (λ y. x < y) p xs s.0, increasing_filter p xs s.1)
-      | false ↦ increasing_filter p xs s.1
-    ]
 
 pub increasing_append : (xs ys : List ℕ) (m : ℕ) → IsIncreasing xs → IsIncreasing ys → AllByRecursion (λ x. x < m) xs → AllByRecursion (λ y. m ≤ y) ys → IsIncreasing (xs ++ ys)
 increasing_append [] ys m s t a b = t
@@ -83,8 +53,8 @@ pub each_from_zero : (xs : List ℕ) → AllByRecursion (λ x. 0 ≤ x) xs
 each_from_zero [] = tt
 each_from_zero (x ∷ xs) = (omega arith, each_from_zero xs)
 
-pub length_small : (xs : List ℕ) → IsSet xs → length xs ≤ 100000
-length_small xs s = let le = length_between xs 0 100000 s.increasing (each_from_zero xs) s.small (omega arith) in omega (arith, le)
+pub length_small : (xs : List ℕ) → IsSet xs → length xs ≤ suc GREATEST_INDEX
+length_small xs s = let le = length_between xs 0 (suc GREATEST_INDEX) s.increasing (each_from_zero xs) (each_weaker (λ x. x ≤ GREATEST_INDEX) (λ x. x < suc GREATEST_INDEX) (λ x h. omega arith) xs s.small) (omega arith) in omega (arith, le)
 
 -- A filter whose test passes before a place and fails from there on, and one the other way round.
 pub filter_front : (p : ℕ → Bool) (xs : List ℕ) (i : ℕ) → i ≤ length xs → ((k : ℕ) → k < i → p (get_or xs k 0) ≡ true) → ((k : ℕ) → i ≤ k → k < length xs → p (get_or xs k 0) ≡ false) → filter p xs ≡ take i xs
@@ -142,43 +112,10 @@ absent n xs i h a b = (
       rw (front, back),
 )
 
--- A set stays one with a member more.
-pub IsSet-with_member : (n : ℕ) (xs : List ℕ) → n ≤ 99999 → IsSet xs → IsSet (with_member n xs)
-IsSet-with_member n xs h s =
-    let front = filter (λ x. ltb x n) xs in
-    let back = filter (λ x. ltb n x) xs in
-    let below : AllByRecursion (λ x. x < n) front = each_passing (λ x. x < n) (λ x. ltb x n) (λ x e. ltb-true x n e) xs in
-    let above : AllByRecursion (λ x. n < x) back = each_passing (λ x. n < x) (λ x. ltb n x) (λ x e. ltb-true n x e) xs in
-    record {
-      increasing = increasing_append front (n ∷ back) n (increasing_filter _ xs s.increasing) (above, increasing_filter _ xs s.increasing) below
-          (omega arith, each_weaker (λ x. n < x) (λ x. n ≤ x) (λ x q. omega arith) back above);
-      small = each_append (λ x. x < 100000) front (n ∷ back) (each_filter _ _ xs s.small) (omega arith, each_filter _ _ xs s.small);
-    }
-
 -- How many are below n, where a place parts those that are from those that are not.
 pub count_at : (n : ℕ) (xs : List ℕ) (i : ℕ) → i ≤ length xs → ((k : ℕ) → k < i → ltb (get_or xs k 0) n ≡ true) → ((k : ℕ) → i ≤ k → k < length xs → ltb (get_or xs k 0) n ≡ false) → i ≡ count_below n xs
 count_at n xs i h a b =
     sym (sym (length-filter (λ x. ltb x n) xs) ∙ ap length (filter_front (λ x. ltb x n) xs i h a b) ∙ length-take-le i xs h)
-
-pub partitioned : (n : ℕ) (xs : List ℕ) → IsSet xs → IsPartitionedBy (λ x. ltb x n) xs
-partitioned n xs s = IsPartitionedBy-ltb (λ x. x) xs n (λ i j d h k. non_decreasing xs s.increasing i j d h k)
-
-pub count_parted : (n : ℕ) (xs ys : List ℕ) (i : ℕ) → ys ≡ xs → i ≤ length ys → IsPartitionPoint (λ y. ltb y n ≡ true) (λ y. ltb y n ≡ false) ys i → i ≡ count_below n xs
-count_parted n xs ys i same h p = count_at n ys i h (λ k q. p.0 k 0 (omega arith) q) (λ k q r. p.1 k 0 q r) ∙ ap (count_below n) same
-
--- What a search finds.
-pub searched_in : (n : ℕ) (xs ys : List ℕ) (r : Result ℕ ℕ) → ys ≡ xs → IsSet xs → IsBinarySearchResult (λ y. nat_cmp y n) ys r → MatchResult r (λ i. (has n xs ≡ true) × (xs ≡ with_member n xs)) (λ i. (has n xs ≡ false) × (insert xs i n ≡ with_member n xs))
-searched_in n xs ys r same s h =
-    let found = searched xs n r (subst (λ zs. IsBinarySearchResult (λ y. nat_cmp y n) zs r) same h) (λ i j q k. non_decreasing xs s.increasing i j 0 q k) in
-    MatchResult-weaker r found (λ i q. (has_at n xs i q.0 q.1, present n xs i s.increasing q.0 q.1)) (λ i q. absent n xs i q.0 q.1 q.2)
-
-pub found_is : (n : ℕ) (xs : List ℕ) (r : Result ℕ ℕ) → MatchResult r (λ i. (has n xs ≡ true) × (xs ≡ with_member n xs)) (λ i. (has n xs ≡ false) × (insert xs i n ≡ with_member n xs)) → is_ok r ≡ has n xs
-found_is n xs (Ok i) h = sym h.0
-found_is n xs (Err i) h = sym h.0
-
-pub found_at : (n : ℕ) (xs ys : List ℕ) (i : ℕ) → ys ≡ xs → IsSet xs → IsBinarySearchResult (λ y. nat_cmp y n) ys (Ok i) → (i < length xs) × (get_or xs i 0 ≡ n)
-found_at n xs ys i same s h =
-    searched xs n (Ok i) (subst (λ zs. IsBinarySearchResult (λ y. nat_cmp y n) zs (Ok i)) same h) (λ i j q k. non_decreasing xs s.increasing i j 0 q k)
 
 -- What a set with a member more has.
 pub has-with_member : (m n : ℕ) (xs : List ℕ) → has m (with_member n xs) ≡ (eqb m n || has m xs)
@@ -199,18 +136,3 @@ has-with_member m n xs =
         or_false : (h : Bool) → (h || false) ≡ h
         or_false true = refl
         or_false false = refl
-
-pub has_small : (n : ℕ) (xs : List ℕ) → AllByRecursion (λ x. x < 100000) xs → has n xs ≡ true → n < 100000
-has_small n [] a h = absurd (false≢true h)
-has_small n (x ∷ xs) a h =
-    elim (or_cases (eqb x n) (has n xs) h) [
-      | inl same ↦ let is = eqb-true x n same in let small : x < 100000 = a.0 in omega (arith, is)
-      | inr more ↦ has_small n xs a.1 more
-    ]
-
-pub first_missing_small : (xs : List ℕ) (from n : ℕ) → from ≤ 99999 → IsSet xs → IsFirstMissing xs from n → n ≤ 100000
-first_missing_small xs from n h s f =
-    elim (cases_lt 100000 n) [
-      | inl lt ↦ let small = has_small 100000 xs s.small (f.least 100000 (omega arith) lt) in absurd (omega (arith, small))
-      | inr ge ↦ ge
-    ]

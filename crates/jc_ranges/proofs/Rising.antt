@@ -7,11 +7,13 @@ use Rattle.std.proofs.lemmas.List.Splits.{slice_split_at, slice_split_none, join
 use Rattle.std.proofs.lemmas.List.Sums.{sum_by_push, sum_by-cons}
 use Rattle.std.specs.List.{flat_map, join_with_byte, slice_split, sum_by, position}
 use Rattle.std.specs.Option.{unwrap_or}
-use Rattle.jc_ranges.specs.Texts.{Run, numbers, element, joined, elements, IsRunFrom, AreRising, NamesSet, BreaksAt}
-use Rattle.jc_ranges.specs.Steps.{NamesRun}
+use Rattle.jc_ranges.specs.Texts.{numbers, element, joined, elements, IsRunFrom, AreRising, NamesSet, BreaksAt}
+use Rattle.jc_ranges.specs.declared.runs.Run.{Run}
+use Rattle.jc_ranges.specs.Runs.{NamesRun}
 use Rattle.jc_ranges.proofs.Numerals.{few_digits}
 use Rattle.jc_ranges.proofs.Cuts.{Lacks, CutAt, cut_some, cut_none}
 use Rattle.jc_ranges.proofs.Named.{element_cases, element_no_comma, element_names_one}
+use Rattle.jc_ranges.specs.declared.bounds.TheConstants.{GREATEST_INDEX}
 
 -- The number that the runs behind `low` may go on with.
 abbrev pub low_after : ℕ → List Run → ℕ
@@ -48,7 +50,7 @@ elements_some (c ∷ cs) h = refl
 element_some : (low : ℕ) (r : Run) → IsRunFrom low r → 0 < length (element r)
 element_some low r h =
     let ordered : r.first ≤ r.last = h.ordered in
-    let small : r.last < 100000 = h.small in
+    let small : r.last ≤ GREATEST_INDEX = h.small in
     let some = decimal_nonempty r.first (few_digits r.first (omega arith)) in
     elim (element_cases r ordered) [
       | inl one ↦ rw one.1 some

@@ -1,3 +1,3 @@
 pub mod Sets
 pub mod Texts
-pub mod Steps
+pub mod Runs

@@ -1,6 +1,7 @@
 -- Sets of whole numbers below 100,000, as their members in increasing order.
 use Rattle.std.specs.Prelude.{◌≡◌, ℕ, ◌<◌, ◌≤◌, Bool, true, false, List, [], ◌∷◌, ◌++◌, ◌==◌, nat_lt, count_by}
 use Rattle.std.specs.List.{AllByRecursion, filter, list_any}
+use Rattle.jc_ranges.specs.declared.bounds.TheConstants.{GREATEST_INDEX}
 
 -- The numbers increase: each is below all that follow it.
 abbrev pub IsIncreasing : List ℕ → Type 0
@@ -10,7 +11,7 @@ IsIncreasing (x ∷ xs) = AllByRecursion (λ y. x < y) xs × IsIncreasing xs
 -- The members of a set, in increasing order.
 pub record IsSet (xs : List ℕ) : Type 0 where
   pub increasing : IsIncreasing xs
-  pub small : AllByRecursion (λ x. x < 100000) xs
+  pub small : AllByRecursion (λ x. x ≤ GREATEST_INDEX) xs
 
 -- Whether n is a member.
 abbrev pub has : ℕ → List ℕ → Bool

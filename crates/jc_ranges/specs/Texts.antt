@@ -1,16 +1,15 @@
 -- The texts of sets of numbers.
-use Rattle.std.specs.Prelude.{◌≡◌, ◌≢◌, ℕ, suc, ◌+◌, ◌-◌, ◌<◌, ◌≤◌, List, [], ◌∷◌, ◌++◌, map, length, ◌==◌, nat_lt, if◌then◌else◌, codes}
+use Rattle.std.specs.Prelude.{◌≡◌, ◌≢◌, ℕ, suc, ◌+◌, ◌-◌, ◌≤◌, List, [], ◌∷◌, ◌++◌, map, length, ◌==◌, nat_lt, if◌then◌else◌, codes}
 use Rattle.std.specs.Fmt.{decimal}
 use Rattle.std.specs.List.{range_with_len, flat_map, join_with_byte, slice_split, sum_by}
+use Rattle.jc_ranges.specs.declared.bounds.TheConstants.{GREATEST_INDEX}
+use Rattle.jc_ranges.specs.declared.runs.Run.{Run}
 
--- Consecutive numbers, from the first to the last.
-pub record Run : Type 0 where
-  pub first : ℕ
-  pub last : ℕ
-
+-- One number, as a run.
 abbrev pub single : ℕ → Run
 single n = record { first = n; last = n }
 
+-- The numbers of a run, from the first to the last.
 abbrev pub numbers : Run → List ℕ
 numbers r = range_with_len r.first (suc r.last - r.first)
 
@@ -23,14 +22,14 @@ abbrev pub joined : List Run → List ℕ
 joined rs = join_with_byte 44 (map element rs)
 
 -- The runs with x before them: x goes into the first run where that begins with the next number.
-abbrev pub with_first : ℕ → List Run → List Run
-with_first x [] = single x ∷ []
-with_first x (r ∷ rs) = if r.first == suc x then (record { first = x; last = r.last }) ∷ rs else single x ∷ r ∷ rs
+abbrev pub with_front_run : ℕ → List Run → List Run
+with_front_run x [] = single x ∷ []
+with_front_run x (r ∷ rs) = if r.first == suc x then (record { first = x; last = r.last }) ∷ rs else single x ∷ r ∷ rs
 
 -- The cut of increasing numbers into maximal runs of consecutive numbers.
 abbrev pub runs : List ℕ → List Run
 runs [] = []
-runs (x ∷ xs) = with_first x (runs xs)
+runs (x ∷ xs) = with_front_run x (runs xs)
 
 -- What is written for a maximal run: a run of three numbers or more as one element, a shorter one as
 -- an element for each number.
@@ -45,7 +44,13 @@ ranges_text xs = joined (flat_map written (runs xs))
 pub record IsRunFrom (low : ℕ) (r : Run) : Type 0 where
   pub above : low ≤ r.first
   pub ordered : r.first ≤ r.last
-  pub small : r.last < 100000
+  pub small : r.last ≤ GREATEST_INDEX
+
+-- The runs stand apart: between two of them at least one number is missing, and the first begins at
+-- `low` or above.
+abbrev pub StandApart : ℕ → List Run → Type 0
+StandApart low [] = Unit {0}
+StandApart low (r ∷ rs) = IsRunFrom low r × StandApart (suc (suc r.last)) rs
 
 -- The runs rise: each begins above the end of the one before, the first at `low` or above.
 abbrev pub AreRising : ℕ → List Run → Type 0

@@ -4,6 +4,7 @@ ghost use Rattle.std.specs.Prelude.{
   ◌≢◌,
   ℕ,
   ◌<◌,
+  ◌≤◌,
   ◌==◌,
   ◌⊎◌,
   true,
@@ -13,9 +14,18 @@ ghost use Rattle.std.specs.Prelude.{
   MatchOption,
 };
 ghost use Rattle.std.specs.Fmt.{decimal};
-ghost use Rattle.jc_ranges.specs.Texts.{Run};
-ghost use Rattle.jc_ranges.specs.Steps.{NamesRun};
+ghost use Rattle.jc_ranges.specs.declared.runs.Run.{Run};
+ghost use Rattle.jc_ranges.specs.Runs.{
+  NamesRun,
+  NamesNone,
+  ArePair,
+  AreNoPair,
+  IsNumeral,
+  IsNoNumeral,
+  BeginsPlainly,
+};
 
+use crate::bounds::GREATEST_INDEX;
 use std::str;
 
 /// The place of the first such byte.
@@ -27,7 +37,8 @@ pub fn place_of(text: &[u8], byte: u8) -> Option<usize>
 
 /// The first and the last number that an element names, where it begins at `low` or above.
 pub fn read_element(element: &[u8], low: u32) -> Option<(u32, u32)>
-    ensures { MatchOption result ((r : Run) → NamesRun low element.now r → ⊥) (λ run. NamesRun low element.now (record { first = run.0; last = run.1 })) }
+    ensures { MatchOption result (NamesNone low element.now)
+        (λ run. NamesRun low element.now (record { first = run.0; last = run.1 })) }
 {
     let (first, last) = read_run(element)?;
     if first < low {
@@ -38,7 +49,8 @@ pub fn read_element(element: &[u8], low: u32) -> Option<(u32, u32)>
 
 // The first and the last number that an element names.
 fn read_run(element: &[u8]) -> Option<(u32, u32)>
-    ensures { MatchOption result ((r : Run) → NamesRun 0 element.now r → ⊥) (λ run. NamesRun 0 element.now (record { first = run.0; last = run.1 })) }
+    ensures { MatchOption result (NamesNone 0 element.now)
+        (λ run. NamesRun 0 element.now (record { first = run.0; last = run.1 })) }
 {
     match place_of(element, b'-') {
         None => {
@@ -51,7 +63,8 @@ fn read_run(element: &[u8]) -> Option<(u32, u32)>
 
 // Two numbers, the second above the first.
 fn read_pair(first: &[u8], last: &[u8]) -> Option<(u32, u32)>
-    ensures { MatchOption result ((m n : ℕ) → m < n → n < 100000 → first.now ≡ decimal m → last.now ≢ decimal n) (λ pair. (pair.0 < pair.1) × (pair.1 < 100000) × (first.now ≡ decimal pair.0) × (last.now ≡ decimal pair.1)) }
+    ensures { MatchOption result (AreNoPair first.now last.now)
+        (λ pair. ArePair first.now last.now pair) }
 {
     let first = read_number(first)?;
     let last = read_number(last)?;
@@ -63,13 +76,13 @@ fn read_pair(first: &[u8], last: &[u8]) -> Option<(u32, u32)>
 
 // A number of at most 99,999, in decimal digits without leading zeros.
 fn read_number(word: &[u8]) -> Option<u32>
-    ensures { MatchOption result ((n : ℕ) → n < 100000 → word.now ≢ decimal n) (λ n. (n < 100000) × (word.now ≡ decimal n)) }
+    ensures { MatchOption result (IsNoNumeral word.now) (λ n. IsNumeral word.now n) }
 {
     if !begins_plainly(word) {
         return None;
     }
     let number = str::from_utf8(word).ok()?.parse::<u32>().ok()?;
-    if number > 99_999 {
+    if number > GREATEST_INDEX {
         return None;
     }
     Some(number)
@@ -77,8 +90,8 @@ fn read_number(word: &[u8]) -> Option<u32>
 
 // Whether a word has neither a leading zero nor a leading plus, both of which `str::parse` reads.
 fn begins_plainly(word: &[u8]) -> bool
-    ensures plain { result ≡ true → ((slice_index word.now 0 ≡ 48) × (length word.now ≡ 1)) ⊎ ((slice_index word.now 0 ≢ 48) × (slice_index word.now 0 ≢ 43)) }
-    ensures all { (n : ℕ) → n < 100000 → word.now ≡ decimal n → result ≡ true }
+    ensures plain { result ≡ true → BeginsPlainly word.now }
+    ensures all { (n : ℕ) → IsNumeral word.now n → result ≡ true }
 {
     match word.first() {
         None => false,

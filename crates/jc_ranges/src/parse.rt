@@ -1,11 +1,13 @@
 //! Reading a set from its text.
-ghost use Rattle.std.specs.Prelude.{◌≡◌, ℕ, ◌<◌, ◌≤◌, ◌⊎◌, List, ◌++◌, IfOk, OnOk, MatchResult};
+ghost use Rattle.std.specs.Prelude.{◌≡◌, ℕ, ◌⊎◌, List, IfOk, MatchResult};
+ghost use Rattle.std.specs.List.{flat_map};
 ghost use Rattle.jc_ranges.specs.Sets.{IsSet};
-ghost use Rattle.jc_ranges.specs.Texts.{numbers as numbers_of, NamesSet, BreaksAt, ranges_text};
-ghost use Rattle.jc_ranges.specs.Steps.{IsFaultOf};
+ghost use Rattle.jc_ranges.specs.Texts.{numbers, StandApart, NamesSet, BreaksAt, ranges_text};
+ghost use Rattle.jc_ranges.specs.Runs.{IsFaultOf};
 
 use crate::Want;
 use crate::elements::{place_of, read_element};
+use crate::runs::{Run, push_numbers};
 use crate::set::Ranges;
 use std::alloc::Global;
 
@@ -40,23 +42,30 @@ impl Ranges {
     /// `BadRanges`: the text is not of this form. `Want`: memory was refused.
     pub fn parse(alloc: Global, text: &[u8]) -> Result<Ranges, RangesFault>
         ensures named { IfOk result (λ set. NamesSet text.now set) }
-        ensures read { (xs : List ℕ) → NamesSet text.now xs → MatchResult result (λ set. set ≡ xs) (λ fault. fault ≡ RangesFault.Want) }
+        ensures read { (xs : List ℕ) → NamesSet text.now xs
+            → MatchResult result (λ set. set ≡ xs) (λ fault. fault ≡ RangesFault.Want) }
         ensures broken { (at : ℕ) → result ≡ Err (RangesFault.BadRanges at) → BreaksAt text.now at }
-        ensures refused { (at : ℕ) → BreaksAt text.now at → MatchResult result (λ set. ⊥) (λ fault. (fault ≡ RangesFault.BadRanges at) ⊎ (fault ≡ RangesFault.Want)) }
-        ensures back { (xs : List ℕ) → IsSet xs → text.now ≡ ranges_text xs → MatchResult result (λ set. set ≡ xs) (λ fault. fault ≡ RangesFault.Want) }
+        ensures refused { (at : ℕ) → BreaksAt text.now at
+            → MatchResult result (λ set. ⊥)
+            (λ fault. (fault ≡ RangesFault.BadRanges at) ⊎ (fault ≡ RangesFault.Want)) }
+        ensures back { (xs : List ℕ) → IsSet xs → text.now ≡ ranges_text xs
+            → MatchResult result (λ set. set ≡ xs) (λ fault. fault ≡ RangesFault.Want) }
     {
-        let numbers = read_elements(alloc, text)?;
-        Ok(Ranges::from_numbers(numbers))
+        let runs = read_elements(alloc, text)?;
+        let set = Ranges::from_runs(alloc, runs)?;
+        Ok(set)
     }
 }
 
-// The numbers that the elements of a text name.
-fn read_elements(alloc: Global, text: &[u8]) -> Result<Vec<u32>, RangesFault>
-    ensures { MatchResult result (λ numbers. NamesSet text.now numbers.items) (λ fault. IsFaultOf text.now fault) }
+// The runs of the numbers that the elements of a text name.
+fn read_elements(alloc: Global, text: &[u8]) -> Result<Vec<Run>, RangesFault>
+    ensures named { MatchResult result (λ runs. NamesSet text.now (flat_map numbers runs.items))
+        (λ fault. IsFaultOf text.now fault) }
+    ensures apart { IfOk result (λ runs. StandApart 0 runs.items) }
 {
-    let mut numbers = Vec::new(alloc);
+    let mut runs = Vec::new(alloc);
     if text.is_empty() {
-        return Ok(numbers);
+        return Ok(runs);
     }
     let mut low = 0;
     let mut at = 0;
@@ -67,24 +76,12 @@ fn read_elements(alloc: Global, text: &[u8]) -> Result<Vec<u32>, RangesFault>
         let Some((first, last)) = read_element(element, low) else {
             return Err(RangesFault::BadRanges { at });
         };
-        push_numbers(&mut numbers, first, last)?;
+        push_numbers(&mut runs, first, last)?;
         let Some(comma) = comma else {
-            return Ok(numbers);
+            return Ok(runs);
         };
         low = last + 1;
         at += comma + 1;
         rest = &rest[comma + 1..];
     }
-}
-
-// Puts the numbers from the first to the last behind the others.
-fn push_numbers(numbers: &mut Vec<u32>, first: u32, last: u32) -> Result<(), Want>
-    requires ordered { first ≤ last }
-    requires small { last < 100000 }
-    ensures { OnOk result (numbers.new.items ≡ numbers.old.items ++ numbers_of (record { first = first; last = last })) }
-{
-    for n in first..last + 1 {
-        numbers.push(n)?;
-    }
-    Ok(())
 }

@@ -1,29 +1,37 @@
 //! The set and its members.
-ghost use Rattle.std.specs.Prelude.{◌≡◌, ◌≤◌, ◌↔◌, ℕ, ◌||◌, ◌==◌, List, [], length, not, IfOk, OnOk, OnErr, IsTrue, slice_get};
+ghost use Rattle.std.specs.Prelude.{◌≡◌, ◌+◌, ◌≤◌, ◌↔◌, ℕ, ◌||◌, ◌==◌, List, [], length, not, IfOk, OnOk, OnErr, IsTrue, slice_get};
+ghost use Rattle.std.specs.List.{flat_map};
 ghost use Rattle.jc_ranges.specs.Sets.{IsSet, has, with_member, count_below, IsFirstMissing};
+ghost use Rattle.jc_ranges.specs.Texts.{numbers, StandApart};
 
 use crate::Want;
-use crate::runs::front_run;
+use crate::bounds::GREATEST_INDEX;
+use crate::runs::{Run, count_under, is_at, number_at, place_of_number, same_runs};
+use crate::shared::SharedRuns;
 use std::alloc::Global;
 use std::marker::Model;
 
-/// A set of whole numbers from 0 to 99,999.
+/// A set of whole numbers from 0 to `GREATEST_INDEX`, kept as maximal runs of consecutive numbers:
+/// a set of few runs takes little memory. Its copies share its memory.
 ///
 /// A contract sees the members, in increasing order.
 #[derive(Drop)]
 pub struct Ranges {
-    numbers: Vec<u32>,
+    runs: SharedRuns,
+    count: u32,
 }
 
 impl Model for Ranges {
     ghost use Rattle.std.specs.Prelude.{ℕ, List};
-    ghost use Rattle.jc_ranges.specs.Sets.{IsSet};
+    ghost use Rattle.std.specs.List.{flat_map};
+    ghost use Rattle.jc_ranges.specs.Texts.{numbers};
+    ghost use Rattle.jc_ranges.specs.Runs.{AreCounted};
 
     ghost Value = { List ℕ };
 
-    ghost view = { λ r. r.numbers.items };
+    ghost view = { λ r. flat_map numbers r.runs };
 
-    ghost invariant = { λ r. IsSet r.numbers.items };
+    ghost invariant = { λ r. AreCounted r.runs r.count };
 }
 
 impl Ranges {
@@ -32,7 +40,8 @@ impl Ranges {
         ensures { result ≡ [] }
     {
         Ranges {
-            numbers: Vec::new(alloc),
+            runs: SharedRuns::new(alloc),
+            count: 0,
         }
     }
 
@@ -42,19 +51,19 @@ impl Ranges {
     ///
     /// `Want`: memory was refused.
     pub fn insert(&mut self, n: u32) -> Result<bool, Want>
-        requires { n ≤ 99999 }
+        requires { n ≤ GREATEST_INDEX }
         ensures fresh { IfOk result (λ fresh. fresh ≡ not (has n self.old)) }
         ensures members { OnOk result (self.new ≡ with_member n self.old) }
         ensures holds { OnOk result ((m : ℕ) → has m self.new ≡ (m == n || has m self.old)) }
         ensures kept { OnErr result (self.new ≡ self.old) }
     {
-        match self.numbers.as_slice().binary_search(&n) {
-            Ok(_) => Ok(false),
-            Err(place) => {
-                self.numbers.insert(place, n)?;
-                Ok(true)
-            }
+        let place = place_of_number(self.runs.as_slice(), n);
+        if is_at(self.runs.as_slice(), place, n) {
+            return Ok(false);
         }
+        self.runs.put(place, n)?;
+        self.count += 1;
+        Ok(true)
     }
 
     /// Whether `n` is a member.
@@ -62,43 +71,47 @@ impl Ranges {
         ensures member { result ≡ has n self.now }
         ensures set { IsSet self.now }
     {
-        self.numbers.as_slice().binary_search(&n).is_ok()
+        let runs = self.runs.as_slice();
+        is_at(runs, place_of_number(runs, n), n)
     }
 
     /// How many members there are.
     pub fn len(&self) -> u32
         ensures count { result ≡ length self.now }
-        ensures few { result ≤ 100000 }
+        ensures few { result ≤ GREATEST_INDEX + 1 }
         ensures set { IsSet self.now }
     {
-        self.numbers.len() as u32
+        self.count
     }
 
     /// How many members are less than `n`.
     pub fn below(&self, n: u32) -> u32
         ensures { result ≡ count_below n self.now }
     {
-        self.numbers.as_slice().partition_point(|x| *x < n) as u32
+        count_under(self.runs.as_slice(), n)
     }
 
     /// The least number from `from` on that is not a member.
     pub fn first_missing(&self, from: u32) -> u32
-        requires { from ≤ 99999 }
+        requires { from ≤ GREATEST_INDEX }
         ensures missing { IsFirstMissing self.now from result }
-        ensures within { result ≤ 100000 }
+        ensures within { result ≤ GREATEST_INDEX + 1 }
     {
-        let numbers = self.numbers.as_slice();
-        match numbers.binary_search(&from) {
-            Ok(place) => from + front_run(&numbers[place..]) as u32,
-            Err(_) => from,
+        let runs = self.runs.as_slice();
+        let place = place_of_number(runs, from);
+        if is_at(runs, place, from) {
+            runs[place].last + 1
+        } else {
+            from
         }
     }
 
-    /// The member at a place in increasing order, counted from 0; none from the number of members on.
+    /// The member at a place in increasing order, counted from 0; none from the number of members
+    /// on.
     pub fn member(&self, place: u32) -> Option<u32>
         ensures { result ≡ slice_get self.now place }
     {
-        self.numbers.as_slice().get(place as usize).copied()
+        number_at(self.runs.as_slice(), place)
     }
 
     /// A set with the same members.
@@ -109,35 +122,40 @@ impl Ranges {
     pub fn copy(&self) -> Result<Ranges, Want>
         ensures { IfOk result (λ r. r ≡ self.now) }
     {
-        let numbers = Vec::from_slice(*self.numbers.allocator(), self.numbers.as_slice())?;
-        Ok(Ranges { numbers })
+        let runs = self.runs.copy()?;
+        Ok(Ranges {
+            runs,
+            count: self.count,
+        })
     }
 
     /// Whether both sets have the same members.
     pub fn is_same(&self, other: &Ranges) -> bool
         ensures { IsTrue result ↔ (self.now ≡ other.now) }
     {
-        self.numbers == other.numbers
+        same_runs(self.runs.as_slice(), other.runs.as_slice())
     }
 
-    /// The set of these members.
-    pub(crate) fn from_numbers(numbers: Vec<u32>) -> Ranges
-        requires { IsSet numbers.items }
-        ensures { result ≡ numbers.items }
+    /// The set of the numbers of these runs.
+    pub(crate) fn from_runs(alloc: Global, runs: Vec<Run>) -> Result<Ranges, Want>
+        requires { StandApart 0 runs.items }
+        ensures { IfOk result (λ r. r ≡ flat_map numbers runs.items) }
     {
-        Ranges { numbers }
+        let count = count_under(runs.as_slice(), GREATEST_INDEX + 1);
+        let runs = SharedRuns::from_runs(alloc, runs)?;
+        Ok(Ranges { runs, count })
     }
 
-    /// The members in increasing order.
-    pub(crate) fn as_slice(&self) -> &[u32]
-        ensures members { result.now ≡ self.now }
-        ensures set { IsSet self.now }
+    /// The runs in increasing order.
+    pub(crate) fn as_runs(&self) -> &[Run]
+        ensures members { flat_map numbers result.now ≡ self.now }
+        ensures apart { StandApart 0 result.now }
     {
-        self.numbers.as_slice()
+        self.runs.as_slice()
     }
 
     /// The allocator that the set takes its memory from.
     pub(crate) fn allocator(&self) -> Global {
-        *self.numbers.allocator()
+        self.runs.allocator()
     }
 }

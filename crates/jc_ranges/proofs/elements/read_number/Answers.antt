@@ -20,8 +20,8 @@ returns-in_err-number c =
     let other = err.1 in
     cc (read, other))
 
-pub returns-then-number-gt99999 : goal.returns-then-number-gt99999
-returns-then-number-gt99999 c =
+pub returns-then-number-gt-GREATEST_INDEX : goal.returns-then-number-gt-GREATEST_INDEX
+returns-then-number-gt-GREATEST_INDEX c =
     let same = (MatchResult-at_ok _ _ c.in_ok-ok.field-0 (ok_of _ c.from_utf8.result c.in_ok-ok.ensures.value) c.from_utf8.ensures.cases).0 in
     λ n h e.
     let read = parse_reads n c.in_ok-ok.field-0.now c.parse.result h (same ∙ e) c.parse.ensures.value.0 in

@@ -1,35 +1,39 @@
-use Rattle.std.proofs.Common.{ℕ, ◌∙◌, Err, ap, subst, arith, length}
-use Rattle.std.proofs.lemmas.List.{length-take, length-drop}
-use Rattle.jc_ranges.specs.Sets.{IsSet}
-use Rattle.jc_ranges.proofs.Order.{length_small, found_at, searched_in, first_missing_small}
-use Rattle.jc_ranges.proofs.Consecutive.{missing_at}
+use Rattle.std.proofs.Common.{◌≡◌, ◌+◌, ◌∙◌, suc, get_or, ap, sym, subst, arith}
+use Rattle.std.specs.List.{flat_map}
+use Rattle.jc_ranges.specs.Sets.{IsFirstMissing}
+use Rattle.jc_ranges.specs.Texts.{numbers, StandApart}
+use Rattle.jc_ranges.specs.declared.runs.Run.{Run}
+use Rattle.jc_ranges.proofs.Apart.{run_at, run_of_member, missing_behind}
 use Rattle.jc_ranges.proofs.set.Ranges.first_missing.Goals as goal
 
-pub overflow_cast-result : goal.overflow_cast-result
-overflow_cast-result c =
-    let small = length_small _ c.self.invariant in
-    omega (arith, small, ap length c.as_slice-numbers.ensures.value, c.front_run.ensures.within, length-take {A = ℕ}, length-drop {A = ℕ})
+pub bounds-runs-place : goal.bounds-runs-place
+bounds-runs-place c =
+    let apart = subst (StandApart 0) (sym c.as_slice-runs.ensures) c.self.invariant.apart in
+    (run_of_member c.args.from c.as_slice-runs.result.now c.place_of_number-place.result (record { first = 0; last = 0 }) apart c.place_of_number-place.ensures (sym c.if-is_at.ensures)).0
 
 pub overflow_add-result : goal.overflow_add-result
 overflow_add-result c =
-    let small = length_small _ c.self.invariant in
-    omega (arith, small, ap length c.as_slice-numbers.ensures.value, c.front_run.ensures.within, length-take {A = ℕ}, length-drop {A = ℕ})
+    let d : Run = record { first = 0; last = 0 } in
+    let apart = subst (StandApart 0) (sym c.as_slice-runs.ensures) c.self.invariant.apart in
+    let found = run_of_member c.args.from c.as_slice-runs.result.now c.place_of_number-place.result d apart c.place_of_number-place.ensures (sym c.if-is_at.ensures) in
+    let at = run_at 0 c.as_slice-runs.result.now c.place_of_number-place.result d apart found.0 in
+    omega (arith, at.small)
 
-pub returns-in-Ok-clause-missing : goal.returns-in-Ok-clause-missing
-returns-in-Ok-clause-missing c =
-    let set = subst IsSet c.self.view_is c.self.invariant in
-    let same = c.as_slice-numbers.ensures.value ∙ c.self.view_is in
-    let at = found_at c.args.from c.args.self.now c.as_slice-numbers.result.now c.in-Ok.place same set c.in-Ok.ensures.position in
-    missing_at c.args.self.now c.as_slice-numbers.result.now c.in-Ok.place c.front_run.result c.args.from same set at c.front_run.ensures
+pub returns-then-is_at-clause-missing : goal.returns-then-is_at-clause-missing
+returns-then-is_at-clause-missing c =
+    let d : Run = record { first = 0; last = 0 } in
+    let apart = subst (StandApart 0) (sym c.as_slice-runs.ensures) c.self.invariant.apart in
+    let same = ap (flat_map numbers) c.as_slice-runs.ensures ∙ c.self.view_is in
+    let found = run_of_member c.args.from c.as_slice-runs.result.now c.place_of_number-place.result d apart c.place_of_number-place.ensures (sym c.if-is_at.ensures) in
+    let last = (get_or c.as_slice-runs.result.now c.place_of_number-place.result d).last in
+    let next : suc last ≡ last + 1 = omega arith in
+    let missing = missing_behind c.as_slice-runs.result.now c.place_of_number-place.result c.args.from d apart found.0 found.1 found.2 in
+    subst (λ m. IsFirstMissing c.args.self.now c.args.from m) next (subst (λ xs. IsFirstMissing xs c.args.from (suc last)) same missing)
 
-pub returns-in-Ok-clause-within : goal.returns-in-Ok-clause-within
-returns-in-Ok-clause-within c =
-    let set = subst IsSet c.self.view_is c.self.invariant in
-    first_missing_small c.args.self.now c.args.from _ c.requires set (returns-in-Ok-clause-missing c)
-
-pub returns-in-Err-clause-missing : goal.returns-in-Err-clause-missing
-returns-in-Err-clause-missing c =
-    let set = subst IsSet c.self.view_is c.self.invariant in
-    let same = c.as_slice-numbers.ensures.value ∙ c.self.view_is in
-    let found = searched_in c.args.from c.args.self.now c.as_slice-numbers.result.now (Err c.in-Err.field-0) same set c.in-Err.ensures.position in
-    record { above = omega arith; missing = found.0; least = λ k q r. absurd (omega arith) }
+pub returns-then-is_at-clause-within : goal.returns-then-is_at-clause-within
+returns-then-is_at-clause-within c =
+    let d : Run = record { first = 0; last = 0 } in
+    let apart = subst (StandApart 0) (sym c.as_slice-runs.ensures) c.self.invariant.apart in
+    let found = run_of_member c.args.from c.as_slice-runs.result.now c.place_of_number-place.result d apart c.place_of_number-place.ensures (sym c.if-is_at.ensures) in
+    let at = run_at 0 c.as_slice-runs.result.now c.place_of_number-place.result d apart found.0 in
+    omega (arith, at.small)

@@ -1,9 +1,11 @@
-use Rattle.std.proofs.Common.{arith}
+use Rattle.std.proofs.Common.{arith, subst}
+use Rattle.jc_ranges.specs.Sets.{IsSet}
 use Rattle.jc_ranges.proofs.Order.{length_small}
+use Rattle.jc_ranges.proofs.Apart.{apart_set}
 use Rattle.jc_ranges.proofs.set.Ranges.len.Goals as goal
 
-pub overflow_cast-result : goal.overflow_cast-result
-overflow_cast-result c = let small = length_small _ c.self.invariant in omega (arith, small, c.len.ensures)
-
 pub returns-clause-few : goal.returns-clause-few
-returns-clause-few c = let small = length_small _ c.self.invariant in omega (arith, small, c.len.ensures)
+returns-clause-few c = let few = length_small _ (apart_set _ c.self.invariant.apart) in omega (arith, few, c.self.invariant.counted)
+
+pub returns-clause-set : goal.returns-clause-set
+returns-clause-set c = subst IsSet c.self.view_is (apart_set _ c.self.invariant.apart)
