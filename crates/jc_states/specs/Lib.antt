@@ -1,2 +1,10 @@
 pub mod Pods
+pub mod PodLists
+pub mod Indexes
+pub mod ObjectChanges
+pub mod Conditions
+pub mod UidLists
 pub mod Listed
+pub mod ValidSpecs
+pub mod Bases
+pub mod Owners

@@ -3,7 +3,7 @@
 use Rattle.std.specs.Prelude.{Bool, ◌||◌}
 use Rattle.jc_types.specs.declared.numbers.Uid.{Uid}
 use Rattle.jc_types.specs.declared.statuses.JobStatus.{JobStatus}
-use Rattle.jc_types.specs.Uids.{is_in}
+use Rattle.jc_states.specs.UidLists.{is_in}
 
 -- The UID is in one of the two lists of uncounted UIDs.
 abbrev pub is_listed : JobStatus → Uid → Bool

@@ -1,8 +1,8 @@
 //! Which conditions of a Job stand.
 
 ghost use Rattle.std.specs.Prelude.{◌≡◌, ◌&&◌};
-ghost use Rattle.jc_types.specs.Conditions.{has_end, has_target, stands};
-ghost use Rattle.jc_types.specs.Sames.{same_kind};
+ghost use Rattle.jc_states.specs.Conditions.{has_end, has_target, stands};
+ghost use Rattle.jc_types.specs.Equality.{same_kind};
 
 use jc_types::{CondKind, Condition, Conditions};
 

@@ -1,14 +1,24 @@
 //! What state a pod or a Job is in (batch/v1, core/v1): whether a pod is open, active, ending or ready,
-//! whether a UID is listed as uncounted, and which conditions of a Job stand.
+//! which index it has, how many pods of a Job are in a state, whether a UID is listed as uncounted, and
+//! which conditions of a Job stand.
 #![tactic(auto)]
 
 mod conditions;
+mod counts;
+mod indexes;
+mod laws;
+mod owners;
+mod phases;
 mod pods;
 mod uids;
 
 pub use conditions::{has_end, has_target, stands};
-pub use pods::{is_active, is_ending, is_marked, is_open, is_own, is_ready};
+pub use counts::{count_active, count_ending, count_tracked_active};
+pub use indexes::{has_index, is_completed};
+pub use laws::lists_merge;
+pub use owners::is_foreign;
+pub use phases::{is_final, is_pending, is_same_phase};
+pub use pods::{
+    goes, is_active, is_ending, is_marked, is_open, is_own, is_ready, is_tracked_active,
+};
 pub use uids::{is_among, is_listed};
-
-#[cfg(test)]
-mod tests;

@@ -2,11 +2,11 @@
 
 ghost use Rattle.std.specs.Prelude.{◌≡◌};
 ghost use Rattle.std.specs.List.{list_any};
-ghost use Rattle.jc_types.specs.Bases.{is_own};
-ghost use Rattle.jc_types.specs.Pods.{is_active, is_marked, is_open};
-ghost use Rattle.jc_states.specs.Pods.{is_ending, is_ready, is_true, says_ready};
+ghost use Rattle.jc_states.specs.Bases.{is_own};
+ghost use Rattle.jc_states.specs.Pods.{goes, is_active, is_ending, is_marked, is_open, is_ready, is_tracked_active, is_true, says_ready};
 
-use jc_types::{Job, Pattern, Patterns, Phase, Pod, Truth};
+use crate::phases::is_final;
+use jc_types::{Job, Pod, PodCondition, PodConditions, Truth};
 
 /// Whether the pod was made for the Job, by UID: one of the same key may have been made for an earlier
 /// Job.
@@ -20,10 +20,7 @@ pub fn is_own(job: &Job, pod: &Pod) -> bool
 pub fn is_open(pod: &Pod) -> bool
     ensures { result ≡ is_open pod.now }
 {
-    match pod.phase {
-        Phase::Pending | Phase::Running => true,
-        Phase::Succeeded | Phase::Failed => false,
-    }
+    !is_final(pod.phase)
 }
 
 /// Whether the pod is marked for deletion.
@@ -49,6 +46,20 @@ pub fn is_ending(pod: &Pod) -> bool
     is_open(pod) && is_marked(pod)
 }
 
+/// Whether the pod is active and has the finalizer `batch.kubernetes.io/job-tracking` (KEP-2307).
+pub fn is_tracked_active(pod: &Pod) -> bool
+    ensures { result ≡ is_tracked_active pod.now }
+{
+    is_active(pod) && pod.tracked
+}
+
+/// Whether the pod is marked, has ended and has no finalizer: a write that makes it so takes it away.
+pub fn goes(pod: &Pod) -> bool
+    ensures { result ≡ goes pod.now }
+{
+    is_marked(pod) && !pod.tracked && is_final(pod.phase)
+}
+
 // Whether the status of a condition is true.
 fn is_true(truth: Truth) -> bool
     ensures { result ≡ is_true truth }
@@ -60,14 +71,14 @@ fn is_true(truth: Truth) -> bool
 }
 
 // Whether the condition says that its pod is ready.
-fn says_ready(condition: &Pattern) -> bool
+fn says_ready(condition: &PodCondition) -> bool
     ensures { result ≡ says_ready condition.now }
 {
     condition.kind.as_str() == "Ready" && is_true(condition.truth)
 }
 
 // Whether one of the conditions says so.
-fn any_says_ready(conditions: &Patterns) -> bool
+fn any_says_ready(conditions: &PodConditions) -> bool
     ensures { result ≡ list_any says_ready conditions.now }
 {
     conditions

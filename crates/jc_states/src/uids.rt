@@ -1,7 +1,7 @@
 //! Which UIDs are in a list.
 
 ghost use Rattle.std.specs.Prelude.{◌≡◌};
-ghost use Rattle.jc_types.specs.Uids.{is_in};
+ghost use Rattle.jc_states.specs.UidLists.{is_in};
 ghost use Rattle.jc_states.specs.Listed.{is_listed};
 
 use jc_types::{JobStatus, Uid};

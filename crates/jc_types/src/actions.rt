@@ -1,10 +1,10 @@
 //! The commands of a script.
 
-use crate::copying::{Copied, Same, Want};
+use crate::copies::{Copied, Same, Want, copied_variant, is_same_variant};
 use crate::lists::ListOf;
 use crate::numbers::{Uid, Version};
 use crate::objects::{Key, Kind, Phase};
-use crate::policies::Patterns;
+use crate::policies::PodConditions;
 use crate::shared::Arc;
 use crate::specifications::JobSpec;
 use crate::texts::{Name, Text};
@@ -12,8 +12,11 @@ use crate::texts::{Name, Text};
 /// What a report says of one container; what is not given stays.
 #[derive(Drop)]
 pub struct ContainerChange {
+    /// The container's name.
     pub name: Name,
+    /// The exit code that it has ended with.
     pub exit: Option<i32>,
+    /// How often it was restarted.
     pub restarts: Option<u32>,
 }
 
@@ -23,19 +26,26 @@ pub type ContainerChanges = ListOf<ContainerChange>;
 /// What a report says of a pod.
 #[derive(Drop)]
 pub struct PhaseChange {
+    /// How far the pod has come.
     pub phase: Phase,
+    /// What is said of its containers.
     pub containers: ContainerChanges,
     /// Conditions that replace those of their kind or are added.
-    pub conditions: Patterns,
+    pub conditions: PodConditions,
 }
 
 /// New members of a Job's specification; what is not given stays.
 #[derive(Clone, Copy, PartialEq, Eq, Debug)]
 pub struct SpecChange {
+    /// How many pods may run at once.
     pub parallelism: Option<u32>,
+    /// How many completions are wanted.
     pub completions: Option<u32>,
+    /// Whether the Job is suspended.
     pub suspend: Option<bool>,
+    /// Seconds from the start time on (`activeDeadlineSeconds`).
     pub deadline: Option<u32>,
+    /// The number of failed pods above which the Job fails.
     pub backoff_limit: Option<u32>,
 }
 
@@ -65,32 +75,40 @@ pub enum Fault {
 /// What a command of a script does.
 #[derive(Drop)]
 pub enum Action1 {
+    /// Creates a Job.
     Create {
         key: Key,
         spec: Arc<JobSpec>,
     },
+    /// Changes a Job's specification; where a version is given, only at that version.
     Update {
         key: Key,
         version: Option<Version>,
         change: SpecChange,
     },
+    /// Deletes a Job.
     Delete {
         key: Key,
     },
+    /// Marks a pod for deletion.
     Mark {
         pod: Uid,
     },
+    /// Takes a pod's finalizer, whether or not the pod is counted.
     Strip {
         pod: Uid,
     },
+    /// Ends a pod with an exit code.
     Finish {
         pod: Uid,
         exit: i32,
     },
+    /// Reports a pod's phase.
     Report {
         pod: Uid,
         change: PhaseChange,
     },
+    /// Decides how the pods of a key are to end.
     Fate {
         key: Key,
         ends: Ends,
@@ -99,35 +117,44 @@ pub enum Action1 {
     Clock {
         add: u64,
     },
+    /// A controller lists the objects of a kind into its cache.
     List {
         controller: u32,
         kind: Kind,
     },
+    /// A controller's cache of a kind is given the next entry of the log.
     Deliver {
         controller: u32,
         kind: Kind,
     },
+    /// A worker begins a sync of the first key in the line.
     Begin {
         controller: u32,
         worker: u32,
     },
+    /// A worker whose caches are brought up to date begins a sync, and makes all its requests.
     Sync {
         controller: u32,
         worker: u32,
     },
+    /// A worker makes the next request of its sync.
     Step {
         controller: u32,
         worker: u32,
     },
+    /// The node takes a pod one step further.
     Node,
+    /// A controller forgets all that it has.
     Restart {
         controller: u32,
     },
+    /// A fault befalls the next request of a worker.
     PutFault {
         controller: u32,
         worker: u32,
         fault: Fault,
     },
+    /// The system makes events of itself until none is left to make.
     Settle,
 }
 
@@ -136,6 +163,7 @@ pub enum Action1 {
 pub struct Command {
     /// The lane of the script that it stands in, 0 to 15.
     pub lane: u8,
+    /// What it does.
     pub action: Action1,
 }
 
@@ -145,7 +173,14 @@ pub type Commands = ListOf<Command>;
 /// A script.
 #[derive(Drop)]
 pub struct Script {
+    /// Its commands, in the order of their file.
     pub commands: Commands,
+}
+
+impl Copied for Fault {
+    fn copy(&self) -> Result<Self, Want> {
+        Ok(*self)
+    }
 }
 
 impl Copied for ContainerChange {
@@ -186,79 +221,26 @@ impl Copied for End {
 
 impl Copied for Action1 {
     fn copy(&self) -> Result<Self, Want> {
-        match self {
-            Action1::Create { key, spec } => Ok(Action1::Create {
-                key: key.copy()?,
-                spec: spec.copy()?,
-            }),
-            Action1::Update {
-                key,
-                version,
-                change,
-            } => {
-                Ok(Action1::Update {
-                    key: key.copy()?,
-                    version: *version,
-                    change: *change,
-                })
-            }
-            Action1::Delete { key } => Ok(Action1::Delete { key: key.copy()? }),
-            Action1::Mark { pod } => Ok(Action1::Mark { pod: *pod }),
-            Action1::Strip { pod } => Ok(Action1::Strip { pod: *pod }),
-            Action1::Finish { pod, exit } => Ok(Action1::Finish {
-                pod: *pod,
-                exit: *exit,
-            }),
-            Action1::Report { pod, change } => Ok(Action1::Report {
-                pod: *pod,
-                change: change.copy()?,
-            }),
-            Action1::Fate { key, ends } => Ok(Action1::Fate {
-                key: key.copy()?,
-                ends: ends.copy()?,
-            }),
-            Action1::Clock { add } => Ok(Action1::Clock { add: *add }),
-            Action1::List { controller, kind } => Ok(Action1::List {
-                controller: *controller,
-                kind: *kind,
-            }),
-            Action1::Deliver { controller, kind } => {
-                Ok(Action1::Deliver {
-                    controller: *controller,
-                    kind: *kind,
-                })
-            }
-            Action1::Begin { controller, worker } => {
-                Ok(Action1::Begin {
-                    controller: *controller,
-                    worker: *worker,
-                })
-            }
-            Action1::Sync { controller, worker } => Ok(Action1::Sync {
-                controller: *controller,
-                worker: *worker,
-            }),
-            Action1::Step { controller, worker } => Ok(Action1::Step {
-                controller: *controller,
-                worker: *worker,
-            }),
-            Action1::Node => Ok(Action1::Node),
-            Action1::Restart { controller } => Ok(Action1::Restart {
-                controller: *controller,
-            }),
-            Action1::PutFault {
-                controller,
-                worker,
-                fault,
-            } => {
-                Ok(Action1::PutFault {
-                    controller: *controller,
-                    worker: *worker,
-                    fault: *fault,
-                })
-            }
-            Action1::Settle => Ok(Action1::Settle),
-        }
+        copied_variant!(self, Action1 {
+            Create { key, spec },
+            Update { key, version, change },
+            Delete { key },
+            Mark { pod },
+            Strip { pod },
+            Finish { pod, exit },
+            Report { pod, change },
+            Fate { key, ends },
+            Clock { add },
+            List { controller, kind },
+            Deliver { controller, kind },
+            Begin { controller, worker },
+            Sync { controller, worker },
+            Step { controller, worker },
+            Node {},
+            Restart { controller },
+            PutFault { controller, worker, fault },
+            Settle {},
+        })
     }
 }
 
@@ -276,6 +258,12 @@ impl Copied for Script {
         Ok(Script {
             commands: self.commands.copy()?,
         })
+    }
+}
+
+impl Same for Fault {
+    fn is_same(&self, other: &Self) -> bool {
+        *self == *other
     }
 }
 
@@ -313,108 +301,26 @@ impl Same for End {
 
 impl Same for Action1 {
     fn is_same(&self, other: &Self) -> bool {
-        match (self, other) {
-            (
-                Action1::Create { key, spec },
-                Action1::Create {
-                    key: key2,
-                    spec: spec2,
-                },
-            ) => { key.is_same(key2) && spec.is_same(spec2) }
-            (
-                Action1::Update {
-                    key,
-                    version,
-                    change,
-                },
-                Action1::Update {
-                    key: key2,
-                    version: version2,
-                    change: change2,
-                },
-            ) => key.is_same(key2) && *version == *version2 && change.is_same(change2),
-            (Action1::Delete { key }, Action1::Delete { key: key2 }) => key.is_same(key2),
-            (Action1::Mark { pod }, Action1::Mark { pod: pod2 }) => *pod == *pod2,
-            (Action1::Strip { pod }, Action1::Strip { pod: pod2 }) => *pod == *pod2,
-            (
-                Action1::Finish { pod, exit },
-                Action1::Finish {
-                    pod: pod2,
-                    exit: exit2,
-                },
-            ) => { *pod == *pod2 && *exit == *exit2 }
-            (
-                Action1::Report { pod, change },
-                Action1::Report {
-                    pod: pod2,
-                    change: change2,
-                },
-            ) => { *pod == *pod2 && change.is_same(change2) }
-            (
-                Action1::Fate { key, ends },
-                Action1::Fate {
-                    key: key2,
-                    ends: ends2,
-                },
-            ) => { key.is_same(key2) && ends.is_same(ends2) }
-            (Action1::Clock { add }, Action1::Clock { add: add2 }) => *add == *add2,
-            (
-                Action1::List { controller, kind },
-                Action1::List {
-                    controller: controller2,
-                    kind: kind2,
-                },
-            ) => { *controller == *controller2 && *kind == *kind2 }
-            (
-                Action1::Deliver { controller, kind },
-                Action1::Deliver {
-                    controller: controller2,
-                    kind: kind2,
-                },
-            ) => { *controller == *controller2 && *kind == *kind2 }
-            (
-                Action1::Begin { controller, worker },
-                Action1::Begin {
-                    controller: controller2,
-                    worker: worker2,
-                },
-            ) => { *controller == *controller2 && *worker == *worker2 }
-            (
-                Action1::Sync { controller, worker },
-                Action1::Sync {
-                    controller: controller2,
-                    worker: worker2,
-                },
-            ) => { *controller == *controller2 && *worker == *worker2 }
-            (
-                Action1::Step { controller, worker },
-                Action1::Step {
-                    controller: controller2,
-                    worker: worker2,
-                },
-            ) => { *controller == *controller2 && *worker == *worker2 }
-            (Action1::Node, Action1::Node) => true,
-            (
-                Action1::Restart { controller },
-                Action1::Restart {
-                    controller: controller2,
-                },
-            ) => { *controller == *controller2 }
-            (
-                Action1::PutFault {
-                    controller,
-                    worker,
-                    fault,
-                },
-                Action1::PutFault {
-                    controller: controller2,
-                    worker: worker2,
-                    fault: fault2,
-                },
-            ) => *controller == *controller2 && *worker == *worker2 && *fault == *fault2,
-            (Action1::Settle, Action1::Settle) => true,
-            _ => false,
-        }
+        is_same_variant!(self, other, Action1 {
+            Create { key: key2, spec: spec2 },
+            Update { key: key2, version: version2, change: change2 },
+            Delete { key: key2 },
+            Mark { pod: pod2 },
+            Strip { pod: pod2 },
+            Finish { pod: pod2, exit: exit2 },
+            Report { pod: pod2, change: change2 },
+            Fate { key: key2, ends: ends2 },
+            Clock { add: add2 },
+            List { controller: controller2, kind: kind2 },
+            Deliver { controller: controller2, kind: kind2 },
+            Begin { controller: controller2, worker: worker2 },
+            Sync { controller: controller2, worker: worker2 },
+            Step { controller: controller2, worker: worker2 },
+            Node {},
+            Restart { controller: controller2 },
+            PutFault { controller: controller2, worker: worker2, fault: fault2 },
+            Settle {},
+        })
     }
 }
 

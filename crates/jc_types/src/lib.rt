@@ -1,16 +1,18 @@
-//! The plain data of the Job controller: Jobs, pods and their log (Kubernetes batch/v1 and core/v1),
-//! the commands of a script, and the events, replies and history of a run.
+//! The plain data of the Job controller: Jobs, pods and the entries of their log (Kubernetes batch/v1
+//! and core/v1), the commands of a script, and the events, replies and history of a run.
 //!
-//! A contract sees a list as the list of its items, a text or a name as its bytes, and an `Arc` as the
-//! value behind it. So two values are equal where their parts are, whatever memory they stand in.
+//! A contract sees a list as the list of its items, a text or a name as its bytes, and an `Arc` as
+//! the value behind it. So two values are equal where their parts are, whatever memory they stand in.
 #![tactic(auto)]
 
 mod actions;
-mod copying;
+mod copies;
 mod laws;
+mod limits;
 mod lists;
 mod numbers;
 mod objects;
+mod pasts;
 mod policies;
 mod replies;
 mod runs;
@@ -25,20 +27,19 @@ pub use actions::{
     Action1, Command, Commands, ContainerChange, ContainerChanges, End, Ends, Fault, PhaseChange,
     Script, SpecChange,
 };
-pub use copying::{Bytes, Copied, Same, Want};
-pub use laws::{
-    deeds_grow, lists_merge, logs_read_plainly, objects_stand_at_their_versions, pods_are_listed,
-    prefix_is_fixed, tests_are_exact, uids_never_return, what_is_new_comes_last, writes_last,
-};
+pub use copies::{Bytes, Copied, Same, Want};
+pub use laws::tests_are_exact;
+pub use limits::{GREATEST_COMPLETIONS, GREATEST_LIMIT, GREATEST_PARALLELISM, MOST_CONTAINERS};
 pub use lists::ListOf;
 pub use numbers::{Uid, Uids, Version};
 pub use objects::{Container, Containers, Entries, Entry, Job, Jobs, Key, Kind, Phase, Pod, Pods};
+pub use pasts::Pasts;
 pub use policies::{
     Action, Codes, FailurePolicy, FailureRule, FailureRules, Operator, Pattern, Patterns,
-    Requirement, SuccessPolicy, SuccessRule, SuccessRules, Truth,
+    PodCondition, PodConditions, Requirement, SuccessPolicy, SuccessRule, SuccessRules, Truth,
 };
 pub use replies::{Answer, Field, Reply, Request};
-pub use runs::{Event, History, Past, Pasts, Shape, Sys};
+pub use runs::{Event, History, Past, Shape, Sys};
 pub use shared::Arc;
 pub use specifications::{JobSpec, Mode, Replacement, Restart, Template};
 pub use statuses::{CondKind, Condition, Conditions, JobStatus, Reason};

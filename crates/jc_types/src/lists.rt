@@ -2,7 +2,7 @@
 
 ghost use Rattle.std.specs.Prelude.{◌≡◌, ◌∷◌, ◌++◌, [], ◌↔◌, IfOk, IsTrue, OnErr, OnOk, length};
 
-use crate::copying::{Copied, Same, Want};
+use crate::copies::{Copied, Same, Want};
 use std::alloc::Global;
 use std::marker::Model;
 use std::sync;
@@ -24,8 +24,8 @@ impl<T> Model for ListOf<T> {
     ghost view = { λ l. option_map_or (λ a. a.value.items) l.shared [] };
 }
 
-/// The items of a slice in a list of their own.
-fn copied_slice<T: Copied>(alloc: Global, items: &[T]) -> Result<Vec<T>, Want>
+// The items of a slice in a list of their own.
+pub(crate) fn copied_slice<T: Copied>(alloc: Global, items: &[T]) -> Result<Vec<T>, Want>
     ensures { IfOk result (λ v. v.items ≡ items.now) }
 {
     let mut copied = Vec::with_capacity(alloc, items.len())?;
@@ -35,7 +35,7 @@ fn copied_slice<T: Copied>(alloc: Global, items: &[T]) -> Result<Vec<T>, Want>
     Ok(copied)
 }
 
-/// Whether both slices have equal items in the same places.
+// Whether both slices have equal items in the same places.
 fn same_slices<T: Same>(left: &[T], right: &[T]) -> bool
     ensures { IsTrue result ↔ (left.now ≡ right.now) }
 {

@@ -1,6 +1,6 @@
 //! Numbers with a meaning: UIDs and versions.
 
-use crate::copying::{Copied, Same, Want};
+use crate::copies::{Copied, Same, Want};
 use crate::lists::ListOf;
 
 /// The UID of a Job or a pod: 1 and up, and never used again (`metadata.uid`).

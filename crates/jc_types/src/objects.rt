@@ -1,9 +1,9 @@
 //! Jobs and pods as the store keeps them, and the entries of its log.
 
-use crate::copying::{Copied, Same, Want};
+use crate::copies::{Copied, Same, Want};
 use crate::lists::ListOf;
 use crate::numbers::{Uid, Version};
-use crate::policies::Patterns;
+use crate::policies::PodConditions;
 use crate::shared::Arc;
 use crate::specifications::{JobSpec, Restart};
 use crate::statuses::JobStatus;
@@ -13,19 +13,26 @@ use jc_moment::Moment;
 /// Where a Job stands: its namespace and its name in it.
 #[derive(PartialEq, Eq, PartialOrd, Ord, Hash, Drop)]
 pub struct Key {
+    /// The namespace (`metadata.namespace`).
     pub namespace: Name,
+    /// The name in it (`metadata.name`).
     pub name: Name,
 }
 
 /// A Job.
 #[derive(Drop)]
 pub struct Job {
+    /// Its namespace and its name.
     pub key: Key,
+    /// Its UID, by which it differs from an earlier Job of the key.
     pub uid: Uid,
     /// The place of its last write in the log.
     pub version: Version,
+    /// When it was created (`creationTimestamp`).
     pub created: Moment,
+    /// The wanted state.
     pub spec: Arc<JobSpec>,
+    /// The observed state.
     pub status: JobStatus,
 }
 
@@ -35,15 +42,20 @@ pub type Jobs = ListOf<Job>;
 /// How far a pod has come (`PodPhase` of core/v1).
 #[derive(Clone, Copy, PartialEq, Eq, Debug)]
 pub enum Phase {
+    /// Its containers have not started.
     Pending,
+    /// A container runs, or is about to be restarted.
     Running,
+    /// All containers have ended with exit code 0.
     Succeeded,
+    /// All containers have ended, one of them with another exit code.
     Failed,
 }
 
 /// A container of a pod.
 #[derive(Drop)]
 pub struct Container {
+    /// Its name, which no other container of the pod has.
     pub name: Name,
     /// Whether it is an init container.
     pub init: bool,
@@ -59,6 +71,7 @@ pub type Containers = ListOf<Container>;
 /// A pod of a Job.
 #[derive(Drop)]
 pub struct Pod {
+    /// Its UID.
     pub uid: Uid,
     /// The place of its last write in the log.
     pub version: Version,
@@ -70,14 +83,19 @@ pub struct Pod {
     pub serial: u32,
     /// Its completion index, in an Indexed Job.
     pub index: Option<u32>,
+    /// What becomes of a container that exits.
     pub restart: Restart,
+    /// How far it has come.
     pub phase: Phase,
+    /// Its containers, and after them its init containers.
     pub containers: Containers,
-    pub conditions: Patterns,
+    /// Its conditions, in the order in which they came.
+    pub conditions: PodConditions,
     /// When it was marked for deletion (`deletionTimestamp`).
     pub marked: Option<Moment>,
     /// Whether it has the finalizer `batch.kubernetes.io/job-tracking` (KEP-2307).
     pub tracked: bool,
+    /// When it was created (`creationTimestamp`).
     pub created: Moment,
 }
 
@@ -87,21 +105,39 @@ pub type Pods = ListOf<Pod>;
 /// The two kinds of objects.
 #[derive(Clone, Copy, PartialEq, Eq, Debug)]
 pub enum Kind {
+    /// Jobs.
     Jobs,
+    /// Pods.
     Pods,
 }
 
 /// An accepted write: the object as it stands after it, or as it last stood before it went.
 #[derive(Drop)]
 pub enum Entry {
+    /// The Job was created or changed.
     JobPut(Job),
+    /// The Job was deleted.
     JobGone(Job),
+    /// The pod was created or changed.
     PodPut(Pod),
+    /// The pod went: it was marked, had ended and lost its finalizer.
     PodGone(Pod),
 }
 
 /// Entries in the order of their versions.
 pub type Entries = ListOf<Entry>;
+
+impl Copied for Phase {
+    fn copy(&self) -> Result<Self, Want> {
+        Ok(*self)
+    }
+}
+
+impl Copied for Kind {
+    fn copy(&self) -> Result<Self, Want> {
+        Ok(*self)
+    }
+}
 
 impl Copied for Key {
     fn copy(&self) -> Result<Self, Want> {
@@ -164,6 +200,18 @@ impl Copied for Entry {
             Entry::PodPut(pod) => Ok(Entry::PodPut(pod.copy()?)),
             Entry::PodGone(pod) => Ok(Entry::PodGone(pod.copy()?)),
         }
+    }
+}
+
+impl Same for Phase {
+    fn is_same(&self, other: &Self) -> bool {
+        *self == *other
+    }
+}
+
+impl Same for Kind {
+    fn is_same(&self, other: &Self) -> bool {
+        *self == *other
     }
 }
 

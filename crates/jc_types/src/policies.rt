@@ -1,6 +1,6 @@
 //! The pod failure policy (KEP-3329) and the success policy (KEP-3998) of a Job.
 
-use crate::copying::{Copied, Same, Want};
+use crate::copies::{Copied, Same, Want};
 use crate::lists::ListOf;
 use crate::texts::{Name, Text};
 use jc_ranges::Ranges;
@@ -30,21 +30,32 @@ pub enum Operator {
 /// The status of a pod's condition.
 #[derive(Clone, Copy, PartialEq, Eq, Debug)]
 pub enum Truth {
+    /// It holds.
     True,
+    /// It does not hold.
     False,
+    /// It is not known whether it holds.
     Unknown,
 }
 
-/// A condition of a pod, or what a rule looks for among them.
+/// What a rule of a pod failure policy looks for among the conditions of a pod, and such a condition
+/// itself.
 #[derive(Drop)]
 pub struct Pattern {
     /// The condition's type, as `DisruptionTarget`.
     pub kind: Text,
+    /// The condition's status.
     pub truth: Truth,
 }
 
-/// Conditions of a pod, or patterns of a rule.
+/// The patterns of a rule, in their order.
 pub type Patterns = ListOf<Pattern>;
+
+/// A condition of a pod (`status.conditions` of core/v1).
+pub type PodCondition = Pattern;
+
+/// The conditions of a pod.
+pub type PodConditions = ListOf<PodCondition>;
 
 /// Exit codes.
 pub type Codes = ListOf<i32>;
@@ -67,7 +78,9 @@ pub enum Requirement {
 /// A rule of a pod failure policy.
 #[derive(Drop)]
 pub struct FailureRule {
+    /// What the rule does.
     pub action: Action,
+    /// When it matches.
     pub requirement: Requirement,
 }
 
@@ -77,6 +90,7 @@ pub type FailureRules = ListOf<FailureRule>;
 /// A pod failure policy: the first rule that matches decides.
 #[derive(Drop)]
 pub struct FailurePolicy {
+    /// The rules, in the order in which they are tried.
     pub rules: FailureRules,
 }
 
@@ -95,6 +109,7 @@ pub type SuccessRules = ListOf<SuccessRule>;
 /// A success policy: the first rule that is met decides.
 #[derive(Drop)]
 pub struct SuccessPolicy {
+    /// The rules, in the order in which they are tried.
     pub rules: SuccessRules,
 }
 

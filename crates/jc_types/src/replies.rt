@@ -1,6 +1,6 @@
 //! The requests of a sync, what the store answers, and the replies to events.
 
-use crate::copying::{Copied, Same, Want};
+use crate::copies::{Copied, Same, Want, copied_variant, is_same_variant};
 use crate::numbers::{Uid, Version};
 use crate::objects::{Key, Kind, Phase};
 use crate::texts::Name;
@@ -9,16 +9,22 @@ use jc_moment::Moment;
 /// A member of a specification that an update is refused for.
 #[derive(Clone, Copy, PartialEq, Eq, Debug)]
 pub enum Field {
+    /// `completions`
     Completions,
+    /// `parallelism`
     Parallelism,
+    /// `backoffLimit`
     BackoffLimit,
+    /// `activeDeadlineSeconds`
     Deadline,
 }
 
 /// A request of a sync to the store.
 #[derive(Clone, Copy, PartialEq, Eq, Debug)]
 pub enum Request {
+    /// Make a pod.
     CreatePod { index: Option<u32> },
+    /// Mark a pod for deletion.
     MarkPod { pod: Uid },
     /// Take the finalizer of a pod that is not to be counted.
     LetGo { pod: Uid },
@@ -31,19 +37,33 @@ pub enum Request {
 /// What a sync is answered to a request.
 #[derive(Drop)]
 pub enum Answer {
+    /// A new object has this UID, and its entry this version.
     Created { uid: Uid, version: Version },
+    /// The write has this version.
     Written { version: Version },
+    /// The write would have left the object as it is, at this version.
     Unchanged { version: Version },
+    /// The finalizer is gone since this version.
     Released { version: Version },
+    /// The object is gone since this version.
     Removed { version: Version },
+    /// The object has another version than the given one.
     Conflict { current: Version },
+    /// There is no such object.
     NotFound,
+    /// There is a Job of the key.
     AlreadyExists,
+    /// The member cannot be changed.
     Immutable { field: Field },
+    /// The member is out of its bounds.
     Invalid { field: Field },
+    /// The pod has ended.
     Final { phase: Phase },
+    /// A pod does not go from the one phase to the other.
     BadStep { from: Phase, to: Phase },
+    /// The pod has no container of the name.
     NoContainer { name: Name },
+    /// No pod of the UID has the finalizer.
     NotTracked,
     /// The request met a fault: it is not known whether it was made.
     Unavailable,
@@ -52,31 +72,40 @@ pub enum Answer {
 /// The reply to an event.
 #[derive(Drop)]
 pub enum Reply {
+    /// A new object has this UID, and its entry this version.
     Created {
         uid: Uid,
         version: Version,
     },
+    /// The write has this version.
     Written {
         version: Version,
     },
-    /// The write would have left the object as it is.
+    /// The write would have left the object as it is, at this version.
     Unchanged {
         version: Version,
     },
+    /// The finalizer is gone since this version.
     Released {
         version: Version,
     },
+    /// The object is gone since this version.
     Removed {
         version: Version,
     },
+    /// The object has another version than the given one.
     Conflict {
         current: Version,
     },
+    /// There is no such object.
     NotFound,
+    /// There is a Job of the key.
     AlreadyExists,
+    /// The member cannot be changed.
     Immutable {
         field: Field,
     },
+    /// The member is out of its bounds.
     Invalid {
         field: Field,
     },
@@ -84,36 +113,46 @@ pub enum Reply {
     Final {
         phase: Phase,
     },
+    /// A pod does not go from the one phase to the other.
     BadStep {
         from: Phase,
         to: Phase,
     },
+    /// The pod has no container of the name.
     NoContainer {
         name: Name,
     },
+    /// No pod of the UID has the finalizer.
     NotTracked,
+    /// The clock stands at this moment.
     Now {
         moment: Moment,
     },
     /// The clock would go past the last moment.
     ClockEnd,
+    /// The cache has what the log said at this version.
     Listed {
         at: Version,
     },
+    /// The cache has the entry of this version.
     Delivered {
         version: Version,
     },
+    /// The log has no further entry for the cache.
     UpToDate,
     /// The cache lags behind the window of the log.
     Expired {
         floor: Version,
     },
+    /// A cache was not listed yet.
     NotSynced,
+    /// A sync of the key has begun, with what the caches say at these versions.
     Begun {
         key: Key,
         jobs_at: Version,
         pods_at: Version,
     },
+    /// No key stands in the line.
     NoKey,
     /// The cache of this kind lags behind what the sync needs.
     Behind {
@@ -121,19 +160,31 @@ pub enum Reply {
         need: Version,
         have: Version,
     },
+    /// The worker has a sync already.
     WorkerBusy,
+    /// The sync has made the request, and was answered.
     Stepped {
         request: Request,
         answer: Answer,
     },
+    /// The sync has no request left, and has ended.
     Ended,
+    /// There is nothing to do.
     Idle,
+    /// The node has taken the pod to this phase, by the write of this version.
     NodeDone {
         pod: Uid,
         phase: Phase,
         version: Version,
     },
+    /// The command is done.
     Done,
+}
+
+impl Copied for Field {
+    fn copy(&self) -> Result<Self, Want> {
+        Ok(*self)
+    }
 }
 
 impl Copied for Request {
@@ -144,236 +195,125 @@ impl Copied for Request {
 
 impl Copied for Answer {
     fn copy(&self) -> Result<Self, Want> {
-        match self {
-            Answer::Created { uid, version } => Ok(Answer::Created {
-                uid: *uid,
-                version: *version,
-            }),
-            Answer::Written { version } => Ok(Answer::Written { version: *version }),
-            Answer::Unchanged { version } => Ok(Answer::Unchanged { version: *version }),
-            Answer::Released { version } => Ok(Answer::Released { version: *version }),
-            Answer::Removed { version } => Ok(Answer::Removed { version: *version }),
-            Answer::Conflict { current } => Ok(Answer::Conflict { current: *current }),
-            Answer::NotFound => Ok(Answer::NotFound),
-            Answer::AlreadyExists => Ok(Answer::AlreadyExists),
-            Answer::Immutable { field } => Ok(Answer::Immutable { field: *field }),
-            Answer::Invalid { field } => Ok(Answer::Invalid { field: *field }),
-            Answer::Final { phase } => Ok(Answer::Final { phase: *phase }),
-            Answer::BadStep { from, to } => Ok(Answer::BadStep {
-                from: *from,
-                to: *to,
-            }),
-            Answer::NoContainer { name } => Ok(Answer::NoContainer { name: name.copy()? }),
-            Answer::NotTracked => Ok(Answer::NotTracked),
-            Answer::Unavailable => Ok(Answer::Unavailable),
-        }
+        copied_variant!(self, Answer {
+            Created { uid, version },
+            Written { version },
+            Unchanged { version },
+            Released { version },
+            Removed { version },
+            Conflict { current },
+            NotFound {},
+            AlreadyExists {},
+            Immutable { field },
+            Invalid { field },
+            Final { phase },
+            BadStep { from, to },
+            NoContainer { name },
+            NotTracked {},
+            Unavailable {},
+        })
     }
 }
 
 impl Copied for Reply {
     fn copy(&self) -> Result<Self, Want> {
-        match self {
-            Reply::Created { uid, version } => Ok(Reply::Created {
-                uid: *uid,
-                version: *version,
-            }),
-            Reply::Written { version } => Ok(Reply::Written { version: *version }),
-            Reply::Unchanged { version } => Ok(Reply::Unchanged { version: *version }),
-            Reply::Released { version } => Ok(Reply::Released { version: *version }),
-            Reply::Removed { version } => Ok(Reply::Removed { version: *version }),
-            Reply::Conflict { current } => Ok(Reply::Conflict { current: *current }),
-            Reply::NotFound => Ok(Reply::NotFound),
-            Reply::AlreadyExists => Ok(Reply::AlreadyExists),
-            Reply::Immutable { field } => Ok(Reply::Immutable { field: *field }),
-            Reply::Invalid { field } => Ok(Reply::Invalid { field: *field }),
-            Reply::Final { phase } => Ok(Reply::Final { phase: *phase }),
-            Reply::BadStep { from, to } => Ok(Reply::BadStep {
-                from: *from,
-                to: *to,
-            }),
-            Reply::NoContainer { name } => Ok(Reply::NoContainer { name: name.copy()? }),
-            Reply::NotTracked => Ok(Reply::NotTracked),
-            Reply::Now { moment } => Ok(Reply::Now { moment: *moment }),
-            Reply::ClockEnd => Ok(Reply::ClockEnd),
-            Reply::Listed { at } => Ok(Reply::Listed { at: *at }),
-            Reply::Delivered { version } => Ok(Reply::Delivered { version: *version }),
-            Reply::UpToDate => Ok(Reply::UpToDate),
-            Reply::Expired { floor } => Ok(Reply::Expired { floor: *floor }),
-            Reply::NotSynced => Ok(Reply::NotSynced),
-            Reply::Begun {
-                key,
-                jobs_at,
-                pods_at,
-            } => {
-                Ok(Reply::Begun {
-                    key: key.copy()?,
-                    jobs_at: *jobs_at,
-                    pods_at: *pods_at,
-                })
-            }
-            Reply::NoKey => Ok(Reply::NoKey),
-            Reply::Behind { kind, need, have } => Ok(Reply::Behind {
-                kind: *kind,
-                need: *need,
-                have: *have,
-            }),
-            Reply::WorkerBusy => Ok(Reply::WorkerBusy),
-            Reply::Stepped { request, answer } => {
-                Ok(Reply::Stepped {
-                    request: *request,
-                    answer: answer.copy()?,
-                })
-            }
-            Reply::Ended => Ok(Reply::Ended),
-            Reply::Idle => Ok(Reply::Idle),
-            Reply::NodeDone {
-                pod,
-                phase,
-                version,
-            } => {
-                Ok(Reply::NodeDone {
-                    pod: *pod,
-                    phase: *phase,
-                    version: *version,
-                })
-            }
-            Reply::Done => Ok(Reply::Done),
-        }
+        copied_variant!(self, Reply {
+            Created { uid, version },
+            Written { version },
+            Unchanged { version },
+            Released { version },
+            Removed { version },
+            Conflict { current },
+            NotFound {},
+            AlreadyExists {},
+            Immutable { field },
+            Invalid { field },
+            Final { phase },
+            BadStep { from, to },
+            NoContainer { name },
+            NotTracked {},
+            Now { moment },
+            ClockEnd {},
+            Listed { at },
+            Delivered { version },
+            UpToDate {},
+            Expired { floor },
+            NotSynced {},
+            Begun { key, jobs_at, pods_at },
+            NoKey {},
+            Behind { kind, need, have },
+            WorkerBusy {},
+            Stepped { request, answer },
+            Ended {},
+            Idle {},
+            NodeDone { pod, phase, version },
+            Done {},
+        })
+    }
+}
+
+impl Same for Field {
+    fn is_same(&self, other: &Self) -> bool {
+        *self == *other
     }
 }
 
 impl Same for Answer {
     fn is_same(&self, other: &Self) -> bool {
-        match (self, other) {
-            (
-                Answer::Created { uid, version },
-                Answer::Created {
-                    uid: uid2,
-                    version: version2,
-                },
-            ) => { *uid == *uid2 && *version == *version2 }
-            (Answer::Written { version }, Answer::Written { version: version2 }) => *version
-                == *version2,
-            (Answer::Unchanged { version }, Answer::Unchanged { version: version2 }) => *version
-                == *version2,
-            (Answer::Released { version }, Answer::Released { version: version2 }) => *version
-                == *version2,
-            (Answer::Removed { version }, Answer::Removed { version: version2 }) => *version
-                == *version2,
-            (Answer::Conflict { current }, Answer::Conflict { current: current2 }) => *current
-                == *current2,
-            (Answer::NotFound, Answer::NotFound) => true,
-            (Answer::AlreadyExists, Answer::AlreadyExists) => true,
-            (Answer::Immutable { field }, Answer::Immutable { field: field2 }) => *field == *field2,
-            (Answer::Invalid { field }, Answer::Invalid { field: field2 }) => *field == *field2,
-            (Answer::Final { phase }, Answer::Final { phase: phase2 }) => *phase == *phase2,
-            (
-                Answer::BadStep { from, to },
-                Answer::BadStep {
-                    from: from2,
-                    to: to2,
-                },
-            ) => { *from == *from2 && *to == *to2 }
-            (Answer::NoContainer { name }, Answer::NoContainer { name: name2 }) => name.is_same(
-                name2,
-            ),
-            (Answer::NotTracked, Answer::NotTracked) => true,
-            (Answer::Unavailable, Answer::Unavailable) => true,
-            _ => false,
-        }
+        is_same_variant!(self, other, Answer {
+            Created { uid: uid2, version: version2 },
+            Written { version: version2 },
+            Unchanged { version: version2 },
+            Released { version: version2 },
+            Removed { version: version2 },
+            Conflict { current: current2 },
+            NotFound {},
+            AlreadyExists {},
+            Immutable { field: field2 },
+            Invalid { field: field2 },
+            Final { phase: phase2 },
+            BadStep { from: from2, to: to2 },
+            NoContainer { name: name2 },
+            NotTracked {},
+            Unavailable {},
+        })
     }
 }
 
 impl Same for Reply {
     fn is_same(&self, other: &Self) -> bool {
-        match (self, other) {
-            (
-                Reply::Created { uid, version },
-                Reply::Created {
-                    uid: uid2,
-                    version: version2,
-                },
-            ) => { *uid == *uid2 && *version == *version2 }
-            (Reply::Written { version }, Reply::Written { version: version2 }) => *version
-                == *version2,
-            (Reply::Unchanged { version }, Reply::Unchanged { version: version2 }) => *version
-                == *version2,
-            (Reply::Released { version }, Reply::Released { version: version2 }) => *version
-                == *version2,
-            (Reply::Removed { version }, Reply::Removed { version: version2 }) => *version
-                == *version2,
-            (Reply::Conflict { current }, Reply::Conflict { current: current2 }) => *current
-                == *current2,
-            (Reply::NotFound, Reply::NotFound) => true,
-            (Reply::AlreadyExists, Reply::AlreadyExists) => true,
-            (Reply::Immutable { field }, Reply::Immutable { field: field2 }) => *field == *field2,
-            (Reply::Invalid { field }, Reply::Invalid { field: field2 }) => *field == *field2,
-            (Reply::Final { phase }, Reply::Final { phase: phase2 }) => *phase == *phase2,
-            (
-                Reply::BadStep { from, to },
-                Reply::BadStep {
-                    from: from2,
-                    to: to2,
-                },
-            ) => { *from == *from2 && *to == *to2 }
-            (Reply::NoContainer { name }, Reply::NoContainer { name: name2 }) => name.is_same(
-                name2,
-            ),
-            (Reply::NotTracked, Reply::NotTracked) => true,
-            (Reply::Now { moment }, Reply::Now { moment: moment2 }) => *moment == *moment2,
-            (Reply::ClockEnd, Reply::ClockEnd) => true,
-            (Reply::Listed { at }, Reply::Listed { at: at2 }) => *at == *at2,
-            (Reply::Delivered { version }, Reply::Delivered { version: version2 }) => *version
-                == *version2,
-            (Reply::UpToDate, Reply::UpToDate) => true,
-            (Reply::Expired { floor }, Reply::Expired { floor: floor2 }) => *floor == *floor2,
-            (Reply::NotSynced, Reply::NotSynced) => true,
-            (
-                Reply::Begun {
-                    key,
-                    jobs_at,
-                    pods_at,
-                },
-                Reply::Begun {
-                    key: key2,
-                    jobs_at: jobs_at2,
-                    pods_at: pods_at2,
-                },
-            ) => key.is_same(key2) && *jobs_at == *jobs_at2 && *pods_at == *pods_at2,
-            (Reply::NoKey, Reply::NoKey) => true,
-            (
-                Reply::Behind { kind, need, have },
-                Reply::Behind {
-                    kind: kind2,
-                    need: need2,
-                    have: have2,
-                },
-            ) => { *kind == *kind2 && *need == *need2 && *have == *have2 }
-            (Reply::WorkerBusy, Reply::WorkerBusy) => true,
-            (
-                Reply::Stepped { request, answer },
-                Reply::Stepped {
-                    request: request2,
-                    answer: answer2,
-                },
-            ) => { *request == *request2 && answer.is_same(answer2) }
-            (Reply::Ended, Reply::Ended) => true,
-            (Reply::Idle, Reply::Idle) => true,
-            (
-                Reply::NodeDone {
-                    pod,
-                    phase,
-                    version,
-                },
-                Reply::NodeDone {
-                    pod: pod2,
-                    phase: phase2,
-                    version: version2,
-                },
-            ) => *pod == *pod2 && *phase == *phase2 && *version == *version2,
-            (Reply::Done, Reply::Done) => true,
-            _ => false,
-        }
+        is_same_variant!(self, other, Reply {
+            Created { uid: uid2, version: version2 },
+            Written { version: version2 },
+            Unchanged { version: version2 },
+            Released { version: version2 },
+            Removed { version: version2 },
+            Conflict { current: current2 },
+            NotFound {},
+            AlreadyExists {},
+            Immutable { field: field2 },
+            Invalid { field: field2 },
+            Final { phase: phase2 },
+            BadStep { from: from2, to: to2 },
+            NoContainer { name: name2 },
+            NotTracked {},
+            Now { moment: moment2 },
+            ClockEnd {},
+            Listed { at: at2 },
+            Delivered { version: version2 },
+            UpToDate {},
+            Expired { floor: floor2 },
+            NotSynced {},
+            Begun { key: key2, jobs_at: jobs_at2, pods_at: pods_at2 },
+            NoKey {},
+            Behind { kind: kind2, need: need2, have: have2 },
+            WorkerBusy {},
+            Stepped { request: request2, answer: answer2 },
+            Ended {},
+            Idle {},
+            NodeDone { pod: pod2, phase: phase2, version: version2 },
+            Done {},
+        })
     }
 }
 

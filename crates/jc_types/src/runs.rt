@@ -1,9 +1,11 @@
 //! The events of a run and its history.
 
-use crate::copying::{Copied, Same, Want};
-use crate::lists::ListOf;
+ghost use Rattle.std.specs.Prelude.{◌≡◌, IfOk};
+
+use crate::copies::{Copied, Want};
 use crate::numbers::Version;
 use crate::objects::Kind;
+use crate::pasts::Pasts;
 use crate::replies::Reply;
 use jc_moment::Moment;
 
@@ -25,10 +27,15 @@ pub struct Shape {
 /// An event that the system makes of itself.
 #[derive(Clone, Copy, PartialEq, Eq, Debug)]
 pub enum Sys {
+    /// A controller lists the objects of a kind into its cache.
     List { controller: u32, kind: Kind },
+    /// A controller's cache of a kind is given the next entry of the log.
     Deliver { controller: u32, kind: Kind },
+    /// A worker begins a sync of the first key in the line.
     Begin { controller: u32, worker: u32 },
+    /// A worker makes the next request of its sync.
     Step { controller: u32, worker: u32 },
+    /// The node takes a pod one step further.
     Node,
     /// Seconds that pass.
     Clock { add: u64 },
@@ -39,24 +46,25 @@ pub enum Sys {
 pub enum Event {
     /// The command at this place of the script, counted from 0.
     Command { lane: u8, number: u32 },
+    /// An event that no command asked for.
     System(Sys),
 }
 
 /// An event that has happened.
 #[derive(Drop)]
 pub struct Past {
+    /// The event.
     pub event: Event,
+    /// What it was answered.
     pub reply: Reply,
     /// The length of the log after it.
     pub length: Version,
 }
 
-/// Events that have happened, in their order.
-pub type Pasts = ListOf<Past>;
-
 /// The history of a run.
 #[derive(Drop)]
 pub struct History {
+    /// The events, the first one first.
     pub events: Pasts,
 }
 
@@ -76,46 +84,22 @@ impl Copied for Past {
     }
 }
 
-impl Copied for History {
-    fn copy(&self) -> Result<Self, Want> {
+impl History {
+    /// A history of the same events.
+    ///
+    /// # Errors
+    /// `Want` where there is no memory for the copy.
+    pub fn copy(&self) -> Result<Self, Want>
+        ensures { IfOk result (λ copied. copied.events.items ≡ self.now.events.items) }
+    {
         Ok(History {
             events: self.events.copy()?,
         })
     }
 }
 
-impl Same for Shape {
-    fn is_same(&self, other: &Self) -> bool {
-        self.controllers == other.controllers
-            && self.workers == other.workers
-            && self.window == other.window
-            && self.events == other.events
-            && self.start == other.start
-    }
-}
-
 impl Copied for Shape {
     fn copy(&self) -> Result<Self, Want> {
         Ok(*self)
-    }
-}
-
-impl Same for Event {
-    fn is_same(&self, other: &Self) -> bool {
-        *self == *other
-    }
-}
-
-impl Same for Past {
-    fn is_same(&self, other: &Self) -> bool {
-        self.event.is_same(&other.event)
-            && self.reply.is_same(&other.reply)
-            && self.length == other.length
-    }
-}
-
-impl Same for History {
-    fn is_same(&self, other: &Self) -> bool {
-        self.events.is_same(&other.events)
     }
 }

@@ -1,6 +1,6 @@
 //! The specification of a Job (`JobSpec` of batch/v1).
 
-use crate::copying::{Copied, Same, Want};
+use crate::copies::{Copied, Same, Want};
 use crate::policies::{FailurePolicy, SuccessPolicy};
 use crate::texts::Names;
 
@@ -25,13 +25,16 @@ pub enum Replacement {
 /// What becomes of a container that exits (`restartPolicy`).
 #[derive(Clone, Copy, PartialEq, Eq, Debug)]
 pub enum Restart {
+    /// It stays ended.
     Never,
+    /// It is started again, unless it has exited with 0.
     OnFailure,
 }
 
 /// What the pods of a Job are made from.
 #[derive(Drop)]
 pub struct Template {
+    /// What becomes of a container that exits.
     pub restart: Restart,
     /// The names of the containers.
     pub containers: Names,
@@ -46,15 +49,21 @@ pub struct JobSpec {
     pub parallelism: u32,
     /// How many completions are wanted; none makes a work queue Job.
     pub completions: Option<u32>,
+    /// How the completions are counted.
     pub mode: Mode,
+    /// Whether the Job is to have no pods (`suspend`).
     pub suspend: bool,
     /// The number of failed pods above which the Job fails.
     pub backoff_limit: u32,
     /// Seconds from the start time on (`activeDeadlineSeconds`).
     pub deadline: Option<u32>,
+    /// When a pod is replaced.
     pub replacement: Replacement,
+    /// What a failed pod does to the Job (`podFailurePolicy`).
     pub failure: Option<FailurePolicy>,
+    /// When the Job has succeeded before all its indexes have (`successPolicy`).
     pub success: Option<SuccessPolicy>,
+    /// What the pods are made from.
     pub template: Template,
 }
 

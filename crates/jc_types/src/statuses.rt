@@ -1,6 +1,6 @@
 //! The status of a Job (`JobStatus` of batch/v1, with the fields of KEP-2307).
 
-use crate::copying::{Copied, Same, Want};
+use crate::copies::{Copied, Same, Want};
 use crate::lists::ListOf;
 use crate::numbers::Uids;
 use jc_moment::Moment;
@@ -9,32 +9,49 @@ use jc_ranges::Ranges;
 /// The type of a Job's condition.
 #[derive(Clone, Copy, PartialEq, Eq, Debug)]
 pub enum CondKind {
+    /// The Job is suspended.
     Suspended,
+    /// The Job will fail, once its pods have ended (KEP-3329).
     FailureTarget,
+    /// The Job will succeed, once its pods have ended (KEP-3998).
     SuccessCriteriaMet,
+    /// The Job has failed.
     Failed,
+    /// The Job has succeeded.
     Complete,
 }
 
 /// The reason of a Job's condition.
 #[derive(Clone, Copy, PartialEq, Eq, Debug)]
 pub enum Reason {
+    /// More pods failed than the backoff limit allows.
     BackoffLimitExceeded,
+    /// The Job ran longer than its deadline allows.
     DeadlineExceeded,
+    /// A rule of the pod failure policy failed the Job.
     PodFailurePolicy,
+    /// A rule of the success policy is met.
     SuccessPolicy,
+    /// As many pods, or indexes, have succeeded as are wanted.
     CompletionsReached,
+    /// The Job was suspended.
     JobSuspended,
+    /// The Job was resumed.
     JobResumed,
+    /// More indexes failed than may fail (KEP-3850).
     MaxFailedIndexesExceeded,
+    /// All indexes have ended, and some have failed (KEP-3850).
     FailedIndexes,
 }
 
 /// A condition of a Job.
 #[derive(Clone, Copy, PartialEq, Eq, Debug)]
 pub struct Condition {
+    /// Its type.
     pub kind: CondKind,
+    /// Whether it is true.
     pub status: bool,
+    /// Why it became so.
     pub reason: Reason,
     /// When the status last changed (`lastTransitionTime`).
     pub since: Moment,
@@ -48,10 +65,13 @@ pub type Conditions = ListOf<Condition>;
 pub struct JobStatus {
     /// Pods that are pending or running and not marked for deletion.
     pub active: u32,
+    /// Active pods whose condition `Ready` is true.
     pub ready: u32,
     /// Pods that are marked for deletion and have not ended.
     pub terminating: u32,
+    /// The total of succeeded pods.
     pub succeeded: u64,
+    /// The total of failed pods.
     pub failed: u64,
     /// The indexes that have succeeded (`completedIndexes`).
     pub completed: Ranges,
@@ -59,8 +79,11 @@ pub struct JobStatus {
     pub uncounted_succeeded: Uids,
     /// Failed pods that the totals do not count yet (`uncountedTerminatedPods`).
     pub uncounted_failed: Uids,
+    /// When the Job started, or was last resumed (`startTime`).
     pub start: Option<Moment>,
+    /// When the Job succeeded (`completionTime`).
     pub completion: Option<Moment>,
+    /// The conditions, in the order in which they came.
     pub conditions: Conditions,
 }
 

@@ -3,7 +3,7 @@
 ghost use Rattle.std.specs.Prelude.{◌≡◌, ◌<◌, ◌^◌};
 ghost use Rattle.jc_types.specs.Counts.{counts as counts_of};
 
-use crate::copying::{Copied, Same, Want};
+use crate::copies::{Copied, Same, Want};
 use crate::lists::ListOf;
 use crate::numbers::{Uid, Uids, Version};
 use crate::objects::{Job, Key, Pods};
@@ -19,6 +19,7 @@ pub type PodVersions = ListOf<(Uid, Version)>;
 /// The failures of a key in a row, after which its next pods are held back.
 #[derive(Clone, Copy, PartialEq, Eq, Debug)]
 pub struct Backoff {
+    /// How many failures there were.
     pub failures: u64,
     /// When the last of them was seen.
     pub last: Option<Moment>,
@@ -27,24 +28,34 @@ pub struct Backoff {
 /// What one sync sees: the Job and the pods of its key in the caches of a controller.
 #[derive(Drop)]
 pub struct Basis {
+    /// The key that is synced.
     pub key: Key,
+    /// The Job of the key, if there is one.
     pub job: Option<Job>,
+    /// The pods that were made for Jobs of the key.
     pub pods: Pods,
     /// The version of the Job cache.
     pub jobs_at: Version,
     /// The version of the pod cache.
     pub pods_at: Version,
+    /// When the sync begins.
     pub now: Moment,
+    /// The failures of the key.
     pub backoff: Backoff,
 }
 
 /// The counts of a sync over its basis (KEP-2307).
 #[derive(Drop)]
 pub struct CountIn {
+    /// Succeeded pods that the totals do not count yet.
     pub uncounted_succeeded: Uids,
+    /// Failed pods that the totals do not count yet.
     pub uncounted_failed: Uids,
+    /// The total of succeeded pods.
     pub succeeded: u64,
+    /// The total of failed pods.
     pub failed: u64,
+    /// The indexes that have succeeded.
     pub completed: Ranges,
     /// The pods whose finalizer is to go.
     pub releases: Uids,
@@ -54,8 +65,8 @@ pub struct CountIn {
     pub new_failed: u32,
 }
 
-/// The failed count and the succeeded count of a Job (KEP-2307): each total with the length of its list
-/// of uncounted pods. Both are below 2^64.
+/// The failed count and the succeeded count of a Job (KEP-2307): each total with the length of its
+/// list of uncounted pods. Both are below 2^64.
 pub fn counts(counted: &CountIn) -> (u64, u64)
     requires failed { (counts_of counted.now).0 < 2 ^ 64 }
     requires succeeded { (counts_of counted.now).1 < 2 ^ 64 }
@@ -129,18 +140,5 @@ impl Same for Basis {
 impl Same for (Uid, Version) {
     fn is_same(&self, other: &Self) -> bool {
         self.0 == other.0 && self.1 == other.1
-    }
-}
-
-impl Same for CountIn {
-    fn is_same(&self, other: &Self) -> bool {
-        self.uncounted_succeeded.is_same(&other.uncounted_succeeded)
-            && self.uncounted_failed.is_same(&other.uncounted_failed)
-            && self.succeeded == other.succeeded
-            && self.failed == other.failed
-            && self.completed.is_same(&other.completed)
-            && self.releases.is_same(&other.releases)
-            && self.new_succeeded == other.new_succeeded
-            && self.new_failed == other.new_failed
     }
 }

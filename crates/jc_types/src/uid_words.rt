@@ -4,7 +4,7 @@ ghost use Rattle.std.specs.Prelude.{◌≡◌, IfOk};
 ghost use Rattle.std.specs.Int.{to_be_bytes, w128};
 ghost use Rattle.uuid.specs.Text.{hyphenated_text, lower};
 
-use crate::copying::Want;
+use crate::copies::Want;
 use crate::numbers::Uid;
 use crate::texts::Text;
 use std::alloc::Global;

@@ -1,5 +1,5 @@
-use Rattle.jc_types.proofs.SameFacts.{status-exact}
-use Rattle.jc_types.proofs.SameObjects.{spec-exact, job-exact, pod-exact, basis-exact}
+use Rattle.jc_types.proofs.EqualityFacts.{status-exact}
+use Rattle.jc_types.proofs.ObjectEqualityFacts.{spec-exact, job-exact, pod-exact, basis-exact}
 use Rattle.jc_types.proofs.laws.tests_are_exact.Goals as goal
 
 pub returns-clause-status : goal.returns-clause-status

@@ -1,0 +1,15 @@
+pub mod TableFacts
+pub mod LogFacts
+pub mod ObjectFacts
+pub mod WriteFacts
+pub mod PodFacts
+pub mod DeedFacts
+pub mod BirthFacts
+pub mod PlaceFacts
+pub mod JobFacts
+pub mod CountFacts
+pub mod HasJobFacts
+pub mod LastingFacts
+pub mod AppendFacts
+pub mod StepFacts
+pub mod RequestFacts

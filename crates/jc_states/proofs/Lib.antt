@@ -1,0 +1,3 @@
+pub mod ObjectChangeFacts
+pub mod PodListFacts
+pub mod UidListFacts

@@ -1,0 +1,46 @@
+-- Words on what one sync sees.
+--     is_own job pod        the pod was made for the Job, by UID
+--     own_pods job pods     the Job's own pods, in the order in which they stand
+--     IsTidy job pods       of an Indexed Job no success is listed, and each pod has an index
+--     TotalsFit job pods    the totals with what is listed, and with the pods, are below 2 ^ 64
+--     CanPlan basis         there is a valid Job, and all numbers are small enough
+use Rattle.std.specs.Prelude.{◌≡◌, ◌≢◌, ◌+◌, ◌<◌, ◌^◌, Bool, List, [], length, filter, All, AllPairs, IsSome, IfSome}
+use Rattle.jc_types.specs.declared.objects.Job.{Job}
+use Rattle.jc_types.specs.declared.objects.Pod.{Pod}
+use Rattle.jc_types.specs.declared.specifications.Mode.TheVariants.{Indexed}
+use Rattle.jc_types.specs.declared.syncs.Basis.{Basis}
+use Rattle.jc_types.specs.Keys.{same_uid}
+use Rattle.jc_states.specs.Indexes.{HasSmallIndex}
+use Rattle.jc_states.specs.ValidSpecs.{IsValidSpec}
+
+-- The pod was made for the Job. One of the same key may have been made for an earlier Job.
+abbrev pub is_own : Job → Pod → Bool
+is_own job pod = same_uid pod.owner_uid job.uid
+
+-- The Job's own pods.
+abbrev pub own_pods : Job → List Pod → List Pod
+own_pods job pods = filter (is_own job) pods
+
+-- Of an Indexed Job no success is listed, and each of its pods has an index.
+abbrev pub IsTidy : Job → List Pod → Type 0
+IsTidy job pods =
+    job.spec.mode ≡ Indexed
+    → (job.status.uncounted_succeeded ≡ []) × All (λ pod. IsSome pod.index) (own_pods job pods)
+
+-- The totals of the Job, with what is listed and as many pods as there are, are below 2 ^ 64.
+abbrev pub TotalsFit : Job → List Pod → Type 0
+TotalsFit job pods =
+    (job.status.succeeded + length job.status.uncounted_succeeded + length pods < 2 ^ 64)
+    × (job.status.failed + length job.status.uncounted_failed + length pods < 2 ^ 64)
+
+-- What a sync can be planned from.
+pub record CanPlan (basis : Basis) : Type 0 where
+  pub there : IsSome basis.job
+  pub valid : IfSome basis.job (λ job. IsValidSpec job.spec)
+  pub tidy : IfSome basis.job (λ job. IsTidy job basis.pods)
+  pub totals : IfSome basis.job (λ job. TotalsFit job basis.pods)
+  pub distinct : AllPairs (λ pod other. pod.uid ≢ other.uid) basis.pods
+  pub indexes : All HasSmallIndex basis.pods
+  pub few : length basis.pods < 2 ^ 31
+  pub failures : basis.backoff.failures + length basis.pods < 2 ^ 64
+  pub last : 0 < basis.backoff.failures → IsSome basis.backoff.last
