@@ -1,7 +1,8 @@
 -- The laws on what is counted.
-use Rattle.std.proofs.Common.{◌≡◌, ℕ, ◌+◌, ◌≤◌, eqb, Bool, true, false, not, cond, ◌&&◌, ◌||◌, List, [], filter, length, refl, ap, sym, ◌∙◌, ◌⊎◌, inl, inr, arith, true≢false, eqb-true}
+use Rattle.std.proofs.Common.{◌≡◌, ℕ, ◌+◌, ◌≤◌, Bool, true, false, not, ◌&&◌, ◌||◌, List, [], length, refl, ap, sym, ◌∙◌, ◌⊎◌, inl, inr, arith, true≢false}
 use Rattle.std.specs.List.{AllByRecursion as Each, list_any}
 use Rattle.std.proofs.lemmas.Bool.{or_left, or_right, or_cases, and_parts, and_from}
+use Rattle.std.proofs.Math.Bool.{and_assoc}
 use Rattle.std.proofs.lemmas.List.{length-map}
 use Rattle.jc_ranges.specs.Sets.{has}
 use Rattle.jc_types.specs.declared.numbers.Uid.{Uid}
@@ -10,50 +11,28 @@ use Rattle.jc_types.specs.declared.objects.Pod.{Pod}
 use Rattle.jc_types.specs.declared.specifications.Mode.{Mode}
 use Rattle.jc_types.specs.declared.specifications.Mode.TheVariants.{Indexed, NonIndexed}
 use Rattle.jc_types.specs.declared.statuses.JobStatus.{JobStatus}
-use Rattle.jc_types.specs.Bases.{is_own, own_pods}
+use Rattle.jc_states.specs.Bases.{is_own, own_pods}
 use Rattle.jc_types.specs.Keys.{same_uid}
-use Rattle.jc_types.specs.Log.{IsRising}
-use Rattle.jc_types.specs.Pods.{is_tracked}
-use Rattle.jc_types.specs.Sames.{IsExact}
-use Rattle.jc_types.specs.Uids.{Ascends, is_in, merge, uids_of}
+use Rattle.jc_states.specs.PodLists.{IsRising}
+use Rattle.jc_states.specs.Pods.{is_tracked}
+use Rattle.jc_states.specs.UidLists.{Ascends, is_in, merge, uids_of}
 use Rattle.jc_types.proofs.KeyFacts.{same_uid-eq}
 use Rattle.jc_types.proofs.ListFacts.{filter_none, weaker_in}
-use Rattle.jc_types.proofs.PodFacts.{rises_filter}
-use Rattle.jc_types.proofs.SameFacts.{exact_from}
-use Rattle.jc_types.proofs.UidFacts.{ascends_filter, ascends_merge, each_from_zero, has-join, is_in-filter, is_in-merge, length-merge, uids_of-ascends}
+use Rattle.jc_states.proofs.PodListFacts.{rises_filter}
+use Rattle.jc_states.proofs.UidListFacts.{ascends_filter, ascends_merge, each_from_zero, has-join, is_in-filter, is_in-merge, length-merge, uids_of-ascends}
 use Rattle.jc_failpol.specs.declared.outcomes.Outcome.{Outcome}
 use Rattle.jc_failpol.specs.declared.outcomes.Outcome.TheVariants.{Alive, Succeeded, Failed, Ignored}
-use Rattle.jc_failpol.specs.Outcomes.{outcome_of}
-use Rattle.jc_account.specs.Accounts.{completed_in, counted_in, counted_out, left, stayed, unreleased}
+use Rattle.jc_failpol.specs.Outcomes.{is_verdict, outcome_of, same_outcome}
+use Rattle.jc_account.specs.Accounts.{completed_in, counted_in, counted_out, left, new_uids, stayed, unreleased}
 use Rattle.jc_states.specs.Listed.{is_listed}
-use Rattle.jc_account.specs.Judged.{has_come_to, has_tracked, is_new, is_staying, is_to_release, newly, outcome_place, same_outcome, staying, to_release}
-use Rattle.jc_account.specs.Modes.{completed_after, gain, gained, has_index, listing, succeeded_after}
+use Rattle.jc_account.specs.Judged.{has_come_to, has_tracked, has_verdict, is_judged_now, is_new, is_staying, is_to_release, judged_now, newly, staying, to_release}
+use Rattle.jc_account.specs.Modes.{completed_after, gain, gained, listing, succeeded_after}
+use Rattle.jc_states.specs.Indexes.{has_index}
 use Rattle.jc_account.proofs.ListedFacts.{among_apart, among_passing, apart_from, each, each_in, has-indexes, none_passes, one_passes_both}
-use Rattle.jc_account.proofs.Owned.{kept_and_others}
+use Rattle.jc_account.proofs.JudgementFacts.{newly-few, newly-is}
 use Rattle.jc_account.proofs.Totals.{stayed_and_left, unreleased_and_released}
 
 -- ---- outcomes
-
--- The outcome at a place.
-outcome_at : ℕ → Outcome
-outcome_at n = cond (eqb n 0) Alive (cond (eqb n 1) Succeeded (cond (eqb n 2) Failed Ignored))
-
-outcome_at-place : (outcome : Outcome) → outcome_at (outcome_place outcome) ≡ outcome
-unfolding outcome_at
-outcome_at-place Alive = refl
-outcome_at-place Succeeded = refl
-outcome_at-place Failed = refl
-outcome_at-place Ignored = refl
-
-outcome_itself : (a : Outcome) → same_outcome a a ≡ true
-outcome_itself Alive = refl
-outcome_itself Succeeded = refl
-outcome_itself Failed = refl
-outcome_itself Ignored = refl
-
-pub outcome-exact : IsExact same_outcome
-outcome-exact =
-    exact_from same_outcome (λ a b e. sym (outcome_at-place a) ∙ ap outcome_at (eqb-true (outcome_place a) (outcome_place b) e) ∙ outcome_at-place b) outcome_itself
 
 -- A failure is not alive.
 not_alive : (a : Outcome) → same_outcome a Failed ≡ true → not (same_outcome a Alive) ≡ true
@@ -70,21 +49,33 @@ succeeded_not_alive Ignored h = refl
 
 -- ---- newly judged
 
-pub newly-member : (u : Uid) (job : Job) (own : List Pod) (outcome : Outcome) → is_in u (uids_of (newly job own outcome)) ≡ (not (is_listed job.status u) && list_any (λ pod. has_come_to job outcome pod && same_uid pod.uid u) own)
-newly-member u job own outcome =
-    among_passing u (is_new job outcome) own ∙ among_apart u (has_come_to job outcome) (λ v. not (is_listed job.status v)) own
+-- The UIDs of the pods that are judged now.
+pub judged-member : (u : Uid) (job : Job) (own : List Pod) → is_in u (uids_of (judged_now job own)) ≡ (not (is_listed job.status u) && list_any (λ pod. has_verdict job pod && same_uid pod.uid u) own)
+judged-member u job own =
+    among_passing u (is_judged_now job) own
+    ∙ sym (λ i. list_any (λ pod. and_assoc (is_tracked pod) (is_verdict (outcome_of job.spec pod)) (not (is_listed job.status pod.uid)) i && same_uid pod.uid u) own)
+    ∙ among_apart u (has_verdict job) (λ v. not (is_listed job.status v)) own
 
-pub newly-order : (job : Job) (pods : List Pod) (outcome : Outcome) → IsRising pods → Ascends (uids_of (newly job (own_pods job pods) outcome))
+pub newly-member : (u : Uid) (job : Job) (own : List Pod) (outcome : Outcome) → is_verdict outcome ≡ true
+    → is_in u (uids_of (newly job own outcome)) ≡ (not (is_listed job.status u) && list_any (λ pod. has_come_to job outcome pod && same_uid pod.uid u) own)
+newly-member u job own outcome v =
+    ap (λ pods. is_in u (uids_of pods)) (newly-is job own outcome v)
+    ∙ among_passing u (is_new job outcome) own
+    ∙ among_apart u (has_come_to job outcome) (λ v. not (is_listed job.status v)) own
+
+pub newly-order : (job : Job) (pods : List Pod) (outcome : Outcome) → IsRising pods → Ascends (new_uids job pods outcome)
 newly-order job pods outcome rises =
-    uids_of-ascends 0 (newly job (own_pods job pods) outcome) (rises_filter 0 (is_new job outcome) (own_pods job pods) (rises_filter 0 (is_own job) pods rises))
+    uids_of-ascends 0 (newly job (own_pods job pods) outcome)
+    (rises_filter 0 (λ pod. same_outcome (outcome_of job.spec pod) outcome) (judged_now job (own_pods job pods))
+    (rises_filter 0 (is_judged_now job) (own_pods job pods) (rises_filter 0 (is_own job) pods rises)))
 
 pub staying-member : (u : Uid) (job : Job) (own : List Pod) → is_in u (uids_of (staying job own)) ≡ (is_listed job.status u && has_tracked own u)
 staying-member u job own = among_passing u (is_staying job) own ∙ among_apart u is_tracked (is_listed job.status) own
 
 -- None of them is listed.
-not_listed : (u : Uid) (job : Job) (own : List Pod) (outcome : Outcome) → is_in u (uids_of (newly job own outcome)) ≡ true → is_listed job.status u ≡ false
-not_listed u job own outcome h =
-    by (is_listed job.status u) (list_any (λ pod. has_come_to job outcome pod && same_uid pod.uid u) own) (sym (newly-member u job own outcome) ∙ h)
+not_listed : (u : Uid) (job : Job) (own : List Pod) (outcome : Outcome) → is_verdict outcome ≡ true → is_in u (uids_of (newly job own outcome)) ≡ true → is_listed job.status u ≡ false
+not_listed u job own outcome v h =
+    by (is_listed job.status u) (list_any (λ pod. has_come_to job outcome pod && same_uid pod.uid u) own) (sym (newly-member u job own outcome v) ∙ h)
   where
     by : (l some : Bool) → (not l && some) ≡ true → l ≡ false
     by true some e = absurd (true≢false (sym e))
@@ -133,14 +124,14 @@ succeeded-order job pods rises =
     (ascends_filter 0 (has_tracked own) job.status.uncounted_succeeded rises) (each_from_zero (listing job.spec.mode (newly job own Succeeded)))
 
 -- A list with the newly judged is as long as both, where none of these is in it.
-longer : (job : Job) (pods : List Pod) (outcome : Outcome) (uids : List Uid) → IsRising pods → ((u : Uid) → is_listed job.status u ≡ false → is_in u uids ≡ false)
+longer : (job : Job) (pods : List Pod) (outcome : Outcome) (uids : List Uid) → is_verdict outcome ≡ true → IsRising pods → ((u : Uid) → is_listed job.status u ≡ false → is_in u uids ≡ false)
     → length (merge (stayed (own_pods job pods) uids) (uids_of (newly job (own_pods job pods) outcome))) ≡ length (stayed (own_pods job pods) uids) + length (newly job (own_pods job pods) outcome)
-longer job pods outcome uids rises unlisted =
+longer job pods outcome uids v rises unlisted =
     let own = own_pods job pods in
     let more = uids_of (newly job own outcome) in
     let out : Each (λ u. is_in u (stayed own uids) ≡ false) more =
     each_in (λ u. is_in u (stayed own uids) ≡ false) more
-    (λ u h. is_in-filter u (has_tracked own) uids ∙ ap (λ b. b && has_tracked own u) (unlisted u (not_listed u job own outcome h))) in
+    (λ u h. is_in-filter u (has_tracked own) uids ∙ ap (λ b. b && has_tracked own u) (unlisted u (not_listed u job own outcome v h))) in
     let sum = length-merge (stayed own uids) more (apart_from 0 (stayed own uids) more (newly-order job pods outcome rises) out) in
     sum ∙ ap (λ n. length (stayed own uids) + n) (length-map (newly job own outcome) (λ (pod : Pod). pod.uid))
 
@@ -152,13 +143,13 @@ neither false b h = (refl, h)
 pub failed-length : (job : Job) (pods : List Pod) → IsRising pods → length (counted_in job pods).uncounted_failed ≡ length (stayed (own_pods job pods) job.status.uncounted_failed) + length (newly job (own_pods job pods) Failed)
 unfolding counted_in
 failed-length job pods rises =
-    longer job pods Failed job.status.uncounted_failed rises
+    longer job pods Failed job.status.uncounted_failed refl rises
     (λ u h. (neither (is_in u job.status.uncounted_succeeded) (is_in u job.status.uncounted_failed) h).1)
 
 pub succeeded-length : (job : Job) (pods : List Pod) → job.spec.mode ≡ NonIndexed → IsRising pods → length (counted_in job pods).uncounted_succeeded ≡ length (stayed (own_pods job pods) job.status.uncounted_succeeded) + length (newly job (own_pods job pods) Succeeded)
 succeeded-length job pods at rises =
     ap length (list_at job pods NonIndexed at)
-    ∙ longer job pods Succeeded job.status.uncounted_succeeded rises
+    ∙ longer job pods Succeeded job.status.uncounted_succeeded refl rises
     (λ u h. (neither (is_in u job.status.uncounted_succeeded) (is_in u job.status.uncounted_failed) h).0)
 
 -- ---- totals
@@ -199,13 +190,14 @@ unfolding counted_in
 new-indexes job pods at =
     ap (λ m. gain m (newly job (own_pods job pods) Succeeded) job.status.completed (completed_in job (own_pods job pods))) at
 
--- A filter keeps at most all.
-at_most : {X : Type 0} (test : X → Bool) (xs : List X) → length (filter test xs) ≤ length xs
-at_most test xs = omega (arith, kept_and_others test xs)
-
 pub few-failed : (job : Job) (pods : List Pod) → (counted_in job pods).new_failed ≤ length pods
 few-failed job pods =
-    omega (arith, new-failed job pods, at_most (is_new job Failed) (own_pods job pods), at_most (is_own job) pods)
+    omega (
+      arith,
+      new-failed job pods,
+      length-map (newly job (own_pods job pods) Failed) (λ (pod : Pod). pod.uid),
+      newly-few job pods Failed,
+    )
 
 -- ---- indexes
 
@@ -248,12 +240,12 @@ listed_released u job pods listed tracked =
         (or_right (not (same_outcome (outcome_of job.spec pod) Alive)) (is_listed job.status pod.uid) here)) parts.1
 
 -- A newly judged pod is released.
-newly_released : (u : Uid) (job : Job) (pods : List Pod) (outcome : Outcome) → ((a : Outcome) → same_outcome a outcome ≡ true → not (same_outcome a Alive) ≡ true) → is_in u (uids_of (newly job (own_pods job pods) outcome)) ≡ true → is_in u (counted_in job pods).releases ≡ true
-newly_released u job pods outcome ended h =
+newly_released : (u : Uid) (job : Job) (pods : List Pod) (outcome : Outcome) → is_verdict outcome ≡ true → ((a : Outcome) → same_outcome a outcome ≡ true → not (same_outcome a Alive) ≡ true) → is_in u (uids_of (newly job (own_pods job pods) outcome)) ≡ true → is_in u (counted_in job pods).releases ≡ true
+newly_released u job pods outcome v ended h =
     release-member u job pods
     ∙ weaker_in (λ pod. is_new job outcome pod && same_uid pod.uid u) (λ pod. is_to_release job pod && same_uid pod.uid u) (own_pods job pods)
     (each (λ pod. (is_new job outcome pod && same_uid pod.uid u) ≡ true → (is_to_release job pod && same_uid pod.uid u) ≡ true) at (own_pods job pods))
-    (sym (among_passing u (is_new job outcome) (own_pods job pods)) ∙ h)
+    (sym (among_passing u (is_new job outcome) (own_pods job pods)) ∙ sym (ap (λ ps. is_in u (uids_of ps)) (newly-is job (own_pods job pods) outcome v)) ∙ h)
   where
     at : (pod : Pod) → (is_new job outcome pod && same_uid pod.uid u) ≡ true → (is_to_release job pod && same_uid pod.uid u) ≡ true
     at pod h =
@@ -288,7 +280,7 @@ failed-released u job pods h =
       | inl stays ↦
           let parts = and_parts (is_in u job.status.uncounted_failed) (has_tracked (own_pods job pods) u) stays in
           listed_released u job pods (or_right (is_in u job.status.uncounted_succeeded) (is_in u job.status.uncounted_failed) parts.0) parts.1
-      | inr new ↦ newly_released u job pods Failed not_alive new
+      | inr new ↦ newly_released u job pods Failed refl not_alive new
     ]
 
 pub succeeded-released : (u : Uid) (job : Job) (pods : List Pod) → is_in u (counted_in job pods).uncounted_succeeded ≡ true → is_in u (counted_in job pods).releases ≡ true
@@ -297,7 +289,7 @@ succeeded-released u job pods h =
       | inl stays ↦
           let parts = and_parts (is_in u job.status.uncounted_succeeded) (has_tracked (own_pods job pods) u) stays in
           listed_released u job pods (or_left (is_in u job.status.uncounted_succeeded) (is_in u job.status.uncounted_failed) parts.0) parts.1
-      | inr new ↦ newly_released u job pods Succeeded succeeded_not_alive new
+      | inr new ↦ newly_released u job pods Succeeded refl succeeded_not_alive new
     ]
 
 -- ---- no UID in both lists
@@ -317,16 +309,16 @@ one_outcome job pod = by (is_tracked pod) (outcome_of job.spec pod)
 judged_once : (u : Uid) (job : Job) (pods : List Pod) → IsRising pods → is_in u (uids_of (newly job (own_pods job pods) Succeeded)) ≡ true → is_in u (uids_of (newly job (own_pods job pods) Failed)) ≡ true → ⊥
 judged_once u job pods rises s f =
     let own = own_pods job pods in
-    let come = λ (outcome : Outcome) (h : is_in u (uids_of (newly job own outcome)) ≡ true).
-    (and_parts (not (is_listed job.status u)) (list_any (λ pod. has_come_to job outcome pod && same_uid pod.uid u) own) (sym (newly-member u job own outcome) ∙ h)).1 in
-    let both = one_passes_both 0 u (has_come_to job Succeeded) (has_come_to job Failed) own (rises_filter 0 (is_own job) pods rises) (come Succeeded s) (come Failed f) in
+    let come = λ (outcome : Outcome) (v : is_verdict outcome ≡ true) (h : is_in u (uids_of (newly job own outcome)) ≡ true).
+    (and_parts (not (is_listed job.status u)) (list_any (λ pod. has_come_to job outcome pod && same_uid pod.uid u) own) (sym (newly-member u job own outcome v) ∙ h)).1 in
+    let both = one_passes_both 0 u (has_come_to job Succeeded) (has_come_to job Failed) own (rises_filter 0 (is_own job) pods rises) (come Succeeded refl s) (come Failed refl f) in
     true≢false (sym both ∙ none_passes (λ pod. (has_come_to job Succeeded pod && has_come_to job Failed pod) && same_uid pod.uid u) (λ pod. ap (λ b. b && same_uid pod.uid u) (one_outcome job pod)) own)
 
 pub lists-apart : (u : Uid) (job : Job) (pods : List Pod) → IsRising pods → (is_in u job.status.uncounted_succeeded && is_in u job.status.uncounted_failed) ≡ false → (is_in u (counted_in job pods).uncounted_succeeded && is_in u (counted_in job pods).uncounted_failed) ≡ false
 lists-apart u job pods rises before = by (is_in u (counted_in job pods).uncounted_succeeded) refl (is_in u (counted_in job pods).uncounted_failed) refl
   where
-    listed_not_new : (outcome : Outcome) → is_listed job.status u ≡ true → is_in u (uids_of (newly job (own_pods job pods) outcome)) ≡ true → ⊥
-    listed_not_new outcome listed new = true≢false (sym listed ∙ not_listed u job (own_pods job pods) outcome new)
+    listed_not_new : (outcome : Outcome) → is_verdict outcome ≡ true → is_listed job.status u ≡ true → is_in u (uids_of (newly job (own_pods job pods) outcome)) ≡ true → ⊥
+    listed_not_new outcome v listed new = true≢false (sym listed ∙ not_listed u job (own_pods job pods) outcome v new)
 
     never : is_in u (counted_in job pods).uncounted_succeeded ≡ true → is_in u (counted_in job pods).uncounted_failed ≡ true → ⊥
     never s f =
@@ -337,13 +329,13 @@ lists-apart u job pods rises before = by (is_in u (counted_in job pods).uncounte
                 | inl keeps ↦
                     let is = (and_parts (is_in u job.status.uncounted_failed) (has_tracked (own_pods job pods) u) keeps).0 in
                     true≢false (sym (and_from (is_in u job.status.uncounted_succeeded) (is_in u job.status.uncounted_failed) was is) ∙ before)
-                | inr new ↦ listed_not_new Failed (or_left (is_in u job.status.uncounted_succeeded) (is_in u job.status.uncounted_failed) was) new
+                | inr new ↦ listed_not_new Failed refl (or_left (is_in u job.status.uncounted_succeeded) (is_in u job.status.uncounted_failed) was) new
               ]
           | inr new ↦
               elim (failed-cases u job pods f) [
                 | inl keeps ↦
                     let is = (and_parts (is_in u job.status.uncounted_failed) (has_tracked (own_pods job pods) u) keeps).0 in
-                    listed_not_new Succeeded (or_right (is_in u job.status.uncounted_succeeded) (is_in u job.status.uncounted_failed) is) new
+                    listed_not_new Succeeded refl (or_right (is_in u job.status.uncounted_succeeded) (is_in u job.status.uncounted_failed) is) new
                 | inr too ↦ judged_once u job pods rises new too
               ]
         ]

@@ -1,6 +1,7 @@
-pub mod Placed
-pub mod Owned
-pub mod Totals
-pub mod ListedFacts
 pub mod AccountFacts
+pub mod JudgementFacts
+pub mod ListedFacts
+pub mod Owned
+pub mod Placed
 pub mod StayingFacts
+pub mod Totals

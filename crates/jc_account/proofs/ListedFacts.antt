@@ -7,12 +7,13 @@ use Rattle.jc_ranges.specs.Sets.{has}
 use Rattle.jc_types.specs.declared.numbers.Uid.{Uid}
 use Rattle.jc_types.specs.declared.objects.Pod.{Pod}
 use Rattle.jc_types.specs.Keys.{same_uid}
-use Rattle.jc_types.specs.Log.{RisesFrom}
-use Rattle.jc_types.specs.Uids.{is_in, uids_of, AscendsFrom}
+use Rattle.jc_states.specs.PodLists.{RisesFrom}
+use Rattle.jc_states.specs.UidLists.{is_in, uids_of, AscendsFrom}
 use Rattle.jc_types.proofs.KeyFacts.{same_uid-itself, same_uid-eq}
 use Rattle.jc_types.proofs.ListFacts.{any_filter, any_map}
-use Rattle.jc_types.proofs.UidFacts.{Apart}
-use Rattle.jc_account.specs.Modes.{has_index, indexes_of}
+use Rattle.jc_states.proofs.UidListFacts.{Apart}
+use Rattle.jc_states.specs.Indexes.{has_index}
+use Rattle.jc_account.specs.Modes.{indexes_of}
 
 -- What holds of every value holds of each.
 pub each : {X : Type 0} (P : X → Type 0) → ((x : X) → P x) → (xs : List X) → Each P xs

@@ -4,7 +4,7 @@ use Rattle.std.specs.List.{position, position_or_len}
 use Rattle.std.proofs.lemmas.Bool.{ltb-true, ltb-false, leb-true, leb-false, eqb-true, eqb-false}
 use Rattle.std.proofs.lemmas.List.{take_all, drop_all}
 use Rattle.jc_types.specs.declared.numbers.Uid.{Uid}
-use Rattle.jc_types.specs.Uids.{with_uid}
+use Rattle.jc_states.specs.UidLists.{with_uid}
 
 -- The place in the list: the first UID that is not below.
 abbrev place : Uid → List Uid → ℕ

@@ -4,14 +4,14 @@ use Rattle.std.proofs.lemmas.Bool.{and_from, eqb-true}
 use Rattle.jc_types.specs.declared.numbers.Uid.{Uid}
 use Rattle.jc_types.specs.declared.objects.Job.{Job}
 use Rattle.jc_types.specs.declared.objects.Pod.{Pod}
-use Rattle.jc_types.specs.Bases.{is_own, own_pods}
+use Rattle.jc_states.specs.Bases.{is_own, own_pods}
 use Rattle.jc_types.specs.Keys.{same_uid}
-use Rattle.jc_types.specs.Log.{IsRising, RisesFrom}
-use Rattle.jc_types.specs.Pods.{is_tracked}
-use Rattle.jc_types.specs.Uids.{Ascends, AscendsFrom, is_in}
+use Rattle.jc_states.specs.PodLists.{IsRising, RisesFrom}
+use Rattle.jc_states.specs.Pods.{is_tracked}
+use Rattle.jc_states.specs.UidLists.{Ascends, AscendsFrom, is_in}
 use Rattle.jc_types.proofs.KeyFacts.{same_uid-either_way}
 use Rattle.jc_types.proofs.ListFacts.{filter_none, filter_same}
-use Rattle.jc_types.proofs.PodFacts.{rises_filter}
+use Rattle.jc_states.proofs.PodListFacts.{rises_filter}
 use Rattle.jc_account.specs.Accounts.{stayed}
 use Rattle.jc_account.specs.Judged.{has_tracked, is_staying, staying}
 use Rattle.jc_account.proofs.ListedFacts.{below_none, each, none_below}

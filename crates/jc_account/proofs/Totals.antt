@@ -9,8 +9,8 @@ use Rattle.jc_types.specs.declared.specifications.Mode.TheVariants.{Indexed, Non
 use Rattle.jc_types.specs.declared.statuses.Condition.{Condition}
 use Rattle.jc_types.specs.declared.statuses.JobStatus.{JobStatus}
 use Rattle.jc_types.specs.declared.syncs.CountIn.{CountIn}
-use Rattle.jc_types.specs.Bases.{own_pods}
-use Rattle.jc_types.specs.Uids.{is_in, merge, uids_of, with_uid}
+use Rattle.jc_states.specs.Bases.{own_pods}
+use Rattle.jc_states.specs.UidLists.{is_in, merge, uids_of, with_uid}
 use Rattle.jc_failpol.specs.declared.outcomes.Outcome.TheVariants.{Succeeded, Failed}
 use Rattle.std.proofs.lemmas.List.{length-map}
 use Rattle.std.proofs.lemmas.List.Filters.{length-filter_both}

@@ -3,17 +3,22 @@
 -- own pods among those that the sync sees.
 --     stayed own uids              the listed UIDs that stay: of tracked pods
 --     left own uids                how many leave
+--     is_stayed job pods uids u    the listed UID stays
+--     new_uids job pods outcome    the UIDs of the pods that are judged now with this outcome
+--     ShareNone uids others        no UID is in both lists
 --     completed_in job own         the completed indexes afterwards
 --     counted_in job pods          lists, totals and set afterwards, the pods to release, and what is new
 --     counted_out status released  the status once the released pods have lost their finalizer
-use Rattle.std.specs.Prelude.{ℕ, ◌+◌, not, List, length, filter, count_by}
+--     SameButCounts old new        the statuses differ in totals and lists of uncounted UIDs alone
+use Rattle.std.specs.Prelude.{◌≡◌, ℕ, ◌+◌, Bool, false, not, ◌&&◌, List, length, filter, count_by}
 use Rattle.jc_types.specs.declared.numbers.Uid.{Uid}
 use Rattle.jc_types.specs.declared.objects.Job.{Job}
 use Rattle.jc_types.specs.declared.objects.Pod.{Pod}
 use Rattle.jc_types.specs.declared.statuses.JobStatus.{JobStatus}
 use Rattle.jc_types.specs.declared.syncs.CountIn.{CountIn}
-use Rattle.jc_types.specs.Bases.{own_pods}
-use Rattle.jc_types.specs.Uids.{is_in, merge, uids_of}
+use Rattle.jc_states.specs.Bases.{own_pods}
+use Rattle.jc_states.specs.UidLists.{is_in, merge, uids_of}
+use Rattle.jc_failpol.specs.declared.outcomes.Outcome.{Outcome}
 use Rattle.jc_failpol.specs.declared.outcomes.Outcome.TheVariants.{Succeeded, Failed}
 use Rattle.jc_account.specs.Judged.{has_tracked, newly, to_release}
 use Rattle.jc_account.specs.Modes.{completed_after, gain, listing, succeeded_after}
@@ -26,6 +31,18 @@ stayed own uids = filter (has_tracked own) uids
 abbrev pub left : List Pod → List Uid → ℕ
 left own uids = count_by (λ u. not (has_tracked own u)) uids
 
+-- A listed UID that stays.
+abbrev pub is_stayed : Job → List Pod → List Uid → Uid → Bool
+is_stayed job pods uids u = is_in u uids && has_tracked (own_pods job pods) u
+
+-- The UIDs of the pods that are judged now with this outcome.
+abbrev pub new_uids : Job → List Pod → Outcome → List Uid
+new_uids job pods outcome = uids_of (newly job (own_pods job pods) outcome)
+
+-- No UID is in both lists.
+abbrev pub ShareNone : List Uid → List Uid → Type 0
+ShareNone uids others = (u : Uid) → (is_in u uids && is_in u others) ≡ false
+
 -- The completed indexes afterwards.
 abbrev pub completed_in : Job → List Pod → List ℕ
 completed_in job own = completed_after job.spec.mode job.status.completed (newly job own Succeeded)
@@ -33,9 +50,12 @@ completed_in job own = completed_after job.spec.mode job.status.completed (newly
 -- What is counted in, of the Job's own pods.
 abbrev pub counted_of : Job → List Pod → CountIn
 counted_of job own = record {
-  uncounted_succeeded = merge (stayed own job.status.uncounted_succeeded) (listing job.spec.mode (newly job own Succeeded));
+  uncounted_succeeded =
+      merge (stayed own job.status.uncounted_succeeded) (listing job.spec.mode (newly job own Succeeded));
   uncounted_failed = merge (stayed own job.status.uncounted_failed) (uids_of (newly job own Failed));
-  succeeded = succeeded_after job.spec.mode (job.status.succeeded + left own job.status.uncounted_succeeded) (completed_in job own);
+  succeeded =
+      succeeded_after job.spec.mode (job.status.succeeded + left own job.status.uncounted_succeeded)
+      (completed_in job own);
   failed = job.status.failed + left own job.status.uncounted_failed;
   completed = completed_in job own;
   releases = uids_of (to_release job own);
@@ -64,3 +84,12 @@ counted_out status released = record status {
   uncounted_succeeded = unreleased released status.uncounted_succeeded;
   uncounted_failed = unreleased released status.uncounted_failed;
 }
+
+-- The statuses differ in totals and lists of uncounted UIDs alone.
+abbrev pub SameButCounts : JobStatus → JobStatus → Type 0
+SameButCounts old new = (record new {
+  succeeded = old.succeeded;
+  failed = old.failed;
+  uncounted_succeeded = old.uncounted_succeeded;
+  uncounted_failed = old.uncounted_failed;
+}) ≡ old

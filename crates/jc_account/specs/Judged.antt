@@ -1,36 +1,52 @@
 -- Which pods of a Job a sync judges, and which lose their finalizer (KEP-2307). `own` are the Job's own
 -- pods among those that the sync sees.
---     same_outcome a b             the outcomes are the same
+--     has_verdict job pod          the pod is tracked, and has succeeded or failed
+--     is_fresh spec is_judged pod  it has, and was not judged
+--     is_judged_now job pod        it has, and is not listed
+--     judged_now job own           the pods that are judged now
+--     newly job own o              those of them with this outcome
 --     has_come_to job o pod        the pod is tracked and has this outcome
 --     is_new job o pod             it has, and is not listed
---     newly job own o              those that are judged now with this outcome
 --     is_staying job pod           the pod is tracked and listed
 --     staying job own              those that are listed and stay so
+--     is_tracked_as u pod          the pod is tracked and has the UID
 --     has_tracked own u            a tracked pod has the UID
 --     is_to_release job pod        the pod is tracked, and has ended or is listed
 --     to_release job own           those whose finalizer is to go
-use Rattle.std.specs.Prelude.{ℕ, Bool, not, ◌&&◌, ◌||◌, ◌==◌, List, filter}
+use Rattle.std.specs.Prelude.{Bool, not, ◌&&◌, ◌||◌, List, filter}
 use Rattle.std.specs.List.{list_any}
 use Rattle.jc_types.specs.declared.numbers.Uid.{Uid}
 use Rattle.jc_types.specs.declared.objects.Job.{Job}
 use Rattle.jc_types.specs.declared.objects.Pod.{Pod}
+use Rattle.jc_types.specs.declared.specifications.JobSpec.{JobSpec}
 use Rattle.jc_types.specs.Keys.{same_uid}
-use Rattle.jc_types.specs.Pods.{is_tracked}
+use Rattle.jc_states.specs.Pods.{is_tracked}
 use Rattle.jc_failpol.specs.declared.outcomes.Outcome.{Outcome}
-use Rattle.jc_failpol.specs.declared.outcomes.Outcome.TheVariants.{Alive, Succeeded, Failed, Ignored}
-use Rattle.jc_failpol.specs.Outcomes.{outcome_of}
+use Rattle.jc_failpol.specs.declared.outcomes.Outcome.TheVariants.{Alive}
+use Rattle.jc_failpol.specs.Outcomes.{is_verdict, outcome_of, same_outcome}
 use Rattle.jc_states.specs.Listed.{is_listed}
 
--- The place of an outcome among the outcomes.
-abbrev pub outcome_place : Outcome → ℕ
-outcome_place Alive = 0
-outcome_place Succeeded = 1
-outcome_place Failed = 2
-outcome_place Ignored = 3
+-- The pod is tracked, and has succeeded or failed.
+abbrev pub has_verdict : Job → Pod → Bool
+has_verdict job pod = is_tracked pod && is_verdict (outcome_of job.spec pod)
 
--- The outcomes are the same.
-abbrev pub same_outcome : Outcome → Outcome → Bool
-same_outcome a b = outcome_place a == outcome_place b
+-- The pod is still to be judged: it is tracked, has succeeded or failed, and was not judged.
+abbrev pub is_fresh : JobSpec → (Uid → Bool) → Pod → Bool
+is_fresh spec is_judged pod =
+    is_tracked pod && (is_verdict (outcome_of spec pod) && not (is_judged pod.uid))
+
+-- The pod is judged now: what was judged before is listed as long as the pod is tracked.
+abbrev pub is_judged_now : Job → Pod → Bool
+is_judged_now job pod = is_fresh job.spec (is_listed job.status) pod
+
+-- The pods that are judged now: all that have a verdict and are not listed. A limit on how many are judged
+-- at once would be a limit on this choice.
+abbrev pub judged_now : Job → List Pod → List Pod
+judged_now job own = filter (is_judged_now job) own
+
+-- The pods that are judged now with this outcome.
+abbrev pub newly : Job → List Pod → Outcome → List Pod
+newly job own outcome = filter (λ pod. same_outcome (outcome_of job.spec pod) outcome) (judged_now job own)
 
 -- The pod is tracked and has this outcome.
 abbrev pub has_come_to : Job → Outcome → Pod → Bool
@@ -40,11 +56,6 @@ has_come_to job outcome pod = is_tracked pod && same_outcome (outcome_of job.spe
 abbrev pub is_new : Job → Outcome → Pod → Bool
 is_new job outcome pod = has_come_to job outcome pod && not (is_listed job.status pod.uid)
 
--- The pods that are judged now with this outcome: all that are new. A limit on how many are judged at once
--- would be a limit on this choice.
-abbrev pub newly : Job → List Pod → Outcome → List Pod
-newly job own outcome = filter (is_new job outcome) own
-
 -- The pod is tracked and its UID is in one of the lists.
 abbrev pub is_staying : Job → Pod → Bool
 is_staying job pod = is_tracked pod && is_listed job.status pod.uid
@@ -53,9 +64,13 @@ is_staying job pod = is_tracked pod && is_listed job.status pod.uid
 abbrev pub staying : Job → List Pod → List Pod
 staying job own = filter (is_staying job) own
 
+-- The pod is tracked and has the UID.
+abbrev pub is_tracked_as : Uid → Pod → Bool
+is_tracked_as u pod = is_tracked pod && same_uid pod.uid u
+
 -- A tracked pod has the UID.
 abbrev pub has_tracked : List Pod → Uid → Bool
-has_tracked own u = list_any (λ pod. is_tracked pod && same_uid pod.uid u) own
+has_tracked own u = list_any (is_tracked_as u) own
 
 -- The finalizer of the pod is to go: the pod has it, and has ended or is listed. So does that of a pod whose
 -- failure is ignored, and of one whose index is completed already.

@@ -1,3 +1,4 @@
 pub mod Judged
+pub mod Judgements
 pub mod Modes
 pub mod Accounts

@@ -1,29 +1,23 @@
 -- What the completion mode of a Job decides about its successes (KEP-2214). A Job that is not Indexed counts
 -- succeeded pods, by their UIDs; an Indexed Job counts completed indexes.
 --     indexes_of pods                    the indexes of the pods
---     has_index n pod                    the pod has this index
 --     listing mode newly                 the UIDs that join the list of uncounted successes
 --     completed_after mode set newly     the completed indexes afterwards
 --     succeeded_after mode total set     the succeeded total afterwards
 --     gained before after                how many indexes a set has that the other has not
 --     gain mode newly before after       how many successes are counted in now
-use Rattle.std.specs.Prelude.{ℕ, ◌==◌, Bool, false, not, List, [], length, count_by}
+use Rattle.std.specs.Prelude.{ℕ, not, List, [], length, count_by}
 use Rattle.std.specs.List.{filter_map}
-use Rattle.std.specs.Option.{option_map_or}
 use Rattle.jc_ranges.specs.Sets.{has}
 use Rattle.jc_types.specs.declared.numbers.Uid.{Uid}
 use Rattle.jc_types.specs.declared.objects.Pod.{Pod}
 use Rattle.jc_types.specs.declared.specifications.Mode.{Mode}
 use Rattle.jc_types.specs.declared.specifications.Mode.TheVariants.{NonIndexed, Indexed}
-use Rattle.jc_types.specs.Uids.{join, uids_of}
+use Rattle.jc_states.specs.UidLists.{join, uids_of}
 
 -- The indexes of the pods.
 abbrev pub indexes_of : List Pod → List ℕ
 indexes_of pods = filter_map (λ pod. pod.index) pods
-
--- The pod has this index.
-abbrev pub has_index : ℕ → Pod → Bool
-has_index n pod = option_map_or (λ index. index == n) pod.index false
 
 -- The UIDs of newly judged successes that join the list. Those of an Indexed Job join none.
 abbrev pub listing : Mode → List Pod → List Uid

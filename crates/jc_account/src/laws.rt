@@ -9,95 +9,183 @@ ghost use Rattle.jc_types.specs.declared.objects.Job.{Job};
 ghost use Rattle.jc_types.specs.declared.objects.Pod.{Pod};
 ghost use Rattle.jc_types.specs.declared.specifications.Mode.TheVariants.{Indexed, NonIndexed};
 ghost use Rattle.jc_types.specs.declared.statuses.JobStatus.{JobStatus};
-ghost use Rattle.jc_types.specs.Bases.{own_pods};
+ghost use Rattle.jc_states.specs.Bases.{own_pods};
 ghost use Rattle.jc_types.specs.Keys.{same_uid};
-ghost use Rattle.jc_types.specs.Log.{IsRising};
-ghost use Rattle.jc_types.specs.Sames.{IsExact};
-ghost use Rattle.jc_types.specs.Uids.{Ascends, is_in, uids_of};
+ghost use Rattle.jc_states.specs.PodLists.{IsRising};
+ghost use Rattle.jc_states.specs.UidLists.{Ascends, is_in, uids_of};
 ghost use Rattle.jc_failpol.specs.declared.outcomes.Outcome.{Outcome};
 ghost use Rattle.jc_failpol.specs.declared.outcomes.Outcome.TheVariants.{Failed, Succeeded};
-ghost use Rattle.jc_account.specs.Accounts.{counted_in, counted_out, left, stayed};
+ghost use Rattle.jc_account.specs.Accounts.{counted_in, counted_out, is_stayed, left, new_uids, SameButCounts, ShareNone, stayed};
 ghost use Rattle.jc_states.specs.Listed.{is_listed};
-ghost use Rattle.jc_account.specs.Judged.{has_come_to, has_tracked, is_to_release, newly, same_outcome, staying};
-ghost use Rattle.jc_account.specs.Modes.{gained, has_index};
+ghost use Rattle.jc_account.specs.Judged.{has_come_to, has_tracked, has_verdict, is_to_release, judged_now, newly, staying};
+ghost use Rattle.jc_failpol.specs.Outcomes.{is_verdict};
+ghost use Rattle.jc_account.specs.Modes.{gained};
+ghost use Rattle.jc_states.specs.Indexes.{has_index};
 
-/// The test of outcomes is true just of equal ones.
-pub fn outcomes_are_told_apart()
-    ensures { IsExact same_outcome }
-{}
-
-/// The newly judged pods: a UID is among them exactly where a tracked own pod of the outcome has it and
-/// it is not listed, and their UIDs ascend where the pods do. The pods that stay are those that are
-/// listed and tracked, as many as UIDs that stay in the two lists.
+/// The newly judged pods: a UID is among them exactly where a tracked own pod that has succeeded or
+/// failed has it and it is not listed. Those of one outcome are those of them that have this outcome,
+/// and their UIDs ascend where the pods do. The pods that stay are those that are listed and tracked, as
+/// many as UIDs that stay in the two lists.
 pub fn newly_judged_are_filters()
-    ensures member { (u : Uid) (job : Job) (own : List Pod) (outcome : Outcome) → is_in u (uids_of (newly job own outcome)) ≡ (not (is_listed job.status u) && list_any (λ pod. has_come_to job outcome pod && same_uid pod.uid u) own) }
-    ensures order { (job : Job) (pods : List Pod) (outcome : Outcome) → IsRising pods → Ascends (uids_of (newly job (own_pods job pods) outcome)) }
-    ensures staying { (u : Uid) (job : Job) (own : List Pod) → is_in u (uids_of (staying job own)) ≡ (is_listed job.status u && has_tracked own u) }
-    ensures staying_length { (job : Job) (pods : List Pod) → IsRising pods → Ascends job.status.uncounted_succeeded → Ascends job.status.uncounted_failed → ((u : Uid) → (is_in u job.status.uncounted_succeeded && is_in u job.status.uncounted_failed) ≡ false) → length (staying job (own_pods job pods)) ≡ length (stayed (own_pods job pods) job.status.uncounted_succeeded) + length (stayed (own_pods job pods) job.status.uncounted_failed) }
+    ensures judged { (u : Uid) (job : Job) (own : List Pod)
+        → is_in u (uids_of (judged_now job own))
+        ≡ (not (is_listed job.status u)
+        && list_any (λ pod. has_verdict job pod && same_uid pod.uid u) own) }
+    ensures member { (u : Uid) (job : Job) (own : List Pod) (outcome : Outcome)
+        → is_verdict outcome ≡ true → is_in u (uids_of (newly job own outcome))
+        ≡ (not (is_listed job.status u)
+        && list_any (λ pod. has_come_to job outcome pod && same_uid pod.uid u) own) }
+    ensures none { (job : Job) (own : List Pod) (outcome : Outcome)
+        → is_verdict outcome ≡ false → newly job own outcome ≡ [] }
+    ensures order { (job : Job) (pods : List Pod) (outcome : Outcome)
+        → IsRising pods → Ascends (new_uids job pods outcome) }
+    ensures staying { (u : Uid) (job : Job) (own : List Pod)
+        → is_in u (uids_of (staying job own)) ≡ (is_listed job.status u && has_tracked own u) }
+    ensures staying_length { (job : Job) (pods : List Pod)
+        → IsRising pods
+        → Ascends job.status.uncounted_succeeded → Ascends job.status.uncounted_failed
+        → ShareNone job.status.uncounted_succeeded job.status.uncounted_failed
+        → length (staying job (own_pods job pods))
+        ≡ length (stayed (own_pods job pods) job.status.uncounted_succeeded)
+        + length (stayed (own_pods job pods) job.status.uncounted_failed) }
 {}
 
 /// The two lists afterwards: what stays and what is newly judged, and nothing else. A success of an
 /// Indexed Job joins no list.
 pub fn lists_are_counted_in()
-    ensures failed { (u : Uid) (job : Job) (pods : List Pod) → is_in u (counted_in job pods).uncounted_failed ≡ ((is_in u job.status.uncounted_failed && has_tracked (own_pods job pods) u) || is_in u (uids_of (newly job (own_pods job pods) Failed))) }
-    ensures succeeded { (u : Uid) (job : Job) (pods : List Pod) → job.spec.mode ≡ NonIndexed → is_in u (counted_in job pods).uncounted_succeeded ≡ ((is_in u job.status.uncounted_succeeded && has_tracked (own_pods job pods) u) || is_in u (uids_of (newly job (own_pods job pods) Succeeded))) }
-    ensures indexed { (job : Job) (pods : List Pod) → job.spec.mode ≡ Indexed → (counted_in job pods).uncounted_succeeded ≡ stayed (own_pods job pods) job.status.uncounted_succeeded }
-    ensures empty { (job : Job) (pods : List Pod) → job.spec.mode ≡ Indexed → job.status.uncounted_succeeded ≡ [] → (counted_in job pods).uncounted_succeeded ≡ [] }
-    ensures failed_order { (job : Job) (pods : List Pod) → Ascends job.status.uncounted_failed → Ascends (counted_in job pods).uncounted_failed }
-    ensures succeeded_order { (job : Job) (pods : List Pod) → Ascends job.status.uncounted_succeeded → Ascends (counted_in job pods).uncounted_succeeded }
-    ensures failed_length { (job : Job) (pods : List Pod) → IsRising pods → length (counted_in job pods).uncounted_failed ≡ length (stayed (own_pods job pods) job.status.uncounted_failed) + length (newly job (own_pods job pods) Failed) }
-    ensures succeeded_length { (job : Job) (pods : List Pod) → job.spec.mode ≡ NonIndexed → IsRising pods → length (counted_in job pods).uncounted_succeeded ≡ length (stayed (own_pods job pods) job.status.uncounted_succeeded) + length (newly job (own_pods job pods) Succeeded) }
-    ensures apart { (u : Uid) (job : Job) (pods : List Pod) → IsRising pods → (is_in u job.status.uncounted_succeeded && is_in u job.status.uncounted_failed) ≡ false → (is_in u (counted_in job pods).uncounted_succeeded && is_in u (counted_in job pods).uncounted_failed) ≡ false }
+    ensures failed { (u : Uid) (job : Job) (pods : List Pod)
+        → is_in u (counted_in job pods).uncounted_failed
+        ≡ (is_stayed job pods job.status.uncounted_failed u || is_in u (new_uids job pods Failed)) }
+    ensures succeeded { (u : Uid) (job : Job) (pods : List Pod) → job.spec.mode ≡ NonIndexed
+        → is_in u (counted_in job pods).uncounted_succeeded
+        ≡ (is_stayed job pods job.status.uncounted_succeeded u
+        || is_in u (new_uids job pods Succeeded)) }
+    ensures indexed { (job : Job) (pods : List Pod) → job.spec.mode ≡ Indexed
+        → (counted_in job pods).uncounted_succeeded
+        ≡ stayed (own_pods job pods) job.status.uncounted_succeeded }
+    ensures empty { (job : Job) (pods : List Pod) → job.spec.mode ≡ Indexed
+        → job.status.uncounted_succeeded ≡ [] → (counted_in job pods).uncounted_succeeded ≡ [] }
+    ensures failed_order { (job : Job) (pods : List Pod)
+        → Ascends job.status.uncounted_failed → Ascends (counted_in job pods).uncounted_failed }
+    ensures succeeded_order { (job : Job) (pods : List Pod)
+        → Ascends job.status.uncounted_succeeded
+        → Ascends (counted_in job pods).uncounted_succeeded }
+    ensures failed_length { (job : Job) (pods : List Pod) → IsRising pods
+        → length (counted_in job pods).uncounted_failed
+        ≡ length (stayed (own_pods job pods) job.status.uncounted_failed)
+        + length (newly job (own_pods job pods) Failed) }
+    ensures succeeded_length { (job : Job) (pods : List Pod)
+        → job.spec.mode ≡ NonIndexed → IsRising pods
+        → length (counted_in job pods).uncounted_succeeded
+        ≡ length (stayed (own_pods job pods) job.status.uncounted_succeeded)
+        + length (newly job (own_pods job pods) Succeeded) }
+    ensures apart { (u : Uid) (job : Job) (pods : List Pod) → IsRising pods
+        → (is_in u job.status.uncounted_succeeded && is_in u job.status.uncounted_failed) ≡ false
+        → (is_in u (counted_in job pods).uncounted_succeeded
+        && is_in u (counted_in job pods).uncounted_failed) ≡ false }
 {}
 
 /// The totals afterwards: each is raised by those that left its list, so that total and list together
 /// rise by those that are newly judged. The succeeded total of an Indexed Job is the size of its set.
 pub fn totals_are_counted_in()
-    ensures stay_or_leave { (own : List Pod) (uids : List Uid) → length (stayed own uids) + left own uids ≡ length uids }
-    ensures failed { (job : Job) (pods : List Pod) → (counted_in job pods).failed ≡ job.status.failed + left (own_pods job pods) job.status.uncounted_failed }
-    ensures succeeded { (job : Job) (pods : List Pod) → job.spec.mode ≡ NonIndexed → (counted_in job pods).succeeded ≡ job.status.succeeded + left (own_pods job pods) job.status.uncounted_succeeded }
-    ensures indexed { (job : Job) (pods : List Pod) → job.spec.mode ≡ Indexed → (counted_in job pods).succeeded ≡ length (counted_in job pods).completed }
-    ensures failed_sum { (job : Job) (pods : List Pod) → IsRising pods → (counted_in job pods).failed + length (counted_in job pods).uncounted_failed ≡ job.status.failed + length job.status.uncounted_failed + length (newly job (own_pods job pods) Failed) }
-    ensures succeeded_sum { (job : Job) (pods : List Pod) → job.spec.mode ≡ NonIndexed → IsRising pods → (counted_in job pods).succeeded + length (counted_in job pods).uncounted_succeeded ≡ job.status.succeeded + length job.status.uncounted_succeeded + length (newly job (own_pods job pods) Succeeded) }
-    ensures new_failed { (job : Job) (pods : List Pod) → (counted_in job pods).new_failed ≡ length (newly job (own_pods job pods) Failed) }
-    ensures new_succeeded { (job : Job) (pods : List Pod) → job.spec.mode ≡ NonIndexed → (counted_in job pods).new_succeeded ≡ length (newly job (own_pods job pods) Succeeded) }
-    ensures new_indexes { (job : Job) (pods : List Pod) → job.spec.mode ≡ Indexed → (counted_in job pods).new_succeeded ≡ gained job.status.completed (counted_in job pods).completed }
-    ensures few_failed { (job : Job) (pods : List Pod) → (counted_in job pods).new_failed ≤ length pods }
+    ensures stay_or_leave { (own : List Pod) (uids : List Uid)
+        → length (stayed own uids) + left own uids ≡ length uids }
+    ensures failed { (job : Job) (pods : List Pod)
+        → (counted_in job pods).failed
+        ≡ job.status.failed + left (own_pods job pods) job.status.uncounted_failed }
+    ensures succeeded { (job : Job) (pods : List Pod) → job.spec.mode ≡ NonIndexed
+        → (counted_in job pods).succeeded
+        ≡ job.status.succeeded + left (own_pods job pods) job.status.uncounted_succeeded }
+    ensures indexed { (job : Job) (pods : List Pod) → job.spec.mode ≡ Indexed
+        → (counted_in job pods).succeeded ≡ length (counted_in job pods).completed }
+    ensures failed_sum { (job : Job) (pods : List Pod) → IsRising pods
+        → (counted_in job pods).failed + length (counted_in job pods).uncounted_failed
+        ≡ job.status.failed + length job.status.uncounted_failed
+        + length (newly job (own_pods job pods) Failed) }
+    ensures succeeded_sum { (job : Job) (pods : List Pod)
+        → job.spec.mode ≡ NonIndexed → IsRising pods
+        → (counted_in job pods).succeeded + length (counted_in job pods).uncounted_succeeded
+        ≡ job.status.succeeded + length job.status.uncounted_succeeded
+        + length (newly job (own_pods job pods) Succeeded) }
+    ensures new_failed { (job : Job) (pods : List Pod)
+        → (counted_in job pods).new_failed ≡ length (newly job (own_pods job pods) Failed) }
+    ensures new_succeeded { (job : Job) (pods : List Pod) → job.spec.mode ≡ NonIndexed
+        → (counted_in job pods).new_succeeded ≡ length (newly job (own_pods job pods) Succeeded) }
+    ensures new_indexes { (job : Job) (pods : List Pod) → job.spec.mode ≡ Indexed
+        → (counted_in job pods).new_succeeded
+        ≡ gained job.status.completed (counted_in job pods).completed }
+    ensures few_failed { (job : Job) (pods : List Pod)
+        → (counted_in job pods).new_failed ≤ length pods }
 {}
 
 /// The completed indexes afterwards: those of an Indexed Job with the indexes of its newly judged
 /// successes. The set of a Job that is not Indexed stays as it is.
 pub fn indexes_are_counted_in()
-    ensures indexed { (n : ℕ) (job : Job) (pods : List Pod) → job.spec.mode ≡ Indexed → has n (counted_in job pods).completed ≡ (has n job.status.completed || list_any (has_index n) (newly job (own_pods job pods) Succeeded)) }
-    ensures plain { (job : Job) (pods : List Pod) → job.spec.mode ≡ NonIndexed → (counted_in job pods).completed ≡ job.status.completed }
+    ensures indexed { (n : ℕ) (job : Job) (pods : List Pod) → job.spec.mode ≡ Indexed
+        → has n (counted_in job pods).completed
+        ≡ (has n job.status.completed
+        || list_any (has_index n) (newly job (own_pods job pods) Succeeded)) }
+    ensures plain { (job : Job) (pods : List Pod) → job.spec.mode ≡ NonIndexed
+        → (counted_in job pods).completed ≡ job.status.completed }
 {}
 
-/// The pods to release: the tracked own pods that have ended or are listed. Each UID that is listed
-/// afterwards is among them.
+/// The pods to release: the tracked own pods that have ended or are listed. Their UIDs ascend where the
+/// pods do, and each UID that is listed afterwards is among them.
 pub fn releases_hold_the_lists()
-    ensures member { (u : Uid) (job : Job) (pods : List Pod) → is_in u (counted_in job pods).releases ≡ list_any (λ pod. is_to_release job pod && same_uid pod.uid u) (own_pods job pods) }
-    ensures order { (job : Job) (pods : List Pod) → IsRising pods → Ascends (counted_in job pods).releases }
-    ensures failed { (u : Uid) (job : Job) (pods : List Pod) → is_in u (counted_in job pods).uncounted_failed ≡ true → is_in u (counted_in job pods).releases ≡ true }
-    ensures succeeded { (u : Uid) (job : Job) (pods : List Pod) → is_in u (counted_in job pods).uncounted_succeeded ≡ true → is_in u (counted_in job pods).releases ≡ true }
+    ensures member { (u : Uid) (job : Job) (pods : List Pod)
+        → is_in u (counted_in job pods).releases
+        ≡ list_any (λ pod. is_to_release job pod && same_uid pod.uid u) (own_pods job pods) }
+    ensures order { (job : Job) (pods : List Pod)
+        → IsRising pods → Ascends (counted_in job pods).releases }
+    ensures failed { (u : Uid) (job : Job) (pods : List Pod)
+        → is_in u (counted_in job pods).uncounted_failed ≡ true
+        → is_in u (counted_in job pods).releases ≡ true }
+    ensures succeeded { (u : Uid) (job : Job) (pods : List Pod)
+        → is_in u (counted_in job pods).uncounted_succeeded ≡ true
+        → is_in u (counted_in job pods).releases ≡ true }
 {}
 
 /// What is counted out: the released UIDs leave their lists and raise their totals, and nothing else
 /// changes. A total and its list together stay the same.
 pub fn totals_are_counted_out()
-    ensures failed { (u : Uid) (status : JobStatus) (released : List Uid) → is_in u (counted_out status released).uncounted_failed ≡ (is_in u status.uncounted_failed && not (is_in u released)) }
-    ensures succeeded { (u : Uid) (status : JobStatus) (released : List Uid) → is_in u (counted_out status released).uncounted_succeeded ≡ (is_in u status.uncounted_succeeded && not (is_in u released)) }
-    ensures failed_order { (status : JobStatus) (released : List Uid) → Ascends status.uncounted_failed → Ascends (counted_out status released).uncounted_failed }
-    ensures succeeded_order { (status : JobStatus) (released : List Uid) → Ascends status.uncounted_succeeded → Ascends (counted_out status released).uncounted_succeeded }
-    ensures failed_sum { (status : JobStatus) (released : List Uid) → (counted_out status released).failed + length (counted_out status released).uncounted_failed ≡ status.failed + length status.uncounted_failed }
-    ensures succeeded_sum { (status : JobStatus) (released : List Uid) → (counted_out status released).succeeded + length (counted_out status released).uncounted_succeeded ≡ status.succeeded + length status.uncounted_succeeded }
-    ensures others { (status : JobStatus) (released : List Uid) → (record (counted_out status released) { succeeded = status.succeeded; failed = status.failed; uncounted_succeeded = status.uncounted_succeeded; uncounted_failed = status.uncounted_failed }) ≡ status }
+    ensures failed { (u : Uid) (status : JobStatus) (released : List Uid)
+        → is_in u (counted_out status released).uncounted_failed
+        ≡ (is_in u status.uncounted_failed && not (is_in u released)) }
+    ensures succeeded { (u : Uid) (status : JobStatus) (released : List Uid)
+        → is_in u (counted_out status released).uncounted_succeeded
+        ≡ (is_in u status.uncounted_succeeded && not (is_in u released)) }
+    ensures failed_order { (status : JobStatus) (released : List Uid)
+        → Ascends status.uncounted_failed → Ascends (counted_out status released).uncounted_failed }
+    ensures succeeded_order { (status : JobStatus) (released : List Uid)
+        → Ascends status.uncounted_succeeded
+        → Ascends (counted_out status released).uncounted_succeeded }
+    ensures failed_sum { (status : JobStatus) (released : List Uid)
+        → (counted_out status released).failed
+        + length (counted_out status released).uncounted_failed
+        ≡ status.failed + length status.uncounted_failed }
+    ensures succeeded_sum { (status : JobStatus) (released : List Uid)
+        → (counted_out status released).succeeded
+        + length (counted_out status released).uncounted_succeeded
+        ≡ status.succeeded + length status.uncounted_succeeded }
+    ensures others { (status : JobStatus) (released : List Uid)
+        → SameButCounts status (counted_out status released) }
 {}
 
 /// Once all that are to be released are, what was counted in is counted out: a list that was counted in
 /// is empty, and its total has risen by its length.
 pub fn released_lists_end_empty()
-    ensures failed_list { (job : Job) (pods : List Pod) (status : JobStatus) → status.uncounted_failed ≡ (counted_in job pods).uncounted_failed → (counted_out status (counted_in job pods).releases).uncounted_failed ≡ [] }
-    ensures succeeded_list { (job : Job) (pods : List Pod) (status : JobStatus) → status.uncounted_succeeded ≡ (counted_in job pods).uncounted_succeeded → (counted_out status (counted_in job pods).releases).uncounted_succeeded ≡ [] }
-    ensures failed { (job : Job) (pods : List Pod) (status : JobStatus) → status.uncounted_failed ≡ (counted_in job pods).uncounted_failed → (counted_out status (counted_in job pods).releases).failed ≡ status.failed + length status.uncounted_failed }
-    ensures succeeded { (job : Job) (pods : List Pod) (status : JobStatus) → status.uncounted_succeeded ≡ (counted_in job pods).uncounted_succeeded → (counted_out status (counted_in job pods).releases).succeeded ≡ status.succeeded + length status.uncounted_succeeded }
+    ensures failed_list { (job : Job) (pods : List Pod) (status : JobStatus)
+        → status.uncounted_failed ≡ (counted_in job pods).uncounted_failed
+        → (counted_out status (counted_in job pods).releases).uncounted_failed ≡ [] }
+    ensures succeeded_list { (job : Job) (pods : List Pod) (status : JobStatus)
+        → status.uncounted_succeeded ≡ (counted_in job pods).uncounted_succeeded
+        → (counted_out status (counted_in job pods).releases).uncounted_succeeded ≡ [] }
+    ensures failed { (job : Job) (pods : List Pod) (status : JobStatus)
+        → status.uncounted_failed ≡ (counted_in job pods).uncounted_failed
+        → (counted_out status (counted_in job pods).releases).failed
+        ≡ status.failed + length status.uncounted_failed }
+    ensures succeeded { (job : Job) (pods : List Pod) (status : JobStatus)
+        → status.uncounted_succeeded ≡ (counted_in job pods).uncounted_succeeded
+        → (counted_out status (counted_in job pods).releases).succeeded
+        ≡ status.succeeded + length status.uncounted_succeeded }
 {}

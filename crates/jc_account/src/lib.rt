@@ -2,18 +2,16 @@
 //! uncounted, which it counts for good, and whose finalizer is to go.
 #![tactic(auto)]
 
-mod counting;
-mod judging;
+mod accounts;
+mod judgements;
 mod laws;
+mod listed;
+mod releases;
 mod uids;
 
-pub use counting::{count_in, count_out};
-pub use judging::is_to_release;
+pub use accounts::{count_in, count_out};
 pub use laws::{
     indexes_are_counted_in, lists_are_counted_in, newly_judged_are_filters,
-    outcomes_are_told_apart, released_lists_end_empty, releases_hold_the_lists,
-    totals_are_counted_in, totals_are_counted_out,
+    released_lists_end_empty, releases_hold_the_lists, totals_are_counted_in,
+    totals_are_counted_out,
 };
-
-#[cfg(test)]
-mod tests;

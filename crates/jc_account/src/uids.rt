@@ -3,24 +3,24 @@
 ghost use Rattle.std.specs.Prelude.{◌≡◌, ◌+◌, ◌≤◌, IfOk, OnOk, length, nat_le};
 ghost use Rattle.std.specs.List.{position};
 ghost use Rattle.jc_types.specs.declared.numbers.Uid.{Uid};
-ghost use Rattle.jc_types.specs.Uids.{merge, with_uid};
+ghost use Rattle.jc_states.specs.UidLists.{merge, with_uid};
 ghost use Rattle.jc_account.specs.Accounts.{unreleased};
 
 use jc_states::is_among;
 use jc_types::{Uid, Uids, Want};
 use std::alloc::Global;
 
-/// The place of the first UID that is not below the given one.
+// The place of the first UID that is not below the given one.
 fn place_of(uid: Uid, uids: &[Uid]) -> Option<usize>
     ensures { result ≡ position (λ (other : Uid). nat_le uid.0 other.0) uids.now }
 {
     uids.iter().position(|other| uid.0 <= other.0)
 }
 
-/// Puts a UID before the first greater one; a list that has it there stays as it is.
-///
-/// # Errors
-/// `Want` where there is no memory for it.
+// Puts a UID before the first greater one; a list that has it there stays as it is.
+//
+// # Errors
+// `Want` where there is no memory for it.
 fn put(uids: &mut Vec<Uid>, uid: Uid) -> Result<(), Want>
     ensures { OnOk result (uids.new.items ≡ with_uid uid uids.old.items) }
 {
@@ -39,10 +39,10 @@ fn put(uids: &mut Vec<Uid>, uid: Uid) -> Result<(), Want>
     }
 }
 
-/// The UIDs of a slice in a list of their own.
-///
-/// # Errors
-/// `Want` where there is no memory for them.
+// The UIDs of a slice in a list of their own.
+//
+// # Errors
+// `Want` where there is no memory for them.
 fn listed(alloc: Global, uids: &[Uid]) -> Result<Uids, Want>
     ensures { IfOk result (λ list. list ≡ uids.now) }
 {
@@ -53,7 +53,7 @@ fn listed(alloc: Global, uids: &[Uid]) -> Result<Uids, Want>
     Ok(list)
 }
 
-/// The UIDs with others, the last of these first.
+// The UIDs with others, the last of these first.
 fn with_each(alloc: Global, uids: &[Uid], more: &[Uid]) -> Result<Vec<Uid>, Want>
     ensures merged { IfOk result (λ all. all.items ≡ merge uids.now more.now) }
     ensures few { IfOk result (λ all. length all.items ≤ length uids.now + length more.now) }
@@ -65,11 +65,11 @@ fn with_each(alloc: Global, uids: &[Uid], more: &[Uid]) -> Result<Vec<Uid>, Want
     Ok(all)
 }
 
-/// The UIDs with each of the others in its place.
-///
-/// # Errors
-/// `Want` where there is no memory for them.
-pub fn merged(alloc: Global, uids: &[Uid], more: &[Uid]) -> Result<Uids, Want>
+// The UIDs with each of the others in its place.
+//
+// # Errors
+// `Want` where there is no memory for them.
+pub(crate) fn merged(alloc: Global, uids: &[Uid], more: &[Uid]) -> Result<Uids, Want>
     ensures merged { IfOk result (λ list. list ≡ merge uids.now more.now) }
     ensures few { IfOk result (λ list. length list ≤ length uids.now + length more.now) }
 {
@@ -77,11 +77,11 @@ pub fn merged(alloc: Global, uids: &[Uid], more: &[Uid]) -> Result<Uids, Want>
     listed(alloc, all.as_slice())
 }
 
-/// The UIDs that are not among the released ones.
-///
-/// # Errors
-/// `Want` where there is no memory for them.
-pub fn unreleased(alloc: Global, released: &[Uid], uids: &[Uid]) -> Result<Uids, Want>
+// The UIDs that are not among the released ones.
+//
+// # Errors
+// `Want` where there is no memory for them.
+pub(crate) fn unreleased(alloc: Global, released: &[Uid], uids: &[Uid]) -> Result<Uids, Want>
     ensures rest { IfOk result (λ list. list ≡ unreleased released.now uids.now) }
     ensures shorter { IfOk result (λ list. length list ≤ length uids.now) }
 {

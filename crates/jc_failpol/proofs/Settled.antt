@@ -6,12 +6,12 @@ use Rattle.jc_types.specs.declared.objects.Pod.{Pod}
 use Rattle.jc_types.specs.declared.policies.FailurePolicy.{FailurePolicy}
 use Rattle.jc_types.specs.declared.specifications.Replacement.{Replacement}
 use Rattle.jc_types.specs.declared.specifications.Replacement.TheVariants.{TerminatingOrFailed, FailedOnly}
-use Rattle.jc_types.specs.Pods.{is_final, is_marked}
-use Rattle.jc_types.specs.Writes.{PodStep}
+use Rattle.jc_states.specs.Pods.{is_final, is_marked}
+use Rattle.jc_states.specs.ObjectChanges.{PodStep}
 use Rattle.jc_failpol.specs.declared.outcomes.Outcome.{Outcome}
 use Rattle.jc_failpol.specs.declared.outcomes.Outcome.TheVariants.{Alive, Succeeded, Failed, Ignored}
 use Rattle.jc_failpol.specs.Outcomes.{is_succeeded, is_failed, counts_marked, is_ignore, failure_of, judged}
-use Rattle.jc_failpol.specs.Rules.{action_of, place_of}
+use Rattle.jc_failpol.specs.Rules.{action_of, matching_place}
 
 -- The outcome by the phase, by whether a mark counts and stands, and by what a failure would be.
 abbrev pub by_phase : Phase → Bool → Outcome → Outcome
@@ -71,9 +71,9 @@ same_action policy old new c d =
     λ i. action_of policy (record new { containers = c i; conditions = d i })
 
 -- And at the same place.
-pub same_place : (policy : FailurePolicy) (old new : Pod) → new.containers ≡ old.containers → new.conditions ≡ old.conditions → place_of policy new ≡ place_of policy old
+pub same_place : (policy : FailurePolicy) (old new : Pod) → new.containers ≡ old.containers → new.conditions ≡ old.conditions → matching_place policy new ≡ matching_place policy old
 same_place policy old new c d =
-    λ i. place_of policy (record new { containers = c i; conditions = d i })
+    λ i. matching_place policy (record new { containers = c i; conditions = d i })
 
 -- They make of a failure the same.
 pub same_failure : (f : Option FailurePolicy) (old new : Pod) → new.containers ≡ old.containers → new.conditions ≡ old.conditions → failure_of f new ≡ failure_of f old

@@ -1,4 +1,4 @@
 pub mod Rules
 pub mod Outcomes
-pub mod Steps
+pub mod Policies
 pub mod FailJob

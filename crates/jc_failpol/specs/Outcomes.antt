@@ -5,7 +5,9 @@
 --     failure_of failure pod                  what a failed pod has come to
 --     judged replacement failure pod          what the pod has come to, by the two policies
 --     outcome_of spec pod                     what the pod has come to
-use Rattle.std.specs.Prelude.{Bool, true, false, ◌&&◌, ◌||◌, if◌then◌else◌, Option, Some, None}
+--     same_outcome a b                        the outcomes are the same
+--     is_verdict outcome                      Succeeded or Failed
+use Rattle.std.specs.Prelude.{ℕ, ◌==◌, Bool, true, false, ◌&&◌, ◌||◌, if◌then◌else◌, Option, Some, None}
 use Rattle.jc_types.specs.declared.objects.Phase.{Phase}
 use Rattle.jc_types.specs.declared.objects.Phase.TheVariants as phase
 use Rattle.jc_types.specs.declared.objects.Pod.{Pod}
@@ -15,7 +17,7 @@ use Rattle.jc_types.specs.declared.policies.FailurePolicy.{FailurePolicy}
 use Rattle.jc_types.specs.declared.specifications.JobSpec.{JobSpec}
 use Rattle.jc_types.specs.declared.specifications.Replacement.{Replacement}
 use Rattle.jc_types.specs.declared.specifications.Replacement.TheVariants.{TerminatingOrFailed, FailedOnly}
-use Rattle.jc_types.specs.Pods.{is_marked}
+use Rattle.jc_states.specs.Pods.{is_marked}
 use Rattle.jc_failpol.specs.declared.outcomes.Outcome.{Outcome}
 use Rattle.jc_failpol.specs.declared.outcomes.Outcome.TheVariants.{Alive, Succeeded, Failed, Ignored}
 use Rattle.jc_failpol.specs.Rules.{action_of}
@@ -65,3 +67,18 @@ judged replacement failure pod =
 -- What the pod has come to.
 abbrev pub outcome_of : JobSpec → Pod → Outcome
 outcome_of spec pod = judged spec.replacement spec.failure pod
+
+-- The place of an outcome among the outcomes.
+abbrev pub outcome_place : Outcome → ℕ
+outcome_place Alive = 0
+outcome_place Succeeded = 1
+outcome_place Failed = 2
+outcome_place Ignored = 3
+
+-- The outcomes are the same.
+abbrev pub same_outcome : Outcome → Outcome → Bool
+same_outcome a b = outcome_place a == outcome_place b
+
+-- Succeeded or Failed: what a pod is judged.
+abbrev pub is_verdict : Outcome → Bool
+is_verdict outcome = same_outcome outcome Succeeded || same_outcome outcome Failed

@@ -4,14 +4,14 @@
 --     meets operator values code    the code is one of the values, or none of them
 --     finds pattern condition       the condition is what the pattern looks for
 --     has_code .., has_condition ..  a container, or a condition, is what the rule asks for
+--     shows_one_of patterns conditions    a condition is what one of the patterns looks for
 --     matches rule pod              the pod shows what the rule asks for
---     place_of policy pod           the least place of a rule that matches
+--     matching_place policy pod     the least place of a rule that matches
 --     action_of policy pod          the action of that rule, and Count where there is none
-use Rattle.std.specs.Prelude.{ℕ, ℤ, pos, ◌^◌, nat_lt, nat_eq, Bool, true, false, not, ◌&&◌, List, if◌then◌else◌, Option, Some, None, position, slice_get}
+use Rattle.std.specs.Prelude.{ℕ, ℤ, pos, Bool, true, false, not, ◌&&◌, List, Option, Some, None, position, slice_get}
 use Rattle.std.specs.List.{list_any}
 use Rattle.std.specs.Option.{option_map_or}
 use Rattle.std.specs.Ordering.{int_eq}
-use Rattle.std.specs.Cmp.Lexicographic.{pointwise}
 use Rattle.jc_types.specs.declared.objects.Container.{Container}
 use Rattle.jc_types.specs.declared.objects.Pod.{Pod}
 use Rattle.jc_types.specs.declared.policies.Action.{Action}
@@ -23,7 +23,7 @@ use Rattle.jc_types.specs.declared.policies.Operator.TheVariants.{Within, NotWit
 use Rattle.jc_types.specs.declared.policies.Pattern.{Pattern}
 use Rattle.jc_types.specs.declared.policies.Requirement.{Requirement}
 use Rattle.jc_types.specs.declared.policies.Requirement.TheVariants.{ExitCodes, Conditions}
-use Rattle.jc_types.specs.Sames.{same_pattern, same_text}
+use Rattle.jc_types.specs.Equality.{same_pattern, same_text}
 
 -- The container has ended with a code other than 0.
 abbrev pub has_failed : Option ℤ → Bool
@@ -63,18 +63,22 @@ has_code only operator values containers =
 abbrev pub has_condition : Pattern → List Pattern → Bool
 has_condition pattern conditions = list_any (λ condition. finds pattern condition) conditions
 
+-- A condition is what one of the patterns looks for.
+abbrev pub shows_one_of : List Pattern → List Pattern → Bool
+shows_one_of patterns conditions = list_any (λ pattern. has_condition pattern conditions) patterns
+
 -- Containers and conditions show what a rule asks for: a code, or a condition for one of its patterns.
 abbrev pub shows : List Container → List Pattern → Requirement → Bool
 shows containers conditions (ExitCodes only operator values) = has_code only operator values containers
-shows containers conditions (Conditions patterns) = list_any (λ pattern. has_condition pattern conditions) patterns
+shows containers conditions (Conditions patterns) = shows_one_of patterns conditions
 
 -- The rule matches the pod.
 abbrev pub matches : FailureRule → Pod → Bool
 matches rule pod = shows pod.containers pod.conditions rule.requirement
 
 -- The least place of a rule that matches.
-abbrev pub place_of : FailurePolicy → Pod → Option ℕ
-place_of policy pod = position (λ rule. matches rule pod) policy.rules
+abbrev pub matching_place : FailurePolicy → Pod → Option ℕ
+matching_place policy pod = position (λ rule. matches rule pod) policy.rules
 
 -- The action of the rule at the place, and Count where there is none.
 abbrev pub action_at : List FailureRule → Option ℕ → Action
@@ -83,4 +87,4 @@ action_at rules (Some place) = option_map_or (λ rule. rule.action) (slice_get r
 
 -- The action of the first rule that matches, and Count where none does.
 abbrev pub action_of : FailurePolicy → Pod → Action
-action_of policy pod = action_at policy.rules (place_of policy pod)
+action_of policy pod = action_at policy.rules (matching_place policy pod)

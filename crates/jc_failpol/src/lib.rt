@@ -2,15 +2,14 @@
 //! come to, as the Job counts it.
 #![tactic(auto)]
 
-mod judging;
+mod job_failures;
+mod judgements;
 mod laws;
 mod outcomes;
 mod rules;
 
-pub use judging::outcome;
-pub use laws::{first_match_decides, outcomes_settle};
-pub use outcomes::Outcome;
+pub use job_failures::fails_job;
+pub use judgements::outcome;
+pub use laws::{first_match_decides, outcomes_are_told_apart, outcomes_settle};
+pub use outcomes::{Outcome, is_same_outcome, is_verdict};
 pub use rules::action;
-
-#[cfg(test)]
-mod tests;

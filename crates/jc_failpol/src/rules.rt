@@ -1,16 +1,15 @@
 //! The rules of a failure policy and the first that matches.
 
 ghost use Rattle.std.specs.Prelude.{◌≡◌};
-ghost use Rattle.std.specs.List.{list_any};
-ghost use Rattle.jc_types.specs.Firsts.{as_u32};
-ghost use Rattle.jc_failpol.specs.Rules.{action_of, code_meets, finds, has_code, has_condition, looks_at, matches, meets, place_of};
+ghost use Rattle.jc_types.specs.FirstPlaces.{as_u32};
+ghost use Rattle.jc_failpol.specs.Rules.{action_of, code_meets, finds, has_code, has_condition, looks_at, matches, matching_place, meets, shows_one_of};
 
 use jc_types::{
     Action, Codes, Container, FailurePolicy, FailureRule, Name, Operator, Pattern, Patterns, Pod,
     Requirement, Same,
 };
 
-/// Whether an exit code is one of the values, or none of them.
+// Whether an exit code is one of the values, or none of them.
 fn is_met(operator: Operator, values: &Codes, code: i32) -> bool
     ensures { result ≡ meets operator values.now code }
 {
@@ -21,8 +20,8 @@ fn is_met(operator: Operator, values: &Codes, code: i32) -> bool
     }
 }
 
-/// Whether a rule on exit codes looks at the container: it has ended with a code that is not 0, and the
-/// rule names it or none.
+// Whether a rule on exit codes looks at the container: it has ended with a code that is not 0, and the
+// rule names it or none.
 fn is_looked_at(only: &Option<Name>, container: &Container) -> bool
     ensures { result ≡ looks_at only.now container.now }
 {
@@ -36,7 +35,7 @@ fn is_looked_at(only: &Option<Name>, container: &Container) -> bool
     }
 }
 
-/// Whether the exit code of a container meets the operator.
+// Whether the exit code of a container meets the operator.
 fn is_code_met(operator: Operator, values: &Codes, container: &Container) -> bool
     ensures { result ≡ code_meets operator values.now container.now.exit }
 {
@@ -46,14 +45,14 @@ fn is_code_met(operator: Operator, values: &Codes, container: &Container) -> boo
     }
 }
 
-/// Whether the pattern looks for the condition: the same type and the same status.
+// Whether the pattern looks for the condition: the same type and the same status.
 fn is_found(pattern: &Pattern, condition: &Pattern) -> bool
     ensures { result ≡ finds pattern.now condition.now }
 {
     condition.is_same(pattern)
 }
 
-/// Whether a container that the rule looks at has an exit code that meets the operator.
+// Whether a container that the rule looks at has an exit code that meets the operator.
 fn shows_code(pod: &Pod, only: &Option<Name>, operator: Operator, values: &Codes) -> bool
     ensures { result ≡ has_code only.now operator values.now pod.now.containers }
 {
@@ -61,7 +60,7 @@ fn shows_code(pod: &Pod, only: &Option<Name>, operator: Operator, values: &Codes
         && is_code_met(operator, values, one))
 }
 
-/// Whether one of the pod's conditions is what the pattern looks for.
+// Whether one of the pod's conditions is what the pattern looks for.
 fn shows_condition(pod: &Pod, pattern: &Pattern) -> bool
     ensures { result ≡ has_condition pattern.now pod.now.conditions }
 {
@@ -71,9 +70,9 @@ fn shows_condition(pod: &Pod, pattern: &Pattern) -> bool
         .any(|condition| is_found(pattern, condition))
 }
 
-/// Whether one of the patterns looks for one of the pod's conditions.
+// Whether one of the patterns looks for one of the pod's conditions.
 fn shows_one_of(pod: &Pod, patterns: &Patterns) -> bool
-    ensures { result ≡ list_any (λ pattern. has_condition pattern pod.now.conditions) patterns.now }
+    ensures { result ≡ shows_one_of patterns.now pod.now.conditions }
 {
     patterns
         .as_slice()
@@ -81,7 +80,7 @@ fn shows_one_of(pod: &Pod, patterns: &Patterns) -> bool
         .any(|pattern| shows_condition(pod, pattern))
 }
 
-/// Whether the pod shows what the rule asks for.
+// Whether the pod shows what the rule asks for.
 fn is_match(rule: &FailureRule, pod: &Pod) -> bool
     ensures { result ≡ matches rule.now pod.now }
 {
@@ -95,9 +94,9 @@ fn is_match(rule: &FailureRule, pod: &Pod) -> bool
     }
 }
 
-/// The place of the first rule that matches.
+// The place of the first rule that matches.
 fn first_match(policy: &FailurePolicy, pod: &Pod) -> Option<usize>
-    ensures { result ≡ place_of policy.now pod.now }
+    ensures { result ≡ matching_place policy.now pod.now }
 {
     policy
         .rules
@@ -116,7 +115,7 @@ fn first_match(policy: &FailurePolicy, pod: &Pod) -> Option<usize>
 /// status of one of the pod's conditions.
 pub fn action(policy: &FailurePolicy, pod: &Pod) -> (Action, Option<u32>)
     ensures action { result.0 ≡ action_of policy.now pod.now }
-    ensures place { result.1 ≡ as_u32 (place_of policy.now pod.now) }
+    ensures place { result.1 ≡ as_u32 (matching_place policy.now pod.now) }
 {
     match first_match(policy, pod) {
         None => (Action::Count, None),

@@ -3,17 +3,19 @@ use Rattle.std.proofs.Common.{◌≡◌, ◌⊎◌, inl, inr, ℕ, Bool, true, f
 use Rattle.std.specs.List.{Contains}
 use Rattle.std.proofs.lemmas.Bool.{and_from}
 use Rattle.std.proofs.lemmas.List.Folds.{list_any-from_Any}
+use Rattle.jc_types.specs.declared.objects.Job.{Job}
 use Rattle.jc_types.specs.declared.objects.Pod.{Pod}
 use Rattle.jc_types.specs.declared.policies.Action.TheVariants.{FailJob}
 use Rattle.jc_types.specs.declared.policies.FailurePolicy.{FailurePolicy}
 use Rattle.jc_types.specs.declared.specifications.JobSpec.{JobSpec}
 use Rattle.jc_types.specs.declared.statuses.CondKind.{CondKind}
 use Rattle.jc_types.specs.declared.statuses.CondKind.TheVariants.{FailureTarget, SuccessCriteriaMet}
-use Rattle.jc_types.specs.declared.statuses.JobStatus.{JobStatus}
 use Rattle.jc_types.specs.declared.statuses.Reason.{Reason}
 use Rattle.jc_types.specs.declared.statuses.Reason.TheVariants as reason
-use Rattle.jc_types.specs.Conditions.{has_target}
-use Rattle.jc_types.specs.Pods.{is_tracked}
+use Rattle.jc_types.specs.declared.syncs.CountIn.{CountIn}
+use Rattle.jc_types.specs.Counts.{counts}
+use Rattle.jc_states.specs.Conditions.{has_target}
+use Rattle.jc_states.specs.Pods.{is_tracked}
 use Rattle.jc_failpol.specs.declared.outcomes.Outcome.TheVariants as outcome
 use Rattle.jc_failpol.specs.Outcomes.{outcome_of}
 use Rattle.jc_failpol.specs.Rules.{action_of}
@@ -37,35 +39,46 @@ chosen-kind false false false true e target h = cc
 chosen-kind false false false false true target h = cc
 chosen-kind false false false false false target h = cc
 
-module _ (failed succeeded : ℕ) (completed : List ℕ) (now : ℕ) (spec : JobSpec) (status : JobStatus) (own : List Pod) where
+module _ (counted : CountIn) (now : ℕ) (job : Job) (own : List Pod) where
   -- Nothing is decided where a target stands.
-  pub decided_once : has_target status.conditions ≡ true → decided failed succeeded completed now spec status own ≡ None
-  decided_once h = ap (λ b. cond b None (first_line failed succeeded completed now spec status own)) h
+  pub decided_once : has_target job.status.conditions ≡ true → decided counted now job own ≡ None
+  decided_once h = ap (λ b. cond b None (first_line counted now job own)) h
 
   -- What is decided is a target, and none stood.
-  pub decided_target : (target : CondKind × Reason) → decided failed succeeded completed now spec status own ≡ Some target → (is_target_kind target.0 ≡ true) × (has_target status.conditions ≡ false)
-  decided_target target h = by (has_target status.conditions) refl h
+  pub decided_target : (target : CondKind × Reason) → decided counted now job own ≡ Some target → (is_target_kind target.0 ≡ true) × (has_target job.status.conditions ≡ false)
+  decided_target target h = by (has_target job.status.conditions) refl h
     where
-      by : (b : Bool) → has_target status.conditions ≡ b → cond b None (first_line failed succeeded completed now spec status own) ≡ Some target → (is_target_kind target.0 ≡ true) × (has_target status.conditions ≡ false)
+      by : (b : Bool) → has_target job.status.conditions ≡ b → cond b None (first_line counted now job own) ≡ Some target → (is_target_kind target.0 ≡ true) × (has_target job.status.conditions ≡ false)
       by true t g = cc
       by false t g =
-          (chosen-kind (is_failed_by_pod spec own) (is_past_limit failed spec own) (is_overdue now spec status) (is_policy_met spec.success completed) (is_complete succeeded spec own) target g, t)
+          (chosen-kind (is_failed_by_pod job.spec own) (is_past_limit (counts counted).0 job.spec own) (is_overdue now job.spec job.status) (is_policy_met job.spec.success counted.completed) (is_complete (counts counted).1 job.spec own) target g, t)
 
   -- A pod for which the failure policy fails the Job: a target stands, or this is decided.
-  pub failure_decides : is_failed_by_pod spec own ≡ true → (has_target status.conditions ≡ true) ⊎ (decided failed succeeded completed now spec status own ≡ Some (FailureTarget, reason.PodFailurePolicy))
-  failure_decides h = by (has_target status.conditions)
+  pub failure_decides : is_failed_by_pod job.spec own ≡ true → (has_target job.status.conditions ≡ true) ⊎ (decided counted now job own ≡ Some (FailureTarget, reason.PodFailurePolicy))
+  failure_decides h = by (has_target job.status.conditions)
     where
-      by : (b : Bool) → (b ≡ true) ⊎ (cond b None (first_line failed succeeded completed now spec status own) ≡ Some (FailureTarget, reason.PodFailurePolicy))
+      by : (b : Bool) → (b ≡ true) ⊎ (cond b None (first_line counted now job own) ≡ Some (FailureTarget, reason.PodFailurePolicy))
       by true = inl refl
-      by false = inr (ap (λ b. chosen b (is_past_limit failed spec own) (is_overdue now spec status) (is_policy_met spec.success completed) (is_complete succeeded spec own)) h)
+      by false = inr (ap (λ b. chosen b (is_past_limit (counts counted).0 job.spec own) (is_overdue now job.spec job.status) (is_policy_met job.spec.success counted.completed) (is_complete (counts counted).1 job.spec own)) h)
 
--- A tracked pod has failed, and the failure policy's action for it is FailJob.
-pub found_by_pod : (spec : JobSpec) (own : List Pod) (policy : FailurePolicy) (pod : Pod) → Contains own pod → is_tracked pod ≡ true → outcome_of spec pod ≡ outcome.Failed → spec.failure ≡ Some policy → action_of policy pod ≡ FailJob → is_failed_by_pod spec own ≡ true
-found_by_pod spec own policy pod there tracked failed given action =
-    list_any-from_Any (λ p. is_tracked p && fails_job spec p) own (there.0, pod, there.1, there.2, passes)
-  where
-    fails : policy_fails_job spec.failure pod ≡ true
-    fails = ap (λ f. policy_fails_job f pod) given ∙ ap is_fail_job action
+-- The first reason that holds, by what it reads of the counts alone.
+abbrev decided_by : ℕ → ℕ → List ℕ → ℕ → Job → List Pod → Option (CondKind × Reason)
+decided_by failed succeeded completed now job own =
+    cond (has_target job.status.conditions) None
+    (chosen (is_failed_by_pod job.spec own) (is_past_limit failed job.spec own) (is_overdue now job.spec job.status) (is_policy_met job.spec.success completed) (is_complete succeeded job.spec own))
 
-    passes : (is_tracked pod && fails_job spec pod) ≡ true
-    passes = and_from (is_tracked pod) (fails_job spec pod) tracked (and_from (is_failure (outcome_of spec pod)) (policy_fails_job spec.failure pod) (ap is_failure failed) fails)
+-- Where two counts and the completed indexes agree, the same is decided.
+pub decided_same : (old new : CountIn) (now : ℕ) (job : Job) (own : List Pod) → (counts old).0 ≡ (counts new).0 → (counts old).1 ≡ (counts new).1 → old.completed ≡ new.completed → decided old now job own ≡ decided new now job own
+decided_same old new now job own failed succeeded completed = λ i. decided_by (failed i) (succeeded i) (completed i) now job own
+
+-- A tracked pod for which the failure policy fails the Job.
+pub found_by_pod : (spec : JobSpec) (own : List Pod) (pod : Pod) → Contains own pod → is_tracked pod ≡ true → fails_job spec pod ≡ true → is_failed_by_pod spec own ≡ true
+found_by_pod spec own pod there tracked fails =
+    list_any-from_Any (λ p. is_tracked p && fails_job spec p) own
+    (there.0, pod, there.1, there.2, and_from (is_tracked pod) (fails_job spec pod) tracked fails)
+
+-- It has failed, and the failure policy's action for it is FailJob.
+pub failing_pod : (spec : JobSpec) (policy : FailurePolicy) (pod : Pod) → outcome_of spec pod ≡ outcome.Failed → spec.failure ≡ Some policy → action_of policy pod ≡ FailJob → fails_job spec pod ≡ true
+failing_pod spec policy pod failed has_policy action =
+    and_from (is_failure (outcome_of spec pod)) (policy_fails_job spec.failure pod) (ap is_failure failed)
+    (ap (λ f. policy_fails_job f pod) has_policy ∙ ap is_fail_job action)

@@ -7,9 +7,9 @@ use Rattle.jc_types.specs.declared.statuses.CondKind.{CondKind}
 use Rattle.jc_types.specs.declared.statuses.CondKind.TheVariants.{Suspended, FailureTarget, SuccessCriteriaMet, Failed, Complete}
 use Rattle.jc_types.specs.declared.statuses.Condition.{Condition}
 use Rattle.jc_types.specs.declared.statuses.Reason.{Reason}
-use Rattle.jc_types.specs.Conditions.{stands, has_target, has_end}
-use Rattle.jc_types.specs.Sames.{same_bool, same_kind}
-use Rattle.jc_types.proofs.SameFacts.{kind-exact, bool-exact}
+use Rattle.jc_states.specs.Conditions.{stands, has_target, has_end}
+use Rattle.jc_types.specs.Equality.{same_bool, same_kind}
+use Rattle.jc_types.proofs.EqualityFacts.{kind-exact, bool-exact}
 use Rattle.jc_finish.specs.Settled.{true_since, suspension, is_suspension, in_place, with_suspension, settled_suspended, with_last, with_target, is_target_kind, is_target, end_kind, end_of, with_end, settled}
 
 -- ---- tests
@@ -114,14 +114,14 @@ module _ (new : Condition) (conditions : List Condition) (s : is_suspension new 
 
 module _ (now : ℕ) (suspend : Bool) (conditions : List Condition) where
   -- What stands of the other kinds stays.
-  stands-settled_suspended : (kind : CondKind) (is_given : Bool) → kind ≢ Suspended → stands kind (settled_suspended now suspend is_given conditions) ≡ stands kind conditions
-  stands-settled_suspended kind is_given ne = by (is_given || has_target conditions || same_bool suspend (stands Suspended conditions))
+  stands-settled_suspended : (kind : CondKind) (is_decided : Bool) → kind ≢ Suspended → stands kind (settled_suspended now suspend is_decided conditions) ≡ stands kind conditions
+  stands-settled_suspended kind is_decided ne = by (is_decided || has_target conditions || same_bool suspend (stands Suspended conditions))
     where
       by : (b : Bool) → stands kind (cond b conditions (with_suspension (suspension now suspend) conditions)) ≡ stands kind conditions
       by true = refl
       by false = stands-with_suspension (suspension now suspend) conditions refl kind ne
 
-  -- While no target stands or is given, it stands just where the Job is suspended.
+  -- While no target stands or is decided, it stands just where the Job is suspended.
   suspended-settled_suspended : has_target conditions ≡ false → stands Suspended (settled_suspended now suspend false conditions) ≡ suspend
   suspended-settled_suspended unsettled = by (has_target conditions) unsettled (same_bool suspend (stands Suspended conditions)) refl
     where
@@ -235,21 +235,21 @@ ends now conditions h = by (has_end conditions) refl
 
 -- ---- all three
 
-module _ (now : ℕ) (suspend : Bool) (given : Option (CondKind × Reason)) (due : Bool) (conditions : List Condition) where
-  -- The conditions with the given target, before the end.
+module _ (now : ℕ) (suspend : Bool) (target : Option (CondKind × Reason)) (due : Bool) (conditions : List Condition) where
+  -- The conditions with the decided target, before the end.
   abbrev targeted : List Condition
-  targeted = with_target now given (settled_suspended now suspend (is_some given) conditions)
+  targeted = with_target now target (settled_suspended now suspend (is_some target) conditions)
 
   -- What stood stands, but for the Suspended condition.
-  pub settled-keeps : (kind : CondKind) → kind ≢ Suspended → stands kind conditions ≡ true → stands kind (settled now suspend given due conditions) ≡ true
+  pub settled-keeps : (kind : CondKind) → kind ≢ Suspended → stands kind conditions ≡ true → stands kind (settled now suspend target due conditions) ≡ true
   settled-keeps kind ne h =
       with_end-stays now due targeted kind
-      (stands-stays kind (option_map (λ target. true_since now target.0 target.1) given) (settled_suspended now suspend (is_some given) conditions)
-      (stands-settled_suspended now suspend conditions kind (is_some given) ne ∙ h))
+      (stands-stays kind (option_map (λ pair. true_since now pair.0 pair.1) target) (settled_suspended now suspend (is_some target) conditions)
+      (stands-settled_suspended now suspend conditions kind (is_some target) ne ∙ h))
 
--- The given target stands.
-pub settled-given : (now : ℕ) (suspend : Bool) (target : CondKind × Reason) (due : Bool) (conditions : List Condition) → stands target.0 (settled now suspend (Some target) due conditions) ≡ true
-settled-given now suspend target due conditions =
+-- The decided target stands.
+pub settled-decided : (now : ℕ) (suspend : Bool) (target : CondKind × Reason) (due : Bool) (conditions : List Condition) → stands target.0 (settled now suspend (Some target) due conditions) ≡ true
+settled-decided now suspend target due conditions =
     with_end-stays now due (before ++ new ∷ []) target.0
     (stands-last target.0 before new ∙ or_right (stands target.0 before) (is_one target.0 new) (ap (λ b. b && true) ((kind-exact target.0 target.0).1 refl)))
   where
@@ -259,20 +259,20 @@ settled-given now suspend target due conditions =
     new : Condition
     new = true_since now target.0 target.1
 
--- Without a given target none is new.
+-- Without a decided target none is new.
 pub settled-target : (now : ℕ) (suspend due : Bool) (conditions : List Condition) (kind : CondKind) → is_target_kind kind ≡ true → stands kind (settled now suspend None due conditions) ≡ stands kind conditions
 settled-target now suspend due conditions kind k =
     stands-with_end now due (settled_suspended now suspend false conditions) kind (inl k)
     ∙ stands-settled_suspended now suspend conditions kind false (λ e. absurd (true≢false (sym k ∙ ap is_target_kind e)))
 
--- While no target stands or is given, the Suspended condition stands just where the Job is suspended.
+-- While no target stands or is decided, the Suspended condition stands just where the Job is suspended.
 pub settled-suspended : (now : ℕ) (suspend due : Bool) (conditions : List Condition) → has_target conditions ≡ false → stands Suspended (settled now suspend None due conditions) ≡ suspend
 settled-suspended now suspend due conditions unsettled =
     stands-with_end now due (settled_suspended now suspend false conditions) Suspended (inr refl)
     ∙ suspended-settled_suspended now suspend conditions unsettled
 
--- The end that is due stands, where a target stands or is given.
-pub settled-ends : (now : ℕ) (suspend : Bool) (given : Option (CondKind × Reason)) (conditions : List Condition) → IfSome given (λ target. is_target_kind target.0 ≡ true) → (has_target conditions ≡ true) ⊎ IsSome given → has_end (settled now suspend given true conditions) ≡ true
+-- The end that is due stands, where a target stands or is decided.
+pub settled-ends : (now : ℕ) (suspend : Bool) (target : Option (CondKind × Reason)) (conditions : List Condition) → IfSome target (λ pair. is_target_kind pair.0 ≡ true) → (has_target conditions ≡ true) ⊎ IsSome target → has_end (settled now suspend target true conditions) ≡ true
 settled-ends now suspend None conditions k (inl h) =
     ends now (settled_suspended now suspend false conditions) (kept h)
   where
@@ -296,7 +296,7 @@ settled-ends now suspend (Some target) conditions k h =
         last_is (one ∷ rest) = or_right (is_target one) (list_any is_target (rest ++ true_since now kind target.1 ∷ [])) (last_is rest)
 
 -- No end is new where none is due.
-pub settled-not_due : (now : ℕ) (suspend : Bool) (given : Option (CondKind × Reason)) (conditions : List Condition) → IfSome given (λ target. is_target_kind target.0 ≡ true) → has_end (settled now suspend given false conditions) ≡ has_end conditions
+pub settled-not_due : (now : ℕ) (suspend : Bool) (target : Option (CondKind × Reason)) (conditions : List Condition) → IfSome target (λ pair. is_target_kind pair.0 ≡ true) → has_end (settled now suspend target false conditions) ≡ has_end conditions
 settled-not_due now suspend None conditions k =
     λ i. stands-settled_suspended now suspend conditions Failed false (λ e. cc) i || stands-settled_suspended now suspend conditions Complete false (λ e. cc) i
 settled-not_due now suspend (Some target) conditions k = λ i. one Failed (λ e. cc) (no_target Failed (λ e. cc)) i || one Complete (λ e. cc) (no_target Complete (λ e. cc)) i

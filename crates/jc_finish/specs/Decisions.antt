@@ -1,11 +1,12 @@
--- What settles how a Job will end (batch/v1, KEP-3329, KEP-3998). `own` are the Job's own pods; `failed`,
--- `succeeded` and `completed` are its failed count, its succeeded count and the set of its completed indexes.
+-- What settles how a Job will end (batch/v1, KEP-3329, KEP-3998). `counted` is what the sync has counted, `now` its
+-- moment, and `own` are the Job's own pods.
 --     restarts_of own                  the restarts of all containers of the open pods
 --     exceeds limit restarts           so many restarts are too many under the limit
 --     is_failed_by_pod, is_past_limit, is_overdue, is_policy_met, is_complete
 --                                      the five reasons, in their order
---     first_line ..                    the first of them that holds, as a condition with its reason
---     decided ..                       the same, unless how the Job will end is settled
+--     first_line counted now job own   the first of them that holds, as a condition with its reason
+--     decided counted now job own      the same, unless how the Job will end is settled
+--     decision_of basis counted        what is decided of the Job of a basis
 use Rattle.std.specs.Prelude.{ℕ, ◌==◌, nat_lt, nat_le, Bool, true, false, not, ◌&&◌, ◌||◌, List, filter, sum_by, if◌then◌else◌, Option, Some, None, is_some, option_and_then}
 use Rattle.std.specs.List.{list_any}
 use Rattle.jc_types.specs.declared.objects.Job.{Job}
@@ -21,12 +22,12 @@ use Rattle.jc_types.specs.declared.statuses.Reason.{Reason}
 use Rattle.jc_types.specs.declared.statuses.Reason.TheVariants as reason
 use Rattle.jc_types.specs.declared.syncs.Basis.{Basis}
 use Rattle.jc_types.specs.declared.syncs.CountIn.{CountIn}
-use Rattle.jc_types.specs.Bases.{own_pods}
-use Rattle.jc_types.specs.Conditions.{has_target}
+use Rattle.jc_states.specs.Bases.{own_pods}
+use Rattle.jc_states.specs.Conditions.{has_target}
 use Rattle.jc_types.specs.Counts.{counts}
-use Rattle.jc_types.specs.Pods.{is_active, is_open, is_tracked}
+use Rattle.jc_states.specs.Pods.{is_active, is_open, is_tracked}
 use Rattle.jc_failpol.specs.FailJob.{fails_job}
-use Rattle.jc_succpol.specs.Rules.{place_of}
+use Rattle.jc_succpol.specs.Rules.{met_place}
 use Rattle.jc_finish.specs.Starts.{end_after, start_of}
 
 -- ---- the restarts of containers
@@ -72,7 +73,7 @@ is_overdue now spec status = not spec.suspend && has_come (end_after spec.deadli
 -- 4. The completed indexes meet a rule of the success policy.
 abbrev pub is_policy_met : Option SuccessPolicy → List ℕ → Bool
 is_policy_met None completed = false
-is_policy_met (Some policy) completed = is_some (place_of policy completed)
+is_policy_met (Some policy) completed = is_some (met_place policy completed)
 
 -- As many successes as completions are wanted; where none are, one is enough.
 abbrev pub is_enough : Option ℕ → ℕ → Bool
@@ -86,26 +87,20 @@ is_complete succeeded spec own = not (list_any is_active own) && is_enough spec.
 -- ---- the decision
 
 -- The first of the reasons that holds.
-abbrev pub first_line : ℕ → ℕ → List ℕ → ℕ → JobSpec → JobStatus → List Pod → Option (CondKind × Reason)
-first_line failed succeeded completed now spec status own =
-    if is_failed_by_pod spec own then Some (FailureTarget, reason.PodFailurePolicy)
-    else if is_past_limit failed spec own then Some (FailureTarget, reason.BackoffLimitExceeded)
-    else if is_overdue now spec status then Some (FailureTarget, reason.DeadlineExceeded)
-    else if is_policy_met spec.success completed then Some (SuccessCriteriaMet, reason.SuccessPolicy)
-    else if is_complete succeeded spec own then Some (SuccessCriteriaMet, reason.CompletionsReached)
+abbrev pub first_line : CountIn → ℕ → Job → List Pod → Option (CondKind × Reason)
+first_line counted now job own =
+    if is_failed_by_pod job.spec own then Some (FailureTarget, reason.PodFailurePolicy)
+    else if is_past_limit (counts counted).0 job.spec own then Some (FailureTarget, reason.BackoffLimitExceeded)
+    else if is_overdue now job.spec job.status then Some (FailureTarget, reason.DeadlineExceeded)
+    else if is_policy_met job.spec.success counted.completed then Some (SuccessCriteriaMet, reason.SuccessPolicy)
+    else if is_complete (counts counted).1 job.spec own then Some (SuccessCriteriaMet, reason.CompletionsReached)
     else None
 
 -- Nothing is decided anew where how the Job will end is settled.
-abbrev pub decided : ℕ → ℕ → List ℕ → ℕ → JobSpec → JobStatus → List Pod → Option (CondKind × Reason)
-decided failed succeeded completed now spec status own =
-    if has_target status.conditions then None
-    else first_line failed succeeded completed now spec status own
-
--- What is decided of a Job among the pods, by what a sync has counted.
-abbrev pub decided_for : CountIn → ℕ → List Pod → Job → Option (CondKind × Reason)
-decided_for counted now pods job =
-    decided (counts counted).0 (counts counted).1 counted.completed now job.spec job.status (own_pods job pods)
+abbrev pub decided : CountIn → ℕ → Job → List Pod → Option (CondKind × Reason)
+decided counted now job own = if has_target job.status.conditions then None else first_line counted now job own
 
 -- What a sync decides of its basis's Job.
 abbrev pub decision_of : Basis → CountIn → Option (CondKind × Reason)
-decision_of basis counted = option_and_then (decided_for counted basis.now basis.pods) basis.job
+decision_of basis counted =
+    option_and_then (λ job. decided counted basis.now job (own_pods job basis.pods)) basis.job

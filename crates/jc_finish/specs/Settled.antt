@@ -1,7 +1,7 @@
--- The conditions of a Job after a sync (batch/v1, KEP-3998). `given` is the target that the sync decided,
+-- The conditions of a Job after a sync (batch/v1, KEP-3998). `target` is that which the sync decided,
 -- and `due` says that the end of the Job is due.
 --     settled_suspended ..    the Suspended condition is that of the specification
---     with_target ..          the given target stands last
+--     with_target ..          the decided target stands last
 --     with_end ..             the end that follows the target stands last
 --     settled ..              all three, one after another
 use Rattle.std.specs.Prelude.{ℕ, Bool, true, false, not, ◌&&◌, ◌||◌, List, [], ◌∷◌, ◌++◌, map, find, if◌then◌else◌, Option, Some, None, is_some, option_map}
@@ -13,8 +13,8 @@ use Rattle.jc_types.specs.declared.statuses.Condition.{Condition}
 use Rattle.jc_types.specs.declared.statuses.Reason.{Reason}
 use Rattle.jc_types.specs.declared.statuses.Reason.TheVariants.{JobSuspended, JobResumed}
 use Rattle.jc_types.specs.declared.syncs.Basis.{Basis}
-use Rattle.jc_types.specs.Conditions.{stands, has_target, has_end}
-use Rattle.jc_types.specs.Sames.{same_bool, same_kind}
+use Rattle.jc_states.specs.Conditions.{stands, has_target, has_end}
+use Rattle.jc_types.specs.Equality.{same_bool, same_kind}
 
 -- A condition of the kind, true since then.
 abbrev pub true_since : ℕ → CondKind → Reason → Condition
@@ -43,20 +43,20 @@ with_suspension new conditions =
 -- While how the Job will end is open, the Suspended condition is true just where the Job is suspended. It
 -- changes, with its moment, only where it has to, and a Job that never was suspended gets none.
 abbrev pub settled_suspended : ℕ → Bool → Bool → List Condition → List Condition
-settled_suspended now suspend is_given conditions =
-    if is_given || has_target conditions || same_bool suspend (stands Suspended conditions) then conditions
+settled_suspended now suspend is_decided conditions =
+    if is_decided || has_target conditions || same_bool suspend (stands Suspended conditions) then conditions
     else with_suspension (suspension now suspend) conditions
 
 -- ---- the target
 
--- With a condition at the end, where one is given.
+-- With a condition at the end, where there is one.
 abbrev pub with_last : Option Condition → List Condition → List Condition
 with_last None conditions = conditions
 with_last (Some last) conditions = conditions ++ last ∷ []
 
--- With the given target at the end.
+-- With the target at the end, where one is decided.
 abbrev pub with_target : ℕ → Option (CondKind × Reason) → List Condition → List Condition
-with_target now given conditions = with_last (option_map (λ target. true_since now target.0 target.1) given) conditions
+with_target now target conditions = with_last (option_map (λ pair. true_since now pair.0 pair.1) target) conditions
 
 -- ---- the end
 
@@ -88,12 +88,12 @@ with_end now due conditions =
 
 -- ---- all three
 
--- The conditions after a sync: the Suspended condition, then the given target, then the end.
+-- The conditions after a sync: the Suspended condition, then the decided target, then the end.
 abbrev pub settled : ℕ → Bool → Option (CondKind × Reason) → Bool → List Condition → List Condition
-settled now suspend given due conditions =
-    with_end now due (with_target now given (settled_suspended now suspend (is_some given) conditions))
+settled now suspend target due conditions =
+    with_end now due (with_target now target (settled_suspended now suspend (is_some target) conditions))
 
 -- Those of the basis's Job, and none where there is none.
 abbrev pub settled_of : Basis → Option (CondKind × Reason) → Bool → List Condition
-settled_of basis given due =
-    option_map_or (λ job. settled basis.now job.spec.suspend given due job.status.conditions) basis.job []
+settled_of basis target due =
+    option_map_or (λ job. settled basis.now job.spec.suspend target due job.status.conditions) basis.job []

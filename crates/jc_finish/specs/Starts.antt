@@ -4,13 +4,13 @@
 --     end_after seconds start           the second that lies so many seconds after the start
 --     deadline_of now spec status       the moment of its deadline, where it has one to wait for
 use Rattle.std.specs.Prelude.{ℕ, ◌+◌, Bool, not, ◌&&◌, ◌||◌, List, if◌then◌else◌, nat_lt, Option, Some, None, is_none, option_and_then}
-use Rattle.jc_moment.specs.Range.{end_of_moments}
+use Rattle.jc_moment.specs.Range.{as_moment}
 use Rattle.jc_types.specs.declared.specifications.JobSpec.{JobSpec}
 use Rattle.jc_types.specs.declared.statuses.CondKind.TheVariants.{Suspended}
 use Rattle.jc_types.specs.declared.statuses.Condition.{Condition}
 use Rattle.jc_types.specs.declared.statuses.JobStatus.{JobStatus}
 use Rattle.jc_types.specs.declared.syncs.Basis.{Basis}
-use Rattle.jc_types.specs.Conditions.{stands, has_target, has_end}
+use Rattle.jc_states.specs.Conditions.{stands, has_target, has_end}
 
 -- The Job is not suspended, how it will end is not settled, it has not ended, and either it never started
 -- or it was suspended until now.
@@ -28,11 +28,6 @@ abbrev pub end_after : Option ℕ → Option ℕ → Option ℕ
 end_after None start = None
 end_after (Some seconds) None = None
 end_after (Some seconds) (Some start) = Some (start + seconds)
-
--- The second, unless it is past the last moment.
-abbrev pub as_moment : Option ℕ → Option ℕ
-as_moment None = None
-as_moment (Some second) = if nat_lt second end_of_moments then Some second else None
 
 -- The moment of the deadline of a Job that is not suspended and whose end is not settled.
 abbrev pub deadline_of : ℕ → JobSpec → JobStatus → Option ℕ

@@ -2,16 +2,13 @@
 //! what settles its end, and its conditions.
 #![tactic(auto)]
 
-mod deciding;
+mod conditions;
+mod decision;
 mod laws;
-mod restarting;
-mod settling;
-mod starting;
+mod restarts;
+mod start;
 
-pub use deciding::decide;
+pub use conditions::settle_conditions;
+pub use decision::decide;
 pub use laws::{conditions_settle, ends_are_settled_once};
-pub use settling::settle_conditions;
-pub use starting::{next_deadline, start_in_force};
-
-#[cfg(test)]
-mod tests;
+pub use start::{next_deadline, start_in_force};

@@ -1,5 +1,5 @@
 -- How many pods are made at most, and which indexes they get.
-use Rattle.std.proofs.Common.{◌≡◌, ℕ, ◌-◌, ◌≤◌, ◌==◌, Bool, true, false, cond, not, ◌&&◌, ◌||◌, ◌⊎◌, inl, inr, List, [], length, take, Option, Some, None, unwrap_or, refl, sym, ap, arith, true≢false}
+use Rattle.std.proofs.Common.{◌≡◌, ℕ, ◌+◌, ◌-◌, ◌<◌, ◌≤◌, ◌==◌, Bool, true, false, cond, not, ◌&&◌, ◌||◌, ◌⊎◌, inl, inr, List, [], length, take, Option, Some, None, unwrap_or, refl, sym, ap, arith, true≢false}
 use Rattle.std.specs.List.{All, AllByRecursion as Each, range_with_len}
 use Rattle.std.proofs.lemmas.List.{length-map, length-replicate, length-take}
 use Rattle.std.proofs.lemmas.List.Elements.{All-from_recursion}
@@ -11,9 +11,11 @@ use Rattle.jc_types.specs.declared.specifications.Mode.TheVariants.{NonIndexed, 
 use Rattle.jc_types.specs.declared.specifications.Replacement.{Replacement}
 use Rattle.jc_types.specs.declared.specifications.Replacement.TheVariants.{TerminatingOrFailed, FailedOnly}
 use Rattle.jc_types.specs.declared.syncs.CountIn.{CountIn}
+use Rattle.jc_types.specs.Counts.{counts}
 use Rattle.jc_types.proofs.ListFacts.{Each-passes, Each-weaker}
 use Rattle.jc_manage.specs.Backoffs.{is_held_back}
-use Rattle.jc_manage.specs.Creations.{creatable, creates, ending, free, holds, is_free, job_lacks, job_wants, keepers, lacking, new_pods, tracked_active, wanted}
+use Rattle.jc_manage.specs.Creations.{creatable, creates, free, holds, is_free, job_lacks, job_wants, keepers, lacking, new_pods, wanted}
+use Rattle.jc_states.specs.Pods.{ending_pods, tracked_active_pods}
 
 new-few : (mode : Mode) (n : ℕ) (ms : List ℕ) → length (new_pods mode n ms) ≤ n
 new-few NonIndexed n ms = let no : Option ℕ = None in omega (arith, length-replicate n no)
@@ -39,11 +41,11 @@ lacking-less : (replacement : Replacement) (w a m : ℕ) → lacking replacement
 lacking-less TerminatingOrFailed w a m = omega arith
 lacking-less FailedOnly w a m = omega arith
 
-pub lacks-few : (job : Job) (own : List Pod) (counted : CountIn) → job_lacks job own counted ≤ job_wants job own counted - length (tracked_active own)
-lacks-few job own counted = lacking-less job.spec.replacement (job_wants job own counted) (length (tracked_active own)) (length (ending own))
+pub lacks-few : (job : Job) (own : List Pod) (counted : CountIn) → job_lacks job own counted ≤ job_wants job own counted - length (tracked_active_pods own)
+lacks-few job own counted = lacking-less job.spec.replacement (job_wants job own counted) (length (tracked_active_pods own)) (length (ending_pods own))
 
-pub lacks-ending : (job : Job) (own : List Pod) (counted : CountIn) → job.spec.replacement ≡ FailedOnly → job_lacks job own counted ≡ job_wants job own counted - length (tracked_active own) - length (ending own)
-lacks-ending job own counted h = ap (λ r. lacking r (job_wants job own counted) (length (tracked_active own)) (length (ending own))) h
+pub lacks-ending : (job : Job) (own : List Pod) (counted : CountIn) → job.spec.replacement ≡ FailedOnly → job_lacks job own counted ≡ job_wants job own counted - length (tracked_active_pods own) - length (ending_pods own)
+lacks-ending job own counted h = ap (λ r. lacking r (job_wants job own counted) (length (tracked_active_pods own)) (length (ending_pods own))) h
 
 pub wanted-few : (parallelism completions succeeded a : ℕ) → wanted parallelism (Some completions) succeeded a ≤ parallelism
 wanted-few parallelism completions succeeded a = omega arith
@@ -54,6 +56,35 @@ wanted-queue parallelism succeeded a = by (succeeded == 0)
     by : (b : Bool) → (cond b parallelism a ≡ parallelism) ⊎ (cond b parallelism a ≡ a)
     by true = inl refl
     by false = inr refl
+
+-- Where some are made, they fit beside the active ones.
+wanted-fit : (completions : Option ℕ) (p s a c : ℕ) → 0 < c → c ≤ wanted p completions s a - a → c + a ≤ p
+wanted-fit (Some n) p s a c some h = omega (arith, wanted-few p n s a, some, h)
+wanted-fit None p s a c some h = by (wanted-queue p s a)
+  where
+    by : (wanted p None s a ≡ p) ⊎ (wanted p None s a ≡ a) → c + a ≤ p
+    by (inl e) = omega (arith, e, some, h)
+    by (inr e) = absurd (omega (arith, e, some, h))
+
+-- And beside the ending ones, where these count.
+wanted-fit_ending : (completions : Option ℕ) (p s a m c : ℕ) → 0 < c → c ≤ wanted p completions s a - a - m → c + a + m ≤ p
+wanted-fit_ending (Some n) p s a m c some h = omega (arith, wanted-few p n s a, some, h)
+wanted-fit_ending None p s a m c some h = by (wanted-queue p s a)
+  where
+    by : (wanted p None s a ≡ p) ⊎ (wanted p None s a ≡ a) → c + a + m ≤ p
+    by (inl e) = omega (arith, e, some, h)
+    by (inr e) = absurd (omega (arith, e, some, h))
+
+pub creatable-fit : (target : Bool) (job : Job) (own : List Pod) (counted : CountIn) → 0 < length (creatable target job own counted) → length (creatable target job own counted) + length (tracked_active_pods own) ≤ job.spec.parallelism
+creatable-fit target job own counted some =
+    wanted-fit job.spec.completions job.spec.parallelism (counts counted).1 (length (tracked_active_pods own)) (length (creatable target job own counted)) some
+    (omega (arith, creatable-few target job own counted, lacks-few job own counted))
+
+pub creatable-fit_ending : (target : Bool) (job : Job) (own : List Pod) (counted : CountIn) → job.spec.replacement ≡ FailedOnly → 0 < length (creatable target job own counted)
+    → length (creatable target job own counted) + length (tracked_active_pods own) + length (ending_pods own) ≤ job.spec.parallelism
+creatable-fit_ending target job own counted only some =
+    wanted-fit_ending job.spec.completions job.spec.parallelism (counts counted).1 (length (tracked_active_pods own)) (length (ending_pods own)) (length (creatable target job own counted)) some
+    (omega (arith, creatable-few target job own counted, lacks-ending job own counted only))
 
 left-false : (a b : Bool) → (not a && not b) ≡ true → a ≡ false
 left-false true b h = absurd (true≢false (sym h))

@@ -1,5 +1,8 @@
 pub mod Bounds
+pub mod Failures
+pub mod Numbered
 pub mod OneWay
+pub mod Ordered
 pub mod Ranked
 pub mod Sequences
 pub mod Sorting

@@ -6,12 +6,12 @@ use Rattle.std.proofs.lemmas.List.Elements.{All-from_recursion, recursion_from_A
 use Rattle.jc_types.specs.declared.objects.Job.{Job}
 use Rattle.jc_types.specs.declared.objects.Pod.{Pod}
 use Rattle.jc_types.specs.declared.syncs.CountIn.{CountIn}
-use Rattle.jc_types.specs.Pods.{is_active, is_tracked}
-use Rattle.jc_types.specs.Uids.{is_in}
+use Rattle.jc_states.specs.Pods.{is_active, is_tracked, is_tracked_active, tracked_active_pods}
+use Rattle.jc_states.specs.UidLists.{is_in}
 use Rattle.jc_types.proofs.ListFacts.{Each-both, Each-filter, Each-map, Each-passes, Each-weaker}
-use Rattle.jc_types.proofs.UidFacts.{Found, some_in}
-use Rattle.jc_manage.specs.Creations.{is_tracked_active, job_wants, tracked_active}
-use Rattle.jc_manage.specs.Laws.{IsSeen}
+use Rattle.jc_states.proofs.UidListFacts.{Found, some_in}
+use Rattle.jc_manage.specs.Creations.{job_wants}
+use Rattle.jc_manage.specs.SeenPods.{IsSeen}
 use Rattle.jc_manage.specs.LetGoes.{going, is_let_go, is_to_mark, let_goes, marks, seen}
 
 -- A pod of these, active and tracked.
@@ -19,29 +19,29 @@ abbrev IsOne : List Pod → Pod → Type 0
 IsOne own p = Contains own p × (is_tracked_active p ≡ true)
 
 module _ (own : List Pod) where
-  tracked-one : Each (IsOne own) (tracked_active own)
+  tracked-one : Each (IsOne own) (tracked_active_pods own)
   tracked-one =
-      Each-both (Contains own) (λ p. is_tracked_active p ≡ true) (tracked_active own)
+      Each-both (Contains own) (λ p. is_tracked_active p ≡ true) (tracked_active_pods own)
       (Each-filter (Contains own) is_tracked_active own (recursion_from_All (Contains own) own (All-contains_itself own)))
       (Each-passes is_tracked_active own)
 
   -- What holds of each active tracked pod holds of each that goes.
-  going-each : (P : Pod → Type 0) (target : Bool) (job : Job) (counted : CountIn) → (target ≡ false → Each P (tracked_active own)) → Each P (going target job own counted)
+  going-each : (P : Pod → Type 0) (target : Bool) (job : Job) (counted : CountIn) → (target ≡ false → Each P (tracked_active_pods own)) → Each P (going target job own counted)
   going-each P target job counted h = by target job.spec.suspend h
     where
       test : Pod → Bool
-      test = is_let_go job.spec.mode counted.completed (job_wants job own counted) (tracked_active own)
+      test = is_let_go job.spec.mode counted.completed (job_wants job own counted) (tracked_active_pods own)
 
-      by : (t s : Bool) → (t ≡ false → Each P (tracked_active own)) → Each P (cond t [] (cond s (tracked_active own) (filter test (tracked_active own))))
+      by : (t s : Bool) → (t ≡ false → Each P (tracked_active_pods own)) → Each P (cond t [] (cond s (tracked_active_pods own) (filter test (tracked_active_pods own))))
       by true s g = tt
       by false true g = g refl
-      by false false g = Each-filter P test (tracked_active own) (g refl)
+      by false false g = Each-filter P test (tracked_active_pods own) (g refl)
 
   pub goes-seen : (target : Bool) (job : Job) (counted : CountIn) → All (λ row. IsSeen own row) (let_goes target job own counted)
   goes-seen target job counted =
       All-from_recursion (λ row. IsSeen own row) (let_goes target job own counted)
       (Each-map seen (λ row. IsSeen own row) (going target job own counted)
-      (going-each (λ p. IsSeen own (seen p)) target job counted (λ _. Each-weaker (IsOne own) (λ p. IsSeen own (seen p)) (λ p one. record { pod = p; among = one.0; active = one.1; here = refl }) (tracked_active own) tracked-one)))
+      (going-each (λ p. IsSeen own (seen p)) target job counted (λ _. Each-weaker (IsOne own) (λ p. IsSeen own (seen p)) (λ p one. record { pod = p; among = one.0; active = one.1; here = refl }) (tracked_active_pods own) tracked-one)))
 
   module _ (distinct : AllPairs (λ pod other. pod.uid ≢ other.uid) own) where
     -- A pod of the UID of one of these is that one.
@@ -88,5 +88,5 @@ module _ (own : List Pod) where
         All-from_recursion (λ row. is_in row.0 (marks target own) ≡ false) (let_goes target job own counted)
         (Each-map seen (λ row. is_in row.0 (marks target own) ≡ false) (going target job own counted)
         (going-each (λ p. is_in p.uid (marks target own) ≡ false) target job counted
-        (λ no. subst (λ t. Each (λ p. is_in p.uid (marks t own) ≡ false) (tracked_active own)) (sym no)
-        (Each-weaker (IsOne own) (λ p. is_in p.uid (marks false own) ≡ false) unmarked (tracked_active own) tracked-one))))
+        (λ no. subst (λ t. Each (λ p. is_in p.uid (marks t own) ≡ false) (tracked_active_pods own)) (sym no)
+        (Each-weaker (IsOne own) (λ p. is_in p.uid (marks false own) ≡ false) unmarked (tracked_active_pods own) tracked-one))))

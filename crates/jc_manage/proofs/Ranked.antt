@@ -6,7 +6,7 @@ use Rattle.std.specs.Ordering.{is_lt, nat_cmp}
 use Rattle.jc_manage.specs.contracts.ranks.RankOrd.TheImpl.{ghosts}
 use Rattle.jc_manage.specs.declared.ranks.Rank.{Rank}
 use Rattle.jc_manage.specs.declared.ranks.Rank.TheVariants.{Index, Running, Pending}
-use Rattle.jc_manage.specs.Steps.{is_below_rank}
+use Rattle.jc_manage.specs.Ranks.{is_below_rank}
 
 -- What is said of a test is said of one that agrees with it.
 pub told_alike : (f g : Rank → Rank → Bool) (same : (a b : Rank) → f a b ≡ g a b) (xs : List Rank) (n : ℕ) (o : Option Rank)

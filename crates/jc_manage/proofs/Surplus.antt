@@ -9,12 +9,13 @@ use Rattle.jc_types.specs.declared.numbers.Uid.{Uid}
 use Rattle.jc_types.specs.declared.objects.Pod.{Pod}
 use Rattle.jc_types.specs.declared.specifications.Mode.{Mode}
 use Rattle.jc_types.specs.declared.specifications.Mode.TheVariants.{NonIndexed, Indexed}
-use Rattle.jc_types.specs.Pods.{is_pending}
-use Rattle.jc_types.specs.Sames.{same_bool}
+use Rattle.jc_states.specs.Pods.{is_pending}
+use Rattle.jc_types.specs.Equality.{same_bool}
 use Rattle.jc_manage.specs.declared.ranks.Rank.{Rank}
 use Rattle.jc_manage.specs.declared.ranks.Rank.TheVariants.{Running, Pending}
-use Rattle.jc_manage.specs.LetGoes.{is_done, is_earlier, is_spare, remaining, goes_before, is_one_of, is_let_go}
-use Rattle.jc_manage.specs.Steps.{has_older, is_spare_by, rank_of, is_below_rank, goes_by}
+use Rattle.jc_states.specs.Indexes.{is_completed}
+use Rattle.jc_manage.specs.LetGoes.{is_earlier, is_spare, remaining, goes_before, is_one_of, is_let_go}
+use Rattle.jc_manage.specs.Ranks.{has_older, is_spare_by, rank_of, is_below_rank, goes_by}
 
 -- Of two pods the one of the greater rank goes first.
 before-is : (mode : Mode) (p q : Pod) → is_below_rank (rank_of mode p) (rank_of mode q) ≡ goes_before mode q p
@@ -49,7 +50,7 @@ module _ (mode : Mode) (completed : List ℕ) (tracked : List Pod) (holder : ℕ
 
       by : (m : Mode) → mode ≡ m → is_spare_by m completed holder p ≡ is_spare m completed tracked p
       by NonIndexed same = refl
-      by Indexed same = ap (λ b. is_done completed p || b) (at same p.index)
+      by Indexed same = ap (λ b. is_completed completed p || b) (at same p.index)
 
   remaining-is : filter (λ p. not (is_spare_by mode completed holder p)) tracked ≡ remaining mode completed tracked
   remaining-is = filter_agree (λ p. not (is_spare_by mode completed holder p)) (λ p. not (is_spare mode completed tracked p)) (λ p. ap not (spare-is p)) tracked

@@ -4,10 +4,8 @@
 --     pause n                             the seconds to wait after n failures in a row
 --     opening backoff                     the second before which no pod is made, if there is one
 --     is_held_back opening now            it has not come
---     as_moment opening                   the same, where it is a moment
 use Rattle.std.specs.Prelude.{ℕ, ◌+◌, ◌*◌, ◌-◌, ◌^◌, ◌==◌, nat_lt, min, Bool, false, if◌then◌else◌, Option, Some, None}
 use Rattle.std.specs.Option.{option_map}
-use Rattle.jc_moment.specs.Range.{end_of_moments}
 use Rattle.jc_types.specs.declared.syncs.Backoff.{Backoff}
 use Rattle.jc_types.specs.declared.syncs.CountIn.{CountIn}
 
@@ -34,14 +32,11 @@ pause n = min (10 * 2 ^ (n - 1)) 360
 
 -- The second before which no pod is made; none where there is no failure.
 abbrev pub opening : Backoff → Option ℕ
-opening backoff = if backoff.failures == 0 then None else option_map (λ last. last + pause backoff.failures) backoff.last
+opening backoff =
+    if backoff.failures == 0 then None
+    else option_map (λ last. last + pause backoff.failures) backoff.last
 
 -- The opening has not come yet.
 abbrev pub is_held_back : Option ℕ → ℕ → Bool
 is_held_back None now = false
 is_held_back (Some second) now = nat_lt now second
-
--- The opening, where it is not past the last moment: past it nothing ever comes.
-abbrev pub as_moment : Option ℕ → Option ℕ
-as_moment None = None
-as_moment (Some second) = if nat_lt second end_of_moments then Some second else None

@@ -1,16 +1,16 @@
 -- Which pods a Job makes (batch/v1, KEP-2214, KEP-3939). `own` are the Job's own pods.
---     is_tracked_active pod               it is active and has the finalizer
---     active own, tracked_active own, ending own    those pods
 --     wanted .., job_wants ..             how many active tracked pods there should be
 --     lacking .., job_lacks ..            how many are to be made
---     is_at n pod, holds pods n           the pod, or one of the pods, has the index n
+--     holds pods n                        one of the pods has the index n
+--     keeps_own job n pod                 the pod is the Job's own, and keeps the index n
 --     keepers replacement own             the pods that keep their index from new ones
 --     free replacement .. own             the indexes that a new pod may have, in order
 --     new_pods mode n free                the indexes of n new pods; none for pods without one
+--     IsIndexFor job index                a new pod of the Job may have the index
 --     creatable target job own counted    what the Job would make at once
 --     creates ..                          what it makes, as no pod is made before the opening
 --     next ..                             the moment of that, where it was what held pods back
-use Rattle.std.specs.Prelude.{ℕ, ◌-◌, ◌==◌, nat_eq, min, Bool, true, false, not, ◌&&◌, ◌||◌, if◌then◌else◌, List, [], ◌∷◌, map, filter, length, take, replicate, Option, Some, None, unwrap_or}
+use Rattle.std.specs.Prelude.{◌≡◌, ◌<◌, ℕ, ◌-◌, ◌==◌, min, Bool, true, false, not, ◌&&◌, ◌||◌, if◌then◌else◌, List, [], ◌∷◌, map, filter, length, take, replicate, Option, Some, None, IfSome, is_some, unwrap_or}
 use Rattle.std.specs.List.{list_any, range_with_len}
 use Rattle.jc_ranges.specs.Sets.{has}
 use Rattle.jc_types.specs.declared.objects.Job.{Job}
@@ -21,23 +21,11 @@ use Rattle.jc_types.specs.declared.specifications.Replacement.{Replacement}
 use Rattle.jc_types.specs.declared.specifications.Replacement.TheVariants.{TerminatingOrFailed, FailedOnly}
 use Rattle.jc_types.specs.declared.syncs.CountIn.{CountIn}
 use Rattle.jc_types.specs.Counts.{counts}
-use Rattle.jc_types.specs.Pods.{is_active, is_tracked}
-use Rattle.jc_types.specs.Sames.{same_option}
-use Rattle.jc_states.specs.Pods.{is_ending}
-use Rattle.jc_manage.specs.Backoffs.{as_moment, is_held_back}
-
--- Active, and with the finalizer.
-abbrev pub is_tracked_active : Pod → Bool
-is_tracked_active pod = is_active pod && is_tracked pod
-
-abbrev pub active : List Pod → List Pod
-active own = filter is_active own
-
-abbrev pub tracked_active : List Pod → List Pod
-tracked_active own = filter is_tracked_active own
-
-abbrev pub ending : List Pod → List Pod
-ending own = filter is_ending own
+use Rattle.jc_states.specs.Bases.{is_own}
+use Rattle.jc_states.specs.Indexes.{has_index}
+use Rattle.jc_states.specs.Pods.{is_active, is_ending, ending_pods, tracked_active_pods}
+use Rattle.jc_moment.specs.Range.{as_moment}
+use Rattle.jc_manage.specs.Backoffs.{is_held_back}
 
 -- How many active pods there should be, where a are active. With completions: as many as may run at once, and no
 -- more than are left to succeed. Without: as many as may run at once, and once one has succeeded no new one.
@@ -54,26 +42,27 @@ lacking FailedOnly wanted a m = wanted - a - m
 -- How many active tracked pods the Job should have.
 abbrev pub job_wants : Job → List Pod → CountIn → ℕ
 job_wants job own counted =
-    wanted job.spec.parallelism job.spec.completions (counts counted).1 (length (tracked_active own))
+    wanted job.spec.parallelism job.spec.completions (counts counted).1 (length (tracked_active_pods own))
 
 -- How many pods the Job is to make.
 abbrev pub job_lacks : Job → List Pod → CountIn → ℕ
 job_lacks job own counted =
-    lacking job.spec.replacement (job_wants job own counted) (length (tracked_active own)) (length (ending own))
-
--- The pod has the index.
-abbrev pub is_at : ℕ → Pod → Bool
-is_at n pod = same_option nat_eq (Some n) pod.index
+    lacking job.spec.replacement (job_wants job own counted) (length (tracked_active_pods own))
+    (length (ending_pods own))
 
 -- One of the pods has the index.
 abbrev pub holds : List Pod → ℕ → Bool
-holds pods n = list_any (is_at n) pods
+holds pods n = list_any (has_index n) pods
 
 -- The pod keeps its index from new pods: it is active, or it is ending and pods are replaced only once they have
 -- ended.
 abbrev pub keeps : Replacement → Pod → Bool
 keeps TerminatingOrFailed pod = is_active pod
 keeps FailedOnly pod = is_active pod || is_ending pod
+
+-- The pod is the Job's own, and keeps the index n.
+abbrev pub keeps_own : Job → ℕ → Pod → Bool
+keeps_own job n pod = is_own job pod && (keeps job.spec.replacement pod && has_index n pod)
 
 abbrev pub keepers : Replacement → List Pod → List Pod
 keepers replacement own = filter (keeps replacement) own
@@ -91,6 +80,11 @@ free completions completed kept = filter (is_free completed kept) (range_with_le
 abbrev pub new_pods : Mode → ℕ → List ℕ → List (Option ℕ)
 new_pods NonIndexed n free = replicate n None
 new_pods Indexed n free = map (λ index. Some index) (take n free)
+
+-- A new pod of the Job may have the index: one of an Indexed Job has one, below its completions.
+pub record IsIndexFor (job : Job) (index : Option ℕ) : Type 0 where
+  pub numbered : job.spec.mode ≡ Indexed → is_some index ≡ true
+  pub below : IfSome index (λ i. i < unwrap_or job.spec.completions 0)
 
 -- What the Job would make at once; nothing where its end is settled or it is suspended.
 abbrev pub creatable : Bool → Job → List Pod → CountIn → List (Option ℕ)

@@ -5,11 +5,13 @@
 --     remaining mode completed tracked    those that are not spare
 --     goes_before mode q p                where there are too many, q goes before p
 --     is_one_of n mode pods p             p is one of the first n of the pods to go
+--     own_tracked job pods                the Job's own pods that are active and tracked
+--     surplus mode completed wanted tracked    those of them that are spare or too many
+--     seen_uids rows                      the UIDs of pods that were seen
 --     let_goes ..                         the pods whose finalizer goes first, each with its version
 use Rattle.std.specs.Prelude.{ℕ, ◌-◌, nat_lt, Bool, true, false, not, ◌&&◌, ◌||◌, if◌then◌else◌, List, [], map, filter, length, count_by, Option, Some, None}
 use Rattle.std.specs.List.{list_any}
 use Rattle.std.specs.Option.{option_map_or}
-use Rattle.jc_ranges.specs.Sets.{has}
 use Rattle.jc_types.specs.declared.numbers.Uid.{Uid}
 use Rattle.jc_types.specs.declared.numbers.Version.{Version}
 use Rattle.jc_types.specs.declared.objects.Job.{Job}
@@ -17,10 +19,16 @@ use Rattle.jc_types.specs.declared.objects.Pod.{Pod}
 use Rattle.jc_types.specs.declared.specifications.Mode.{Mode}
 use Rattle.jc_types.specs.declared.specifications.Mode.TheVariants.{NonIndexed, Indexed}
 use Rattle.jc_types.specs.declared.syncs.CountIn.{CountIn}
-use Rattle.jc_types.specs.Pods.{is_active, is_tracked, is_pending}
-use Rattle.jc_types.specs.Sames.{same_bool}
-use Rattle.jc_types.specs.Uids.{uids_of}
-use Rattle.jc_manage.specs.Creations.{is_at, job_wants, tracked_active}
+use Rattle.jc_states.specs.Bases.{own_pods}
+use Rattle.jc_states.specs.Pods.{is_active, is_tracked, is_pending, tracked_active_pods}
+use Rattle.jc_types.specs.Equality.{same_bool}
+use Rattle.jc_states.specs.UidLists.{uids_of}
+use Rattle.jc_states.specs.Indexes.{has_index, is_completed}
+use Rattle.jc_manage.specs.Creations.{job_wants}
+
+-- The Job's own pods that are active and tracked.
+abbrev pub own_tracked : Job → List Pod → List Pod
+own_tracked job pods = tracked_active_pods (own_pods job pods)
 
 -- The pod is marked at once: it is active and has no finalizer, or the Job's end is settled.
 abbrev pub is_to_mark : Bool → Pod → Bool
@@ -29,13 +37,9 @@ is_to_mark target pod = is_active pod && (target || not (is_tracked pod))
 abbrev pub marks : Bool → List Pod → List Uid
 marks target own = uids_of (filter (is_to_mark target) own)
 
--- The index of the pod is completed.
-abbrev pub is_done : List ℕ → Pod → Bool
-is_done completed pod = option_map_or (λ index. has index completed) pod.index false
-
 -- q has the index and a UID below that one.
 abbrev pub is_earlier : ℕ → ℕ → Pod → Bool
-is_earlier index uid q = is_at index q && nat_lt q.uid.0 uid
+is_earlier index uid q = has_index index q && nat_lt q.uid.0 uid
 
 -- A pod of smaller UID among them holds the index of p.
 abbrev pub is_doubled : List Pod → Pod → Bool
@@ -44,7 +48,7 @@ is_doubled tracked p = option_map_or (λ index. list_any (is_earlier index p.uid
 -- The pod of an Indexed Job is of no use: its index is completed, or an older pod holds it.
 abbrev pub is_spare : Mode → List ℕ → List Pod → Pod → Bool
 is_spare NonIndexed completed tracked p = false
-is_spare Indexed completed tracked p = is_done completed p || is_doubled tracked p
+is_spare Indexed completed tracked p = is_completed completed p || is_doubled tracked p
 
 abbrev pub remaining : Mode → List ℕ → List Pod → List Pod
 remaining mode completed tracked = filter (λ p. not (is_spare mode completed tracked p)) tracked
@@ -74,6 +78,10 @@ is_let_go mode completed wanted tracked p =
     is_spare mode completed tracked p
     || is_one_of (length (remaining mode completed tracked) - wanted) mode (remaining mode completed tracked) p
 
+-- Those that go, where so many are wanted.
+abbrev pub surplus : Mode → List ℕ → ℕ → List Pod → List Pod
+surplus mode completed wanted tracked = filter (is_let_go mode completed wanted tracked) tracked
+
 -- A pod as it was seen.
 abbrev pub seen : Pod → Uid × Version
 seen pod = (pod.uid, pod.version)
@@ -83,9 +91,12 @@ seen pod = (pod.uid, pod.version)
 abbrev pub going : Bool → Job → List Pod → CountIn → List Pod
 going target job own counted =
     if target then []
-    else if job.spec.suspend then tracked_active own
-    else filter (is_let_go job.spec.mode counted.completed (job_wants job own counted) (tracked_active own))
-    (tracked_active own)
+    else if job.spec.suspend then tracked_active_pods own
+    else surplus job.spec.mode counted.completed (job_wants job own counted) (tracked_active_pods own)
 
 abbrev pub let_goes : Bool → Job → List Pod → CountIn → List (Uid × Version)
 let_goes target job own counted = map seen (going target job own counted)
+
+-- The UIDs of pods that were seen.
+abbrev pub seen_uids : List (Uid × Version) → List Uid
+seen_uids rows = map (λ row. row.0) rows

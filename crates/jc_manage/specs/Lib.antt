@@ -1,6 +1,6 @@
 pub mod Backoffs
 pub mod Creations
-pub mod Laws
+pub mod SeenPods
 pub mod LetGoes
 pub mod Planned
-pub mod Steps
+pub mod Ranks

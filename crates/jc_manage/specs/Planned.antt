@@ -9,7 +9,7 @@ use Rattle.jc_types.specs.declared.objects.Job.{Job}
 use Rattle.jc_types.specs.declared.syncs.Backoff.{Backoff}
 use Rattle.jc_types.specs.declared.syncs.Basis.{Basis}
 use Rattle.jc_types.specs.declared.syncs.CountIn.{CountIn}
-use Rattle.jc_types.specs.Bases.{own_pods}
+use Rattle.jc_states.specs.Bases.{own_pods}
 use Rattle.jc_manage.specs.Backoffs.{backoff_after, opening}
 use Rattle.jc_manage.specs.Creations.{creatable, creates, next}
 use Rattle.jc_manage.specs.LetGoes.{let_goes, marks}

@@ -1,21 +1,22 @@
 //! How long a Job waits after failures before it makes pods again.
 
 ghost use Rattle.std.specs.Prelude.{◌≡◌, ◌+◌, ◌<◌, ◌≤◌, ◌^◌};
-ghost use Rattle.jc_manage.specs.Backoffs.{as_moment, backoff_after, is_held_back, opening, pause};
+ghost use Rattle.jc_moment.specs.Range.{as_moment};
+ghost use Rattle.jc_manage.specs.Backoffs.{backoff_after, is_held_back, opening, pause};
 
 use jc_moment::Moment;
 use jc_types::{Backoff, CountIn};
 
-/// The seconds to wait after one failure.
+// The seconds to wait after one failure.
 const FIRST_SECONDS: u64 = 10;
 
-/// The most seconds to wait, however many failures there were.
+// The most seconds to wait, however many failures there were.
 const MOST_SECONDS: u64 = 360;
 
-/// So many times the wait is doubled at most: after them it is past the most seconds.
+// So many times the wait is doubled at most: after them it is past the most seconds.
 const MOST_DOUBLINGS: u64 = 6;
 
-/// The backoff after a sync that has counted so.
+// The backoff after a sync that has counted so.
 pub(crate) fn backoff_after(backoff: &Backoff, counted: &CountIn, now: Moment) -> Backoff
     requires fits { backoff.now.failures + counted.now.new_failed < 2 ^ 64 }
     ensures { result ≡ backoff_after backoff.now counted.now now }
@@ -38,7 +39,7 @@ pub(crate) fn backoff_after(backoff: &Backoff, counted: &CountIn, now: Moment) -
     }
 }
 
-/// The seconds to wait after so many failures in a row.
+// The seconds to wait after so many failures in a row.
 fn pause(failures: u64) -> u64
     ensures value { result ≡ pause failures }
     ensures bound { result ≤ 360 }
@@ -47,7 +48,7 @@ fn pause(failures: u64) -> u64
     (FIRST_SECONDS * 2_u64.pow(doublings)).min(MOST_SECONDS)
 }
 
-/// The second before which no pod is made; none where there is no failure.
+// The second before which no pod is made; none where there is no failure.
 pub(crate) fn opening(backoff: &Backoff) -> Option<u64>
     ensures { result ≡ opening backoff.now }
 {
@@ -60,7 +61,7 @@ pub(crate) fn opening(backoff: &Backoff) -> Option<u64>
     }
 }
 
-/// Whether the opening has not come yet.
+// Whether the opening has not come yet.
 pub(crate) fn is_held_back(opening: Option<u64>, now: Moment) -> bool
     ensures { result ≡ is_held_back opening now }
 {
@@ -70,7 +71,7 @@ pub(crate) fn is_held_back(opening: Option<u64>, now: Moment) -> bool
     }
 }
 
-/// The opening, where it is not past the last moment.
+// The opening, where it is not past the last moment.
 pub(crate) fn as_moment(opening: Option<u64>) -> Option<Moment>
     ensures { result ≡ as_moment opening }
 {

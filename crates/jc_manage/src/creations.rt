@@ -1,19 +1,19 @@
 //! Which pods a Job makes.
 
-ghost use Rattle.std.specs.Prelude.{◌≡◌, ◌<◌, ◌^◌, ◌&&◌, ◌||◌, ◌∷◌, ◌++◌, [], ℕ, IfOk, None, OnOk, Some, false, filter, get_or, if◌then◌else◌, length, map, nat_eq, nat_lt, not, replicate, take, unwrap_or};
+ghost use Rattle.std.specs.Prelude.{◌≡◌, ◌==◌, ◌<◌, ◌^◌, ◌&&◌, ◌||◌, ◌∷◌, ◌++◌, [], ℕ, IfOk, None, OnOk, Some, false, filter, get_or, if◌then◌else◌, length, map, nat_lt, not, replicate, take, unwrap_or};
 ghost use Rattle.std.specs.List.{range_with_len};
 ghost use Rattle.jc_ranges.specs.Sets.{has};
-ghost use Rattle.jc_types.specs.Bases.{is_own, own_pods};
+ghost use Rattle.jc_states.specs.Indexes.{has_index};
+ghost use Rattle.jc_states.specs.Bases.{is_own, own_pods};
 ghost use Rattle.jc_types.specs.Counts.{counts as counts_of};
-ghost use Rattle.jc_manage.specs.Creations.{creatable, free, holds, is_at, is_none_of, job_lacks, job_wants, keepers, keeps, lacking, new_pods, wanted};
+ghost use Rattle.jc_manage.specs.Creations.{creatable, free, holds, job_lacks, job_wants, keepers, keeps, keeps_own, lacking, wanted};
 
-use crate::pods::{count_ending, count_tracked_active};
 use jc_ranges::Ranges;
-use jc_states::{is_active, is_ending, is_own};
+use jc_states::{count_ending, count_tracked_active, is_active, is_ending, is_own};
 use jc_types::{CountIn, Indexes, Job, JobSpec, Mode, Pod, Replacement, Want, counts};
 use std::alloc::Global;
 
-/// How many active pods there should be, where so many have succeeded and so many are active.
+// How many active pods there should be, where so many have succeeded and so many are active.
 fn wanted(spec: &JobSpec, succeeded: u64, active: u64) -> u64
     ensures { result ≡ wanted spec.now.parallelism spec.now.completions succeeded active }
 {
@@ -24,7 +24,7 @@ fn wanted(spec: &JobSpec, succeeded: u64, active: u64) -> u64
     }
 }
 
-/// How many pods are to be made, where so many are active and so many are ending.
+// How many pods are to be made, where so many are active and so many are ending.
 fn lacking(replacement: Replacement, wanted: u64, active: u64, ending: u64) -> u64
     ensures { result ≡ lacking replacement wanted active ending }
 {
@@ -34,7 +34,7 @@ fn lacking(replacement: Replacement, wanted: u64, active: u64, ending: u64) -> u
     }
 }
 
-/// How many active tracked pods the Job should have.
+// How many active tracked pods the Job should have.
 pub(crate) fn job_wants(job: &Job, pods: &[Pod], counted: &CountIn) -> u64
     requires failed { (counts_of counted.now).0 < 2 ^ 64 }
     requires succeeded { (counts_of counted.now).1 < 2 ^ 64 }
@@ -44,7 +44,7 @@ pub(crate) fn job_wants(job: &Job, pods: &[Pod], counted: &CountIn) -> u64
     wanted(&job.spec, succeeded, count_tracked_active(job, pods) as u64)
 }
 
-/// How many pods the Job is to make.
+// How many pods the Job is to make.
 fn job_lacks(job: &Job, pods: &[Pod], counted: &CountIn) -> u64
     requires failed { (counts_of counted.now).0 < 2 ^ 64 }
     requires succeeded { (counts_of counted.now).1 < 2 ^ 64 }
@@ -58,7 +58,7 @@ fn job_lacks(job: &Job, pods: &[Pod], counted: &CountIn) -> u64
     )
 }
 
-/// Whether the pod keeps its index from new pods.
+// Whether the pod keeps its index from new pods.
 fn keeps(replacement: Replacement, pod: &Pod) -> bool
     ensures { result ≡ keeps replacement pod.now }
 {
@@ -68,10 +68,11 @@ fn keeps(replacement: Replacement, pod: &Pod) -> bool
     }
 }
 
-/// Sets the flag of the index, where it has one.
+// Sets the flag of the index, where it has one.
 fn set_flag(flags: &mut [bool], index: u32)
     ensures count { length flags.new ≡ length flags.old }
-    ensures flags { (n : ℕ) → n < length flags.old → get_or flags.new n false ≡ (nat_eq n index || get_or flags.old n false) }
+    ensures flags { (n : ℕ) → n < length flags.old
+        → get_or flags.new n false ≡ (index == n || get_or flags.old n false) }
 {
     let place = index as usize;
     if place < flags.len() {
@@ -79,7 +80,7 @@ fn set_flag(flags: &mut [bool], index: u32)
     }
 }
 
-/// Whether the flag of the index is set.
+// Whether the flag of the index is set.
 fn is_set(flags: &[bool], index: u32) -> bool
     ensures { result ≡ get_or flags.now index false }
 {
@@ -89,10 +90,12 @@ fn is_set(flags: &[bool], index: u32) -> bool
     }
 }
 
-/// Sets the flag of the pod's index, where the pod is the Job's own and keeps it.
+// Sets the flag of the pod's index, where the pod is the Job's own and keeps it.
 fn keep_index(kept: &mut [bool], job: &Job, pod: &Pod)
     ensures count { length kept.new ≡ length kept.old }
-    ensures flags { (n : ℕ) → n < length kept.old → get_or kept.new n false ≡ ((is_own job.now pod.now && (keeps job.now.spec.replacement pod.now && is_at n pod.now)) || get_or kept.old n false) }
+    ensures flags { (n : ℕ) → n < length kept.old
+        → get_or kept.new n false
+        ≡ (keeps_own job.now n pod.now || get_or kept.old n false) }
 {
     if !(is_own(job, pod) && keeps(job.spec.replacement, pod)) {
         return;
@@ -103,9 +106,11 @@ fn keep_index(kept: &mut [bool], job: &Job, pod: &Pod)
     set_flag(kept, index);
 }
 
-/// For each index below `completions` whether the Job's pods keep it from new ones.
+// For each index below `completions` whether the Job's pods keep it from new ones.
 fn kept_indexes(alloc: Global, job: &Job, pods: &[Pod], completions: u32) -> Result<Vec<bool>, Want>
-    ensures { IfOk result (λ kept. (n : ℕ) → n < completions → get_or kept.items n false ≡ holds (keepers job.now.spec.replacement (own_pods job.now pods.now)) n) }
+    ensures { IfOk result (λ kept. (n : ℕ) → n < completions
+        → get_or kept.items n false
+        ≡ holds (keepers job.now.spec.replacement (own_pods job.now pods.now)) n) }
 {
     let mut kept = vec![in alloc; false; completions as usize]?;
     for pod in pods {
@@ -114,7 +119,7 @@ fn kept_indexes(alloc: Global, job: &Job, pods: &[Pod], completions: u32) -> Res
     Ok(kept)
 }
 
-/// Adds the index, where it is neither completed nor kept and there are not so many yet.
+// Adds the index, where it is neither completed nor kept and there are not so many yet.
 fn offer(
     indexes: &mut Indexes,
     index: u32,
@@ -122,7 +127,11 @@ fn offer(
     kept: &[bool],
     most: u64,
 ) -> Result<(), Want>
-    ensures { OnOk result (indexes.new ≡ (if not (has index completed.now) && not (get_or kept.now index false) then (if nat_lt (length indexes.old) most then indexes.old ++ Some index ∷ [] else indexes.old) else indexes.old)) }
+    ensures { OnOk result (indexes.new ≡ (
+        if not (has index completed.now) && not (get_or kept.now index false)
+        then (if nat_lt (length indexes.old) most
+        then indexes.old ++ Some index ∷ [] else indexes.old)
+        else indexes.old)) }
 {
     if completed.contains(index) || is_set(kept, index) {
         return Ok(());
@@ -133,7 +142,7 @@ fn offer(
     Ok(())
 }
 
-/// The least indexes below `completions` that are neither completed nor kept, and at most so many.
+// The least indexes below `completions` that are neither completed nor kept, and at most so many.
 fn free_indexes(
     alloc: Global,
     completions: u32,
@@ -141,7 +150,9 @@ fn free_indexes(
     kept: &[bool],
     most: u64,
 ) -> Result<Indexes, Want>
-    ensures { IfOk result (λ indexes. indexes ≡ map (λ n. Some n) (take most (filter (λ n. not (has n completed.now) && not (get_or kept.now n false)) (range_with_len 0 completions)))) }
+    ensures { IfOk result (λ indexes. indexes ≡ map (λ n. Some n) (take most
+        (filter (λ n. not (has n completed.now) && not (get_or kept.now n false))
+        (range_with_len 0 completions)))) }
 {
     let mut indexes = Indexes::new(alloc);
     for index in 0..completions {
@@ -154,7 +165,7 @@ fn free_indexes(
     Ok(indexes)
 }
 
-/// So many pods without an index.
+// So many pods without an index.
 fn without_index(alloc: Global, count: u64) -> Result<Indexes, Want>
     ensures { IfOk result (λ indexes. indexes ≡ replicate count None) }
 {
@@ -165,7 +176,7 @@ fn without_index(alloc: Global, count: u64) -> Result<Indexes, Want>
     Ok(indexes)
 }
 
-/// The least free indexes of the Job, and at most so many.
+// The least free indexes of the Job, and at most so many.
 fn least_free(
     alloc: Global,
     job: &Job,
@@ -173,7 +184,9 @@ fn least_free(
     completed: &Ranges,
     most: u64,
 ) -> Result<Indexes, Want>
-    ensures { IfOk result (λ indexes. indexes ≡ map (λ n. Some n) (take most (free (unwrap_or job.now.spec.completions 0) completed.now (keepers job.now.spec.replacement (own_pods job.now pods.now))))) }
+    ensures { IfOk result (λ indexes. indexes ≡ map (λ n. Some n) (take most
+        (free (unwrap_or job.now.spec.completions 0) completed.now
+        (keepers job.now.spec.replacement (own_pods job.now pods.now))))) }
 {
     if most == 0 {
         return Ok(Indexes::new(alloc));
@@ -183,10 +196,10 @@ fn least_free(
     free_indexes(alloc, completions, completed, kept.as_slice(), most)
 }
 
-/// What the Job would make at once, if nothing held it back.
-///
-/// # Errors
-/// `Want` where there is no memory for it.
+// What the Job would make at once, if nothing held it back.
+//
+// # Errors
+// `Want` where there is no memory for it.
 pub(crate) fn creatable(
     alloc: Global,
     target: bool,
@@ -196,7 +209,8 @@ pub(crate) fn creatable(
 ) -> Result<Indexes, Want>
     requires failed { (counts_of counted.now).0 < 2 ^ 64 }
     requires succeeded { (counts_of counted.now).1 < 2 ^ 64 }
-    ensures { IfOk result (λ indexes. indexes ≡ creatable target job.now (own_pods job.now pods.now) counted.now) }
+    ensures { IfOk result (λ indexes.
+        indexes ≡ creatable target job.now (own_pods job.now pods.now) counted.now) }
 {
     if target || job.spec.suspend {
         return Ok(Indexes::new(alloc));

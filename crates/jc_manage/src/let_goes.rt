@@ -1,34 +1,33 @@
 //! Which pods a Job stops.
 
-ghost use Rattle.std.specs.Prelude.{◌≡◌, ◌<◌, ◌^◌, ◌&&◌, ◌||◌, ℕ, IfOk, OnOk, false, filter, map, nat_eq, not};
+ghost use Rattle.std.specs.Prelude.{◌≡◌, ◌<◌, ◌^◌, ◌&&◌, ◌||◌, ℕ, IfOk, OnOk, false, map, nat_eq};
 ghost use Rattle.std.specs.Option.{option_map_or};
 ghost use Rattle.std.specs.HashMap.{get};
-ghost use Rattle.std.specs.List.{list_any};
 ghost use Rattle.jc_types.specs.declared.specifications.Mode.TheVariants.{Indexed};
-ghost use Rattle.jc_types.specs.Bases.{is_own, own_pods};
+ghost use Rattle.jc_states.specs.Bases.{is_own, own_pods};
 ghost use Rattle.jc_types.specs.Counts.{counts as counts_of};
-ghost use Rattle.jc_manage.specs.Creations.{is_tracked_active, job_wants, tracked_active};
-ghost use Rattle.jc_manage.specs.LetGoes.{is_done, is_earlier, is_let_go, is_to_mark, let_goes, marks, seen};
-ghost use Rattle.jc_manage.specs.Steps.{goes_by, has_older, is_spare_by, rank_of};
+ghost use Rattle.jc_states.specs.Pods.{is_tracked_active};
+ghost use Rattle.jc_manage.specs.Creations.{job_wants};
+ghost use Rattle.jc_manage.specs.LetGoes.{is_earlier, is_to_mark, let_goes, marks, own_tracked, seen, surplus};
+ghost use Rattle.jc_manage.specs.Ranks.{AreOldest, goes_by, gone_by, has_older, is_spare_by, ranks_in};
 
 use crate::creations::job_wants;
 use crate::lists::list_of;
-use crate::pods::is_tracked_active;
 use crate::ranks::{Rank, is_below, least_to_go, rank_of};
 use jc_ranges::Ranges;
-use jc_states::{is_active, is_own};
+use jc_states::{is_active, is_completed, is_own, is_tracked_active};
 use jc_types::{CountIn, Job, Mode, Pod, PodVersions, Uid, Uids, Version, Want};
 use std::alloc::Global;
 use std::collections::HashMap;
 
-/// Whether the pod is marked at once.
+// Whether the pod is marked at once.
 fn is_to_mark(target: bool, pod: &Pod) -> bool
     ensures { result ≡ is_to_mark target pod.now }
 {
     is_active(pod) && (target || !pod.tracked)
 }
 
-/// The UIDs of the Job's own pods that are marked at once.
+// The UIDs of the Job's own pods that are marked at once.
 fn marked(alloc: Global, target: bool, job: &Job, pods: &[Pod]) -> Result<Vec<Uid>, Want>
     ensures { IfOk result (λ uids. uids.items ≡ marks target (own_pods job.now pods.now)) }
 {
@@ -39,11 +38,11 @@ fn marked(alloc: Global, target: bool, job: &Job, pods: &[Pod]) -> Result<Vec<Ui
         .collect(alloc)
 }
 
-/// The UIDs of the Job's own pods that are marked for deletion at once: the active ones without the
-/// finalizer, and all active ones where the Job's end is settled.
-///
-/// # Errors
-/// `Want` where there is no memory for them.
+// The UIDs of the Job's own pods that are marked for deletion at once: the active ones without the
+// finalizer, and all active ones where the Job's end is settled.
+//
+// # Errors
+// `Want` where there is no memory for them.
 pub(crate) fn marks(alloc: Global, target: bool, job: &Job, pods: &[Pod]) -> Result<Uids, Want>
     ensures { IfOk result (λ uids. uids ≡ marks target (own_pods job.now pods.now)) }
 {
@@ -51,9 +50,11 @@ pub(crate) fn marks(alloc: Global, target: bool, job: &Job, pods: &[Pod]) -> Res
     list_of(alloc, uids.as_slice())
 }
 
-/// Takes the pod for the holder of its index, where it has one and no pod of smaller UID holds it.
+// Takes the pod for the holder of its index, where it has one and no pod of smaller UID holds it.
 fn claim(holders: &mut HashMap<u32, Uid>, pod: &Pod) -> Result<(), Want>
-    ensures { OnOk result ((index uid : ℕ) → has_older (get nat_eq holders.new index) uid ≡ (is_earlier index uid pod.now || has_older (get nat_eq holders.old index) uid)) }
+    ensures { OnOk result ((index uid : ℕ)
+        → has_older (get nat_eq holders.new index) uid
+        ≡ (is_earlier index uid pod.now || has_older (get nat_eq holders.old index) uid)) }
 {
     let Some(index) = pod.index else {
         return Ok(());
@@ -66,9 +67,12 @@ fn claim(holders: &mut HashMap<u32, Uid>, pod: &Pod) -> Result<(), Want>
     Ok(())
 }
 
-/// Takes the pod for the holder of its index, where the pod is the Job's own, active and tracked.
+// Takes the pod for the holder of its index, where the pod is the Job's own, active and tracked.
 fn claim_own(holders: &mut HashMap<u32, Uid>, job: &Job, pod: &Pod) -> Result<(), Want>
-    ensures { OnOk result ((index uid : ℕ) → has_older (get nat_eq holders.new index) uid ≡ ((is_own job.now pod.now && (is_tracked_active pod.now && is_earlier index uid pod.now)) || has_older (get nat_eq holders.old index) uid)) }
+    ensures { OnOk result ((index uid : ℕ)
+        → has_older (get nat_eq holders.new index) uid
+        ≡ ((is_own job.now pod.now && (is_tracked_active pod.now && is_earlier index uid pod.now))
+        || has_older (get nat_eq holders.old index) uid)) }
 {
     if !(is_own(job, pod) && is_tracked_active(pod)) {
         return Ok(());
@@ -76,9 +80,10 @@ fn claim_own(holders: &mut HashMap<u32, Uid>, job: &Job, pod: &Pod) -> Result<()
     claim(holders, pod)
 }
 
-/// Of each index the active tracked pod of smallest UID that holds it.
+// Of each index the active tracked pod of smallest UID that holds it.
 fn oldest_holders(alloc: Global, job: &Job, pods: &[Pod]) -> Result<HashMap<u32, Uid>, Want>
-    ensures { IfOk result (λ holders. (index uid : ℕ) → has_older (get nat_eq holders index) uid ≡ list_any (is_earlier index uid) (tracked_active (own_pods job.now pods.now))) }
+    ensures { IfOk result (λ holders.
+        AreOldest (own_tracked job.now pods.now) (λ index. get nat_eq holders index)) }
 {
     let mut holders = HashMap::new(alloc);
     for pod in pods {
@@ -87,9 +92,10 @@ fn oldest_holders(alloc: Global, job: &Job, pods: &[Pod]) -> Result<HashMap<u32,
     Ok(holders)
 }
 
-/// Of each index of an Indexed Job the active tracked pod of smallest UID that holds it.
+// Of each index of an Indexed Job the active tracked pod of smallest UID that holds it.
 fn holders_of(alloc: Global, job: &Job, pods: &[Pod]) -> Result<HashMap<u32, Uid>, Want>
-    ensures { IfOk result (λ holders. job.now.spec.mode ≡ Indexed → (index uid : ℕ) → has_older (get nat_eq holders index) uid ≡ list_any (is_earlier index uid) (tracked_active (own_pods job.now pods.now))) }
+    ensures { IfOk result (λ holders. job.now.spec.mode ≡ Indexed
+        → AreOldest (own_tracked job.now pods.now) (λ index. get nat_eq holders index)) }
 {
     match job.spec.mode {
         Mode::NonIndexed => Ok(HashMap::new(alloc)),
@@ -97,19 +103,10 @@ fn holders_of(alloc: Global, job: &Job, pods: &[Pod]) -> Result<HashMap<u32, Uid
     }
 }
 
-/// Whether the index of the pod is completed.
-fn is_done(completed: &Ranges, pod: &Pod) -> bool
-    ensures { result ≡ is_done completed.now pod.now }
-{
-    match pod.index {
-        None => false,
-        Some(index) => completed.contains(index),
-    }
-}
-
-/// Whether a pod of smaller UID holds the index of the pod.
+// Whether a pod of smaller UID holds the index of the pod.
 fn is_doubled(holders: &HashMap<u32, Uid>, pod: &Pod) -> bool
-    ensures { result ≡ option_map_or (λ index. has_older (get nat_eq holders.now index) pod.now.uid.0) pod.now.index false }
+    ensures { result ≡ option_map_or
+        (λ index. has_older (get nat_eq holders.now index) pod.now.uid.0) pod.now.index false }
 {
     let Some(index) = pod.index else {
         return false;
@@ -120,17 +117,18 @@ fn is_doubled(holders: &HashMap<u32, Uid>, pod: &Pod) -> bool
     }
 }
 
-/// Whether the pod is spare, where these are the oldest holders of the indexes.
+// Whether the pod is spare, where these are the oldest holders of the indexes.
 fn is_spare(mode: Mode, completed: &Ranges, holders: &HashMap<u32, Uid>, pod: &Pod) -> bool
-    ensures { result ≡ is_spare_by mode completed.now (λ index. get nat_eq holders.now index) pod.now }
+    ensures { result
+        ≡ is_spare_by mode completed.now (λ index. get nat_eq holders.now index) pod.now }
 {
     match mode {
         Mode::NonIndexed => false,
-        Mode::Indexed => is_done(completed, pod) || is_doubled(holders, pod),
+        Mode::Indexed => is_completed(completed, pod) || is_doubled(holders, pod),
     }
 }
 
-/// The ranks of the active tracked pods that are not spare.
+// The ranks of the active tracked pods that are not spare.
 fn ranks_of(
     alloc: Global,
     job: &Job,
@@ -138,7 +136,9 @@ fn ranks_of(
     completed: &Ranges,
     holders: &HashMap<u32, Uid>,
 ) -> Result<Vec<Rank>, Want>
-    ensures { IfOk result (λ ranks. ranks.items ≡ map (λ pod. rank_of job.now.spec.mode pod) (filter (λ pod. not (is_spare_by job.now.spec.mode completed.now (λ index. get nat_eq holders.now index) pod)) (tracked_active (own_pods job.now pods.now)))) }
+    ensures { IfOk result (λ ranks. ranks.items
+        ≡ ranks_in job.now.spec.mode completed.now (λ index. get nat_eq holders.now index)
+        (own_tracked job.now pods.now)) }
 {
     let mode = job.spec.mode;
     pods.iter()
@@ -149,7 +149,7 @@ fn ranks_of(
         .collect(alloc)
 }
 
-/// Whether the pod goes, where these are the oldest holders of the indexes and the least rank that goes.
+// Whether the pod goes, where these are the oldest holders of the indexes and the least rank that goes.
 fn goes(
     mode: Mode,
     completed: &Ranges,
@@ -157,7 +157,8 @@ fn goes(
     least: Option<Rank>,
     pod: &Pod,
 ) -> bool
-    ensures { result ≡ goes_by mode completed.now (λ index. get nat_eq holders.now index) least pod.now }
+    ensures { result
+        ≡ goes_by mode completed.now (λ index. get nat_eq holders.now index) least pod.now }
 {
     if is_spare(mode, completed, holders, pod) {
         return true;
@@ -168,14 +169,14 @@ fn goes(
     }
 }
 
-/// The pod with the version at which it was seen.
+// The pod with the version at which it was seen.
 fn seen(pod: &Pod) -> (Uid, Version)
     ensures { result ≡ seen pod.now }
 {
     (pod.uid, pod.version)
 }
 
-/// The active tracked pods that go, where these are the oldest holders and the least rank that goes.
+// The active tracked pods that go, where these are the oldest holders and the least rank that goes.
 fn going(
     alloc: Global,
     job: &Job,
@@ -184,7 +185,9 @@ fn going(
     holders: &HashMap<u32, Uid>,
     least: Option<Rank>,
 ) -> Result<Vec<(Uid, Version)>, Want>
-    ensures { IfOk result (λ going. going.items ≡ map (λ pod. seen pod) (filter (λ pod. goes_by job.now.spec.mode completed.now (λ index. get nat_eq holders.now index) least pod) (tracked_active (own_pods job.now pods.now)))) }
+    ensures { IfOk result (λ going. going.items
+        ≡ gone_by job.now.spec.mode completed.now (λ index. get nat_eq holders.now index) least
+        (own_tracked job.now pods.now)) }
 {
     let mode = job.spec.mode;
     pods.iter()
@@ -195,7 +198,7 @@ fn going(
         .collect(alloc)
 }
 
-/// The active tracked pods that are spare or too many.
+// The active tracked pods that are spare or too many.
 fn surplus(
     alloc: Global,
     job: &Job,
@@ -204,7 +207,10 @@ fn surplus(
 ) -> Result<Vec<(Uid, Version)>, Want>
     requires failed { (counts_of counted.now).0 < 2 ^ 64 }
     requires succeeded { (counts_of counted.now).1 < 2 ^ 64 }
-    ensures { IfOk result (λ going. going.items ≡ map seen (filter (is_let_go job.now.spec.mode counted.now.completed (job_wants job.now (own_pods job.now pods.now) counted.now) (tracked_active (own_pods job.now pods.now))) (tracked_active (own_pods job.now pods.now)))) }
+    ensures { IfOk result (λ going. going.items
+        ≡ map seen (surplus job.now.spec.mode counted.now.completed
+        (job_wants job.now (own_pods job.now pods.now) counted.now)
+        (own_tracked job.now pods.now))) }
 {
     let holders = holders_of(alloc, job, pods)?;
     let ranks = ranks_of(alloc, job, pods, &counted.completed, &holders)?;
@@ -212,9 +218,9 @@ fn surplus(
     going(alloc, job, pods, &counted.completed, &holders, least)
 }
 
-/// All active tracked pods.
+// All active tracked pods.
 fn all_tracked(alloc: Global, job: &Job, pods: &[Pod]) -> Result<Vec<(Uid, Version)>, Want>
-    ensures { IfOk result (λ going. going.items ≡ map seen (tracked_active (own_pods job.now pods.now))) }
+    ensures { IfOk result (λ going. going.items ≡ map seen (own_tracked job.now pods.now)) }
 {
     pods.iter()
         .filter(|pod| is_own(job, pod))
@@ -223,11 +229,11 @@ fn all_tracked(alloc: Global, job: &Job, pods: &[Pod]) -> Result<Vec<(Uid, Versi
         .collect(alloc)
 }
 
-/// The Job's own pods whose finalizer goes before they are marked, each at the version at which it was
-/// seen.
-///
-/// # Errors
-/// `Want` where there is no memory for them.
+// The Job's own pods whose finalizer goes before they are marked, each at the version at which it was
+// seen.
+//
+// # Errors
+// `Want` where there is no memory for them.
 pub(crate) fn let_goes(
     alloc: Global,
     target: bool,
@@ -237,7 +243,8 @@ pub(crate) fn let_goes(
 ) -> Result<PodVersions, Want>
     requires failed { (counts_of counted.now).0 < 2 ^ 64 }
     requires succeeded { (counts_of counted.now).1 < 2 ^ 64 }
-    ensures { IfOk result (λ going. going ≡ let_goes target job.now (own_pods job.now pods.now) counted.now) }
+    ensures { IfOk result (λ going.
+        going ≡ let_goes target job.now (own_pods job.now pods.now) counted.now) }
 {
     if target {
         return Ok(PodVersions::new(alloc));

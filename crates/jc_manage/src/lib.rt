@@ -6,14 +6,13 @@ mod creations;
 mod laws;
 mod let_goes;
 mod lists;
-mod planning;
-mod pods;
+mod needs;
 mod ranks;
 mod results;
 
-pub use laws::{creations_stay_within_bounds, free_indexes_are_free, pods_go_one_way};
-pub use planning::wants;
+pub use laws::{
+    creations_are_numbered, creations_stay_within_bounds, failures_are_bounded,
+    free_indexes_are_free, pods_go_in_order, pods_go_one_way,
+};
+pub use needs::wants;
 pub use results::Wants;
-
-#[cfg(test)]
-mod tests;

@@ -6,11 +6,12 @@ use jc_types::{Backoff, Indexes, PodVersions, Uids};
 /// What a sync wants of a Job's pods.
 #[derive(Drop)]
 pub struct Wants {
-    /// The indexes of the pods to make; none for a pod of a Job that is not Indexed.
+    /// The indexes of the pods to make, in ascending order; none for a pod of a Job that is not Indexed.
     pub creates: Indexes,
-    /// The pods to mark for deletion.
+    /// The pods to mark for deletion, in the order of the basis.
     pub marks: Uids,
-    /// The pods whose finalizer goes first, each at the version at which it was seen.
+    /// The pods whose finalizer goes first, in the order of the basis, each at the version at which it
+    /// was seen.
     pub let_goes: PodVersions,
     /// When pods may be made, where this held them back now.
     pub next: Option<Moment>,

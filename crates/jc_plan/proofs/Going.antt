@@ -1,13 +1,14 @@
 -- How many pods a sync marks, lets go and makes at most.
 use Rattle.std.proofs.Common.{◌≡◌, ℕ, ◌+◌, ◌-◌, ◌≤◌, ◌==◌, Bool, true, false, cond, not, ◌&&◌, ◌||◌, List, [], ◌∷◌, length, filter, Option, Some, None, refl, arith}
 use Rattle.std.proofs.lemmas.List.{length-map}
+use Rattle.std.proofs.lemmas.List.Sums.{count_by-le-length, length-filter}
+use Rattle.jc_types.specs.declared.limits.TheConstants.{GREATEST_PARALLELISM}
 use Rattle.jc_types.specs.declared.objects.Job.{Job}
 use Rattle.jc_types.specs.declared.objects.Pod.{Pod}
 use Rattle.jc_types.specs.declared.syncs.CountIn.{CountIn}
 use Rattle.jc_types.specs.Counts.{counts}
-use Rattle.jc_types.specs.Pods.{is_active, is_marked, is_open, is_tracked}
-use Rattle.jc_states.specs.Pods.{is_ending}
-use Rattle.jc_manage.specs.Creations.{active, creatable, creates, ending, is_tracked_active, job_wants, tracked_active, wanted}
+use Rattle.jc_states.specs.Pods.{is_active, is_marked, is_open, is_tracked, is_ending, active_pods, ending_pods, is_tracked_active, tracked_active_pods}
+use Rattle.jc_manage.specs.Creations.{creatable, creates, job_wants, wanted}
 use Rattle.jc_manage.specs.LetGoes.{going, is_let_go, is_to_mark, let_goes, marks, seen}
 use Rattle.jc_manage.proofs.Bounds.{creatable-few, creates-few, lacks-few, wanted-few}
 
@@ -26,12 +27,7 @@ module _ {A : Type 0} where
 
   -- A part of a list is no longer than the list.
   pub filter-few : (f : A → Bool) (xs : List A) → length (filter f xs) ≤ length xs
-  filter-few f [] = omega arith
-  filter-few f (x ∷ xs) = by (f x) (filter-step f x xs) (filter-few f xs)
-    where
-      by : (b : Bool) → length (filter f (x ∷ xs)) ≡ bit b + length (filter f xs) → length (filter f xs) ≤ length xs → length (filter f (x ∷ xs)) ≤ length (x ∷ xs)
-      by true e h = omega (arith, e, h)
-      by false e h = omega (arith, e, h)
+  filter-few f xs = omega (arith, length-filter f xs, count_by-le-length f xs)
 
   -- Two parts that are apart, each in a third, are together no longer than it.
   pub filters-within : (f g h : A → Bool) → ((x : A) → bit (f x) + bit (g x) ≤ bit (h x)) → (xs : List A) → length (filter f xs) + length (filter g xs) ≤ length (filter h xs)
@@ -65,7 +61,7 @@ going-few true tracked chosen h = omega arith
 going-few false tracked chosen h = h
 
 -- No more pods are marked and let go than are active.
-pub going-active : (target : Bool) (job : Job) (own : List Pod) (counted : CountIn) → length (marks target own) + length (let_goes target job own counted) ≤ length (active own)
+pub going-active : (target : Bool) (job : Job) (own : List Pod) (counted : CountIn) → length (marks target own) + length (let_goes target job own counted) ≤ length (active_pods own)
 going-active true job own counted =
     omega (
       arith,
@@ -77,7 +73,7 @@ going-active false job own counted =
       arith,
       length-map (filter (is_to_mark false) own) (λ (pod : Pod). pod.uid),
       length-map (going false job own counted) seen,
-      going-few job.spec.suspend (tracked_active own) (filter (is_let_go job.spec.mode counted.completed (job_wants job own counted) (tracked_active own)) (tracked_active own)) (filter-few (is_let_go job.spec.mode counted.completed (job_wants job own counted) (tracked_active own)) (tracked_active own)),
+      going-few job.spec.suspend (tracked_active_pods own) (filter (is_let_go job.spec.mode counted.completed (job_wants job own counted) (tracked_active_pods own)) (tracked_active_pods own)) (filter-few (is_let_go job.spec.mode counted.completed (job_wants job own counted) (tracked_active_pods own)) (tracked_active_pods own)),
       filters-within (is_to_mark false) is_tracked_active is_active (λ pod. apart-own (is_active pod) (is_tracked pod)) own,
     )
 
@@ -86,7 +82,7 @@ filter-all [] = refl
 filter-all (x ∷ xs) = omega (arith, filter-all xs)
 
 -- Active and ending pods are together no more than there are.
-pub open-few : (own : List Pod) → length (active own) + length (ending own) ≤ length own
+pub open-few : (own : List Pod) → length (active_pods own) + length (ending_pods own) ≤ length own
 open-few own =
     omega (
       arith,
@@ -96,21 +92,21 @@ open-few own =
 
 -- ---- creations
 
-wants-few : (completions : Option ℕ) (parallelism succeeded a : ℕ) → parallelism ≤ 5000 → wanted parallelism completions succeeded a - a ≤ 5000
+wants-few : (completions : Option ℕ) (parallelism succeeded a : ℕ) → parallelism ≤ GREATEST_PARALLELISM → wanted parallelism completions succeeded a - a ≤ GREATEST_PARALLELISM
 wants-few (Some completions) parallelism succeeded a h = omega (arith, wanted-few parallelism completions succeeded a, h)
 wants-few None parallelism succeeded a h = by (succeeded == 0)
   where
-    by : (b : Bool) → cond b parallelism a - a ≤ 5000
+    by : (b : Bool) → cond b parallelism a - a ≤ GREATEST_PARALLELISM
     by true = omega (arith, h)
     by false = omega arith
 
--- A sync makes at most 5,000 pods.
-pub creates-bounded : (opening : Option ℕ) (now : ℕ) (target : Bool) (job : Job) (own : List Pod) (counted : CountIn) → job.spec.parallelism ≤ 5000 → length (creates opening now (creatable target job own counted)) ≤ 5000
+-- A sync makes no more pods than may run at once.
+pub creates-bounded : (opening : Option ℕ) (now : ℕ) (target : Bool) (job : Job) (own : List Pod) (counted : CountIn) → job.spec.parallelism ≤ GREATEST_PARALLELISM → length (creates opening now (creatable target job own counted)) ≤ GREATEST_PARALLELISM
 creates-bounded opening now target job own counted h =
     omega (
       arith,
       creates-few opening now (creatable target job own counted),
       creatable-few target job own counted,
       lacks-few job own counted,
-      wants-few job.spec.completions job.spec.parallelism (counts counted).1 (length (tracked_active own)) h,
+      wants-few job.spec.completions job.spec.parallelism (counts counted).1 (length (tracked_active_pods own)) h,
     )

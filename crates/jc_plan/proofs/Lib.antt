@@ -1,6 +1,9 @@
-pub mod Given
+pub mod Targets
 pub mod Going
 pub mod PartFacts
 pub mod ValueFacts
 pub mod NextFacts
-pub mod Checked
+pub mod PlanBounds
+pub mod PlanFacts
+pub mod OrderFacts
+pub mod BackoffFacts

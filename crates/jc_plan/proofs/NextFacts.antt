@@ -1,6 +1,7 @@
 -- The status that a plan leaves is the next status of its Job.
-use Rattle.std.proofs.Common.{◌≡◌, ◌⊎◌, inl, inr, ◌↔◌, ℕ, ◌+◌, Bool, true, false, cond, not, ◌&&◌, ◌||◌, List, [], ◌∷◌, map, filter, length, Option, Some, None, IsSome, is_some, unwrap_or, refl, sym, ap, ◌∙◌, subst, true≢false, arith}
+use Rattle.std.proofs.Common.{◌≡◌, ◌⊎◌, inl, inr, ◌↔◌, ℕ, ◌+◌, Bool, true, false, cond, not, ◌&&◌, ◌||◌, List, [], map, filter, length, Option, Some, None, IsSome, is_some, unwrap_or, refl, sym, ap, ◌∙◌, subst, true≢false, arith}
 use Rattle.std.specs.List.{list_any}
+use Rattle.std.proofs.lemmas.List.{nil_from_length}
 use Rattle.jc_types.specs.declared.numbers.Uid.{Uid}
 use Rattle.jc_types.specs.declared.objects.Job.{Job}
 use Rattle.jc_types.specs.declared.objects.Pod.{Pod}
@@ -12,30 +13,30 @@ use Rattle.jc_types.specs.declared.statuses.Reason.{Reason}
 use Rattle.jc_types.specs.declared.syncs.Backoff.{Backoff}
 use Rattle.jc_types.specs.declared.syncs.Basis.{Basis}
 use Rattle.jc_types.specs.declared.syncs.CountIn.{CountIn}
-use Rattle.jc_types.specs.Bases.{own_pods}
-use Rattle.jc_types.specs.Conditions.{has_end, has_target}
+use Rattle.jc_states.specs.Bases.{own_pods}
+use Rattle.jc_states.specs.Conditions.{has_end, has_target}
 use Rattle.jc_types.specs.Counts.{counts}
-use Rattle.jc_types.specs.Log.{IsRising}
-use Rattle.jc_types.specs.Pods.{is_open}
-use Rattle.jc_types.specs.Sames.{same_status}
-use Rattle.jc_types.proofs.SameFacts.{status-exact}
+use Rattle.jc_states.specs.PodLists.{IsRising}
+use Rattle.jc_states.specs.Pods.{is_open, ending_pods, tracked_active_pods}
+use Rattle.jc_types.specs.Equality.{same_status}
+use Rattle.jc_types.proofs.EqualityFacts.{status-exact}
 use Rattle.jc_account.specs.Accounts.{completed_in, counted_in, counted_out}
 use Rattle.jc_account.specs.Judged.{newly}
 use Rattle.jc_account.specs.Modes.{succeeded_after}
 use Rattle.jc_account.proofs.AccountFacts.{empty-in, failed-all-out, failed-list-empty, failed-sum, failed-total, indexed-total, new-failed, succeeded-all-out, succeeded-list-empty, succeeded-sum, succeeded-total}
 use Rattle.jc_failpol.specs.declared.outcomes.Outcome.TheVariants.{Succeeded}
-use Rattle.jc_finish.specs.Decisions.{decided}
+use Rattle.jc_finish.proofs.DecisionFacts.{decided_same}
 use Rattle.jc_finish.specs.Settled.{end_of, with_last}
 use Rattle.jc_finish.proofs.SettledFacts.{settled-ends, settled-not_due}
 use Rattle.jc_manage.specs.declared.results.Wants.{Wants}
 use Rattle.jc_manage.specs.Backoffs.{failures_after, last_after, opening}
-use Rattle.jc_manage.specs.Creations.{creates, ending, free, keepers, lacking, new_pods, next, tracked_active, wanted}
+use Rattle.jc_manage.specs.Creations.{creates, free, keepers, lacking, new_pods, next, wanted}
 use Rattle.jc_manage.specs.LetGoes.{is_let_go, marks, seen}
-use Rattle.jc_plan.specs.Next.{next_counted, next_given, next_status, next_wants}
+use Rattle.jc_plan.specs.Next.{next_counted, next_decided, next_status, next_wants}
 use Rattle.jc_plan.specs.Numbers.{active_after, ending_after, ready_after}
 use Rattle.jc_plan.specs.Plans.{changed, planned, planned_for}
-use Rattle.jc_plan.specs.Statuses.{completed_at, conditions_at, first_of, first_value, given_in, is_first_due, is_none, is_over, is_second_due, is_settled, lists_none, second_value, wants_at, wants_in}
-use Rattle.jc_plan.proofs.Given.{IsTarget, given-kind}
+use Rattle.jc_plan.specs.Statuses.{completed_at, conditions_at, first_status_of, first_value, decided_in, is_first_due, is_none, is_over, is_second_due, is_settled, lists_none, second_value, wants_at, wants_in}
+use Rattle.jc_plan.proofs.Targets.{IsTarget, target-kind}
 
 and-true : (b : Bool) → (b && true) ≡ b
 and-true true = refl
@@ -48,12 +49,12 @@ module _ (now : ℕ) (backoff : Backoff) (job : Job) (own : List Pod) where
   backoff_by nf ns = record { failures = failures_after backoff.failures nf ns; last = last_after backoff.last now nf ns }
 
   abbrev wanted_by : ℕ → ℕ
-  wanted_by s = wanted job.spec.parallelism job.spec.completions s (length (tracked_active own))
+  wanted_by s = wanted job.spec.parallelism job.spec.completions s (length (tracked_active_pods own))
 
   abbrev made_by : Bool → ℕ → List ℕ → List (Option ℕ)
   made_by target s set =
       cond (target || job.spec.suspend) []
-      (new_pods job.spec.mode (lacking job.spec.replacement (wanted_by s) (length (tracked_active own)) (length (ending own)))
+      (new_pods job.spec.mode (lacking job.spec.replacement (wanted_by s) (length (tracked_active_pods own)) (length (ending_pods own)))
       (free (unwrap_or job.spec.completions 0) set (keepers job.spec.replacement own)))
 
   abbrev wants_by : Bool → ℕ → List ℕ → ℕ → ℕ → Wants
@@ -61,8 +62,8 @@ module _ (now : ℕ) (backoff : Backoff) (job : Job) (own : List Pod) where
     creates = creates (opening (backoff_by nf ns)) now (made_by target s set);
     marks = marks target own;
     let_goes =
-        map seen (cond target [] (cond job.spec.suspend (tracked_active own)
-        (filter (is_let_go job.spec.mode set (wanted_by s) (tracked_active own)) (tracked_active own))));
+        map seen (cond target [] (cond job.spec.suspend (tracked_active_pods own)
+        (filter (is_let_go job.spec.mode set (wanted_by s) (tracked_active_pods own)) (tracked_active_pods own))));
     next = next (opening (backoff_by nf ns)) now (made_by target s set);
     backoff = backoff_by nf ns;
   }
@@ -112,20 +113,21 @@ second-over target own us uf e f =
     ∙ and-true (is_over target own)
 
 module _ (job : Job) (basis : Basis) (rises : IsRising basis.pods) (tidy : job.spec.mode ≡ Indexed → job.status.uncounted_succeeded ≡ []) where
-  given-is : given_in job basis ≡ next_given basis.now job (own_pods job basis.pods)
-  given-is =
-      λ i. decided (failed-is job basis.pods rises tidy i) (succeeded-is job basis.pods rises tidy i) (completed-is job basis.pods rises tidy i) basis.now job.spec job.status (own_pods job basis.pods)
+  target-is : decided_in job basis ≡ next_decided basis.now job (own_pods job basis.pods)
+  target-is =
+      decided_same (counted_in job basis.pods) (next_counted job (own_pods job basis.pods)) basis.now job (own_pods job basis.pods)
+      (failed-is job basis.pods rises tidy) (succeeded-is job basis.pods rises tidy) (completed-is job basis.pods rises tidy)
 
   wants-are : wants_in job basis ≡ next_wants basis.now basis.backoff job (own_pods job basis.pods)
   wants-are =
-      λ i. wants_by basis.now basis.backoff job (own_pods job basis.pods) (is_settled job (given-is i)) (succeeded-is job basis.pods rises tidy i) (completed-is job basis.pods rises tidy i) (new-failed job basis.pods i) (gain-is job basis.pods rises tidy i)
+      λ i. wants_by basis.now basis.backoff job (own_pods job basis.pods) (is_settled job (target-is i)) (succeeded-is job basis.pods rises tidy i) (completed-is job basis.pods rises tidy i) (new-failed job basis.pods i) (gain-is job basis.pods rises tidy i)
 
   pub second-next : second_value job basis ≡ next_status basis.now basis.backoff job (own_pods job basis.pods)
   unfolding second_value next_status counted_out
   second-next =
       let own = own_pods job basis.pods in
       let counted = counted_in job basis.pods in
-      let first = first_of basis.now job own counted (given_in job basis) (wants_in job basis) in
+      let first = first_status_of basis.now job own counted (decided_in job basis) (wants_in job basis) in
       let out = counted_out first counted.releases in
       let e_us : out.uncounted_succeeded ≡ [] = succeeded-list-empty job basis.pods first refl in
       let e_uf : out.uncounted_failed ≡ [] = failed-list-empty job basis.pods first refl in
@@ -133,9 +135,9 @@ module _ (job : Job) (basis : Basis) (rises : IsRising basis.pods) (tidy : job.s
       omega (arith, succeeded-all-out job basis.pods first refl, succeeded-is job basis.pods rises tidy) in
       let e_f : out.failed ≡ (next_counted job own).failed =
       omega (arith, failed-all-out job basis.pods first refl, failed-is job basis.pods rises tidy) in
-      let e_due : is_second_due (is_settled job (given_in job basis)) own out ≡ is_over (is_settled job (next_given basis.now job own)) own =
-      second-over (is_settled job (given_in job basis)) own out.uncounted_succeeded out.uncounted_failed e_us e_uf
-      ∙ ap (λ (g : Option (CondKind × Reason)). is_over (is_settled job g) own) given-is in
+      let e_due : is_second_due (is_settled job (decided_in job basis)) own out ≡ is_over (is_settled job (next_decided basis.now job own)) own =
+      second-over (is_settled job (decided_in job basis)) own out.uncounted_succeeded out.uncounted_failed e_us e_uf
+      ∙ ap (λ (g : Option (CondKind × Reason)). is_over (is_settled job g) own) target-is in
       λ i. record {
         active = active_after (wants-are i) own;
         ready = ready_after (wants-are i) own;
@@ -146,8 +148,8 @@ module _ (job : Job) (basis : Basis) (rises : IsRising basis.pods) (tidy : job.s
         uncounted_succeeded = e_us i;
         uncounted_failed = e_uf i;
         start = first.start;
-        completion = completed_at basis.now job.status (conditions_at basis.now job (given-is i) (e_due i));
-        conditions = conditions_at basis.now job (given-is i) (e_due i);
+        completion = completed_at basis.now job.status (conditions_at basis.now job (target-is i) (e_due i));
+        conditions = conditions_at basis.now job (target-is i) (e_due i);
       }
 
 -- ---- the last status
@@ -170,43 +172,39 @@ module _ (job : Job) (basis : Basis) (this : basis.job ≡ Some job) where
 
 -- ---- nothing is written just where the Job is there already
 
-none-left : (uids : List Uid) → length uids ≡ 0 → uids ≡ []
-none-left [] e = refl
-none-left (u ∷ uids) e = absurd (omega (arith, e))
-
 -- Where both statuses differ by their ends alone, and the second is that of the Job, the end stood.
-same-conditions : (now : ℕ) (job : Job) (given : Option (CondKind × Reason)) (over d1 d2 : Bool)
-    → IsTarget given
-    → (over ≡ true → is_settled job given ≡ true)
+same-conditions : (now : ℕ) (job : Job) (target : Option (CondKind × Reason)) (over d1 d2 : Bool)
+    → IsTarget target
+    → (over ≡ true → is_settled job target ≡ true)
     → d2 ≡ over
     → (d1 ≡ true → over ≡ true)
-    → conditions_at now job given d2 ≡ job.status.conditions
-    → conditions_at now job given d1 ≡ conditions_at now job given d2
-same-conditions now job given over d1 d2 target settles e imp stood = by d1 over refl refl
+    → conditions_at now job target d2 ≡ job.status.conditions
+    → conditions_at now job target d1 ≡ conditions_at now job target d2
+same-conditions now job target over d1 d2 is_kind settles e imp stood = by d1 over refl refl
   where
-    parts : is_settled job given ≡ true → (has_target job.status.conditions ≡ true) ⊎ IsSome given
+    parts : is_settled job target ≡ true → (has_target job.status.conditions ≡ true) ⊎ IsSome target
     parts h = one (has_target job.status.conditions) refl h
       where
-        one : (b : Bool) → has_target job.status.conditions ≡ b → (b || is_some given) ≡ true → (has_target job.status.conditions ≡ true) ⊎ IsSome given
+        one : (b : Bool) → has_target job.status.conditions ≡ b → (b || is_some target) ≡ true → (has_target job.status.conditions ≡ true) ⊎ IsSome target
         one true t g = inl t
         one false t g = inr g
 
-    stood_ended : over ≡ true → conditions_at now job given true ≡ job.status.conditions → has_end job.status.conditions ≡ true
+    stood_ended : over ≡ true → conditions_at now job target true ≡ job.status.conditions → has_end job.status.conditions ≡ true
     stood_ended o s =
-        sym (ap has_end s) ∙ settled-ends now job.spec.suspend given job.status.conditions target (parts (settles o))
+        sym (ap has_end s) ∙ settled-ends now job.spec.suspend target job.status.conditions is_kind (parts (settles o))
 
-    idle : has_end job.status.conditions ≡ true → conditions_at now job given true ≡ conditions_at now job given false
+    idle : has_end job.status.conditions ≡ true → conditions_at now job target true ≡ conditions_at now job target false
     idle h =
-        ap (λ (b : Bool). cond (true && not b) (with_last (end_of now (conditions_at now job given false)) (conditions_at now job given false)) (conditions_at now job given false))
-        (settled-not_due now job.spec.suspend given job.status.conditions target ∙ h)
+        ap (λ (b : Bool). cond (true && not b) (with_last (end_of now (conditions_at now job target false)) (conditions_at now job target false)) (conditions_at now job target false))
+        (settled-not_due now job.spec.suspend target job.status.conditions is_kind ∙ h)
 
-    by : (a o : Bool) → d1 ≡ a → over ≡ o → conditions_at now job given d1 ≡ conditions_at now job given d2
-    by true o f g = ap (conditions_at now job given) (f ∙ sym (e ∙ imp f))
-    by false false f g = ap (conditions_at now job given) (f ∙ sym (e ∙ g))
+    by : (a o : Bool) → d1 ≡ a → over ≡ o → conditions_at now job target d1 ≡ conditions_at now job target d2
+    by true o f g = ap (conditions_at now job target) (f ∙ sym (e ∙ imp f))
+    by false false f g = ap (conditions_at now job target) (f ∙ sym (e ∙ g))
     by false true f g =
-        ap (conditions_at now job given) f
-        ∙ sym (idle (stood_ended g (ap (conditions_at now job given) (sym (e ∙ g)) ∙ stood)))
-        ∙ ap (conditions_at now job given) (sym (e ∙ g))
+        ap (conditions_at now job target) f
+        ∙ sym (idle (stood_ended g (ap (conditions_at now job target) (sym (e ∙ g)) ∙ stood)))
+        ∙ ap (conditions_at now job target) (sym (e ∙ g))
 
 over-settled : (target rest : Bool) → (target && rest) ≡ true → target ≡ true
 over-settled true rest h = refl
@@ -216,10 +214,10 @@ module _ (job : Job) (basis : Basis) (tidy : job.spec.mode ≡ Indexed → job.s
   failed-none : (counted_in job basis.pods).uncounted_failed ≡ []
   unfolding second_value
   failed-none =
-      none-left (counted_in job basis.pods).uncounted_failed
+      nil_from_length (counted_in job basis.pods).uncounted_failed
       (omega (
         arith,
-        failed-all-out job basis.pods (first_of basis.now job (own_pods job basis.pods) (counted_in job basis.pods) (given_in job basis) (wants_in job basis)) refl,
+        failed-all-out job basis.pods (first_status_of basis.now job (own_pods job basis.pods) (counted_in job basis.pods) (decided_in job basis) (wants_in job basis)) refl,
         ap (λ (s : JobStatus). s.failed) stays,
         failed-total job basis.pods,
       ))
@@ -231,10 +229,10 @@ module _ (job : Job) (basis : Basis) (tidy : job.spec.mode ≡ Indexed → job.s
       by : (mode : Mode) → job.spec.mode ≡ mode → (counted_in job basis.pods).uncounted_succeeded ≡ []
       by Indexed at = empty-in job basis.pods at (tidy at)
       by NonIndexed at =
-          none-left (counted_in job basis.pods).uncounted_succeeded
+          nil_from_length (counted_in job basis.pods).uncounted_succeeded
           (omega (
             arith,
-            succeeded-all-out job basis.pods (first_of basis.now job (own_pods job basis.pods) (counted_in job basis.pods) (given_in job basis) (wants_in job basis)) refl,
+            succeeded-all-out job basis.pods (first_status_of basis.now job (own_pods job basis.pods) (counted_in job basis.pods) (decided_in job basis) (wants_in job basis)) refl,
             ap (λ (s : JobStatus). s.succeeded) stays,
             succeeded-total job basis.pods at,
           ))
@@ -245,19 +243,19 @@ module _ (job : Job) (basis : Basis) (tidy : job.spec.mode ≡ Indexed → job.s
   first-stays =
       let own = own_pods job basis.pods in
       let counted = counted_in job basis.pods in
-      let given = given_in job basis in
-      let first = first_of basis.now job own counted given (wants_in job basis) in
+      let target = decided_in job basis in
+      let first = first_status_of basis.now job own counted target (wants_in job basis) in
       let out = counted_out first counted.releases in
-      let over = is_over (is_settled job given) own in
+      let over = is_over (is_settled job target) own in
       let e_us : out.uncounted_succeeded ≡ [] = succeeded-list-empty job basis.pods first refl in
       let e_uf : out.uncounted_failed ≡ [] = failed-list-empty job basis.pods first refl in
       let e_s : first.succeeded ≡ out.succeeded = omega (arith, succeeded-all-out job basis.pods first refl, ap length succeeded-none) in
       let e_f : first.failed ≡ out.failed = omega (arith, failed-all-out job basis.pods first refl, ap length failed-none) in
-      let e_c : conditions_at basis.now job given (is_first_due (is_settled job given) own counted) ≡ conditions_at basis.now job given (is_second_due (is_settled job given) own out) =
-      same-conditions basis.now job given over (is_first_due (is_settled job given) own counted) (is_second_due (is_settled job given) own out)
-      (given-kind counted basis job)
-      (over-settled (is_settled job given) (not (list_any is_open own)))
-      (second-over (is_settled job given) own out.uncounted_succeeded out.uncounted_failed e_us e_uf)
+      let e_c : conditions_at basis.now job target (is_first_due (is_settled job target) own counted) ≡ conditions_at basis.now job target (is_second_due (is_settled job target) own out) =
+      same-conditions basis.now job target over (is_first_due (is_settled job target) own counted) (is_second_due (is_settled job target) own out)
+      (target-kind counted basis.now job own)
+      (over-settled (is_settled job target) (not (list_any is_open own)))
+      (second-over (is_settled job target) own out.uncounted_succeeded out.uncounted_failed e_us e_uf)
       (over-settled over (is_none counted.releases && lists_none counted.uncounted_succeeded counted.uncounted_failed))
       (ap (λ (s : JobStatus). s.conditions) stays) in
       λ i. record first {
@@ -269,10 +267,10 @@ module _ (job : Job) (basis : Basis) (tidy : job.spec.mode ≡ Indexed → job.s
         conditions = e_c i;
       }
 
-changed-none : (old new : JobStatus) → old ≡ new → changed old new ≡ None
+pub changed-none : (old new : JobStatus) → old ≡ new → changed old new ≡ None
 changed-none old new e = ap (λ (b : Bool). cond b None (Some new)) ((status-exact old new).1 e)
 
-changed-same : (old new : JobStatus) → changed old new ≡ None → old ≡ new
+pub changed-same : (old new : JobStatus) → changed old new ≡ None → old ≡ new
 changed-same old new e = sym (ap (λ (o : Option JobStatus). unwrap_or o old) e) ∙ changed-or old new
 
 -- Neither status is written exactly where the next status is that of the Job.

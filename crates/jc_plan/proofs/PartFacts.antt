@@ -1,5 +1,6 @@
 -- The parts of a plan from what its callees give.
 use Rattle.std.proofs.Common.{◌≡◌, ℕ, ◌+◌, ◌≤◌, Option, Some, IfSome, refl, List, option_and_then, length, ap, sym, subst, ◌∙◌}
+use Rattle.jc_types.specs.declared.limits.TheConstants.{GREATEST_PARALLELISM}
 use Rattle.jc_types.specs.declared.numbers.Uid.{Uid}
 use Rattle.jc_types.specs.declared.objects.Job.{Job}
 use Rattle.jc_types.specs.declared.statuses.CondKind.{CondKind}
@@ -7,55 +8,55 @@ use Rattle.jc_types.specs.declared.statuses.JobStatus.{JobStatus}
 use Rattle.jc_types.specs.declared.statuses.Reason.{Reason}
 use Rattle.jc_types.specs.declared.syncs.Basis.{Basis}
 use Rattle.jc_types.specs.declared.syncs.CountIn.{CountIn}
-use Rattle.jc_types.specs.Bases.{CanPlan, own_pods}
-use Rattle.jc_types.specs.Specs.{IsValidSpec}
+use Rattle.jc_states.specs.Bases.{CanPlan, own_pods}
+use Rattle.jc_states.specs.ValidSpecs.{IsValidSpec}
 use Rattle.jc_account.specs.Accounts.{counted_in, counted_out}
 use Rattle.jc_finish.specs.Starts.{deadline_of, deadline_of_basis}
 use Rattle.jc_manage.specs.declared.results.Wants.{Wants}
 use Rattle.jc_manage.specs.Backoffs.{backoff_after, opening}
-use Rattle.jc_manage.specs.Creations.{active}
-use Rattle.jc_plan.specs.Plans.{changed, earlier, planned, planned_for}
-use Rattle.jc_plan.specs.Releases.{released}
-use Rattle.jc_plan.specs.Statuses.{first_of, first_value, given_in, is_settled, second_after, second_value, wants_in}
+use Rattle.jc_states.specs.Pods.{active_pods}
+use Rattle.jc_plan.specs.Plans.{changed, earlier_of, planned, planned_for}
+use Rattle.jc_plan.specs.Releases.{releases_of}
+use Rattle.jc_plan.specs.Statuses.{first_status_of, first_value, decided_in, is_settled, second_after, second_value, wants_in}
 use Rattle.jc_plan.proofs.Going.{creates-bounded, going-active}
 
 -- The specification of the Job that is there is valid.
 valid-at : (basis : Basis) (job : Job) → basis.job ≡ Some job → CanPlan basis → IsValidSpec job.spec
 valid-at basis job this can = subst (λ (o : Option Job). IfSome o (λ j. IsValidSpec j.spec)) this can.valid
 
--- At most 5,000 pods are made.
-pub wants-created : (job : Job) (basis : Basis) (wants : Wants) → basis.job ≡ Some job → CanPlan basis → wants ≡ wants_in job basis → length wants.creates ≤ 5000
+-- No more pods are made than may run at once.
+pub wants-created : (job : Job) (basis : Basis) (wants : Wants) → basis.job ≡ Some job → CanPlan basis → wants ≡ wants_in job basis → length wants.creates ≤ GREATEST_PARALLELISM
 wants-created job basis wants this can e =
-    subst (λ (w : Wants). length w.creates ≤ 5000) (sym e)
-    (creates-bounded (opening (backoff_after basis.backoff (counted_in job basis.pods) basis.now)) basis.now (is_settled job (given_in job basis)) job (own_pods job basis.pods) (counted_in job basis.pods) (valid-at basis job this can).parallelism)
+    subst (λ (w : Wants). length w.creates ≤ GREATEST_PARALLELISM) (sym e)
+    (creates-bounded (opening (backoff_after basis.backoff (counted_in job basis.pods) basis.now)) basis.now (is_settled job (decided_in job basis)) job (own_pods job basis.pods) (counted_in job basis.pods) (valid-at basis job this can).parallelism)
 
 -- No more pods are marked and let go than are active.
-pub wants-going : (job : Job) (basis : Basis) (wants : Wants) → wants ≡ wants_in job basis → length wants.marks + length wants.let_goes ≤ length (active (own_pods job basis.pods))
+pub wants-going : (job : Job) (basis : Basis) (wants : Wants) → wants ≡ wants_in job basis → length wants.marks + length wants.let_goes ≤ length (active_pods (own_pods job basis.pods))
 wants-going job basis wants e =
-    subst (λ (w : Wants). length w.marks + length w.let_goes ≤ length (active (own_pods job basis.pods))) (sym e)
-    (going-active (is_settled job (given_in job basis)) job (own_pods job basis.pods) (counted_in job basis.pods))
+    subst (λ (w : Wants). length w.marks + length w.let_goes ≤ length (active_pods (own_pods job basis.pods))) (sym e)
+    (going-active (is_settled job (decided_in job basis)) job (own_pods job basis.pods) (counted_in job basis.pods))
 
-module _ (job : Job) (basis : Basis) (counted : CountIn) (given : Option (CondKind × Reason)) (wants : Wants) (first second : JobStatus)
-    (is_counted : counted ≡ counted_in job basis.pods) (is_given : given ≡ given_in job basis) (is_wanted : wants ≡ wants_in job basis)
-    (is_first : first ≡ first_of basis.now job (own_pods job basis.pods) counted given wants)
-    (is_second : second ≡ second_after basis.now job (own_pods job basis.pods) given (counted_out first counted.releases)) where
+module _ (job : Job) (basis : Basis) (counted : CountIn) (target : Option (CondKind × Reason)) (wants : Wants) (first second : JobStatus)
+    (is_counted : counted ≡ counted_in job basis.pods) (is_decided : target ≡ decided_in job basis) (is_wanted : wants ≡ wants_in job basis)
+    (is_first : first ≡ first_status_of basis.now job (own_pods job basis.pods) counted target wants)
+    (is_second : second ≡ second_after basis.now job (own_pods job basis.pods) target (counted_out first counted.releases)) where
   -- What is computed is the first status.
   pub first-is : first ≡ first_value job basis
   unfolding first_value
   first-is =
       is_first
-      ∙ ap (λ (k : CountIn). first_of basis.now job (own_pods job basis.pods) k given wants) is_counted
-      ∙ ap (λ (g : Option (CondKind × Reason)). first_of basis.now job (own_pods job basis.pods) (counted_in job basis.pods) g wants) is_given
-      ∙ ap (λ (w : Wants). first_of basis.now job (own_pods job basis.pods) (counted_in job basis.pods) (given_in job basis) w) is_wanted
+      ∙ ap (λ (k : CountIn). first_status_of basis.now job (own_pods job basis.pods) k target wants) is_counted
+      ∙ ap (λ (g : Option (CondKind × Reason)). first_status_of basis.now job (own_pods job basis.pods) (counted_in job basis.pods) g wants) is_decided
+      ∙ ap (λ (w : Wants). first_status_of basis.now job (own_pods job basis.pods) (counted_in job basis.pods) (decided_in job basis) w) is_wanted
 
   -- And the second.
   pub second-is : second ≡ second_value job basis
   unfolding first_value second_value
   second-is =
       is_second
-      ∙ ap (λ (g : Option (CondKind × Reason)). second_after basis.now job (own_pods job basis.pods) g (counted_out first counted.releases)) is_given
-      ∙ ap (λ (f : JobStatus). second_after basis.now job (own_pods job basis.pods) (given_in job basis) (counted_out f counted.releases)) first-is
-      ∙ ap (λ (k : CountIn). second_after basis.now job (own_pods job basis.pods) (given_in job basis) (counted_out (first_value job basis) k.releases)) is_counted
+      ∙ ap (λ (g : Option (CondKind × Reason)). second_after basis.now job (own_pods job basis.pods) g (counted_out first counted.releases)) is_decided
+      ∙ ap (λ (f : JobStatus). second_after basis.now job (own_pods job basis.pods) (decided_in job basis) (counted_out f counted.releases)) first-is
+      ∙ ap (λ (k : CountIn). second_after basis.now job (own_pods job basis.pods) (decided_in job basis) (counted_out (first_value job basis) k.releases)) is_counted
 
   -- All parts together are the plan.
   pub planned-is : (deadline : Option ℕ) (f s : Option JobStatus) (r : List Uid) (next : Option ℕ)
@@ -63,8 +64,8 @@ module _ (job : Job) (basis : Basis) (counted : CountIn) (given : Option (CondKi
       → deadline ≡ deadline_of_basis basis
       → f ≡ changed job.status first
       → s ≡ changed first second
-      → r ≡ released basis
-      → next ≡ earlier wants.next deadline
+      → r ≡ releases_of basis
+      → next ≡ earlier_of wants.next deadline
       → record { creates = wants.creates; marks = wants.marks; let_goes = wants.let_goes; first = f; releases = r; second = s; backoff = wants.backoff; next = next } ≡ planned_for basis (Some job)
   planned-is deadline f s r next this at_deadline is_f is_s is_r is_next =
       let e1 : f ≡ changed job.status (first_value job basis) = is_f ∙ ap (changed job.status) first-is in
@@ -72,8 +73,8 @@ module _ (job : Job) (basis : Basis) (counted : CountIn) (given : Option (CondKi
       is_s ∙ ap (λ (x : JobStatus). changed x second) first-is ∙ ap (changed (first_value job basis)) second-is in
       let e3 : deadline ≡ deadline_of basis.now job.spec job.status =
       at_deadline ∙ ap (λ (o : Option Job). option_and_then (λ (j : Job). deadline_of basis.now j.spec j.status) o) this in
-      let e4 : next ≡ earlier (wants_in job basis).next (deadline_of basis.now job.spec job.status) =
-      is_next ∙ ap (λ (w : Wants). earlier w.next deadline) is_wanted ∙ ap (earlier (wants_in job basis).next) e3 in
+      let e4 : next ≡ earlier_of (wants_in job basis).next (deadline_of basis.now job.spec job.status) =
+      is_next ∙ ap (λ (w : Wants). earlier_of w.next deadline) is_wanted ∙ ap (earlier_of (wants_in job basis).next) e3 in
       λ i. record {
         creates = (is_wanted i).creates;
         marks = (is_wanted i).marks;
@@ -91,10 +92,10 @@ unfolding planned
 planned-here basis o this = ap (planned_for basis) (sym this)
 
 -- No more pods are marked and let go than are active.
-pub plan-going : (job : Job) (basis : Basis) → length (wants_in job basis).marks + length (wants_in job basis).let_goes ≤ length (active (own_pods job basis.pods))
+pub plan-going : (job : Job) (basis : Basis) → length (wants_in job basis).marks + length (wants_in job basis).let_goes ≤ length (active_pods (own_pods job basis.pods))
 plan-going job basis = wants-going job basis (wants_in job basis) refl
 
--- At most 5,000 pods are made.
-pub plan-created : (job : Job) (basis : Basis) → job.spec.parallelism ≤ 5000 → length (wants_in job basis).creates ≤ 5000
+-- No more pods are made than may run at once.
+pub plan-created : (job : Job) (basis : Basis) → job.spec.parallelism ≤ GREATEST_PARALLELISM → length (wants_in job basis).creates ≤ GREATEST_PARALLELISM
 plan-created job basis few =
-    creates-bounded (opening (backoff_after basis.backoff (counted_in job basis.pods) basis.now)) basis.now (is_settled job (given_in job basis)) job (own_pods job basis.pods) (counted_in job basis.pods) few
+    creates-bounded (opening (backoff_after basis.backoff (counted_in job basis.pods) basis.now)) basis.now (is_settled job (decided_in job basis)) job (own_pods job basis.pods) (counted_in job basis.pods) few

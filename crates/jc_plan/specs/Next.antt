@@ -2,17 +2,21 @@
 -- without two writes and without releases. `own` are the Job's own pods.
 --     succeeded_at mode ..         the succeeded total
 --     next_counted job own         what is counted, with nothing left uncounted
---     next_given .., next_wants .. the target that is decided, and what is wanted of the pods
+--     next_decided .., next_wants .. the target that is decided, and what is wanted of the pods
 --     next_status now backoff job own    the status
-use Rattle.std.specs.Prelude.{ℕ, ◌+◌, List, [], length, Option}
+--     next_value job basis         that of the basis's Job
+--     ListsNoSuccess job           of an Indexed Job no success is listed
+use Rattle.std.specs.Prelude.{◌≡◌, ℕ, ◌+◌, List, [], length, Option}
 use Rattle.jc_types.specs.declared.objects.Job.{Job}
 use Rattle.jc_types.specs.declared.objects.Pod.{Pod}
+use Rattle.jc_types.specs.declared.specifications.Mode.TheVariants.{Indexed}
 use Rattle.jc_types.specs.declared.statuses.CondKind.{CondKind}
 use Rattle.jc_types.specs.declared.statuses.JobStatus.{JobStatus}
 use Rattle.jc_types.specs.declared.statuses.Reason.{Reason}
 use Rattle.jc_types.specs.declared.syncs.Backoff.{Backoff}
+use Rattle.jc_types.specs.declared.syncs.Basis.{Basis}
 use Rattle.jc_types.specs.declared.syncs.CountIn.{CountIn}
-use Rattle.jc_types.specs.Counts.{counts}
+use Rattle.jc_states.specs.Bases.{own_pods}
 use Rattle.jc_account.specs.Accounts.{completed_in}
 use Rattle.jc_account.specs.Judged.{newly}
 use Rattle.jc_account.specs.Modes.{gain, succeeded_after}
@@ -27,7 +31,9 @@ abbrev pub next_counted : Job → List Pod → CountIn
 next_counted job own = record {
   uncounted_succeeded = [];
   uncounted_failed = [];
-  succeeded = succeeded_after job.spec.mode (job.status.succeeded + length job.status.uncounted_succeeded + length (newly job own Succeeded)) (completed_in job own);
+  succeeded =
+      succeeded_after job.spec.mode
+      (job.status.succeeded + length job.status.uncounted_succeeded + length (newly job own Succeeded)) (completed_in job own);
   failed = job.status.failed + length job.status.uncounted_failed + length (newly job own Failed);
   completed = completed_in job own;
   releases = [];
@@ -36,16 +42,24 @@ next_counted job own = record {
 }
 
 -- The target that is decided with these counts.
-abbrev pub next_given : ℕ → Job → List Pod → Option (CondKind × Reason)
-next_given now job own =
-    decided (counts (next_counted job own)).0 (counts (next_counted job own)).1 (next_counted job own).completed now job.spec job.status own
+abbrev pub next_decided : ℕ → Job → List Pod → Option (CondKind × Reason)
+next_decided now job own = decided (next_counted job own) now job own
 
 -- What is wanted of the pods with these counts.
 abbrev pub next_wants : ℕ → Backoff → Job → List Pod → Wants
 next_wants now backoff job own =
-    wants_at now backoff (is_settled job (next_given now job own)) job own (next_counted job own)
+    wants_at now backoff (is_settled job (next_decided now job own)) job own (next_counted job own)
 
 -- The status: its end is due where a target stands or is decided and no pod is open.
 unfoldable pub next_status : ℕ → Backoff → Job → List Pod → JobStatus
 next_status now backoff job own =
-    filled now job own (next_counted job own) (next_given now job own) (next_wants now backoff job own) (is_over (is_settled job (next_given now job own)) own)
+    filled now job own (next_counted job own) (next_decided now job own) (next_wants now backoff job own)
+    (is_over (is_settled job (next_decided now job own)) own)
+
+-- That of the basis's Job.
+abbrev pub next_value : Job → Basis → JobStatus
+next_value job basis = next_status basis.now basis.backoff job (own_pods job basis.pods)
+
+-- Of an Indexed Job no success is listed.
+abbrev pub ListsNoSuccess : Job → Type 0
+ListsNoSuccess job = job.spec.mode ≡ Indexed → job.status.uncounted_succeeded ≡ []

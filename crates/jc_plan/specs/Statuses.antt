@@ -1,14 +1,14 @@
 -- The two statuses of a sync as values, whether they are written or not (batch/v1, KEP-2307, KEP-3998). `own` are
--- the Job's own pods, `counted` what the sync counts in, `given` the target that it decides, and `wants` what it
--- wants of the pods.
---     is_settled job given          how the Job ends is settled, before the sync or by it
+-- the Job's own pods, `counted` what the sync counts in, `target` the target that it decides, `settled` says that how
+-- the Job ends is settled, and `wants` is what the sync wants of the pods.
+--     is_settled job target         how the Job ends is settled, before the sync or by it
 --     wants_at ..                   what the sync wants
 --     completed_at ..               when the Job completed
 --     filled .. due                 the status with all these; `due` says that its end is due
 --     lists_none status             no UID is uncounted in it
 --     may_end settled own status    nothing is in the way of its end
---     first_of .., first_value      counted in; it may end where no finalizer of an own pod is to go
---     second_of .., second_value    counted out, once these finalizers are gone
+--     first_status_of .., first_value      counted in; it may end where no finalizer of an own pod is to go
+--     second_status_of .., second_value    counted out, once these finalizers are gone
 use Rattle.std.specs.Prelude.{ℕ, Bool, true, false, not, ◌&&◌, ◌||◌, List, [], ◌∷◌, Option, Some, is_some, if◌then◌else◌}
 use Rattle.std.specs.List.{list_any}
 use Rattle.jc_types.specs.declared.numbers.Uid.{Uid}
@@ -22,11 +22,11 @@ use Rattle.jc_types.specs.declared.statuses.Reason.{Reason}
 use Rattle.jc_types.specs.declared.syncs.Backoff.{Backoff}
 use Rattle.jc_types.specs.declared.syncs.Basis.{Basis}
 use Rattle.jc_types.specs.declared.syncs.CountIn.{CountIn}
-use Rattle.jc_types.specs.Bases.{own_pods}
-use Rattle.jc_types.specs.Conditions.{has_end, has_target, stands}
-use Rattle.jc_types.specs.Pods.{is_open}
+use Rattle.jc_states.specs.Bases.{own_pods}
+use Rattle.jc_states.specs.Conditions.{has_end, has_target, stands}
+use Rattle.jc_states.specs.Pods.{is_open}
 use Rattle.jc_account.specs.Accounts.{counted_in, counted_out}
-use Rattle.jc_finish.specs.Decisions.{decided_for}
+use Rattle.jc_finish.specs.Decisions.{decided}
 use Rattle.jc_finish.specs.Settled.{settled}
 use Rattle.jc_finish.specs.Starts.{start_of}
 use Rattle.jc_manage.specs.declared.results.Wants.{Wants}
@@ -37,15 +37,15 @@ use Rattle.jc_plan.specs.Numbers.{active_after, ending_after, ready_after}
 
 -- How the Job ends is settled: a target stands, or is decided now.
 abbrev pub is_settled : Job → Option (CondKind × Reason) → Bool
-is_settled job given = has_target job.status.conditions || is_some given
+is_settled job target = has_target job.status.conditions || is_some target
 
 -- What the sync wants of the pods.
 abbrev pub wants_at : ℕ → Backoff → Bool → Job → List Pod → CountIn → Wants
-wants_at now backoff target job own counted = record {
-  creates = creates (opening (backoff_after backoff counted now)) now (creatable target job own counted);
-  marks = marks target own;
-  let_goes = let_goes target job own counted;
-  next = next (opening (backoff_after backoff counted now)) now (creatable target job own counted);
+wants_at now backoff settled job own counted = record {
+  creates = creates (opening (backoff_after backoff counted now)) now (creatable settled job own counted);
+  marks = marks settled own;
+  let_goes = let_goes settled job own counted;
+  next = next (opening (backoff_after backoff counted now)) now (creatable settled job own counted);
   backoff = backoff_after backoff counted now;
 }
 
@@ -56,11 +56,11 @@ completed_at now status conditions =
 
 -- The conditions of the Job after the sync, with its end where that is due.
 abbrev pub conditions_at : ℕ → Job → Option (CondKind × Reason) → Bool → List Condition
-conditions_at now job given due = settled now job.spec.suspend given due job.status.conditions
+conditions_at now job target due = settled now job.spec.suspend target due job.status.conditions
 
 -- The status with what is counted, the numbers of pods, the start time and the conditions.
 abbrev pub filled : ℕ → Job → List Pod → CountIn → Option (CondKind × Reason) → Wants → Bool → JobStatus
-filled now job own counted given wants due = record {
+filled now job own counted target wants due = record {
   active = active_after wants own;
   ready = ready_after wants own;
   terminating = ending_after wants own;
@@ -70,8 +70,8 @@ filled now job own counted given wants due = record {
   uncounted_succeeded = counted.uncounted_succeeded;
   uncounted_failed = counted.uncounted_failed;
   start = start_of now job.spec job.status;
-  completion = completed_at now job.status (conditions_at now job given due);
-  conditions = conditions_at now job given due;
+  completion = completed_at now job.status (conditions_at now job target due);
+  conditions = conditions_at now job target due;
 }
 
 -- There is none.
@@ -85,56 +85,63 @@ lists_none succeeded failed = is_none succeeded && is_none failed
 
 -- How the Job ends is settled and none of its pods is open.
 abbrev pub is_over : Bool → List Pod → Bool
-is_over target own = target && not (list_any is_open own)
+is_over settled own = settled && not (list_any is_open own)
 
 -- The end of the first status is due: the Job is over, and no UID is listed and no finalizer is to go.
 abbrev pub is_first_due : Bool → List Pod → CountIn → Bool
-is_first_due target own counted =
-    is_over target own && (is_none counted.releases && lists_none counted.uncounted_succeeded counted.uncounted_failed)
+is_first_due settled own counted =
+    is_over settled own && (is_none counted.releases && lists_none counted.uncounted_succeeded counted.uncounted_failed)
 
 -- The first status: what is counted in, and the end where it is due.
-abbrev pub first_of : ℕ → Job → List Pod → CountIn → Option (CondKind × Reason) → Wants → JobStatus
-first_of now job own counted given wants =
-    filled now job own counted given wants (is_first_due (is_settled job given) own counted)
+abbrev pub first_status_of : ℕ → Job → List Pod → CountIn → Option (CondKind × Reason) → Wants → JobStatus
+first_status_of now job own counted target wants =
+    filled now job own counted target wants (is_first_due (is_settled job target) own counted)
 
 -- The status with its end where that is due.
-abbrev pub ended : ℕ → Job → Option (CondKind × Reason) → Bool → JobStatus → JobStatus
-ended now job given due status = record status {
-  completion = completed_at now job.status (conditions_at now job given due);
-  conditions = conditions_at now job given due;
+abbrev pub with_due_end : ℕ → Job → Option (CondKind × Reason) → Bool → JobStatus → JobStatus
+with_due_end now job target due status = record status {
+  completion = completed_at now job.status (conditions_at now job target due);
+  conditions = conditions_at now job target due;
 }
 
 -- The end of the second status is due: the Job is over, and no UID is listed.
 abbrev pub is_second_due : Bool → List Pod → JobStatus → Bool
-is_second_due target own status = is_over target own && lists_none status.uncounted_succeeded status.uncounted_failed
+is_second_due settled own status = is_over settled own && lists_none status.uncounted_succeeded status.uncounted_failed
 
 -- The status with its end where that is due.
 abbrev pub second_after : ℕ → Job → List Pod → Option (CondKind × Reason) → JobStatus → JobStatus
-second_after now job own given status =
-    ended now job given (is_second_due (is_settled job given) own status) status
+second_after now job own target status =
+    with_due_end now job target (is_second_due (is_settled job target) own status) status
 
 -- The second status: the first with the released UIDs counted out, and the end where it is due.
-abbrev pub second_of : ℕ → Job → List Pod → CountIn → Option (CondKind × Reason) → Wants → JobStatus
-second_of now job own counted given wants =
-    second_after now job own given (counted_out (first_of now job own counted given wants) counted.releases)
+abbrev pub second_status_of : ℕ → Job → List Pod → CountIn → Option (CondKind × Reason) → Wants → JobStatus
+second_status_of now job own counted target wants =
+    second_after now job own target (counted_out (first_status_of now job own counted target wants) counted.releases)
 
 -- ---- over the basis of a sync
 
 -- What the sync decides of its Job.
-abbrev pub given_in : Job → Basis → Option (CondKind × Reason)
-given_in job basis = decided_for (counted_in job basis.pods) basis.now basis.pods job
+abbrev pub decided_in : Job → Basis → Option (CondKind × Reason)
+decided_in job basis = decided (counted_in job basis.pods) basis.now job (own_pods job basis.pods)
 
 -- What the sync wants of the Job's pods.
 abbrev pub wants_in : Job → Basis → Wants
 wants_in job basis =
-    wants_at basis.now basis.backoff (is_settled job (given_in job basis)) job (own_pods job basis.pods) (counted_in job basis.pods)
+    wants_at basis.now basis.backoff (is_settled job (decided_in job basis)) job (own_pods job basis.pods)
+    (counted_in job basis.pods)
 
 -- The first status of the Job.
 unfoldable pub first_value : Job → Basis → JobStatus
 first_value job basis =
-    first_of basis.now job (own_pods job basis.pods) (counted_in job basis.pods) (given_in job basis) (wants_in job basis)
+    first_status_of basis.now job (own_pods job basis.pods) (counted_in job basis.pods) (decided_in job basis)
+    (wants_in job basis)
 
 -- The second status of the Job.
 unfoldable pub second_value : Job → Basis → JobStatus
 second_value job basis =
-    second_of basis.now job (own_pods job basis.pods) (counted_in job basis.pods) (given_in job basis) (wants_in job basis)
+    second_status_of basis.now job (own_pods job basis.pods) (counted_in job basis.pods) (decided_in job basis)
+    (wants_in job basis)
+
+-- The first status with the Job's own pods counted out that are to be released.
+abbrev pub first_released : Job → Basis → JobStatus
+first_released job basis = counted_out (first_value job basis) (counted_in job basis.pods).releases

@@ -5,17 +5,15 @@
 mod laws;
 mod numbers;
 mod parts;
-mod planning;
 mod plans;
-mod releasing;
+mod releases;
 mod statuses;
 
 pub use laws::{
-    ends_are_final, failed_jobs_get_a_target, first_status_counts_in, last_status_is_next,
-    plans_are_of_their_job, releases_are_of_pods, second_status_counts_out,
+    creations_fit, ended_jobs_are_left_alone, ends_are_final, ends_leave_nothing,
+    failed_jobs_get_a_target, failures_are_bounded, first_status_counts_in, last_status_is_next,
+    plans_are_of_their_job, pods_ascend, releases_are_of_pods, second_status_counts_out,
+    unneeded_first_changes_nothing,
 };
-pub use planning::plan;
+pub use parts::plan;
 pub use plans::Plan;
-
-#[cfg(test)]
-mod tests;

@@ -1,12 +1,13 @@
 //! The numbers of pods that a status tells.
 
-ghost use Rattle.std.specs.Prelude.{◌≡◌, ◌+◌, ◌<◌, ◌≤◌, ◌^◌, filter, length};
-ghost use Rattle.jc_types.specs.Bases.{own_pods};
-ghost use Rattle.jc_manage.specs.Creations.{active, ending};
-ghost use Rattle.jc_plan.specs.Numbers.{active_after, ending_after, is_let_go_of, keeps_on, ready_after};
+ghost use Rattle.std.specs.Prelude.{◌≡◌, ◌<◌, ◌≤◌, ◌^◌, length};
+ghost use Rattle.jc_types.specs.declared.limits.TheConstants.{GREATEST_PARALLELISM};
+ghost use Rattle.jc_states.specs.Bases.{own_pods};
+ghost use Rattle.jc_states.specs.Pods.{active_pods};
+ghost use Rattle.jc_plan.specs.Numbers.{active_after, ending_after, is_let_go_of, keeps_on, ready_after, stopped_by};
 
 use jc_manage::Wants;
-use jc_states::{is_active, is_among, is_ending, is_own, is_ready};
+use jc_states::{count_active, count_ending, is_among, is_own, is_ready};
 use jc_types::{Job, Pod, PodVersions, Uid};
 
 /// How many pods are active, ready and terminating once the requests of a sync are made.
@@ -17,41 +18,21 @@ pub struct Numbers {
     pub terminating: u32,
 }
 
-/// How many of the Job's own pods are active.
-fn count_active(job: &Job, pods: &[Pod]) -> usize
-    ensures { result ≡ length (active (own_pods job.now pods.now)) }
-{
-    pods.iter()
-        .filter(|pod| is_own(job, pod))
-        .filter(|pod| is_active(pod))
-        .count()
-}
-
-/// How many of the Job's own pods are marked and still open.
-fn count_ending(job: &Job, pods: &[Pod]) -> usize
-    ensures { result ≡ length (ending (own_pods job.now pods.now)) }
-{
-    pods.iter()
-        .filter(|pod| is_own(job, pod))
-        .filter(|pod| is_ending(pod))
-        .count()
-}
-
-/// Whether the pod of the UID is let go.
+// Whether the pod of the UID is let go.
 fn is_let_go(uid: Uid, rows: &PodVersions) -> bool
     ensures { result ≡ is_let_go_of uid rows.now }
 {
     rows.as_slice().iter().any(|row| row.0.0 == uid.0)
 }
 
-/// Whether the pod is neither marked nor let go.
+// Whether the pod is neither marked nor let go.
 fn keeps_on(wants: &Wants, pod: &Pod) -> bool
     ensures { result ≡ keeps_on wants.now pod.now }
 {
     !is_among(pod.uid, wants.marks.as_slice()) && !is_let_go(pod.uid, &wants.let_goes)
 }
 
-/// How many of the Job's own pods are ready and are neither marked nor let go.
+// How many of the Job's own pods are ready and are neither marked nor let go.
 fn count_ready(job: &Job, pods: &[Pod], wants: &Wants) -> usize
     ensures { result ≡ ready_after wants.now (own_pods job.now pods.now) }
 {
@@ -64,8 +45,8 @@ fn count_ready(job: &Job, pods: &[Pod], wants: &Wants) -> usize
 /// The numbers of the Job's own pods once what the sync wants of them is done.
 pub fn numbers_after(job: &Job, pods: &[Pod], wants: &Wants) -> Numbers
     requires few { length pods.now < 2 ^ 31 }
-    requires created { length wants.now.creates ≤ 5000 }
-    requires going { length wants.now.marks + length wants.now.let_goes ≤ length (active (own_pods job.now pods.now)) }
+    requires created { length wants.now.creates ≤ GREATEST_PARALLELISM }
+    requires going { stopped_by wants.now ≤ length (active_pods (own_pods job.now pods.now)) }
     ensures active { result.active ≡ active_after wants.now (own_pods job.now pods.now) }
     ensures ready { result.ready ≡ ready_after wants.now (own_pods job.now pods.now) }
     ensures terminating { result.terminating ≡ ending_after wants.now (own_pods job.now pods.now) }

@@ -1,25 +1,172 @@
-//! The parts of a plan.
+//! How a sync makes its plan.
 
+ghost use Rattle.std.specs.Prelude.{◌≡◌, ◌+◌, ◌<◌, ◌≤◌, ◌^◌, [], IfOk, IfSome, IsSome, None, Some, false, is_some, length, true};
+ghost use Rattle.jc_states.specs.Bases.{CanPlan, own_pods};
+ghost use Rattle.jc_states.specs.Conditions.{has_target};
+ghost use Rattle.jc_types.specs.Counts.{counts};
+ghost use Rattle.jc_types.specs.Equality.{same_status};
+ghost use Rattle.jc_account.specs.Accounts.{counted_in};
+ghost use Rattle.jc_finish.specs.Settled.{is_target_kind};
+ghost use Rattle.jc_finish.specs.Starts.{deadline_of};
+ghost use Rattle.jc_states.specs.Pods.{active_pods};
+ghost use Rattle.jc_plan.specs.Plans.{changed, earlier_of, planned, planned_for};
+ghost use Rattle.jc_plan.specs.Statuses.{first_value, decided_in, second_value, wants_in};
+
+use crate::plans::{Plan, Planned};
+use crate::releases::released;
+use crate::statuses::{first_status, is_settled, second_status};
+use jc_account::count_in;
+use jc_finish::{decide, next_deadline};
+use jc_manage::{Wants, wants};
 use jc_moment::Moment;
-use jc_types::{Backoff, Indexes, JobStatus, PodVersions, Uids};
+use jc_types::{
+    Arc, Basis, CondKind, Copied, CountIn, Indexes, Job, JobStatus, PodVersions, Reason, Same,
+    Uids, Want,
+};
+use std::alloc::Global;
 
-/// What a sync does, in the order in which it does it, and what it leaves behind.
-#[derive(Drop)]
-pub struct Planned {
-    /// The indexes of the pods to make; none for a pod of a Job that is not Indexed.
-    pub creates: Indexes,
-    /// The pods to mark for deletion.
-    pub marks: Uids,
-    /// The pods whose finalizer goes before they are marked.
-    pub let_goes: PodVersions,
-    /// The first status, where it is to be written.
-    pub first: Option<JobStatus>,
-    /// The pods whose finalizer is to go.
-    pub releases: Uids,
-    /// The second status, where it is to be written.
-    pub second: Option<JobStatus>,
-    /// The failures in a row after the sync.
-    pub backoff: Backoff,
-    /// When the key is to be synced again.
-    pub next: Option<Moment>,
+// Whether both statuses are equal in every part.
+fn is_same_status(old: &JobStatus, new: &JobStatus) -> bool
+    ensures { result ≡ same_status old.now new.now }
+{
+    old.is_same(new)
+}
+
+// The new status, where it differs from the old one.
+fn changed(old: &JobStatus, new: JobStatus) -> Option<JobStatus>
+    ensures { result ≡ changed old.now new }
+{
+    if is_same_status(old, &new) {
+        return None;
+    }
+    Some(new)
+}
+
+// The earlier of two moments, where they are there.
+fn earlier(left: Option<Moment>, right: Option<Moment>) -> Option<Moment>
+    ensures { result ≡ earlier_of left right }
+{
+    match (left, right) {
+        (None, right) => right,
+        (Some(left), None) => Some(left),
+        (Some(left), Some(right)) => {
+            if left <= right {
+                Some(left)
+            } else {
+                Some(right)
+            }
+        }
+    }
+}
+
+// What the sync counts in.
+fn counted_for(alloc: Global, basis: &Basis, job: &Job) -> Result<CountIn, Want>
+    requires this { basis.now.job ≡ Some job.now }
+    requires can { CanPlan basis.now }
+    ensures counted { IfOk result (λ r. r ≡ counted_in job.now basis.entry.now.pods) }
+    ensures failed_fits { IfOk result (λ r. (counts r).0 < 2 ^ 64) }
+    ensures succeeded_fits { IfOk result (λ r. (counts r).1 < 2 ^ 64) }
+    ensures few_failed { IfOk result (λ r. r.new_failed ≤ length basis.entry.now.pods) }
+{
+    count_in(alloc, basis)
+}
+
+// What the sync decides.
+fn target_for(basis: &Basis, job: &Job, counted: &CountIn) -> Option<(CondKind, Reason)>
+    requires this { basis.now.job ≡ Some job.now }
+    requires few { length basis.now.pods < 2 ^ 31 }
+    requires counted { counted.now ≡ counted_in job.now basis.now.pods }
+    requires failed { (counts counted.now).0 < 2 ^ 64 }
+    requires succeeded { (counts counted.now).1 < 2 ^ 64 }
+    ensures target { result ≡ decided_in job.now basis.entry.now }
+    ensures kind { IfSome result (λ pair. is_target_kind pair.0 ≡ true) }
+    ensures fresh { IsSome result → has_target job.now.status.conditions ≡ false }
+{
+    decide(basis, counted)
+}
+
+// What the sync wants of the Job's pods.
+fn wants_for(
+    alloc: Global,
+    basis: &Basis,
+    job: &Job,
+    counted: &CountIn,
+    target: Option<(CondKind, Reason)>,
+) -> Result<Wants, Want>
+    requires this { basis.now.job ≡ Some job.now }
+    requires can { CanPlan basis.now }
+    requires counted { counted.now ≡ counted_in job.now basis.now.pods }
+    requires target { target ≡ decided_in job.now basis.now }
+    requires failed { (counts counted.now).0 < 2 ^ 64 }
+    requires succeeded { (counts counted.now).1 < 2 ^ 64 }
+    requires new_failed { counted.now.new_failed ≤ length basis.now.pods }
+    ensures wants { IfOk result (λ r. r ≡ wants_in job.now basis.entry.now) }
+{
+    wants(alloc, basis, counted, is_settled(job, target))
+}
+
+// The plan of a basis with a Job.
+fn planned_for(alloc: Global, basis: &Basis, job: &Job) -> Result<Planned, Want>
+    requires this { basis.now.job ≡ Some job.now }
+    requires can { CanPlan basis.now }
+    ensures { IfOk result (λ r. r ≡ planned_for basis.entry.now (Some job.now)) }
+{
+    let counted = counted_for(alloc, basis, job)?;
+    let target = target_for(basis, job, &counted);
+    let wants = wants_for(alloc, basis, job, &counted, target)?;
+    let first = first_status(alloc, basis, job, &counted, target, &wants)?;
+    let second = second_status(alloc, basis, job, &counted.releases, target, &first)?;
+    let second = changed(&first, second);
+    Ok(Planned {
+        creates: wants.creates,
+        marks: wants.marks,
+        let_goes: wants.let_goes,
+        first: changed(&job.status, first),
+        releases: released(alloc, basis, &counted.releases)?,
+        second,
+        backoff: wants.backoff,
+        next: earlier(wants.next, next_deadline(basis)),
+    })
+}
+
+// The plan of a basis without a Job.
+fn planned_alone(alloc: Global, basis: &Basis) -> Result<Planned, Want>
+    requires { basis.now.job ≡ None }
+    ensures { IfOk result (λ r. r ≡ planned_for basis.entry.now None) }
+{
+    let due = Uids::new(alloc);
+    Ok(Planned {
+        creates: Indexes::new(alloc),
+        marks: Uids::new(alloc),
+        let_goes: PodVersions::new(alloc),
+        first: None,
+        releases: released(alloc, basis, &due)?,
+        second: None,
+        backoff: basis.backoff,
+        next: None,
+    })
+}
+
+// The parts of the plan of a basis.
+fn parts_of(alloc: Global, basis: &Basis) -> Result<Planned, Want>
+    requires { IsSome basis.now.job → CanPlan basis.now }
+    ensures { IfOk result (λ r. r ≡ planned basis.entry.now) }
+{
+    match &basis.job {
+        None => planned_alone(alloc, basis),
+        Some(job) => planned_for(alloc, basis, job),
+    }
+}
+
+/// The plan of a basis (batch/v1, KEP-2307). Without a Job, orphans are released and nothing else is done.
+///
+/// # Errors
+/// `Want` where there is no memory for it.
+pub fn plan(alloc: Global, basis: &Arc<Basis>) -> Result<Plan, Want>
+    requires { IsSome basis.now.job → CanPlan basis.now }
+    ensures basis { IfOk result (λ plan. plan.basis ≡ basis.entry.now) }
+    ensures parts { IfOk result (λ plan. plan.parts ≡ planned basis.entry.now) }
+{
+    let parts = parts_of(alloc, &**basis)?;
+    Ok(Plan::new(basis.copy()?, parts))
 }

@@ -4,10 +4,30 @@ ghost use Rattle.std.specs.Prelude.{◌≡◌};
 ghost use Rattle.std.specs.Option.{option_copied};
 ghost use Rattle.jc_plan.specs.Plans.{planned};
 
-use crate::parts::Planned;
 use jc_moment::Moment;
 use jc_types::{Arc, Backoff, Basis, Indexes, JobStatus, PodVersions, Uids};
 use std::marker::Model;
+
+/// What a sync does, in the order in which it does it, and what it leaves behind.
+#[derive(Drop)]
+pub struct Planned {
+    /// The indexes of the pods to make; none for a pod of a Job that is not Indexed.
+    pub creates: Indexes,
+    /// The pods to mark for deletion.
+    pub marks: Uids,
+    /// The pods whose finalizer goes before they are marked.
+    pub let_goes: PodVersions,
+    /// The first status, where it is to be written.
+    pub first: Option<JobStatus>,
+    /// The pods whose finalizer is to go.
+    pub releases: Uids,
+    /// The second status, where it is to be written.
+    pub second: Option<JobStatus>,
+    /// The failures in a row after the sync.
+    pub backoff: Backoff,
+    /// When the key is to be synced again.
+    pub next: Option<Moment>,
+}
 
 /// The plan of a sync: the requests that it makes, and what it leaves behind. It is that of its own basis.
 #[derive(Drop)]
@@ -44,22 +64,22 @@ impl Plan {
         &self.basis
     }
 
-    /// The pods to make, by index; none for a pod of a Job that is not Indexed.
+    /// The indexes of the pods to make, ascending; none for a pod of a Job that is not Indexed.
     pub fn creates(&self) -> &Indexes
         ensures { result.now ≡ (planned self.now.basis).creates }
     {
         &self.parts.creates
     }
 
-    /// The pods to mark for deletion, by UID.
+    /// The pods to mark for deletion, in the order of the pods: ascending where these do.
     pub fn marks(&self) -> &Uids
         ensures { result.now ≡ (planned self.now.basis).marks }
     {
         &self.parts.marks
     }
 
-    /// The pods that are let go, by UID, each at the version at which it was seen: they lose their
-    /// finalizer, and are marked where they did.
+    /// The pods that are let go, in the order of the pods, each at the version at which it was seen: they
+    /// lose their finalizer, and are marked where they did.
     pub fn let_goes(&self) -> &PodVersions
         ensures { result.now ≡ (planned self.now.basis).let_goes }
     {
@@ -73,8 +93,8 @@ impl Plan {
         self.parts.first.as_ref()
     }
 
-    /// The pods that lose their finalizer, by UID: the Job's own that are counted or need no count, and
-    /// orphans.
+    /// The pods that lose their finalizer, in the order of the pods: the Job's own that are counted or
+    /// need no count, and orphans.
     pub fn releases(&self) -> &Uids
         ensures { result.now ≡ (planned self.now.basis).releases }
     {

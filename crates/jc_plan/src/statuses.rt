@@ -2,14 +2,15 @@
 
 ghost use Rattle.std.specs.Prelude.{◌≡◌, ◌⊎◌, ◌+◌, ◌<◌, ◌≤◌, ◌&&◌, ◌||◌, ◌^◌, IfOk, IfSome, IsSome, IsTrue, Some, false, is_some, length, true};
 ghost use Rattle.std.specs.List.{list_any};
-ghost use Rattle.jc_types.specs.Bases.{own_pods};
+ghost use Rattle.jc_types.specs.declared.limits.TheConstants.{GREATEST_PARALLELISM};
+ghost use Rattle.jc_states.specs.Bases.{own_pods};
 ghost use Rattle.jc_account.specs.Accounts.{counted_out};
-ghost use Rattle.jc_types.specs.Conditions.{has_target};
-ghost use Rattle.jc_types.specs.Pods.{is_open};
+ghost use Rattle.jc_states.specs.Conditions.{has_target};
+ghost use Rattle.jc_states.specs.Pods.{is_open, active_pods};
 ghost use Rattle.jc_finish.specs.Settled.{is_target_kind, settled_of};
 ghost use Rattle.jc_finish.specs.Starts.{start_of};
-ghost use Rattle.jc_manage.specs.Creations.{active};
-ghost use Rattle.jc_plan.specs.Statuses.{completed_at, conditions_at, ended, filled, first_of, is_first_due, is_none, is_over, is_second_due, is_settled, lists_none, second_after, second_of};
+ghost use Rattle.jc_plan.specs.Numbers.{stopped_by};
+ghost use Rattle.jc_plan.specs.Statuses.{completed_at, conditions_at, with_due_end, filled, first_status_of, is_first_due, is_none, is_over, is_second_due, is_settled, lists_none, second_after, second_status_of};
 
 use crate::numbers::{Numbers, numbers_after};
 use jc_account::count_out;
@@ -23,10 +24,10 @@ use jc_types::{
 use std::alloc::Global;
 
 /// Whether how the Job ends is settled, before the sync or by it.
-pub fn is_settled(job: &Job, given: Option<(CondKind, Reason)>) -> bool
-    ensures { result ≡ is_settled job.now given }
+pub fn is_settled(job: &Job, target: Option<(CondKind, Reason)>) -> bool
+    ensures { result ≡ is_settled job.now target }
 {
-    has_target(&job.status.conditions) || given.is_some()
+    has_target(&job.status.conditions) || target.is_some()
 }
 
 // When the Job completed.
@@ -65,26 +66,26 @@ fn has_open(job: &Job, pods: &[Pod]) -> bool
 }
 
 // Whether how the Job ends is settled and none of its pods is open.
-fn is_over(target: bool, job: &Job, pods: &[Pod]) -> bool
-    ensures { result ≡ is_over target (own_pods job.now pods.now) }
+fn is_over(settled: bool, job: &Job, pods: &[Pod]) -> bool
+    ensures { result ≡ is_over settled (own_pods job.now pods.now) }
 {
-    target && !has_open(job, pods)
+    settled && !has_open(job, pods)
 }
 
 // Whether the end of the first status is due.
-fn is_first_due(target: bool, job: &Job, pods: &[Pod], counted: &CountIn) -> bool
-    ensures { result ≡ is_first_due target (own_pods job.now pods.now) counted.now }
+fn is_first_due(settled: bool, job: &Job, pods: &[Pod], counted: &CountIn) -> bool
+    ensures { result ≡ is_first_due settled (own_pods job.now pods.now) counted.now }
 {
-    is_over(target, job, pods)
+    is_over(settled, job, pods)
         && (is_none(&counted.releases)
             && lists_none(&counted.uncounted_succeeded, &counted.uncounted_failed))
 }
 
 // Whether the end of the second status is due.
-fn is_second_due(target: bool, job: &Job, pods: &[Pod], status: &JobStatus) -> bool
-    ensures { result ≡ is_second_due target (own_pods job.now pods.now) status.now }
+fn is_second_due(settled: bool, job: &Job, pods: &[Pod], status: &JobStatus) -> bool
+    ensures { result ≡ is_second_due settled (own_pods job.now pods.now) status.now }
 {
-    is_over(target, job, pods) && lists_none(&status.uncounted_succeeded, &status.uncounted_failed)
+    is_over(settled, job, pods) && lists_none(&status.uncounted_succeeded, &status.uncounted_failed)
 }
 
 // The conditions of the Job after the sync, with its end where that is due.
@@ -92,16 +93,16 @@ fn conditions_at(
     alloc: Global,
     basis: &Basis,
     job: &Job,
-    given: Option<(CondKind, Reason)>,
+    target: Option<(CondKind, Reason)>,
     due: bool,
 ) -> Result<Conditions, Want>
     requires this { basis.now.job ≡ Some job.now }
-    requires kind { IfSome given (λ target. is_target_kind target.0 ≡ true) }
-    requires fresh { IsSome given → has_target job.now.status.conditions ≡ false }
-    requires due { IsTrue due → is_settled job.now given ≡ true }
-    ensures { IfOk result (λ r. r ≡ conditions_at basis.entry.now.now job.now given due) }
+    requires kind { IfSome target (λ pair. is_target_kind pair.0 ≡ true) }
+    requires fresh { IsSome target → has_target job.now.status.conditions ≡ false }
+    requires due { IsTrue due → is_settled job.now target ≡ true }
+    ensures { IfOk result (λ r. r ≡ conditions_at basis.entry.now.now job.now target due) }
 {
-    settle_conditions(alloc, basis, given, due)
+    settle_conditions(alloc, basis, target, due)
 }
 
 // The start time in force of the Job.
@@ -112,7 +113,7 @@ fn start_at(basis: &Basis, job: &Job) -> Option<Moment>
     start_in_force(basis)
 }
 
-/// The status with what is counted, the numbers of pods, the start time and the conditions.
+// The status with what is counted, the numbers of pods, the start time and the conditions.
 fn filled(
     counted: &CountIn,
     numbers: Numbers,
@@ -120,9 +121,14 @@ fn filled(
     completion: Option<Moment>,
     conditions: Conditions,
 ) -> Result<JobStatus, Want>
-    ensures counts { IfOk result (λ r. (r.active ≡ numbers.active) × (r.ready ≡ numbers.ready) × (r.terminating ≡ numbers.terminating) × (r.succeeded ≡ counted.now.succeeded) × (r.failed ≡ counted.now.failed)) }
-    ensures lists { IfOk result (λ r. (r.completed ≡ counted.now.completed) × (r.uncounted_succeeded ≡ counted.now.uncounted_succeeded) × (r.uncounted_failed ≡ counted.now.uncounted_failed)) }
-    ensures course { IfOk result (λ r. (r.start ≡ start) × (r.completion ≡ completion) × (r.conditions ≡ conditions)) }
+    ensures numbers { IfOk result (λ r. (r.active ≡ numbers.active) × (r.ready ≡ numbers.ready)
+        × (r.terminating ≡ numbers.terminating)) }
+    ensures totals { IfOk result (λ r. (r.succeeded ≡ counted.now.succeeded)
+        × (r.failed ≡ counted.now.failed) × (r.completed ≡ counted.now.completed)) }
+    ensures lists { IfOk result (λ r. (r.uncounted_succeeded ≡ counted.now.uncounted_succeeded)
+        × (r.uncounted_failed ≡ counted.now.uncounted_failed)) }
+    ensures course { IfOk result (λ r. (r.start ≡ start) × (r.completion ≡ completion)
+        × (r.conditions ≡ conditions)) }
 {
     Ok(JobStatus {
         active: numbers.active,
@@ -148,21 +154,22 @@ pub fn first_status(
     basis: &Basis,
     job: &Job,
     counted: &CountIn,
-    given: Option<(CondKind, Reason)>,
+    target: Option<(CondKind, Reason)>,
     wants: &Wants,
 ) -> Result<JobStatus, Want>
     requires this { basis.now.job ≡ Some job.now }
     requires few { length basis.now.pods < 2 ^ 31 }
-    requires created { length wants.now.creates ≤ 5000 }
-    requires going { length wants.now.marks + length wants.now.let_goes ≤ length (active (own_pods job.now basis.now.pods)) }
-    requires kind { IfSome given (λ target. is_target_kind target.0 ≡ true) }
-    requires fresh { IsSome given → has_target job.now.status.conditions ≡ false }
-    ensures { IfOk result (λ r. r ≡ first_of basis.entry.now.now job.now (own_pods job.now basis.entry.now.pods) counted.now given wants.now) }
+    requires created { length wants.now.creates ≤ GREATEST_PARALLELISM }
+    requires going { stopped_by wants.now ≤ length (active_pods (own_pods job.now basis.now.pods)) }
+    requires kind { IfSome target (λ pair. is_target_kind pair.0 ≡ true) }
+    requires fresh { IsSome target → has_target job.now.status.conditions ≡ false }
+    ensures { IfOk result (λ r. r ≡ first_status_of basis.entry.now.now job.now
+        (own_pods job.now basis.entry.now.pods) counted.now target wants.now) }
 {
     let pods = basis.pods.as_slice();
-    let due = is_first_due(is_settled(job, given), job, pods, counted);
+    let due = is_first_due(is_settled(job, target), job, pods, counted);
     let numbers = numbers_after(job, pods, wants);
-    let conditions = conditions_at(alloc, basis, job, given, due)?;
+    let conditions = conditions_at(alloc, basis, job, target, due)?;
     let completion = completed_at(basis.now, &job.status, &conditions);
     filled(
         counted,
@@ -183,19 +190,20 @@ pub fn second_status(
     basis: &Basis,
     job: &Job,
     released: &Uids,
-    given: Option<(CondKind, Reason)>,
+    target: Option<(CondKind, Reason)>,
     first: &JobStatus,
 ) -> Result<JobStatus, Want>
     requires this { basis.now.job ≡ Some job.now }
-    requires kind { IfSome given (λ target. is_target_kind target.0 ≡ true) }
-    requires fresh { IsSome given → has_target job.now.status.conditions ≡ false }
+    requires kind { IfSome target (λ pair. is_target_kind pair.0 ≡ true) }
+    requires fresh { IsSome target → has_target job.now.status.conditions ≡ false }
     requires succeeded { first.now.succeeded + length first.now.uncounted_succeeded < 2 ^ 64 }
     requires failed { first.now.failed + length first.now.uncounted_failed < 2 ^ 64 }
-    ensures { IfOk result (λ r. r ≡ second_after basis.entry.now.now job.now (own_pods job.now basis.entry.now.pods) given (counted_out first.now released.now)) }
+    ensures { IfOk result (λ r. r ≡ second_after basis.entry.now.now job.now
+        (own_pods job.now basis.entry.now.pods) target (counted_out first.now released.now)) }
 {
     let mut second = count_out(alloc, first, released)?;
-    let due = is_second_due(is_settled(job, given), job, basis.pods.as_slice(), &second);
-    let conditions = conditions_at(alloc, basis, job, given, due)?;
+    let due = is_second_due(is_settled(job, target), job, basis.pods.as_slice(), &second);
+    let conditions = conditions_at(alloc, basis, job, target, due)?;
     second.completion = completed_at(basis.now, &job.status, &conditions);
     second.conditions = conditions;
     Ok(second)

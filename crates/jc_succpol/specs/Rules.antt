@@ -3,7 +3,7 @@
 --     includes completed indexes       each of the indexes is completed
 --     count_within indexes completed   how many completed indexes are among the indexes
 --     is_met rule completed            the rule is met
---     place_of policy completed        the least place of a rule that is met
+--     met_place policy completed        the least place of a rule that is met
 use Rattle.std.specs.Prelude.{ℕ, ◌^◌, nat_lt, nat_le, Bool, false, List, length, if◌then◌else◌, Option, Some, None, count_by, position}
 use Rattle.std.specs.List.{list_all}
 use Rattle.jc_types.specs.declared.policies.SuccessPolicy.{SuccessPolicy}
@@ -31,5 +31,5 @@ abbrev pub is_met : SuccessRule → List ℕ → Bool
 is_met rule completed = is_met_by rule.indexes rule.count completed
 
 -- The least place of a rule that is met.
-abbrev pub place_of : SuccessPolicy → List ℕ → Option ℕ
-place_of policy completed = position (λ rule. is_met rule completed) policy.rules
+abbrev pub met_place : SuccessPolicy → List ℕ → Option ℕ
+met_place policy completed = position (λ rule. is_met rule completed) policy.rules

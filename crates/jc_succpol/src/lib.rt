@@ -1,12 +1,9 @@
 //! The success policy of an Indexed Job (KEP-3998): which of its rules the completed indexes meet.
 #![tactic(auto)]
 
-mod counting;
 mod laws;
+mod members;
 mod rules;
 
 pub use laws::first_met_decides;
 pub use rules::{is_met, met};
-
-#[cfg(test)]
-mod tests;

@@ -1,14 +1,14 @@
 //! The rules of a success policy and the first that is met.
 
 ghost use Rattle.std.specs.Prelude.{◌≡◌, is_some};
-ghost use Rattle.jc_types.specs.Firsts.{as_u32};
-ghost use Rattle.jc_succpol.specs.Rules.{is_met, place_of};
+ghost use Rattle.jc_types.specs.FirstPlaces.{as_u32};
+ghost use Rattle.jc_succpol.specs.Rules.{is_met, met_place};
 
-use crate::counting::{are_all_completed, completed_within};
+use crate::members::{are_all_completed, completed_within};
 use jc_ranges::Ranges;
 use jc_types::{SuccessPolicy, SuccessRule};
 
-/// Whether the completed indexes meet the rule.
+// Whether the completed indexes meet the rule.
 fn is_rule_met(rule: &SuccessRule, completed: &Ranges) -> bool
     ensures { result ≡ is_met rule.now completed.now }
 {
@@ -20,9 +20,9 @@ fn is_rule_met(rule: &SuccessRule, completed: &Ranges) -> bool
     }
 }
 
-/// The place of the first rule that is met.
+// The place of the first rule that is met.
 fn first_met(policy: &SuccessPolicy, completed: &Ranges) -> Option<usize>
-    ensures { result ≡ place_of policy.now completed.now }
+    ensures { result ≡ met_place policy.now completed.now }
 {
     policy
         .rules
@@ -33,7 +33,7 @@ fn first_met(policy: &SuccessPolicy, completed: &Ranges) -> Option<usize>
 
 /// Whether the completed indexes meet a rule of the success policy (KEP-3998).
 pub fn is_met(policy: &SuccessPolicy, completed: &Ranges) -> bool
-    ensures { result ≡ is_some (place_of policy.now completed.now) }
+    ensures { result ≡ is_some (met_place policy.now completed.now) }
 {
     first_met(policy, completed).is_some()
 }
@@ -44,7 +44,7 @@ pub fn is_met(policy: &SuccessPolicy, completed: &Ranges) -> bool
 /// A rule with indexes alone needs all of them. A rule with a count alone needs that many completed
 /// indexes, and one with both needs that many of its own. A rule with neither is never met.
 pub fn met(policy: &SuccessPolicy, completed: &Ranges) -> Option<u32>
-    ensures { result ≡ as_u32 (place_of policy.now completed.now) }
+    ensures { result ≡ as_u32 (met_place policy.now completed.now) }
 {
     match first_met(policy, completed) {
         None => None,

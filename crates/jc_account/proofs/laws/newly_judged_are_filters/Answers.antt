@@ -1,11 +1,14 @@
 -- The lemmas on newly judged pods.
-use Rattle.jc_account.proofs.AccountFacts.{newly-member, newly-order, staying-member}
+use Rattle.jc_account.proofs.AccountFacts.{judged-member, newly-member, newly-order, staying-member}
+use Rattle.jc_account.proofs.JudgementFacts.{newly-none}
 use Rattle.jc_account.proofs.StayingFacts.{staying-length}
 use Rattle.jc_account.proofs.laws.newly_judged_are_filters.Goals as goal
 
 pub returns : goal.returns
 returns c = record {
+  judged = judged-member;
   member = newly-member;
+  none = newly-none;
   order = newly-order;
   staying = staying-member;
   staying_length = staying-length;

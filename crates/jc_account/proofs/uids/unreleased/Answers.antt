@@ -1,5 +1,5 @@
 use Rattle.std.proofs.Common.{length, not, ap, arith}
-use Rattle.jc_types.specs.Uids.{is_in}
+use Rattle.jc_states.specs.UidLists.{is_in}
 use Rattle.jc_account.proofs.Owned.{filter-shorter}
 use Rattle.jc_account.proofs.uids.unreleased.Goals as goal
 

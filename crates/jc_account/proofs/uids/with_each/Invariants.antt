@@ -1,5 +1,5 @@
 use Rattle.std.proofs.Common.{◌≡◌, drop}
-use Rattle.jc_types.specs.Uids.{merge}
+use Rattle.jc_states.specs.UidLists.{merge}
 use Rattle.jc_account.proofs.uids.with_each.Given as goal
 
 -- The UIDs so far are those with the others from the place on.

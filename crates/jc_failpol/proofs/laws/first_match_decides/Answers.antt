@@ -1,6 +1,6 @@
 -- The lemmas on places, at the rules of a policy.
 use Rattle.jc_failpol.specs.Rules.{matches}
-use Rattle.jc_types.proofs.FirstFacts.{first_is_least, none_passes}
+use Rattle.jc_types.proofs.FirstPlaceFacts.{first_is_least, none_passes}
 use Rattle.jc_failpol.proofs.laws.first_match_decides.Goals as goal
 
 pub returns : goal.returns

@@ -3,7 +3,7 @@ use Rattle.std.proofs.Common.{◌≡◌, ◌≢◌, sym, subst, true}
 use Rattle.jc_types.specs.declared.objects.Pod.{Pod}
 use Rattle.jc_types.specs.declared.specifications.JobSpec.{JobSpec}
 use Rattle.jc_types.specs.declared.specifications.Replacement.TheVariants.{FailedOnly}
-use Rattle.jc_types.specs.Pods.{is_final}
+use Rattle.jc_states.specs.Pods.{is_final}
 use Rattle.jc_failpol.specs.declared.outcomes.Outcome.TheVariants.{Alive}
 use Rattle.jc_failpol.specs.Outcomes.{judged, outcome_of}
 use Rattle.jc_failpol.proofs.Settled.{success_stays, failure_may, revised_when_marked, ignored_stays, ignored_by_policy, frozen, final_once_ended, same_action, same_place, end_stays}

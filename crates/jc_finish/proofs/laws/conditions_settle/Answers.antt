@@ -1,11 +1,11 @@
 -- The lemmas on conditions.
-use Rattle.jc_finish.proofs.SettledFacts.{settled-ends, settled-given, settled-keeps, settled-not_due, settled-suspended, settled-target}
+use Rattle.jc_finish.proofs.SettledFacts.{settled-ends, settled-decided, settled-keeps, settled-not_due, settled-suspended, settled-target}
 use Rattle.jc_finish.proofs.laws.conditions_settle.Goals as goal
 
 pub returns : goal.returns
 returns c = record {
   kept = settled-keeps;
-  given = settled-given;
+  decided = settled-decided;
   target = settled-target;
   suspended = settled-suspended;
   ended = settled-ends;

@@ -2,9 +2,10 @@
 use Rattle.std.proofs.Common.{◌≡◌, ◌+◌, ◌<◌, ◌&&◌, ◌||◌, ℕ, [], ◌∷◌, ◌++◌, false, get_or, drop, length, take, ap, sym, ◌∙◌, arith, rules}
 use Rattle.std.specs.List.{list_any}
 use Rattle.std.proofs.lemmas.List.{take_all, take_at, take_more}
-use Rattle.jc_types.specs.Bases.{is_own, own_pods}
+use Rattle.jc_states.specs.Bases.{is_own, own_pods}
 use Rattle.jc_types.proofs.ListFacts.{any_filter}
-use Rattle.jc_manage.specs.Creations.{is_at, keeps}
+use Rattle.jc_states.specs.Indexes.{has_index}
+use Rattle.jc_manage.specs.Creations.{keeps}
 use Rattle.jc_manage.proofs.Sequences.{any-next}
 use Rattle.jc_manage.proofs.creations.kept_indexes.Goals as goal
 
@@ -15,8 +16,8 @@ returns c =
     let pods = c.args.pods.now in
     let whole : take c.loop-pod.pod-index pods ≡ pods = take_all c.loop-pod.pod-index pods (omega arith) in
     λ n h. c.loop-pod.invariant.1 n h
-    ∙ ap (list_any (λ pod. is_own job pod && (keeps_it pod && is_at n pod))) whole
-    ∙ sym (any_filter (is_at n) keeps_it (own_pods job pods) ∙ any_filter (λ pod. keeps_it pod && is_at n pod) (is_own job) pods)
+    ∙ ap (list_any (λ pod. is_own job pod && (keeps_it pod && has_index n pod))) whole
+    ∙ sym (any_filter (has_index n) keeps_it (own_pods job pods) ∙ any_filter (λ pod. keeps_it pod && has_index n pod) (is_own job) pods)
 
 pub loop-pod-preserved : goal.loop-pod-preserved
 loop-pod-preserved c =
@@ -32,10 +33,10 @@ loop-pod-preserved c =
     let same : take c.loop-pod.kept.len (new ++ drop (length new) old) ≡ new =
     take_at new (drop (length new) old) c.loop-pod.kept.len (c.keep_index.ensures.count ∙ c.as_mut_slice.ensures.len) in
     let more : take (i + 1) pods ≡ take i pods ++ pod ∷ [] = search (rules, take_more) in
-    let step : (n : ℕ) → n < c.args.completions → get_or new n false ≡ ((is_own job pod && (keeps_it pod && is_at n pod)) || get_or old n false) =
+    let step : (n : ℕ) → n < c.args.completions → get_or new n false ≡ ((is_own job pod && (keeps_it pod && has_index n pod)) || get_or old n false) =
     λ n h. c.keep_index.ensures.flags n (omega (arith, h, ap length value, c.loop-pod.invariant.0))
-    ∙ ap (λ flags. (is_own job pod && (keeps_it pod && is_at n pod)) || get_or flags n false) value in (
+    ∙ ap (λ flags. (is_own job pod && (keeps_it pod && has_index n pod)) || get_or flags n false) value in (
       ap length same ∙ long,
       λ n h. ap (λ flags. get_or flags n false) same
-          ∙ any-next (λ p. is_own job p && (keeps_it p && is_at n p)) pods i pod _ _ more (c.loop-pod.invariant.1 n h) (step n h),
+          ∙ any-next (λ p. is_own job p && (keeps_it p && has_index n p)) pods i pod _ _ more (c.loop-pod.invariant.1 n h) (step n h),
     )

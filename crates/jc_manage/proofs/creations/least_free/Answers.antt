@@ -2,7 +2,7 @@
 use Rattle.std.proofs.Common.{◌≡◌, ◌&&◌, ◌∙◌, false, filter, get_or, map, take, not, unwrap_or, Some, IfOk, ap, arith, subst}
 use Rattle.std.specs.List.{range_with_len}
 use Rattle.jc_ranges.specs.Sets.{has}
-use Rattle.jc_types.specs.Bases.{own_pods}
+use Rattle.jc_states.specs.Bases.{own_pods}
 use Rattle.jc_manage.specs.Creations.{free, is_free, keepers}
 use Rattle.jc_manage.proofs.Sequences.{filter-range_agree}
 use Rattle.jc_manage.proofs.creations.least_free.Goals as goal

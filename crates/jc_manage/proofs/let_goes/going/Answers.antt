@@ -1,11 +1,11 @@
 use Rattle.std.proofs.Common.{nat_eq, rules, tests}
 use Rattle.std.proofs.lemmas.Iterator.{YieldsList-from_map, YieldsList-from_slice, items_from_collect}
 use Rattle.std.proofs.lemmas.Iterator.Consumers.{YieldsList-at, YieldsList-from_filter}
-use Rattle.jc_types.specs.Bases.{is_own}
+use Rattle.jc_states.specs.Bases.{is_own}
 use Rattle.std.specs.HashMap.{get}
-use Rattle.jc_manage.specs.Creations.{is_tracked_active}
+use Rattle.jc_states.specs.Pods.{is_tracked_active}
 use Rattle.jc_manage.specs.LetGoes.{seen}
-use Rattle.jc_manage.specs.Steps.{goes_by}
+use Rattle.jc_manage.specs.Ranks.{goes_by}
 use Rattle.jc_manage.proofs.let_goes.going.Goals as goal
 
 -- The list that the chain gives, from the pods on.

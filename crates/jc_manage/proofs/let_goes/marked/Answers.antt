@@ -1,7 +1,7 @@
 use Rattle.std.proofs.Common.{rules, tests}
 use Rattle.std.proofs.lemmas.Iterator.{YieldsList-from_map, YieldsList-from_slice, items_from_collect}
 use Rattle.std.proofs.lemmas.Iterator.Consumers.{YieldsList-at, YieldsList-from_filter}
-use Rattle.jc_types.specs.Bases.{is_own}
+use Rattle.jc_states.specs.Bases.{is_own}
 use Rattle.jc_manage.specs.LetGoes.{is_to_mark}
 use Rattle.jc_manage.proofs.let_goes.marked.Goals as goal
 

@@ -2,9 +2,9 @@
 use Rattle.std.proofs.Common.{◌≡◌, ◌+◌, ◌&&◌, [], ◌∷◌, ◌++◌, take, ap, sym, ◌∙◌, arith, rules}
 use Rattle.std.specs.List.{list_any}
 use Rattle.std.proofs.lemmas.List.{take_all, take_more}
-use Rattle.jc_types.specs.Bases.{is_own, own_pods}
+use Rattle.jc_states.specs.Bases.{is_own, own_pods}
 use Rattle.jc_types.proofs.ListFacts.{any_filter}
-use Rattle.jc_manage.specs.Creations.{is_tracked_active}
+use Rattle.jc_states.specs.Pods.{is_tracked_active}
 use Rattle.jc_manage.specs.LetGoes.{is_earlier}
 use Rattle.jc_manage.proofs.Sequences.{any-next}
 use Rattle.jc_manage.proofs.let_goes.oldest_holders.Goals as goal

@@ -1,10 +1,10 @@
 use Rattle.std.proofs.Common.{◌≡◌, ◌&&◌, ℕ, nat_eq, take}
 use Rattle.std.specs.HashMap.{get}
 use Rattle.std.specs.List.{list_any}
-use Rattle.jc_types.specs.Bases.{is_own}
-use Rattle.jc_manage.specs.Creations.{is_tracked_active}
+use Rattle.jc_states.specs.Bases.{is_own}
+use Rattle.jc_states.specs.Pods.{is_tracked_active}
 use Rattle.jc_manage.specs.LetGoes.{is_earlier}
-use Rattle.jc_manage.specs.Steps.{has_older}
+use Rattle.jc_manage.specs.Ranks.{has_older}
 use Rattle.jc_manage.proofs.let_goes.oldest_holders.Given as goal
 
 -- The holders so far answer as the own active tracked pods before this one do.

@@ -1,6 +1,6 @@
 use Rattle.std.proofs.Common.{◌-◌, length}
 use Rattle.jc_manage.proofs.Ranked.{told_alike, less-is}
-use Rattle.jc_manage.specs.Steps.{is_below_rank}
+use Rattle.jc_manage.specs.Ranks.{is_below_rank}
 use Rattle.jc_manage.proofs.ranks.least_to_go.Goals as goal
 
 pub returns : goal.returns

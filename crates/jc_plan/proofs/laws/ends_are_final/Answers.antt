@@ -6,6 +6,6 @@ pub returns : goal.returns
 returns c = record {
   first_keeps = first-keeps;
   second_keeps = second-keeps;
-  first_closed = first-closed;
-  second_closed = second-closed;
+  first_closed = λ job basis gains. first-closed job basis gains.none gains.new;
+  second_closed = λ job basis gains. second-closed job basis gains.none gains.new;
 }

@@ -9,6 +9,7 @@ returns c = record {
   failed = second-failed;
   succeeded = second-succeeded;
   completed = second-completed;
-  empty = second-lists_none;
+  no_failed = λ job basis. (second-lists_none job basis).0;
+  no_succeeded = λ job basis. (second-lists_none job basis).1;
   same = values-same;
 }

@@ -1,6 +1,6 @@
 -- All these pods are own pods, of which there are fewer than 2^31.
 use Rattle.std.proofs.Common.{◌&&◌, arith}
-use Rattle.jc_types.specs.Bases.{is_own, own_pods}
+use Rattle.jc_states.specs.Bases.{is_own, own_pods}
 use Rattle.jc_states.specs.Pods.{is_ready}
 use Rattle.jc_plan.specs.Numbers.{keeps_on}
 use Rattle.jc_plan.proofs.Going.{filter-few, open-few}

@@ -2,8 +2,8 @@
 use Rattle.std.proofs.Common.{◌∙◌, ◌&&◌, sym, rules, tests}
 use Rattle.std.proofs.lemmas.Iterator.{YieldsList-from_slice}
 use Rattle.std.proofs.lemmas.Iterator.Search.{any_from_yields_List}
-use Rattle.jc_types.specs.Bases.{is_own}
-use Rattle.jc_types.specs.Pods.{is_open}
+use Rattle.jc_states.specs.Bases.{is_own}
+use Rattle.jc_states.specs.Pods.{is_open}
 use Rattle.jc_types.proofs.ListFacts.{any_filter}
 use Rattle.jc_plan.proofs.statuses.has_open.Goals as goal
 

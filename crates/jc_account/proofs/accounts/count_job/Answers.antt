@@ -1,0 +1,56 @@
+-- The members of what is counted in.
+use Rattle.std.proofs.Common.{length, refl, ap, sym, ◌∙◌, arith}
+use Rattle.jc_types.specs.declared.specifications.JobSpec.{JobSpec}
+use Rattle.jc_states.specs.Bases.{own_pods}
+use Rattle.jc_account.specs.Accounts.{stayed}
+use Rattle.jc_account.proofs.Totals.{counted, merged_at, successes_fit}
+use Rattle.jc_account.proofs.accounts.count_job.Goals as goal
+
+pub returns-clause-counted : goal.returns-clause-counted
+returns-clause-counted c =
+    let job = c.args.job.now in
+    let pods = c.args.pods.now in
+    counted job pods _ c.deref.result.now
+    c.in_ok-stayed_succeeded.stayed_succeeded c.in_ok-stayed_failed.stayed_failed
+    c.in_ok-newly.newly.succeeded c.in_ok-newly.newly.failed
+    c.in_ok-newly.newly.completed c.raised-total.result
+    c.deref.ensures
+    (c.in_ok-stayed_succeeded.ensures.stayed ∙ ap (stayed (own_pods job pods)) c.as_slice.ensures)
+    (c.in_ok-stayed_failed.ensures.stayed ∙ ap (stayed (own_pods job pods)) c.as_slice-2.ensures)
+    c.in_ok-newly.ensures.succeeded
+    c.in_ok-newly.ensures.failed
+    c.in_ok-newly.ensures.completed
+    c.raised-total.ensures
+    c.in_ok-with_successes.ensures.merged
+    (merged_at c.as_slice-3.ensures c.as_slice-4.ensures c.in_ok-merged.ensures.merged)
+    c.succeeded.ensures.total
+    c.raised.ensures
+    refl
+    c.in_ok-releases.ensures
+    c.gain.ensures
+    c.len.ensures
+
+pub returns-clause-failed_fits : goal.returns-clause-failed_fits
+returns-clause-failed_fits c =
+    omega (
+      arith,
+      c.raised.ensures,
+      c.in_ok-merged.ensures.few,
+      ap length c.as_slice-3.ensures,
+      ap length c.as_slice-4.ensures,
+      c.in_ok-newly.ensures.few_failed,
+      c.requires.totals.1,
+    )
+
+pub returns-clause-succeeded_fits : goal.returns-clause-succeeded_fits
+returns-clause-succeeded_fits c =
+    let status = c.args.job.now.status in
+    successes_fit c.deref.result.now.mode c.raised-total.result c.succeeded.result
+    (length c.in_ok-stayed_succeeded.stayed_succeeded) (length c.in_ok-newly.newly.succeeded) (length c.in_ok-with_successes.field-0)
+    (length c.args.pods.now) status.succeeded (length status.uncounted_succeeded)
+    c.succeeded.ensures.plain c.succeeded.ensures.indexed
+    (λ e. ap length (c.requires.tidy (sym (ap (λ (spec : JobSpec). spec.mode) c.deref.ensures) ∙ e)).0)
+    c.raised-total.ensures c.in_ok-with_successes.ensures.few
+    (λ e. ap length (c.in_ok-with_successes.ensures.indexed e))
+    (omega (arith, c.in_ok-stayed_succeeded.ensures.shorter, ap length c.as_slice.ensures))
+    c.in_ok-newly.ensures.few_succeeded c.requires.totals.0

@@ -1,9 +1,0 @@
-use Rattle.std.proofs.Common.{◌≡◌, ◌&&◌, filter, take}
-use Rattle.jc_types.specs.Bases.{is_own}
-use Rattle.jc_types.specs.Uids.{uids_of}
-use Rattle.jc_account.specs.Judged.{is_to_release}
-use Rattle.jc_account.proofs.judging.releases.Given as goal
-
--- The UIDs so far are those of the pods before the index whose finalizer is to go.
-abbrev pub invariant-loop-pod : goal.invariant-loop-pod
-invariant-loop-pod l = l.uids ≡ uids_of (filter (λ pod. is_own l.job pod && is_to_release l.job pod) (take l.pod-index l.pods))

@@ -1,6 +1,0 @@
--- The lemma on outcomes.
-use Rattle.jc_account.proofs.AccountFacts.{outcome-exact}
-use Rattle.jc_account.proofs.laws.outcomes_are_told_apart.Goals as goal
-
-pub returns : goal.returns
-returns c = outcome-exact

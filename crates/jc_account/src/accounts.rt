@@ -1,0 +1,191 @@
+//! Counting in and counting out.
+
+ghost use Rattle.std.specs.Prelude.{◌≡◌, ◌+◌, ◌<◌, ◌≤◌, ◌^◌, All, IfOk, IfSome, IsSome, List, length, slice_index};
+ghost use Rattle.jc_ranges.specs.declared.bounds.TheConstants.{GREATEST_INDEX};
+ghost use Rattle.jc_types.specs.declared.objects.Pod.{Pod};
+ghost use Rattle.jc_types.specs.declared.specifications.Mode.TheVariants.{Indexed, NonIndexed};
+ghost use Rattle.jc_states.specs.Indexes.{HasSmallIndex};
+ghost use Rattle.jc_states.specs.Bases.{IsTidy, TotalsFit};
+ghost use Rattle.jc_types.specs.Counts.{counts};
+ghost use Rattle.jc_states.specs.UidLists.{merge, uids_of};
+ghost use Rattle.jc_account.specs.Accounts.{counted_in, counted_out};
+ghost use Rattle.jc_account.specs.Modes.{gain, gained, listing, succeeded_after};
+
+use crate::judgements::judge;
+use crate::listed::stayed;
+use crate::releases::releases;
+use crate::uids::{merged, unreleased};
+use jc_ranges::Ranges;
+use jc_types::{Basis, Copied, CountIn, Job, JobStatus, Mode, Pod, Uids, Want};
+use std::alloc::Global;
+
+// A total with those that left its list.
+fn raised(total: u64, before: &Uids, after: &Uids) -> u64
+    requires shorter { length after.now ≤ length before.now }
+    requires fits { total + length before.now < 2 ^ 64 }
+    ensures { result + length after.now ≡ total + length before.now }
+{
+    total + (before.len() - after.len()) as u64
+}
+
+// The list of uncounted successes with those that are judged now. An Indexed Job lists none.
+fn with_successes(alloc: Global, mode: Mode, uids: &Uids, newly: &Uids) -> Result<Uids, Want>
+    ensures merged { IfOk result (λ list. (pods : List Pod)
+        → newly.now ≡ uids_of pods → list ≡ merge uids.now (listing mode pods)) }
+    ensures few { IfOk result (λ list. length list ≤ length uids.now + length newly.now) }
+    ensures indexed { mode ≡ Indexed → IfOk result (λ list. list ≡ uids.now) }
+{
+    match mode {
+        Mode::NonIndexed => merged(alloc, uids.as_slice(), newly.as_slice()),
+        Mode::Indexed => uids.copy(),
+    }
+}
+
+// The member of a set at a place in increasing order.
+fn member_at(set: &Ranges, place: u32) -> u32
+    requires { place < length set.now }
+    ensures { result ≡ slice_index set.now place }
+{
+    match set.member(place) {
+        Some(n) => n,
+        None => unreachable!(),
+    }
+}
+
+// How many members of a set the set before it had not.
+fn gained(before: &Ranges, after: &Ranges) -> u32
+    ensures { result ≡ gained before.now after.now }
+{
+    let mut count = 0;
+    for place in 0..after.len() {
+        if !before.contains(member_at(after, place)) {
+            count += 1;
+        }
+    }
+    count
+}
+
+// How many successes are counted in now: pods, or of an Indexed Job indexes.
+fn gain(mode: Mode, newly: &Uids, before: &Ranges, after: &Ranges) -> u32
+    requires { length newly.now < 2 ^ 31 }
+    ensures { (pods : List Pod)
+        → newly.now ≡ uids_of pods → result ≡ gain mode pods before.now after.now }
+{
+    match mode {
+        Mode::NonIndexed => newly.len() as u32,
+        Mode::Indexed => gained(before, after),
+    }
+}
+
+// The succeeded total afterwards, of the total with those that left the list and the completed indexes.
+fn succeeded(mode: Mode, total: u64, completed: &Ranges) -> u64
+    ensures total { result ≡ succeeded_after mode total completed.now }
+    ensures plain { mode ≡ NonIndexed → result ≡ total }
+    ensures indexed { mode ≡ Indexed → result ≤ GREATEST_INDEX + 1 }
+{
+    match mode {
+        Mode::NonIndexed => total,
+        Mode::Indexed => u64::from(completed.len()),
+    }
+}
+
+// What is counted in of a Job, where the sync sees these pods.
+//
+// # Errors
+// `Want` where there is no memory for the lists.
+fn count_job(alloc: Global, job: &Job, pods: &[Pod]) -> Result<CountIn, Want>
+    requires tidy { IsTidy job.now pods.now }
+    requires totals { TotalsFit job.now pods.now }
+    requires indexes { All HasSmallIndex pods.now }
+    requires few { length pods.now < 2 ^ 31 }
+    ensures counted { IfOk result (λ r. r ≡ counted_in job.now pods.now) }
+    ensures failed_fits { IfOk result (λ r. r.failed + length r.uncounted_failed < 2 ^ 64) }
+    ensures succeeded_fits { IfOk result (λ r.
+        r.succeeded + length r.uncounted_succeeded < 2 ^ 64) }
+    ensures few_failed { IfOk result (λ r. r.new_failed ≤ length pods.now) }
+{
+    let mode = job.spec.mode;
+    let status = &job.status;
+    let stayed_succeeded = stayed(alloc, job, pods, status.uncounted_succeeded.as_slice())?;
+    let stayed_failed = stayed(alloc, job, pods, status.uncounted_failed.as_slice())?;
+    let newly = judge(alloc, job, pods)?;
+    let total = raised(
+        status.succeeded,
+        &status.uncounted_succeeded,
+        &stayed_succeeded,
+    );
+    Ok(CountIn {
+        uncounted_succeeded: with_successes(alloc, mode, &stayed_succeeded, &newly.succeeded)?,
+        uncounted_failed: merged(alloc, stayed_failed.as_slice(), newly.failed.as_slice())?,
+        succeeded: succeeded(mode, total, &newly.completed),
+        failed: raised(status.failed, &status.uncounted_failed, &stayed_failed),
+        new_succeeded: gain(mode, &newly.succeeded, &status.completed, &newly.completed),
+        new_failed: newly.failed.len() as u32,
+        releases: releases(alloc, job, pods)?,
+        completed: newly.completed,
+    })
+}
+
+/// What a sync counts in (KEP-2307), and the pods whose finalizer is to go.
+///
+/// A UID of the Job's two lists of uncounted pods whose pod is no longer tracked, or no longer there,
+/// leaves its list and raises its total. A tracked pod of the Job that has succeeded or failed and is in
+/// neither list is judged: its UID joins the list of its outcome. A success of an Indexed Job joins no
+/// list: its index joins the completed ones, whose number is the succeeded total. A UID that is listed
+/// as failed stays so whatever its pod comes to. The finalizer is to go from each tracked pod of the
+/// Job that has ended or is listed.
+///
+/// # Errors
+/// `Want` where there is no memory for the lists.
+pub fn count_in(alloc: Global, basis: &Basis) -> Result<CountIn, Want>
+    requires there { IsSome basis.now.job }
+    requires tidy { IfSome basis.now.job (λ job. IsTidy job basis.now.pods) }
+    requires totals { IfSome basis.now.job (λ job. TotalsFit job basis.now.pods) }
+    requires indexes { All HasSmallIndex basis.now.pods }
+    requires few { length basis.now.pods < 2 ^ 31 }
+    ensures counted { IfOk result (λ r.
+        IfSome basis.entry.now.job (λ job. r ≡ counted_in job basis.entry.now.pods)) }
+    ensures failed_fits { IfOk result (λ r. (counts r).0 < 2 ^ 64) }
+    ensures succeeded_fits { IfOk result (λ r. (counts r).1 < 2 ^ 64) }
+    ensures few_failed { IfOk result (λ r. r.new_failed ≤ length basis.entry.now.pods) }
+{
+    match &basis.job {
+        Some(job) => count_job(alloc, job, basis.pods.as_slice()),
+        None => unreachable!(),
+    }
+}
+
+/// The status once the released pods have lost their finalizer (KEP-2307): each of their UIDs that is
+/// listed leaves its list and raises the total of that list, and all else is as before.
+///
+/// # Errors
+/// `Want` where there is no memory for the status.
+pub fn count_out(alloc: Global, status: &JobStatus, released: &Uids) -> Result<JobStatus, Want>
+    requires succeeded { status.now.succeeded + length status.now.uncounted_succeeded < 2 ^ 64 }
+    requires failed { status.now.failed + length status.now.uncounted_failed < 2 ^ 64 }
+    ensures counted { IfOk result (λ r. r ≡ counted_out status.now released.now) }
+{
+    let succeeded = unreleased(
+        alloc,
+        released.as_slice(),
+        status.uncounted_succeeded.as_slice(),
+    )?;
+    let failed = unreleased(
+        alloc,
+        released.as_slice(),
+        status.uncounted_failed.as_slice(),
+    )?;
+    Ok(JobStatus {
+        active: status.active,
+        ready: status.ready,
+        terminating: status.terminating,
+        succeeded: raised(status.succeeded, &status.uncounted_succeeded, &succeeded),
+        failed: raised(status.failed, &status.uncounted_failed, &failed),
+        completed: status.completed.copy()?,
+        uncounted_succeeded: succeeded,
+        uncounted_failed: failed,
+        start: status.start,
+        completion: status.completion,
+        conditions: status.conditions.copy()?,
+    })
+}

@@ -1,0 +1,33 @@
+//! Which failed pods fail their Job at once.
+
+ghost use Rattle.std.specs.Prelude.{◌≡◌};
+ghost use Rattle.jc_failpol.specs.FailJob.{fails_job, policy_fails_job};
+
+use crate::judgements::outcome;
+use crate::outcomes::Outcome;
+use crate::rules::action;
+use jc_types::{Action, FailurePolicy, JobSpec, Pod};
+
+// Whether the failure policy, where there is one, fails the Job for the failed pod.
+fn does_policy_fail_job(policy: &Option<FailurePolicy>, pod: &Pod) -> bool
+    ensures { result ≡ policy_fails_job policy.now pod.now }
+{
+    match policy {
+        None => false,
+        Some(policy) => match action(policy, pod).0 {
+            Action::FailJob => true,
+            Action::Ignore | Action::Count | Action::FailIndex => false,
+        },
+    }
+}
+
+/// Whether the pod has failed, and the failure policy then fails its Job at once (KEP-3329): the action
+/// of the first rule that matches the pod is FailJob.
+pub fn fails_job(spec: &JobSpec, pod: &Pod) -> bool
+    ensures { result ≡ fails_job spec.now pod.now }
+{
+    match outcome(spec, pod) {
+        Outcome::Failed => does_policy_fail_job(&spec.failure, pod),
+        Outcome::Alive | Outcome::Succeeded | Outcome::Ignored => false,
+    }
+}

@@ -1,0 +1,158 @@
+//! What settles how a Job will end.
+
+ghost use Rattle.std.specs.Prelude.{◌≡◌, ◌+◌, ◌<◌, ◌^◌, length, nat_le};
+ghost use Rattle.std.specs.List.{list_any};
+ghost use Rattle.jc_states.specs.Bases.{own_pods};
+ghost use Rattle.jc_types.specs.Counts.{counts as counts_of};
+ghost use Rattle.jc_states.specs.Pods.{is_active};
+ghost use Rattle.jc_finish.specs.Decisions.{decided, decision_of, first_line, is_complete, is_enough, is_failed_by_pod, is_overdue, is_past_limit, is_policy_met, restarts_on_failure};
+
+use crate::restarts::{is_exceeded, restarts_of};
+use crate::start::start_of;
+use jc_failpol::fails_job;
+use jc_moment::Moment;
+use jc_ranges::Ranges;
+use jc_states::{has_target, is_active, is_own};
+use jc_succpol::is_met;
+use jc_types::{
+    Basis, CondKind, CountIn, Job, JobSpec, JobStatus, Pod, Reason, Restart, SuccessPolicy, counts,
+};
+
+// Whether a tracked pod has failed, and the failure policy then fails the Job.
+fn is_failed_by_a_pod(job: &Job, pods: &[Pod]) -> bool
+    ensures { result ≡ is_failed_by_pod job.now.spec (own_pods job.now pods.now) }
+{
+    pods.iter().any(|pod| is_own(job, pod) && (pod.tracked && fails_job(&*job.spec, pod)))
+}
+
+// Whether the containers of the pods start anew after a failure.
+fn does_restart(restart: Restart) -> bool
+    ensures { result ≡ restarts_on_failure restart }
+{
+    match restart {
+        Restart::Never => false,
+        Restart::OnFailure => true,
+    }
+}
+
+// Whether more pods have failed than the backoff limit, or containers that start anew have done so too
+// often.
+fn is_limit_passed(job: &Job, pods: &[Pod], failed: u64) -> bool
+    requires { length pods.now < 2 ^ 31 }
+    ensures { result ≡ is_past_limit failed job.now.spec (own_pods job.now pods.now) }
+{
+    let limit = job.spec.backoff_limit;
+    failed > u64::from(limit)
+        || does_restart(job.spec.template.restart) && is_exceeded(limit, restarts_of(job, pods))
+}
+
+// Whether so many seconds have passed since the start.
+fn have_passed(now: Moment, seconds: u32, start: Moment) -> bool
+    ensures { result ≡ nat_le (start + seconds) now }
+{
+    start.seconds() + u64::from(seconds) <= now.seconds()
+}
+
+// Whether the Job is not suspended and its deadline has come.
+fn is_deadline_over(now: Moment, spec: &JobSpec, status: &JobStatus) -> bool
+    ensures { result ≡ is_overdue now spec.now status.now }
+{
+    if spec.suspend {
+        return false;
+    }
+    match (spec.deadline, start_of(now, spec, status)) {
+        (Some(seconds), Some(start)) => have_passed(now, seconds, start),
+        _ => false,
+    }
+}
+
+// Whether the completed indexes meet a rule of the success policy.
+fn is_success_policy_met(policy: &Option<SuccessPolicy>, completed: &Ranges) -> bool
+    ensures { result ≡ is_policy_met policy.now completed.now }
+{
+    match policy {
+        None => false,
+        Some(policy) => is_met(policy, completed),
+    }
+}
+
+// Whether one of the Job's pods is active.
+fn has_active(job: &Job, pods: &[Pod]) -> bool
+    ensures { result ≡ list_any is_active (own_pods job.now pods.now) }
+{
+    pods.iter().any(|pod| is_own(job, pod) && is_active(pod))
+}
+
+// Whether there are as many successes as completions are wanted; where none are, one is enough.
+fn has_enough(completions: Option<u32>, succeeded: u64) -> bool
+    ensures { result ≡ is_enough completions succeeded }
+{
+    match completions {
+        None => succeeded > 0,
+        Some(completions) => succeeded >= u64::from(completions),
+    }
+}
+
+// The first reason that holds, with its condition.
+fn first_reason(
+    now: Moment,
+    job: &Job,
+    pods: &[Pod],
+    counted: &CountIn,
+) -> Option<(CondKind, Reason)>
+    requires few { length pods.now < 2 ^ 31 }
+    requires failed { (counts_of counted.now).0 < 2 ^ 64 }
+    requires succeeded { (counts_of counted.now).1 < 2 ^ 64 }
+    ensures { result ≡ first_line counted.now now job.now (own_pods job.now pods.now) }
+{
+    let (failed, succeeded) = counts(counted);
+    if is_failed_by_a_pod(job, pods) {
+        Some((CondKind::FailureTarget, Reason::PodFailurePolicy))
+    } else if is_limit_passed(job, pods, failed) {
+        Some((CondKind::FailureTarget, Reason::BackoffLimitExceeded))
+    } else if is_deadline_over(now, &*job.spec, &job.status) {
+        Some((CondKind::FailureTarget, Reason::DeadlineExceeded))
+    } else if is_success_policy_met(&job.spec.success, &counted.completed) {
+        Some((CondKind::SuccessCriteriaMet, Reason::SuccessPolicy))
+    } else if !has_active(job, pods) && has_enough(job.spec.completions, succeeded) {
+        Some((CondKind::SuccessCriteriaMet, Reason::CompletionsReached))
+    } else {
+        None
+    }
+}
+
+// What is decided of the Job among the pods.
+fn decide_job(now: Moment, job: &Job, pods: &[Pod], counted: &CountIn) -> Option<(CondKind, Reason)>
+    requires few { length pods.now < 2 ^ 31 }
+    requires failed { (counts_of counted.now).0 < 2 ^ 64 }
+    requires succeeded { (counts_of counted.now).1 < 2 ^ 64 }
+    ensures { result ≡ decided counted.now now job.now (own_pods job.now pods.now) }
+{
+    if has_target(&job.status.conditions) {
+        return None;
+    }
+    first_reason(now, job, pods, counted)
+}
+
+/// What settles how the basis's Job will end, as a condition and its reason (batch/v1, KEP-3329,
+/// KEP-3998). None where a target stands already, and where none of these holds; the first that holds
+/// decides:
+///
+/// 1. The failure policy fails the Job for a tracked pod that has failed.
+/// 2. The failed count is above the backoff limit; or, where containers restart on failure, the restarts
+///    of all containers of all open pods reach the limit, under the limit 0 the first one.
+/// 3. The Job is not suspended, and its deadline has come.
+/// 4. The completed indexes meet a rule of the success policy.
+/// 5. No pod is active, and the succeeded count has reached the completions; where no completions are
+///    given, one success is enough.
+///
+/// `counted` are the sync's counts over the same basis.
+pub fn decide(basis: &Basis, counted: &CountIn) -> Option<(CondKind, Reason)>
+    requires few { length basis.now.pods < 2 ^ 31 }
+    requires failed { (counts_of counted.now).0 < 2 ^ 64 }
+    requires succeeded { (counts_of counted.now).1 < 2 ^ 64 }
+    ensures { result ≡ decision_of basis.entry.now counted.now }
+{
+    let job = basis.job.as_ref()?;
+    decide_job(basis.now, job, basis.pods.as_slice(), counted)
+}

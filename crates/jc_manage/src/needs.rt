@@ -1,0 +1,114 @@
+//! What a sync needs of a Job's pods.
+
+ghost use Rattle.std.specs.Prelude.{◌≡◌, ◌+◌, ◌<◌, ◌≤◌, ◌^◌, IfOk, IfSome, IsSome, length};
+ghost use Rattle.jc_types.specs.Counts.{counts as counts_of};
+ghost use Rattle.jc_manage.specs.Creations.{creates, next};
+ghost use Rattle.jc_manage.specs.Planned.{backoff_in, creates_in, let_goes_in, marks_in, next_in};
+
+use crate::backoffs::{as_moment, backoff_after, is_held_back, opening};
+use crate::creations::creatable;
+use crate::let_goes::{let_goes, marks};
+use crate::results::Wants;
+use jc_moment::Moment;
+use jc_types::{Basis, CountIn, Indexes, Job, Want};
+use std::alloc::Global;
+
+// Of what would be made at once, nothing before the opening.
+fn creates(alloc: Global, opening: Option<u64>, now: Moment, creatable: Indexes) -> Indexes
+    ensures { result ≡ creates opening now creatable }
+{
+    if is_held_back(opening, now) {
+        return Indexes::new(alloc);
+    }
+    creatable
+}
+
+// The moment of the opening, where it held pods back.
+fn next(opening: Option<u64>, now: Moment, creatable: &Indexes) -> Option<Moment>
+    ensures { result ≡ next opening now creatable.now }
+{
+    if is_held_back(opening, now) && !creatable.is_empty() {
+        return as_moment(opening);
+    }
+    None
+}
+
+// What a sync wants of the Job's pods.
+fn wants_of(
+    alloc: Global,
+    job: &Job,
+    basis: &Basis,
+    counted: &CountIn,
+    target: bool,
+) -> Result<Wants, Want>
+    requires failed { (counts_of counted.now).0 < 2 ^ 64 }
+    requires succeeded { (counts_of counted.now).1 < 2 ^ 64 }
+    requires failures { basis.now.backoff.failures + counted.now.new_failed < 2 ^ 64 }
+    ensures creates { IfOk result (λ wants.
+        wants.creates ≡ creates_in target job.now basis.entry.now counted.now) }
+    ensures marks { IfOk result (λ wants.
+        wants.marks ≡ marks_in target job.now basis.entry.now) }
+    ensures let_goes { IfOk result (λ wants.
+        wants.let_goes ≡ let_goes_in target job.now basis.entry.now counted.now) }
+    ensures next { IfOk result (λ wants.
+        wants.next ≡ next_in target job.now basis.entry.now counted.now) }
+    ensures backoff { IfOk result (λ wants.
+        wants.backoff ≡ backoff_in basis.entry.now counted.now) }
+{
+    let pods = basis.pods.as_slice();
+    let backoff = backoff_after(&basis.backoff, counted, basis.now);
+    let opening = opening(&backoff);
+    let creatable = creatable(alloc, target, job, pods, counted)?;
+    let marks = marks(alloc, target, job, pods)?;
+    let let_goes = let_goes(alloc, target, job, pods, counted)?;
+    let next = next(opening, basis.now, &creatable);
+    let creates = creates(alloc, opening, basis.now, creatable);
+    Ok(Wants {
+        creates,
+        marks,
+        let_goes,
+        next,
+        backoff,
+    })
+}
+
+/// What a sync wants of the pods of its Job (batch/v1, KEP-2307, KEP-2214, KEP-3939), from what it has
+/// counted; `target` says that the Job's end is settled, before this sync or by it.
+///
+/// Pods are made as far as active tracked ones are lacking: with completions as many as may run at once,
+/// and no more than are left to succeed; without, as many as may run at once until one has succeeded.
+/// Under the replacement policy `FailedOnly` a pod that is marked and still open is replaced only once it
+/// has ended. An Indexed Job makes pods for its least free indexes. After failures in a row no pod is
+/// made before 10 seconds after the last, twice as many after each further one, and at most 360; a
+/// success ends the row.
+///
+/// Active pods without the finalizer are marked. Active tracked pods are let go where the Job is
+/// suspended, where another pod of smaller UID holds their index or it is completed, and where they are
+/// too many: those of the greatest indexes, or pending ones before those that run and then those of the
+/// greatest UIDs. Where the Job's end is settled all its active pods are marked, and none is made or let
+/// go.
+///
+/// # Errors
+/// `Want` where there is no memory for it.
+pub fn wants(alloc: Global, basis: &Basis, counted: &CountIn, target: bool) -> Result<Wants, Want>
+    requires there { IsSome basis.now.job }
+    requires failures { basis.now.backoff.failures + length basis.now.pods < 2 ^ 64 }
+    requires new_failed { counted.now.new_failed ≤ length basis.now.pods }
+    requires failed { (counts_of counted.now).0 < 2 ^ 64 }
+    requires succeeded { (counts_of counted.now).1 < 2 ^ 64 }
+    ensures creates { IfSome basis.entry.now.job (λ job. IfOk result (λ wants.
+        wants.creates ≡ creates_in target job basis.entry.now counted.now)) }
+    ensures marks { IfSome basis.entry.now.job (λ job. IfOk result (λ wants.
+        wants.marks ≡ marks_in target job basis.entry.now)) }
+    ensures let_goes { IfSome basis.entry.now.job (λ job. IfOk result (λ wants.
+        wants.let_goes ≡ let_goes_in target job basis.entry.now counted.now)) }
+    ensures next { IfSome basis.entry.now.job (λ job. IfOk result (λ wants.
+        wants.next ≡ next_in target job basis.entry.now counted.now)) }
+    ensures backoff { IfOk result (λ wants.
+        wants.backoff ≡ backoff_in basis.entry.now counted.now) }
+{
+    match &basis.job {
+        None => unreachable!(),
+        Some(job) => wants_of(alloc, job, basis, counted, target),
+    }
+}

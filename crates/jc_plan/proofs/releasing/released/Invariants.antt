@@ -1,8 +1,0 @@
-use Rattle.std.proofs.Common.{◌≡◌, filter, take}
-use Rattle.jc_types.specs.Uids.{uids_of}
-use Rattle.jc_plan.specs.Releases.{is_released}
-use Rattle.jc_plan.proofs.releasing.released.Given as goal
-
--- The UIDs so far are those of the pods before the index that lose their finalizer.
-abbrev pub invariant-loop-pod : goal.invariant-loop-pod
-invariant-loop-pod l = l.uids ≡ uids_of (filter (is_released l.basis) (take l.pod-index l.basis.pods))
