@@ -6,7 +6,9 @@ use Rattle.std.specs.List.{IsDistinct}
 use Rattle.jc_types.specs.declared.numbers.Uid.{Uid}
 use Rattle.jc_types.specs.declared.objects.Key.{Key}
 use Rattle.jc_types.specs.declared.objects.Job.{Job}
-use Rattle.jc_types.specs.Log.{same_uid, same_key, is_in, job_in, Life, Live, is_lost}
+use Rattle.jc_types.specs.Keys.{same_key, same_uid}
+use Rattle.jc_states.specs.UidLists.{is_in}
+use Rattle.jc_log.specs.Log.{job_in, Life, Live, is_lost}
 use Rattle.jc_play.specs.declared.commands.Command.{Command}
 use Rattle.jc_play.specs.Deeds.{Deed, log_of}
 use Rattle.jc_play.specs.Ledger.{Record, recorded, record_of, records}

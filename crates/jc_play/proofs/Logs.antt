@@ -3,7 +3,7 @@ use Rattle.std.proofs.Common.{◌≡◌, refl, sym, ◌∙◌, ap, ℕ, ◌+◌,
 use Rattle.std.proofs.lemmas.List.{reverse-append, length-append, length-reverse}
 use Rattle.jc_types.specs.declared.objects.Entry.{Entry}
 use Rattle.jc_types.specs.declared.replies.Reply.{Reply}
-use Rattle.jc_types.specs.Api.{Answered, grown}
+use Rattle.jc_log.specs.Requests.{Answered, grown}
 use Rattle.jc_play.specs.declared.writers.Writer.{Writer}
 use Rattle.jc_types.specs.declared.numbers.Uid.{Uid}
 use Rattle.jc_play.specs.Ledger.{records, records_after}

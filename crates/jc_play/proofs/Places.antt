@@ -14,9 +14,9 @@ use Rattle.jc_types.specs.declared.specifications.Restart.TheVariants.{Never}
 use Rattle.jc_types.specs.declared.statuses.CondKind.TheVariants.{SuccessCriteriaMet, Complete}
 use Rattle.jc_types.specs.declared.statuses.Condition.{Condition}
 use Rattle.jc_types.specs.declared.statuses.JobStatus.{JobStatus}
-use Rattle.jc_types.specs.Log.{Life, Live, living}
-use Rattle.jc_types.specs.Log as log
-use Rattle.jc_types.specs.Api.{report_phase_at}
+use Rattle.jc_log.specs.Log.{Life, Live, living}
+use Rattle.jc_log.specs.Log as log
+use Rattle.jc_log.specs.Requests.{report_phase_at}
 use Rattle.jc_play.specs.declared.writers.Writer.TheVariants as By
 use Rattle.jc_play.specs.declared.commands.Command.{Command}
 use Rattle.jc_play.specs.Deeds.{Deed, log_of, did}

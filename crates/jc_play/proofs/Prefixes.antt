@@ -2,7 +2,7 @@
 use Rattle.std.proofs.Common.{◌≡◌, refl, sym, ◌∙◌, ap, ℕ, ◌+◌, ◌≤◌, min, List, [], ◌∷◌, ◌++◌, length, reverse, take, drop, nat_lt, nat_le, true, false, Bool, cond, arith}
 use Rattle.std.proofs.lemmas.List.{reverse-append, length-reverse, length-append, take-append-drop, length-take-le, take_all}
 use Rattle.jc_types.specs.declared.objects.Entry.{Entry}
-use Rattle.jc_types.specs.Log.{upto}
+use Rattle.jc_log.specs.Log.{upto}
 
 -- All entries, of a log that has no more.
 pub upto_all : (n : ℕ) (log : List Entry) → length log ≤ n → upto n log ≡ log

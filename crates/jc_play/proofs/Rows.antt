@@ -11,7 +11,7 @@ use Rattle.jc_types.specs.declared.statuses.CondKind.TheVariants.{SuccessCriteri
 use Rattle.jc_types.specs.declared.statuses.Condition.{Condition}
 use Rattle.jc_types.specs.declared.statuses.JobStatus.{JobStatus}
 use Rattle.jc_types.specs.declared.statuses.Reason.TheVariants.{CompletionsReached}
-use Rattle.jc_types.specs.Log.{job_in, upto}
+use Rattle.jc_log.specs.Log.{job_in, upto}
 use Rattle.jc_play.specs.declared.commands.Command.{Command}
 use Rattle.jc_play.specs.Deeds.{log_of}
 use Rattle.jc_play.specs.Ledger.{judged_succeeded, judged_failed}

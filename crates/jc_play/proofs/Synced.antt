@@ -4,7 +4,7 @@ use Rattle.jc_types.specs.declared.numbers.Version.{Version}
 use Rattle.jc_types.specs.declared.objects.Key.{Key}
 use Rattle.jc_types.specs.declared.objects.Job.{Job}
 use Rattle.jc_types.specs.declared.objects.Pod.{Pod}
-use Rattle.jc_types.specs.Log.{job_in, pods_of}
+use Rattle.jc_log.specs.Log.{job_in, pods_of}
 use Rattle.jc_play.specs.declared.writers.Writer.TheVariants.{Sync}
 use Rattle.jc_play.specs.Deeds.{Deed, log_of}
 use Rattle.jc_play.specs.Play.{pi, synced_over, synced_at, synced}

@@ -8,7 +8,7 @@ use Rattle.jc_types.specs.declared.objects.Pod.{Pod}
 use Rattle.jc_play.specs.declared.ledger.Tally.{Tally}
 use Rattle.jc_play.specs.Outcomes.{outcome, is_alive}
 use Rattle.jc_types.specs.declared.objects.Entry.{Entry}
-use Rattle.jc_types.specs.Log.{pods_of, upto}
+use Rattle.jc_log.specs.Log.{pods_of, upto}
 use Rattle.jc_play.specs.Ledger.{Record, record_of, is_fresh, recorded, bump, chosen, records}
 use Rattle.jc_play.specs.declared.writers.Writer.{Writer}
 use Rattle.jc_play.specs.Deeds.{Deed, log_of, deeds_of}

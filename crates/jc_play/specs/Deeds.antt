@@ -3,7 +3,7 @@ use Rattle.std.specs.Prelude.{◌≡◌, ℕ, nat_lt, List, [], ◌∷◌, ◌++
 use Rattle.std.specs.declared.alloc.AllocError.{AllocError}
 use Rattle.jc_types.specs.declared.objects.Entry.{Entry}
 use Rattle.jc_types.specs.declared.replies.Reply.{Reply}
-use Rattle.jc_types.specs.Api.{Answered}
+use Rattle.jc_log.specs.Requests.{Answered}
 use Rattle.jc_play.specs.declared.writers.Writer.{Writer}
 
 -- An accepted write, with who made it.

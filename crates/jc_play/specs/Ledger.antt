@@ -5,7 +5,7 @@ use Rattle.jc_types.specs.declared.numbers.Uid.{Uid}
 use Rattle.jc_types.specs.declared.objects.Pod.{Pod}
 use Rattle.jc_types.specs.declared.objects.Entry.{Entry}
 use Rattle.jc_types.specs.declared.objects.Entry.TheVariants.{JobPut, JobGone, PodPut, PodGone}
-use Rattle.jc_types.specs.Log.{pods_of, upto}
+use Rattle.jc_log.specs.Log.{pods_of, upto}
 use Rattle.jc_play.specs.declared.writers.Writer.{Writer}
 use Rattle.jc_play.specs.declared.writers.Writer.TheVariants.{Script, Sync}
 use Rattle.jc_play.specs.Deeds.{Deed, log_of}

@@ -7,7 +7,9 @@ use Rattle.jc_types.specs.declared.objects.Job.{Job}
 use Rattle.jc_types.specs.declared.objects.Pod.{Pod}
 use Rattle.jc_types.specs.declared.objects.Entry.{Entry}
 use Rattle.jc_types.specs.declared.objects.Entry.TheVariants.{JobPut, JobGone, PodPut, PodGone}
-use Rattle.jc_types.specs.Log.{same_uid, is_in, job_in, Life, Never, Live, Gone, life, is_lost, upto}
+use Rattle.jc_types.specs.Keys.{same_uid}
+use Rattle.jc_states.specs.UidLists.{is_in}
+use Rattle.jc_log.specs.Log.{job_in, Life, Never, Live, Gone, life, is_lost, upto}
 use Rattle.jc_play.specs.declared.writers.Writer.{Writer}
 use Rattle.jc_play.specs.declared.writers.Writer.TheVariants.{Script, Sync}
 use Rattle.jc_play.specs.Deeds.{Deed, log_of}

@@ -8,9 +8,9 @@ use Rattle.jc_types.specs.declared.statuses.JobStatus.{JobStatus}
 use Rattle.jc_types.specs.declared.objects.Pod.{Pod}
 use Rattle.jc_types.specs.declared.replies.Reply.{Reply}
 use Rattle.jc_types.specs.declared.replies.Reply.TheVariants.{Written}
-use Rattle.jc_types.specs.Log.{job_in, pods_of}
-use Rattle.jc_types.specs.Sames.{same_status}
-use Rattle.jc_types.specs.Api.{Answered, create_job_gives, create_pod_gives, write_status_gives, release_gives, report_phase_gives}
+use Rattle.jc_log.specs.Log.{job_in, pods_of}
+use Rattle.jc_types.specs.Equality.{same_status}
+use Rattle.jc_log.specs.Requests.{Answered, create_job_gives, create_pod_gives, write_status_gives, release_gives, report_phase_gives}
 use Rattle.jc_play.specs.declared.writers.Writer.{Writer}
 use Rattle.jc_play.specs.declared.writers.Writer.TheVariants.{Script, Sync}
 use Rattle.jc_play.specs.declared.commands.Command.{Command}

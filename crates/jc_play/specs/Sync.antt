@@ -10,10 +10,9 @@ use Rattle.jc_types.specs.declared.statuses.CondKind.TheVariants.{SuccessCriteri
 use Rattle.jc_types.specs.declared.statuses.Condition.{Condition}
 use Rattle.jc_types.specs.declared.statuses.JobStatus.{JobStatus}
 use Rattle.jc_types.specs.declared.statuses.Reason.TheVariants.{CompletionsReached}
-use Rattle.jc_types.specs.Pods.{is_open, is_active}
-pub use Rattle.jc_types.specs.Conditions.{stands}
-use Rattle.jc_types.specs.Uids.{is_in}
-use Rattle.jc_states.specs.Pods.{is_ending, is_ready}
+use Rattle.jc_states.specs.Pods.{is_open, is_active, is_ending, is_ready}
+pub use Rattle.jc_states.specs.Conditions.{stands}
+use Rattle.jc_states.specs.UidLists.{is_in}
 use Rattle.jc_play.specs.Outcomes.{outcome, is_success}
 use Rattle.jc_play.specs.Given.{the_moment}
 

@@ -2,9 +2,8 @@
 ghost use Rattle.std.specs.Prelude.{◌≡◌, ◌<◌, ◌≤◌, ◌+◌, ◌^◌, IfOk, length, map, filter, not, nat_le, ◌&&◌, ◌||◌};
 ghost use Rattle.std.specs.List.{list_any};
 ghost use Rattle.jc_types.specs.declared.statuses.CondKind.TheVariants.{SuccessCriteriaMet, Complete};
-ghost use Rattle.jc_types.specs.Pods.{is_open, is_active};
-ghost use Rattle.jc_types.specs.Uids.{is_in};
-ghost use Rattle.jc_states.specs.Pods.{is_ending, is_ready};
+ghost use Rattle.jc_states.specs.Pods.{is_open, is_active, is_ending, is_ready};
+ghost use Rattle.jc_states.specs.UidLists.{is_in};
 ghost use Rattle.jc_play.specs.Outcomes.{outcome, is_success};
 ghost use Rattle.jc_play.specs.Sync.{counts, counted, is_tracked_in, total_in, is_due, due, is_wanted, active_pods, stands, reached, is_met, with_met, started, counted_in, is_none, may_end, with_end, first_status, counted_out, ended, second_status};
 

@@ -1,7 +1,7 @@
 //! The store with who made each of its writes.
 ghost use Rattle.std.specs.Prelude.{◌≡◌, ◌<◌, ◌-◌, ◌^◌, [], length, option_copied, reverse, vec_len, vec_capacity, IfOk};
-ghost use Rattle.jc_types.specs.Log.{job_in, pods_of};
-ghost use Rattle.jc_types.specs.Api.{create_job_gives, create_pod_gives, write_status_gives, release_gives, report_phase_gives};
+ghost use Rattle.jc_log.specs.Log.{job_in, pods_of};
+ghost use Rattle.jc_log.specs.Requests.{create_job_gives, create_pod_gives, write_status_gives, release_gives, report_phase_gives};
 ghost use Rattle.jc_play.specs.Deeds.{log_of, deeds_of, noted, DidOrKept};
 
 use super::writers::Writer;

@@ -9,8 +9,6 @@ pub mod laws;
 mod ledger;
 mod plays;
 mod syncs;
-#[cfg(test)]
-mod tests;
 mod writers;
 
 pub use commands::Command;

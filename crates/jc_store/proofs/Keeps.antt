@@ -1,7 +1,6 @@
 -- What each write leaves of what the store keeps, and what the tables say of the log.
-use Rattle.std.proofs.Common.{◌≡◌, ℕ, ◌+◌, ◌++◌, ◌==◌, nat_lt, Bool, true, false, not, ◌&&◌, cond, List, [], ◌∷◌, reverse, Option, Some, None, IsSome, is_some, refl, ap, sym, ◌∙◌, subst, true≢false}
+use Rattle.std.proofs.Common.{◌≡◌, ℕ, ◌+◌, ◌++◌, Bool, true, false, ◌&&◌, cond, List, [], ◌∷◌, reverse, Option, Some, None, IsSome, is_some, refl, ap, sym, ◌∙◌, subst}
 use Rattle.std.specs.Prelude.{find, unwrap_or}
-use Rattle.std.proofs.lemmas.Bool.{eqb-false, eqb-true}
 use Rattle.jc_types.specs.declared.numbers.Uid.{Uid}
 use Rattle.jc_types.specs.declared.objects.Entry.{Entry}
 use Rattle.jc_types.specs.declared.objects.Entry.TheVariants.{JobPut, JobGone, PodPut, PodGone}
@@ -9,17 +8,17 @@ use Rattle.jc_types.specs.declared.objects.Job.{Job}
 use Rattle.jc_types.specs.declared.objects.Key.{Key}
 use Rattle.jc_types.specs.declared.objects.Pod.{Pod}
 use Rattle.jc_types.specs.Keys.{same_key, same_uid}
-use Rattle.jc_types.specs.Log.{Life, Never, Live, Gone, births, drop_pod, is_never, job_in, jobs_in, life, living, made_for, next_uid, next_version, pod_in, pods_in, put_pod}
-use Rattle.jc_types.specs.Pods.{goes}
-use Rattle.jc_types.specs.Tables.{Sets, at, puts, takes}
-use Rattle.jc_types.specs.Writes.{CanEnd, CanGo, IsNewPod, Writes}
+use Rattle.jc_log.specs.Log.{Life, Never, Live, Gone, births, is_never, job_in, jobs_in, life, living, made_for, next_version, pod_in, pods_in}
+use Rattle.jc_states.specs.PodLists.{drop_pod, put_pod}
+use Rattle.jc_states.specs.Pods.{goes}
+use Rattle.jc_log.specs.Tables.{Sets, at, puts, takes}
+use Rattle.jc_log.specs.Writes.{CanEnd, CanGo, IsNewJob, IsNewPod, StepsFrom, Writes}
 use Rattle.jc_types.proofs.KeyFacts.{same_uid-eq, same_uid-itself}
-use Rattle.jc_types.proofs.LogFacts.{newest_first}
-use Rattle.jc_types.proofs.ObjectFacts.{jobs_in-at}
-use Rattle.jc_types.proofs.PodFacts.{pods_in-among}
+use Rattle.jc_log.proofs.LogFacts.{newest_first}
+use Rattle.jc_log.proofs.ObjectFacts.{jobs_in-at}
+use Rattle.jc_log.proofs.PodFacts.{pods_in-among}
 use Rattle.jc_store.specs.Kept.{IsKept, count_of}
-use Rattle.jc_store.specs.Steps.{StepsFrom}
-use Rattle.jc_store.proofs.Births.{end_job-writes, end_pod-writes, made_job-births, made_job-writes, made_pod-births, made_pod-writes, new_never, put_job-births, put_job-writes, step_made, write_pod-births, write_pod-writes}
+use Rattle.jc_log.proofs.AppendFacts.{end_job-writes, end_pod-writes, made_job-births, made_job-writes, made_pod-births, made_pod-writes, new_never, put_job-births, put_job-writes, step_made, write_pod-births, write_pod-writes}
 
 -- ---- what the tables say
 
@@ -50,33 +49,6 @@ pod_row pods items log pod held is step =
     by (Live old) step = refl
     by Gone step = absurd step
 
--- A pod that is not there is dropped without a change.
-drop-absent : (u : Uid) (pods : List Pod) → find (λ p. same_uid p.uid u) pods ≡ None → drop_pod u pods ≡ pods
-drop-absent u [] absent = refl
-drop-absent u (q ∷ pods) absent = by (same_uid q.uid u) refl (drop-absent u pods)
-  where
-    by : (b : Bool) → same_uid q.uid u ≡ b → (find (λ p. same_uid p.uid u) pods ≡ None → drop_pod u pods ≡ pods) → drop_pod u (q ∷ pods) ≡ q ∷ pods
-    by true s rest = let bad : Some q ≡ None = ap (λ b. cond b (Some q) (find (λ p. same_uid p.uid u) pods)) (sym s) ∙ absent in absurd (true≢false (ap is_some bad))
-    by false s rest =
-        ap (λ b. cond (not b) (q ∷ drop_pod u pods) (drop_pod u pods)) s
-        ∙ ap (λ l. q ∷ l) (rest (ap (λ b. cond b (Some q) (find (λ p. same_uid p.uid u) pods)) (sym s) ∙ absent))
-
--- A pod that is put where none has its UID, and dropped again, leaves the list as it was.
-pub drop-put : (pod : Pod) (pods : List Pod) → find (λ p. same_uid p.uid pod.uid) pods ≡ None → drop_pod pod.uid (put_pod pod pods) ≡ pods
-drop-put pod [] absent = ap (λ b. cond (not b) (pod ∷ []) []) (same_uid-itself pod.uid)
-drop-put pod (q ∷ pods) absent = by (nat_lt pod.uid.0 q.uid.0) (pod.uid.0 == q.uid.0) refl (same_uid q.uid pod.uid) refl (drop-put pod pods)
-  where
-    by : (lt eq : Bool) → (pod.uid.0 == q.uid.0) ≡ eq → (b : Bool) → same_uid q.uid pod.uid ≡ b → (find (λ p. same_uid p.uid pod.uid) pods ≡ None → drop_pod pod.uid (put_pod pod pods) ≡ pods)
-        → drop_pod pod.uid (cond lt (pod ∷ q ∷ pods) (cond eq (pod ∷ pods) (q ∷ put_pod pod pods))) ≡ q ∷ pods
-    by lt eq e true s rest = let bad : Some q ≡ None = ap (λ b. cond b (Some q) (find (λ p. same_uid p.uid pod.uid) pods)) (sym s) ∙ absent in absurd (true≢false (ap is_some bad))
-    by true eq e false s rest =
-        ap (λ b. cond (not b) (pod ∷ drop_pod pod.uid (q ∷ pods)) (drop_pod pod.uid (q ∷ pods))) (same_uid-itself pod.uid)
-        ∙ drop-absent pod.uid (q ∷ pods) absent
-    by false true e false s rest = absurd (eqb-false q.uid.0 pod.uid.0 s (sym (eqb-true pod.uid.0 q.uid.0 e)))
-    by false false e false s rest =
-        ap (λ b. cond (not b) (q ∷ drop_pod pod.uid (put_pod pod pods)) (drop_pod pod.uid (put_pod pod pods))) s
-        ∙ ap (λ l. q ∷ l) (rest (ap (λ b. cond b (Some q) (find (λ p. same_uid p.uid pod.uid) pods)) (sym s) ∙ absent))
-
 -- ---- what a write leaves
 
 -- One more entry at the end of the log oldest first is one more in front.
@@ -103,11 +75,11 @@ job_put born next jobs rows pods made log job k put count writes = record {
   stored = (writes, k.stored);
 }
 
-pub make_job-keeps : (born next : ℕ) (jobs rows : List (Key × Job)) (pods : List Pod) (made : List (Uid × ℕ)) (items more log : List Entry) (job : Job) → IsKept born jobs pods made (reverse items) → reverse items ≡ log → more ≡ items ++ JobPut job ∷ [] → rows ≡ puts same_key jobs job.key job → next ≡ births log + 1 → job.version ≡ next_version log → job.uid ≡ next_uid log → job_in job.key log ≡ None → IsKept next rows pods made (reverse more)
-make_job-keeps born next jobs rows pods made items more log job kept is to put count version uid absent =
+pub make_job-keeps : (born next : ℕ) (jobs rows : List (Key × Job)) (pods : List Pod) (made : List (Uid × ℕ)) (items more log : List Entry) (job : Job) → IsKept born jobs pods made (reverse items) → reverse items ≡ log → more ≡ items ++ JobPut job ∷ [] → rows ≡ puts same_key jobs job.key job → next ≡ births log + 1 → job.version ≡ next_version log → IsNewJob log job → job_in job.key log ≡ None → IsKept next rows pods made (reverse more)
+make_job-keeps born next jobs rows pods made items more log job kept is to put count version new absent =
     let k = subst (IsKept born jobs pods made) is kept in
     subst (IsKept next rows pods made) (sym (appended items more log (JobPut job) is to))
-    (job_put born next jobs rows pods made log job k put (count ∙ sym (made_job-births log job k.stored uid)) (made_job-writes log job version uid absent))
+    (job_put born next jobs rows pods made log job k put (count ∙ sym (made_job-births log job k.stored new)) (made_job-writes log job version new absent))
 
 pub put_job-keeps : (born : ℕ) (jobs rows : List (Key × Job)) (pods : List Pod) (made : List (Uid × ℕ)) (items more log : List Entry) (job : Job) → IsKept born jobs pods made (reverse items) → reverse items ≡ log → more ≡ items ++ JobPut job ∷ [] → rows ≡ puts same_key jobs job.key job → job.version ≡ next_version log → StepsFrom (job_in job.key log) job → IsKept born rows pods made (reverse more)
 put_job-keeps born jobs rows pods made items more log job kept is to put version step =

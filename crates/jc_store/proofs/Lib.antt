@@ -1,5 +1,3 @@
-mod Births
 mod Keeps
 mod Patterns
-mod Steps
 mod Versions

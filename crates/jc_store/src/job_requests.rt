@@ -1,7 +1,7 @@
 //! The requests about Jobs.
 ghost use Rattle.std.specs.Prelude.{◌≡◌, None, IfOk};
-ghost use Rattle.jc_types.specs.Api.{GivesOrKeeps, create_job_at, create_job_gives, delete_job_gives, update_spec_gives, write_status_gives};
-ghost use Rattle.jc_types.specs.Log.{job_in};
+ghost use Rattle.jc_log.specs.Requests.{GivesOrKeeps, create_job_at, create_job_gives, delete_job_gives, update_spec_gives, write_status_gives};
+ghost use Rattle.jc_log.specs.Log.{job_in};
 
 use super::Store;
 use super::new_objects::new_job;
@@ -11,13 +11,14 @@ use jc_moment::Moment;
 use jc_types::{Arc, Copied, Job, JobSpec, JobStatus, Key, Reply, SpecChange, Uid, Version, Want};
 
 impl Store {
-    /// Creates a Job with an empty status, and replies `Created`. Where a Job has the key, it replies `AlreadyExists`.
+    /// Creates a Job with an empty status, and replies `Created`. Where a Job has the key, it
+    /// replies `AlreadyExists`.
     ///
     /// # Errors
-    ///
-    /// Want of memory; the log is then as before.
+    /// `Want` where there is no memory; the log is then as before.
     pub fn create_job(&mut self, key: &Key, spec: Arc<JobSpec>, now: Moment) -> Result<Reply, Want>
-        ensures { GivesOrKeeps self.old self.new (create_job_gives self.old key.now spec now) result }
+        ensures { GivesOrKeeps self.old self.new
+            (create_job_gives self.old key.now spec now) result }
     {
         match self.job(key) {
             Some(_) => Ok(Reply::AlreadyExists),
@@ -28,7 +29,8 @@ impl Store {
     // Creates a Job, where no Job has the key.
     fn create_new_job(&mut self, key: &Key, spec: Arc<JobSpec>, now: Moment) -> Result<Reply, Want>
         requires { job_in key.now self.old ≡ None }
-        ensures { GivesOrKeeps self.old self.new (create_job_at self.old key.now spec now None) result }
+        ensures { GivesOrKeeps self.old self.new
+            (create_job_at self.old key.now spec now None) result }
     {
         let uid = self.next_uid();
         let version = self.next_version();
@@ -37,22 +39,22 @@ impl Store {
         Ok(Reply::Created { uid, version })
     }
 
-    /// Changes the members of a Job's specification that are given, and replies `Written`, or `Unchanged` where they are
-    /// as before.
+    /// Changes the members of a Job's specification that are given, and replies `Written`, or
+    /// `Unchanged` where they are as before.
     ///
-    /// It replies `NotFound` where no Job has the key, `Conflict` where a version is given that is not the Job's, and
-    /// `Immutable` or `Invalid` where the change may not be made.
+    /// It replies `NotFound` where no Job has the key, `Conflict` where a version is given that is
+    /// not the Job's, and `Immutable` or `Invalid` where the change may not be made.
     ///
     /// # Errors
-    ///
-    /// Want of memory; the log is then as before.
+    /// `Want` where there is no memory; the log is then as before.
     pub fn update_spec(
         &mut self,
         key: &Key,
         version: Option<Version>,
         change: &SpecChange,
     ) -> Result<Reply, Want>
-        ensures { GivesOrKeeps self.old self.new (update_spec_gives self.old key.now version change.now) result }
+        ensures { GivesOrKeeps self.old self.new
+            (update_spec_gives self.old key.now version change.now) result }
     {
         let Some(job) = self.job(key) else {
             return Ok(Reply::NotFound);
@@ -77,14 +79,14 @@ impl Store {
         Ok(Reply::Written { version })
     }
 
-    /// Writes a Job's status, and replies `Written`, or `Unchanged` where the Job has that status already.
+    /// Writes a Job's status, and replies `Written`, or `Unchanged` where the Job has that status
+    /// already.
     ///
-    /// It replies `NotFound` where no Job has the key and the UID, and `Conflict` where the Job has another version: the
-    /// optimistic lock of Kubernetes' API.
+    /// It replies `NotFound` where no Job has the key and the UID, and `Conflict` where the Job has
+    /// another version: the optimistic lock of Kubernetes' API.
     ///
     /// # Errors
-    ///
-    /// Want of memory; the log is then as before.
+    /// `Want` where there is no memory; the log is then as before.
     pub fn write_status(
         &mut self,
         key: &Key,
@@ -92,7 +94,8 @@ impl Store {
         version: Version,
         status: &JobStatus,
     ) -> Result<Reply, Want>
-        ensures { GivesOrKeeps self.old self.new (write_status_gives self.old key.now uid version status.now) result }
+        ensures { GivesOrKeeps self.old self.new
+            (write_status_gives self.old key.now uid version status.now) result }
     {
         let Some(job) = self.job(key) else {
             return Ok(Reply::NotFound);
@@ -116,11 +119,11 @@ impl Store {
         Ok(Reply::Written { version })
     }
 
-    /// Deletes a Job, and replies `Removed`; its pods stay. Where no Job has the key, it replies `NotFound`.
+    /// Deletes a Job, and replies `Removed`; its pods stay. Where no Job has the key, it replies
+    /// `NotFound`.
     ///
     /// # Errors
-    ///
-    /// Want of memory; the log is then as before.
+    /// `Want` where there is no memory; the log is then as before.
     pub fn delete_job(&mut self, key: &Key) -> Result<Reply, Want>
         ensures { GivesOrKeeps self.old self.new (delete_job_gives self.old key.now) result }
     {

@@ -1,6 +1,7 @@
 //! The versioned object store: a log of accepted writes, and the requests that it answers.
 //!
-//! Beside the log the store keeps tables of the Jobs and pods that are there, which its contracts do not name.
+//! Beside the log the store keeps tables of the Jobs and pods that are there, which its contracts
+//! do not name.
 #![tactic(auto)]
 
 mod job_requests;
@@ -12,8 +13,6 @@ mod reports;
 mod spec_changes;
 mod statuses;
 mod store;
-#[cfg(test)]
-mod tests;
 
 pub use pod_table::pods_among;
 pub use statuses::is_equal_status;

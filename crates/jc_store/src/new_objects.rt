@@ -1,7 +1,7 @@
 //! Jobs and pods as they are made.
 ghost use Rattle.std.specs.Prelude.{◌≡◌, ◌++◌, [], IfOk, OnOk, map, true};
 ghost use Rattle.jc_types.specs.declared.objects.Phase.TheVariants.{Pending};
-ghost use Rattle.jc_types.specs.Api.{empty_status, new_container, new_containers};
+ghost use Rattle.jc_log.specs.Requests.{empty_status, new_container, new_containers};
 
 use jc_moment::Moment;
 use jc_ranges::Ranges;

@@ -1,21 +1,22 @@
 //! The requests about pods.
-ghost use Rattle.std.specs.Prelude.{◌≡◌, ◌<◌, ◌-◌, ◌^◌, length};
-ghost use Rattle.jc_types.specs.Api.{GivesOrKeeps, create_pod_gives, let_go_gives, mark_pod_gives, release_gives, report_phase_gives};
+ghost use Rattle.std.specs.Prelude.{◌<◌, ◌-◌, ◌^◌, length};
+ghost use Rattle.jc_log.specs.Requests.{GivesOrKeeps, create_pod_gives, let_go_gives, mark_pod_gives, release_gives, report_phase_gives};
 
 use super::Store;
 use super::new_objects::new_pod;
-use super::pod_writes::{is_final, with_mark, without_finalizer};
+use super::pod_writes::{with_mark, without_finalizer};
 use super::reports::{first_unnamed, is_same_course, is_step_back, with_report};
 use jc_moment::Moment;
+use jc_states::{is_final, is_marked};
 use jc_types::{Copied, Job, Phase, PhaseChange, Reply, Uid, Version, Want};
 
 impl Store {
-    /// Creates a pod of a Job, Pending and with the finalizer of KEP-2307, and replies `Created`. It is accepted also where
-    /// the Job is gone. The log has fewer than 2^32 - 1 entries, so that the pod's serial fits.
+    /// Creates a pod of a Job, Pending and with the finalizer of KEP-2307, and replies `Created`.
+    /// It is accepted also where the Job is gone. The log has fewer than 2^32 - 1 entries, so that
+    /// the pod's serial fits.
     ///
     /// # Errors
-    ///
-    /// Want of memory; the log is then as before.
+    /// `Want` where there is no memory; the log is then as before.
     pub fn create_pod(
         &mut self,
         owner: &Job,
@@ -23,7 +24,8 @@ impl Store {
         now: Moment,
     ) -> Result<Reply, Want>
         requires { length self.old < 2 ^ 32 - 1 }
-        ensures { GivesOrKeeps self.old self.new (create_pod_gives self.old owner.now index now) result }
+        ensures { GivesOrKeeps self.old self.new
+            (create_pod_gives self.old owner.now index now) result }
     {
         let uid = self.next_uid();
         let version = self.next_version();
@@ -33,19 +35,18 @@ impl Store {
         Ok(Reply::Created { uid, version })
     }
 
-    /// Marks a pod for deletion, and replies `Written`, or `Unchanged` where it is marked already. Where there is no such
-    /// pod, it replies `NotFound`.
+    /// Marks a pod for deletion, and replies `Written`, or `Unchanged` where it is marked already.
+    /// Where there is no such pod, it replies `NotFound`.
     ///
     /// # Errors
-    ///
-    /// Want of memory; the log is then as before.
+    /// `Want` where there is no memory; the log is then as before.
     pub fn mark_pod(&mut self, pod: Uid, now: Moment) -> Result<Reply, Want>
         ensures { GivesOrKeeps self.old self.new (mark_pod_gives self.old pod now) result }
     {
         let Some(found) = self.pod(pod) else {
             return Ok(Reply::NotFound);
         };
-        if found.marked.is_some() {
+        if is_marked(found) {
             return Ok(Reply::Unchanged {
                 version: found.version,
             });
@@ -56,11 +57,11 @@ impl Store {
         Ok(Reply::Written { version })
     }
 
-    /// Takes a pod's finalizer, and replies `Released`. Where no pod with a finalizer has the UID, it replies `NotTracked`.
+    /// Takes a pod's finalizer, and replies `Released`. Where no pod with a finalizer has the UID,
+    /// it replies `NotTracked`.
     ///
     /// # Errors
-    ///
-    /// Want of memory; the log is then as before.
+    /// `Want` where there is no memory; the log is then as before.
     pub fn release(&mut self, pod: Uid) -> Result<Reply, Want>
         ensures { GivesOrKeeps self.old self.new (release_gives self.old pod) result }
     {
@@ -78,12 +79,11 @@ impl Store {
 
     /// Takes a pod's finalizer where the pod has the version, and replies `Released`.
     ///
-    /// It replies `NotFound` where there is no such pod, `Conflict` where it has another version, and `NotTracked` where it
-    /// has no finalizer.
+    /// It replies `NotFound` where there is no such pod, `Conflict` where it has another version,
+    /// and `NotTracked` where it has no finalizer.
     ///
     /// # Errors
-    ///
-    /// Want of memory; the log is then as before.
+    /// `Want` where there is no memory; the log is then as before.
     pub fn let_go(&mut self, pod: Uid, version: Version) -> Result<Reply, Want>
         ensures { GivesOrKeeps self.old self.new (let_go_gives self.old pod version) result }
     {
@@ -104,17 +104,18 @@ impl Store {
         Ok(Reply::Released { version })
     }
 
-    /// Reports a pod's phase, with exit codes, restarts and conditions, and replies `Written`, or `Unchanged` where all are
-    /// as before.
+    /// Reports a pod's phase, with exit codes, restarts and conditions, and replies `Written`, or
+    /// `Unchanged` where all are as before.
     ///
-    /// It replies `NotFound` where no pod has the UID, `Final` where the pod has succeeded or failed, `BadStep` where it
-    /// would go from Running back to Pending, and `NoContainer` with the first name that is none of its containers'.
+    /// It replies `NotFound` where no pod has the UID, `Final` where the pod has succeeded or
+    /// failed, `BadStep` where it would go from Running back to Pending, and `NoContainer` with the
+    /// first name that is none of its containers'.
     ///
     /// # Errors
-    ///
-    /// Want of memory; the log is then as before.
+    /// `Want` where there is no memory; the log is then as before.
     pub fn report_phase(&mut self, pod: Uid, change: &PhaseChange) -> Result<Reply, Want>
-        ensures { GivesOrKeeps self.old self.new (report_phase_gives self.old pod change.now) result }
+        ensures { GivesOrKeeps self.old self.new
+            (report_phase_gives self.old pod change.now) result }
     {
         let Some(found) = self.pod(pod) else {
             return Ok(Reply::NotFound);

@@ -2,7 +2,7 @@
 ghost use Rattle.std.specs.Prelude.{◌≡◌, ◌∷◌, List, reverse, filter, map, IfOk, OnOk};
 ghost use Rattle.jc_types.specs.declared.objects.Entry.{Entry};
 ghost use Rattle.jc_types.specs.Keys.{same_uid};
-ghost use Rattle.jc_types.specs.Log.{pods_in, pods_of};
+ghost use Rattle.jc_log.specs.Log.{pods_in, pods_of};
 
 use jc_table::PodTable;
 use jc_types::{Copied, Entry, Pod, Uid, Want};
@@ -10,7 +10,8 @@ use std::alloc::Global;
 
 // Takes one more entry into the table of a log.
 fn put_entry(pods: &mut PodTable, entry: &Entry) -> Result<(), Want>
-    ensures { OnOk result ((log : List Entry) → pods.old ≡ pods_in log → pods.new ≡ pods_in (entry.now ∷ log)) }
+    ensures { OnOk result ((log : List Entry)
+        → pods.old ≡ pods_in log → pods.new ≡ pods_in (entry.now ∷ log)) }
 {
     match entry {
         Entry::PodPut(pod) => {
@@ -49,7 +50,8 @@ fn listed(alloc: Global, table: &PodTable) -> Result<Vec<Pod>, Want>
 
 // The pods of one owner in a table, in its order.
 pub(super) fn owned(alloc: Global, table: &PodTable, owner: Uid) -> Result<Vec<Pod>, Want>
-    ensures { IfOk result (λ pods. pods.items ≡ filter (λ pod. same_uid pod.owner_uid owner) table.now) }
+    ensures { IfOk result (λ pods.
+        pods.items ≡ filter (λ pod. same_uid pod.owner_uid owner) table.now) }
 {
     let mut pods = listed(alloc, table)?;
     pods.retain(|pod| pod.owner_uid.0 == owner.0);
@@ -59,8 +61,7 @@ pub(super) fn owned(alloc: Global, table: &PodTable, owner: Uid) -> Result<Vec<P
 /// The pods of one owner that are there by a log, in ascending UID. The log stands oldest first.
 ///
 /// # Errors
-///
-/// Want of memory.
+/// `Want` where there is no memory.
 pub fn pods_among(alloc: Global, log: &[Entry], owner: Uid) -> Result<Vec<Pod>, Want>
     ensures { IfOk result (λ pods. pods.items ≡ pods_of owner (reverse log.now)) }
 {

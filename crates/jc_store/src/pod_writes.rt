@@ -1,26 +1,8 @@
-//! What a write of a pod leaves, and the entry that it makes.
+//! What a write of a pod leaves.
 ghost use Rattle.std.specs.Prelude.{◌≡◌, IfOk, false};
-ghost use Rattle.jc_types.specs.Pods.{goes, is_final};
 
 use jc_moment::Moment;
-use jc_types::{Copied, Phase, Pod, Version, Want};
-
-// Whether the phase is one that a pod never leaves.
-pub(super) fn is_final(phase: Phase) -> bool
-    ensures { result ≡ is_final phase }
-{
-    match phase {
-        Phase::Pending | Phase::Running => false,
-        Phase::Succeeded | Phase::Failed => true,
-    }
-}
-
-// Whether the pod is marked, has ended and has no finalizer.
-pub(super) fn goes(pod: &Pod) -> bool
-    ensures { result ≡ goes pod.now }
-{
-    pod.marked.is_some() && !pod.tracked && is_final(pod.phase)
-}
+use jc_types::{Copied, Pod, Version, Want};
 
 // The pod marked for deletion.
 pub(super) fn with_mark(pod: &Pod, version: Version, now: Moment) -> Result<Pod, Want>

@@ -3,10 +3,10 @@ ghost use Rattle.std.specs.Prelude.{◌≡◌, ◌&&◌, IfOk, fold, map, nat_eq
 ghost use Rattle.std.specs.Cmp.Lexicographic.{pointwise};
 ghost use Rattle.std.specs.List.{list_any};
 ghost use Rattle.jc_types.specs.declared.objects.Phase.TheVariants.{Pending, Running};
-ghost use Rattle.jc_types.specs.Api.{changed_by, changed_container, given_exit, is_unnamed, named, put_pattern, same_course_of};
-ghost use Rattle.jc_types.specs.Sames.{same_phase};
-ghost use Rattle.jc_types.specs.Sames.{same_container, same_pattern};
+ghost use Rattle.jc_log.specs.Requests.{changed_by, changed_container, given_exit, is_unnamed, named, put_pattern, same_course_of};
+ghost use Rattle.jc_types.specs.Equality.{same_phase, same_container, same_pattern};
 
+use jc_states::is_same_phase;
 use jc_types::{
     Container, ContainerChange, Containers, Copied, Name, Pattern, Patterns, Phase, PhaseChange,
     Pod, Same, Text, Version, Want,
@@ -147,13 +147,6 @@ fn has_container(pod: &Pod, name: &Name) -> bool
         .as_slice()
         .iter()
         .any(|container| container.name == *name)
-}
-
-// Whether the phases are the same.
-fn is_same_phase(left: Phase, right: Phase) -> bool
-    ensures { result ≡ same_phase left right }
-{
-    left == right
 }
 
 // Whether a report would take the pod from Running back to Pending.

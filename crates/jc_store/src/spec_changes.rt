@@ -1,7 +1,7 @@
 //! Changes of a Job's specification.
 ghost use Rattle.std.specs.Prelude.{◌≡◌, IfOk, nat_eq};
-ghost use Rattle.jc_types.specs.Api.{changed_spec, given_or, is_other, update_refusal};
-ghost use Rattle.jc_types.specs.Sames.{same_bool, same_limits, same_option};
+ghost use Rattle.jc_log.specs.Requests.{changed_spec, given_or, is_other, update_refusal};
+ghost use Rattle.jc_types.specs.Equality.{same_bool, same_limits, same_option};
 
 use jc_manifest::{UpdateFault, check_update};
 use jc_types::{Copied, JobSpec, Reply, SpecChange, Version, Want};

@@ -1,6 +1,6 @@
 //! Tests of equality.
 ghost use Rattle.std.specs.Prelude.{◌≡◌, Bool};
-ghost use Rattle.jc_types.specs.Sames.{same_status};
+ghost use Rattle.jc_types.specs.Equality.{same_status};
 
 use jc_types::{JobStatus, Same};
 

@@ -2,17 +2,17 @@
 ghost use Rattle.std.specs.Prelude.{◌≡◌, ◌<◌, ◌+◌, ◌-◌, ◌^◌, ◌∷◌, ◌++◌, [], reverse, length, option_copied, find, nat_le, false, true, IfOk, IsSome, OnOk, OnErr, None};
 ghost use Rattle.jc_types.specs.declared.numbers.Uid.{Uid};
 ghost use Rattle.jc_types.specs.declared.objects.Entry.TheVariants.{JobGone, JobPut, PodGone, PodPut};
-ghost use Rattle.jc_types.specs.Api.{pod_entry};
+ghost use Rattle.jc_log.specs.Requests.{pod_entry};
 ghost use Rattle.jc_types.specs.Keys.{same_key, same_uid};
-ghost use Rattle.jc_types.specs.Log.{RowsRise, births, entry_at, job_in, jobs_in, life, made_for, next_uid, next_version, pod_in, pods_in, pods_of, put_pod};
-ghost use Rattle.jc_types.specs.Pods.{goes};
-ghost use Rattle.jc_types.specs.Tables.{at, puts};
-ghost use Rattle.jc_types.specs.Writes.{CanEnd, CanGo, IsNewPod, Stored};
+ghost use Rattle.jc_log.specs.Log.{RowsRise, births, entry_at, job_in, jobs_in, life, made_for, next_uid, next_version, pod_in, pods_in, pods_of};
+ghost use Rattle.jc_states.specs.PodLists.{put_pod};
+ghost use Rattle.jc_states.specs.Pods.{goes};
+ghost use Rattle.jc_log.specs.Tables.{at, puts};
+ghost use Rattle.jc_log.specs.Writes.{CanEnd, CanGo, IsNewJob, IsNewPod, StepsFrom, Stored};
 ghost use Rattle.jc_store.specs.Kept.{count_of};
-ghost use Rattle.jc_store.specs.Steps.{StepsFrom};
 
 use super::pod_table::owned;
-use super::pod_writes::goes;
+use jc_states::goes;
 use jc_table::{PodTable, Table};
 use jc_types::{Copied, Entries, Entry, Job, Key, Pod, Uid, Version, Want};
 use std::alloc::Global;
@@ -155,7 +155,8 @@ impl Store {
         self.pods.get(pod)
     }
 
-    /// The pod that is there with the least UID from this one on. There is none where all are below it.
+    /// The pod that is there with the least UID from this one on. There is none where all are below
+    /// it.
     pub fn pod_at_or_after(&self, uid: Uid) -> Option<&Pod>
         ensures { option_copied result ≡ find (λ pod. nat_le uid.0 pod.uid.0) (pods_in self.now) }
     {
@@ -180,8 +181,7 @@ impl Store {
     /// The pods of an owner that are there, in ascending UID.
     ///
     /// # Errors
-    ///
-    /// Want of memory.
+    /// `Want` where there is no memory.
     pub fn pods_of(&self, owner: Uid) -> Result<Vec<Pod>, Want>
         ensures { IfOk result (λ pods. pods.items ≡ pods_of owner self.now) }
     {
@@ -217,7 +217,7 @@ impl Store {
     // Makes a Job, where its key has none.
     pub(super) fn make_job(&mut self, job: Job) -> Result<(), Want>
         requires version { job.version ≡ next_version self.old }
-        requires uid { job.uid ≡ next_uid self.old }
+        requires new_job { IsNewJob self.old job }
         requires absent { job_in job.key self.old ≡ None }
         ensures added { OnOk result (self.new ≡ JobPut job ∷ self.old) }
         ensures kept { OnErr result (self.new ≡ self.old) }

@@ -1,1 +1,2 @@
 mod PodRows
+pub mod ResultFacts

@@ -3,7 +3,7 @@
 ghost use Rattle.std.specs.Prelude.{◌≡◌, ◌<◌, ◌^◌, ◌↔◌, [], IsSome, IsTrue, None, OnErr, OnOk, Some, is_some, length, map, slice_get};
 ghost use Rattle.std.specs.Map.Iter.{ShowsInOrder, deref, deref_pair};
 ghost use Rattle.std.specs.Option.{option_copied, option_map};
-ghost use Rattle.jc_types.specs.Tables.{at, puts, takes, Sets};
+ghost use Rattle.jc_log.specs.Tables.{at, puts, takes, Sets};
 
 use indexmap::IndexMap;
 use indexmap::map::Values;
@@ -12,8 +12,8 @@ use std::alloc::Global;
 use std::hash::Hash;
 use std::marker::Model;
 
-/// A table: rows of a key and a value, each key in one row. A new key's row goes last, a value that is
-/// written again stays in its place, and a row that is taken leaves the others in their order.
+/// A table: rows of a key and a value, each key in one row. A new key's row goes last, a value that
+/// is written again stays in its place, and a row that is taken leaves the others in their order.
 #[derive(Drop)]
 pub struct Table<K: Eq + Hash, V> {
     rows: IndexMap<K, V>,
@@ -84,7 +84,8 @@ impl<K: Eq + Hash, V> Table<K, V> {
 }
 
 impl<K: Eq + Hash + Drop, V: Drop> Table<K, V> {
-    /// Writes the value at the key: in the place of the one that is there, or in a new row at the end.
+    /// Writes the value at the key: in the place of the one that is there, or in a new row at the
+    /// end.
     ///
     /// # Errors
     /// `Want` where there is no memory for a new row; the table is then as before.
@@ -110,8 +111,8 @@ impl<K: Eq + Hash + Drop, V: Drop> Table<K, V> {
         *place = value;
     }
 
-    /// Takes the row of the key out, and hands over its value; `None` exactly where no row has the key.
-    /// The other rows stay in their order.
+    /// Takes the row of the key out, and hands over its value; `None` exactly where no row has the
+    /// key. The other rows stay in their order.
     pub fn take(&mut self, key: &K) -> Option<V>
         ensures taken { result ≡ at K.eq self.old key.now }
         ensures sets { Sets K.eq self.old self.new key.now None }

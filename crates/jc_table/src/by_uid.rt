@@ -5,8 +5,8 @@ ghost use Rattle.std.specs.Map.Iter.{ShowsInOrder, deref};
 ghost use Rattle.std.specs.Option.{option_copied};
 ghost use Rattle.jc_types.specs.declared.objects.Pod.{Pod};
 ghost use Rattle.jc_types.specs.Keys.{same_uid};
-ghost use Rattle.jc_types.specs.Log.{IsRising, drop_pod, put_pod};
-ghost use Rattle.jc_table.specs.Rows.{IsInOrder, place_from, pods_of};
+ghost use Rattle.jc_states.specs.PodLists.{IsRising, drop_pod, put_pod};
+ghost use Rattle.jc_table.specs.Rows.{IsInOrder, place_from, pods_in_rows};
 
 use indexmap::IndexMap;
 use indexmap::map::Values;
@@ -24,19 +24,19 @@ pub struct PodTable {
 impl Model for PodTable {
     ghost use Rattle.std.specs.Prelude.{List};
     ghost use Rattle.jc_types.specs.declared.objects.Pod.{Pod};
-    ghost use Rattle.jc_table.specs.Rows.{pods_of, IsInOrder};
+    ghost use Rattle.jc_table.specs.Rows.{pods_in_rows, IsInOrder};
 
     ghost Value = { List Pod };
 
-    ghost view = { λ t. pods_of t.rows.entries };
+    ghost view = { λ t. pods_in_rows t.rows.entries };
 
     ghost invariant = { λ t. IsInOrder t.rows.entries };
 }
 
-/// The place of the first pod whose UID is at least this one, found by halving.
+// The place of the first pod whose UID is at least this one, found by halving.
 fn place_from(rows: &IndexMap<Uid, Pod>, uid: Uid) -> usize
     requires { IsInOrder rows.now.entries }
-    ensures { result ≡ place_from uid (pods_of rows.now.entries) }
+    ensures { result ≡ place_from uid (pods_in_rows rows.now.entries) }
 {
     rows.partition_point(|row_uid, _pod| row_uid.0 < uid.0)
 }

@@ -6,10 +6,9 @@
 
 mod by_key;
 mod by_uid;
+mod keys;
 
 pub use by_key::Table;
 pub use by_uid::PodTable;
 pub use indexmap::map::Values;
-
-#[cfg(test)]
-mod tests;
+pub use keys::has_key;

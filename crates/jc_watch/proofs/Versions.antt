@@ -2,7 +2,7 @@
 use Rattle.std.proofs.Common.{◌≡◌, ◌<◌, ◌≤◌, ◌+◌, ℕ, Bool, true, false, cond, eqb, List, [], ◌∷◌, length, Some, None, refl, arith}
 use Rattle.std.proofs.lemmas.Bool.{eqb-false}
 use Rattle.jc_types.specs.declared.objects.Entry.{Entry}
-use Rattle.jc_types.specs.Log.{entry_at}
+use Rattle.jc_log.specs.Log.{entry_at}
 
 below : (v n : ℕ) → v ≤ n + 1 → (n + 1 ≡ v → ⊥) → v ≤ n
 below v n h other = omega (arith, h, other)

@@ -1,5 +1,5 @@
-//! What a client sees of the store: lists of all objects of a kind, and the entries that come after a version (the list
-//! and the watch of Kubernetes' API).
+//! What a client sees of the store: lists of all objects of a kind, and the entries that come after
+//! a version (the list and the watch of Kubernetes' API).
 #![tactic(auto)]
 
 mod lists;
@@ -9,6 +9,3 @@ mod watch;
 pub use lists::{list_jobs, list_pods};
 pub use told::Next;
 pub use watch::next;
-
-#[cfg(test)]
-mod tests;

@@ -1,7 +1,8 @@
 //! All objects of a kind.
 
 ghost use Rattle.std.specs.Prelude.{◌≡◌, IfOk, length, map};
-ghost use Rattle.jc_types.specs.Log.{IsRising, RowsRise, jobs_in, pods_in};
+ghost use Rattle.jc_states.specs.PodLists.{IsRising};
+ghost use Rattle.jc_log.specs.Log.{RowsRise, jobs_in, pods_in};
 
 use jc_store::Store;
 use jc_types::{Copied, Jobs, Pods, Version, Want};

@@ -1,7 +1,7 @@
 use Rattle.std.proofs.Common.{rules, tests}
 use Rattle.std.proofs.lemmas.Iterator.{YieldsList-from_slice}
 use Rattle.std.proofs.lemmas.Iterator.Consumers.{YieldsList-at, YieldsList-from_filter, count_from_yields_List}
-use Rattle.jc_types.specs.Pods.{is_active}
+use Rattle.jc_states.specs.Pods.{is_active}
 use Rattle.jc_play.proofs.counting.active_among.Goals as goal
 
 pub returns-clause-active : goal.returns-clause-active

@@ -1,5 +1,5 @@
 use Rattle.std.proofs.Common.{◌≡◌, map, take}
-use Rattle.jc_types.specs.Api.{changed_container}
+use Rattle.jc_log.specs.Requests.{changed_container}
 use Rattle.jc_store.proofs.reports.changed_containers.Given as goal
 
 abbrev pub invariant-loop-container : goal.invariant-loop-container

@@ -1,6 +1,6 @@
 use Rattle.std.specs.Cmp.Lexicographic.{pointwise}
-use Rattle.jc_types.specs.Sames.{same_pattern}
-use Rattle.jc_types.proofs.SameFacts.{patterns-exact, same_from_exact}
+use Rattle.jc_types.specs.Equality.{same_pattern}
+use Rattle.jc_types.proofs.EqualityFacts.{patterns-exact, same_from_exact}
 use Rattle.jc_store.proofs.reports.is_same_conditions.Goals as goal
 
 pub returns : goal.returns

@@ -1,6 +1,6 @@
 use Rattle.std.specs.Cmp.Lexicographic.{pointwise}
-use Rattle.jc_types.specs.Sames.{same_container}
-use Rattle.jc_types.proofs.SameFacts.{containers-exact, same_from_exact}
+use Rattle.jc_types.specs.Equality.{same_container}
+use Rattle.jc_types.proofs.EqualityFacts.{containers-exact, same_from_exact}
 use Rattle.jc_store.proofs.reports.is_same_containers.Goals as goal
 
 pub returns : goal.returns

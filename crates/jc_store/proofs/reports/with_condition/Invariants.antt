@@ -1,5 +1,5 @@
 use Rattle.std.proofs.Common.{◌≡◌, ◌++◌, drop}
-use Rattle.jc_types.specs.Api.{put_pattern}
+use Rattle.jc_log.specs.Requests.{put_pattern}
 use Rattle.jc_store.proofs.Patterns.{rest_of}
 use Rattle.jc_store.proofs.reports.with_condition.Given as goal
 

@@ -1,6 +1,6 @@
 use Rattle.std.proofs.Common.{◌≡◌, take}
 use Rattle.std.specs.Prelude.{fold}
-use Rattle.jc_types.specs.Api.{put_pattern}
+use Rattle.jc_log.specs.Requests.{put_pattern}
 use Rattle.jc_store.proofs.reports.with_conditions.Given as goal
 
 abbrev pub invariant-loop-pattern : goal.invariant-loop-pattern

@@ -1,5 +1,5 @@
-use Rattle.jc_types.specs.Sames.{same_status}
-use Rattle.jc_types.proofs.SameFacts.{same_from_exact, status-exact}
+use Rattle.jc_types.specs.Equality.{same_status}
+use Rattle.jc_types.proofs.EqualityFacts.{same_from_exact, status-exact}
 use Rattle.jc_store.proofs.statuses.is_equal_status.Goals as goal
 
 pub returns : goal.returns

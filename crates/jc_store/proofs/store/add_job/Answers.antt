@@ -1,9 +1,9 @@
 -- A row that was put where there was none is taken again.
 use Rattle.std.proofs.Common.{ap, ◌∙◌}
 use Rattle.jc_types.specs.Keys.{same_key}
-use Rattle.jc_types.specs.Tables.{takes}
+use Rattle.jc_log.specs.Tables.{takes}
 use Rattle.jc_types.proofs.KeyFacts.{same_key-itself}
-use Rattle.jc_types.proofs.TableFacts.{takes-puts}
+use Rattle.jc_log.proofs.TableFacts.{takes-puts}
 use Rattle.jc_store.proofs.store.add_job.Goals as goal
 
 pub returns-clause-row_kept : goal.returns-clause-row_kept

@@ -1,7 +1,7 @@
 -- A pod that was put where none had its UID is taken again.
 use Rattle.std.proofs.Common.{ap, ◌∙◌}
-use Rattle.jc_types.specs.Log.{drop_pod}
-use Rattle.jc_store.proofs.Keeps.{drop-put}
+use Rattle.jc_states.specs.PodLists.{drop_pod}
+use Rattle.jc_states.proofs.PodListFacts.{drop-put}
 use Rattle.jc_store.proofs.store.add_pod.Goals as goal
 
 pub returns-in-Err-clause-row_kept : goal.returns-in-Err-clause-row_kept

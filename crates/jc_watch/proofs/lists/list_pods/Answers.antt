@@ -1,5 +1,5 @@
 -- The pods of a log rise.
-use Rattle.jc_types.proofs.PodFacts.{pods_in-rises}
+use Rattle.jc_log.proofs.PodFacts.{pods_in-rises}
 use Rattle.jc_watch.proofs.lists.list_pods.Goals as goal
 
 pub returns-clause-rising : goal.returns-clause-rising

@@ -1,6 +1,6 @@
 use Rattle.std.proofs.Common.{◌∙◌, ◌<◌, ◌-◌, ◌^◌, ap, sym, subst, List, length, refl, reverse}
 use Rattle.jc_types.specs.declared.objects.Entry.{Entry}
-use Rattle.jc_types.specs.Api.{create_pod_gives}
+use Rattle.jc_log.specs.Requests.{create_pod_gives}
 use Rattle.jc_play.specs.Deeds.{deeds_of, noted}
 use Rattle.jc_play.proofs.Logs.{seen_log, answered, all_written}
 use Rattle.jc_play.proofs.journal.Journal.create_pod.Goals as goal

@@ -1,5 +1,5 @@
 use Rattle.std.proofs.Common.{◌∙◌, ap}
-use Rattle.jc_types.specs.Log.{job_in}
+use Rattle.jc_log.specs.Log.{job_in}
 use Rattle.jc_play.proofs.Logs.{seen_log}
 use Rattle.jc_play.proofs.journal.Journal.job.Goals as goal
 

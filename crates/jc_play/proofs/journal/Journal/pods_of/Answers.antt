@@ -1,6 +1,6 @@
 use Rattle.std.proofs.Common.{◌∙◌, ap}
 use Rattle.std.proofs.lemmas.Result.{IfOk-weaker}
-use Rattle.jc_types.specs.Log.{pods_of}
+use Rattle.jc_log.specs.Log.{pods_of}
 use Rattle.jc_play.proofs.Logs.{seen_log}
 use Rattle.jc_play.proofs.journal.Journal.pods_of.Goals as goal
 

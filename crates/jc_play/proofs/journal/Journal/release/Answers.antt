@@ -1,5 +1,5 @@
 use Rattle.std.proofs.Common.{◌∙◌, ap, length, refl, reverse}
-use Rattle.jc_types.specs.Api.{release_gives}
+use Rattle.jc_log.specs.Requests.{release_gives}
 use Rattle.jc_play.specs.Deeds.{deeds_of, noted}
 use Rattle.jc_play.proofs.Logs.{answered, all_written}
 use Rattle.jc_play.proofs.journal.Journal.release.Goals as goal

@@ -1,5 +1,5 @@
 use Rattle.std.proofs.Common.{◌∙◌, ap, length, refl, reverse}
-use Rattle.jc_types.specs.Api.{report_phase_gives}
+use Rattle.jc_log.specs.Requests.{report_phase_gives}
 use Rattle.jc_play.specs.declared.writers.Writer.TheVariants.{Script}
 use Rattle.jc_play.specs.Deeds.{deeds_of, noted}
 use Rattle.jc_play.proofs.Logs.{answered, all_written}

@@ -1,6 +1,6 @@
 use Rattle.std.proofs.Common.{arith, reverse, ap, length, ◌∙◌}
-use Rattle.jc_types.specs.Log.{births}
-use Rattle.jc_store.proofs.Births.{births_within}
+use Rattle.jc_log.specs.Log.{births}
+use Rattle.jc_log.proofs.CountFacts.{births_within}
 use Rattle.jc_store.proofs.store.Store.born.Goals as goal
 
 pub returns-clause-value : goal.returns-clause-value

@@ -1,5 +1,5 @@
 use Rattle.std.proofs.Common.{ap}
-use Rattle.jc_store.proofs.Steps.{ends_from_job, version_step}
+use Rattle.jc_log.proofs.StepFacts.{ends_from_job, version_step}
 use Rattle.jc_store.proofs.store.Store.delete_job.Goals as goal
 
 pub end_job-requires-clause-end : goal.end_job-requires-clause-end

@@ -1,6 +1,6 @@
 use Rattle.std.proofs.Common.{ap, ◌∙◌}
 use Rattle.jc_types.specs.Keys.{same_key}
-use Rattle.jc_types.specs.Tables.{takes}
+use Rattle.jc_log.specs.Tables.{takes}
 use Rattle.jc_store.proofs.Keeps.{end_job-keeps}
 use Rattle.jc_store.proofs.store.Store.end_job.Goals as goal
 

@@ -1,5 +1,5 @@
 use Rattle.std.proofs.Common.{sym, ap, reverse, ◌∙◌}
-use Rattle.jc_types.specs.Log.{entry_at}
+use Rattle.jc_log.specs.Log.{entry_at}
 use Rattle.jc_store.proofs.Versions.{entry_at-zero, entry_read}
 use Rattle.jc_store.proofs.store.Store.entry.Goals as goal
 

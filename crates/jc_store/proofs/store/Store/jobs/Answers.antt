@@ -1,7 +1,7 @@
 use Rattle.std.proofs.Common.{ap, sym, subst, ◌∙◌}
-use Rattle.jc_types.specs.Log.{RowsRise, jobs_in}
-use Rattle.jc_types.specs.Writes.{Stored}
-use Rattle.jc_types.proofs.JobFacts.{jobs_in-rise}
+use Rattle.jc_log.specs.Log.{RowsRise, jobs_in}
+use Rattle.jc_log.specs.Writes.{Stored}
+use Rattle.jc_log.proofs.JobFacts.{jobs_in-rise}
 use Rattle.jc_store.proofs.store.Store.jobs.Goals as goal
 
 pub returns-clause-rows : goal.returns-clause-rows

@@ -1,4 +1,4 @@
-use Rattle.jc_store.proofs.Steps.{goes_from_pod, release_step}
+use Rattle.jc_log.proofs.StepFacts.{goes_from_pod, release_step}
 use Rattle.jc_store.proofs.store.Store.let_go.Goals as goal
 
 pub put_pod-requires-clause-step : goal.put_pod-requires-clause-step

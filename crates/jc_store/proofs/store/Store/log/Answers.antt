@@ -1,5 +1,5 @@
 use Rattle.std.proofs.Common.{subst}
-use Rattle.jc_types.specs.Writes.{Stored}
+use Rattle.jc_log.specs.Writes.{Stored}
 use Rattle.jc_store.proofs.store.Store.log.Goals as goal
 
 pub returns-clause-stored : goal.returns-clause-stored

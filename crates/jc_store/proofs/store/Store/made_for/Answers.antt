@@ -1,6 +1,6 @@
 use Rattle.std.proofs.Common.{ap, ◌∙◌}
 use Rattle.std.specs.Prelude.{unwrap_or}
-use Rattle.jc_types.specs.Log.{made_for}
+use Rattle.jc_log.specs.Log.{made_for}
 use Rattle.jc_store.proofs.store.Store.made_for.Goals as goal
 
 pub returns : goal.returns

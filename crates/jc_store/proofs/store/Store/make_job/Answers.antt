@@ -1,7 +1,7 @@
 use Rattle.std.proofs.Common.{◌+◌, ◌++◌, ◌∷◌, [], ap, ◌∙◌}
 use Rattle.jc_types.specs.declared.objects.Entry.TheVariants.{JobPut}
 use Rattle.jc_types.specs.Keys.{same_key}
-use Rattle.jc_types.specs.Tables.{at, puts}
+use Rattle.jc_log.specs.Tables.{at, puts}
 use Rattle.jc_store.proofs.Keeps.{job_there, make_job-keeps}
 use Rattle.jc_store.proofs.store.Store.make_job.Goals as goal
 
@@ -17,4 +17,4 @@ invariant_of-self-2 c =
     c.self.inside.log c.add_job.new.log c.args.self.now c.args.job c.self.invariant c.self.view_is
     (c.in_ok-add_job.ensures.entry ∙ ap (λ j. c.self.inside.log ++ JobPut j ∷ []) c.in_ok-copy.ensures)
     (c.in_ok-add_job.ensures.row ∙ ap (λ k. puts same_key c.self.inside.jobs k c.args.job) c.in_ok-key.ensures)
-    (ap (λ n. n + 1) c.born-born.ensures.value) c.requires.version c.requires.uid c.requires.absent
+    (ap (λ n. n + 1) c.born-born.ensures.value) c.requires.version c.requires.new_job c.requires.absent

@@ -1,8 +1,9 @@
 use Rattle.std.proofs.Common.{◌+◌, ◌++◌, ◌∷◌, [], ap, sym, subst, ◌∙◌, arith}
 use Rattle.jc_types.specs.declared.objects.Entry.TheVariants.{PodPut}
-use Rattle.jc_types.specs.Log.{living, made_for}
-use Rattle.jc_types.specs.Writes.{Stored}
-use Rattle.jc_store.proofs.Births.{made_within, new_never}
+use Rattle.jc_log.specs.Log.{living, made_for}
+use Rattle.jc_log.specs.Writes.{Stored}
+use Rattle.jc_log.proofs.CountFacts.{made_within}
+use Rattle.jc_log.proofs.AppendFacts.{new_never}
 use Rattle.jc_store.proofs.Keeps.{make_pod-keeps, pod_there}
 use Rattle.jc_store.proofs.store.Store.make_pod.Goals as goal
 

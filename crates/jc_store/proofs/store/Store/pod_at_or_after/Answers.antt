@@ -1,7 +1,7 @@
 use Rattle.std.proofs.Common.{ap, ◌∙◌}
 use Rattle.std.specs.Prelude.{find, nat_le}
 use Rattle.jc_types.specs.declared.objects.Pod.{Pod}
-use Rattle.jc_types.specs.Log.{pods_in}
+use Rattle.jc_log.specs.Log.{pods_in}
 use Rattle.jc_store.proofs.store.Store.pod_at_or_after.Goals as goal
 
 pub returns : goal.returns

@@ -1,5 +1,5 @@
 use Rattle.std.proofs.Common.{ap, ◌∙◌}
-use Rattle.jc_types.specs.Log.{pods_in}
+use Rattle.jc_log.specs.Log.{pods_in}
 use Rattle.jc_store.proofs.store.Store.pods.Goals as goal
 
 pub returns : goal.returns

@@ -1,7 +1,7 @@
 use Rattle.std.proofs.Common.{◌∷◌, ◌++◌, [], IsSome, ap, sym, subst, ◌∙◌}
 use Rattle.jc_types.specs.declared.objects.Entry.TheVariants.{JobPut}
 use Rattle.jc_types.specs.Keys.{same_key}
-use Rattle.jc_types.specs.Tables.{at, puts}
+use Rattle.jc_log.specs.Tables.{at, puts}
 use Rattle.jc_store.proofs.Keeps.{job_row, put_job-keeps}
 use Rattle.jc_store.proofs.store.Store.put_job.Goals as goal
 

@@ -1,5 +1,5 @@
 use Rattle.std.proofs.Common.{sym, ◌∙◌}
-use Rattle.jc_store.proofs.Steps.{goes_from_pod, report_step}
+use Rattle.jc_log.proofs.StepFacts.{goes_from_pod, report_step}
 use Rattle.jc_store.proofs.store.Store.report_phase.Goals as goal
 
 pub put_pod-requires-clause-step : goal.put_pod-requires-clause-step

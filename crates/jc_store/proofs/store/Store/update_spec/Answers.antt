@@ -1,4 +1,4 @@
-use Rattle.jc_store.proofs.Steps.{spec_step, steps_from_job}
+use Rattle.jc_log.proofs.StepFacts.{spec_step, steps_from_job}
 use Rattle.jc_store.proofs.store.Store.update_spec.Goals as goal
 
 pub put_job-requires-clause-step : goal.put_job-requires-clause-step

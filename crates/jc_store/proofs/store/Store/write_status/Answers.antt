@@ -1,4 +1,4 @@
-use Rattle.jc_store.proofs.Steps.{status_step, steps_from_job}
+use Rattle.jc_log.proofs.StepFacts.{status_step, steps_from_job}
 use Rattle.jc_store.proofs.store.Store.write_status.Goals as goal
 
 pub put_job-requires-clause-step : goal.put_job-requires-clause-step

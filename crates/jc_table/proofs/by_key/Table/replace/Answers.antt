@@ -1,6 +1,6 @@
 use Rattle.std.proofs.Common.{ap, ◌∙◌}
 use Rattle.std.specs.Map.{set_value}
-use Rattle.jc_types.proofs.TableFacts.{set_value-puts}
+use Rattle.jc_log.proofs.TableFacts.{set_value-puts}
 use Rattle.jc_table.proofs.by_key.Table.replace.Goals as goal
 
 -- The key is there, so that its value is set in its place.

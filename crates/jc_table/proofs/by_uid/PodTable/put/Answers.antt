@@ -1,9 +1,10 @@
 use Rattle.std.proofs.Common.{◌≡◌, ◌≤◌, None, ap, arith, find, is_some, length, subst, sym, ◌∙◌}
-use Rattle.jc_types.proofs.PodFacts.{rises_put}
+use Rattle.jc_states.proofs.PodListFacts.{rises_put}
 use Rattle.jc_types.specs.Keys.{same_uid}
-use Rattle.jc_types.specs.Log.{put_pod}
-use Rattle.jc_table.specs.Rows.{pods_of}
-use Rattle.jc_table.proofs.PodRows.{get-is, in_order, insert-is, none_from_false, on_err, place-fits, pods_of-rows_of, rising}
+use Rattle.jc_states.specs.PodLists.{put_pod}
+use Rattle.jc_table.specs.Rows.{pods_in_rows}
+use Rattle.jc_table.proofs.PodRows.{get-is, in_order, insert-is, none_from_false, place-fits, pods_in_rows-pod_rows, rising}
+use Rattle.jc_table.proofs.ResultFacts.{on_err}
 use Rattle.jc_table.proofs.by_uid.PodTable.put.Goals as goal
 
 pub replace-requires : goal.replace-requires
@@ -30,7 +31,7 @@ invariant_of-self-2 c =
 
 pub returns-clause-puts : goal.returns-clause-puts
 returns-clause-puts c =
-    ap pods_of
+    ap pods_in_rows
     (insert-is c.self.inside.rows.entries c.args.self.now c.self.invariant c.self.view_is c.args.pod c.shift_insert.new.self.entries c.place_from-place.result
     (none_from_false _ (sym c.contains_key.ensures ∙ c.if-contains_key.false)) c.place_from-place.ensures c.in_ok-shift_insert.ensures.entries)
-    ∙ pods_of-rows_of (put_pod c.args.pod c.args.self.now)
+    ∙ pods_in_rows-pod_rows (put_pod c.args.pod c.args.self.now)

@@ -1,9 +1,9 @@
 use Rattle.std.proofs.Common.{ap, arith, sym, is_some, true≢false, ◌∙◌}
 use Rattle.std.specs.Option.{option_copied_mut}
-use Rattle.jc_types.proofs.PodFacts.{rises_put}
-use Rattle.jc_types.specs.Log.{put_pod}
-use Rattle.jc_table.specs.Rows.{pods_of}
-use Rattle.jc_table.proofs.PodRows.{get-is, in_order, pods_of-rows_of, rising, set-is}
+use Rattle.jc_states.proofs.PodListFacts.{rises_put}
+use Rattle.jc_states.specs.PodLists.{put_pod}
+use Rattle.jc_table.specs.Rows.{pods_in_rows}
+use Rattle.jc_table.proofs.PodRows.{get-is, in_order, pods_in_rows-pod_rows, rising, set-is}
 use Rattle.jc_table.proofs.by_uid.PodTable.replace.Goals as goal
 
 pub unreachable-requires : goal.unreachable-requires
@@ -23,5 +23,5 @@ invariant_of-self c =
 pub returns : goal.returns
 returns c =
     let new = c.get_mut.follows.holds c.args.pod in
-    ap pods_of (set-is c.self.inside.rows.entries c.args.self.now c.self.invariant c.self.view_is c.args.pod _ c.requires new.0)
-    ∙ pods_of-rows_of (put_pod c.args.pod c.args.self.now)
+    ap pods_in_rows (set-is c.self.inside.rows.entries c.args.self.now c.self.invariant c.self.view_is c.args.pod _ c.requires new.0)
+    ∙ pods_in_rows-pod_rows (put_pod c.args.pod c.args.self.now)
