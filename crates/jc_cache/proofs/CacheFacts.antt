@@ -1,6 +1,5 @@
 -- What the rows of a cache are once one more object is put or dropped.
-use Rattle.std.proofs.Common.{◌≡◌, ℕ, ◌+◌, ◌<◌, ◌≤◌, zero, suc, nat_lt, Bool, true, false, cond, not, ◌==◌, List, [], ◌∷◌, ◌++◌, filter, length, take, Option, Some, None, is_some, refl, sym, ap, subst, ◌∙◌, arith, true≢false, ltb-true, lt-ltb, le-ltb, ne_eqb}
-use Rattle.std.specs.Prelude.{OnErr, Result, Ok, Err}
+use Rattle.std.proofs.Common.{◌≡◌, ℕ, ◌+◌, ◌≤◌, zero, suc, nat_lt, Bool, true, false, cond, not, ◌==◌, List, [], ◌∷◌, ◌++◌, filter, length, take, Option, Some, None, is_some, refl, sym, ap, subst, ◌∙◌, arith, true≢false, ltb-true, le-ltb, ne_eqb}
 use Rattle.std.specs.Map.{set_value}
 use Rattle.std.specs.List.{AllByRecursion as Each}
 use Rattle.std.specs.Option.{option_map_or}
@@ -11,22 +10,25 @@ use Rattle.jc_types.specs.declared.objects.Job.{Job}
 use Rattle.jc_types.specs.declared.objects.Key.{Key}
 use Rattle.jc_types.specs.declared.objects.Pod.{Pod}
 use Rattle.jc_types.specs.Keys.{same_key, same_uid}
-use Rattle.jc_types.specs.Log.{Live, life, put_pod, drop_pod, pods_in, pods_under, RisesFrom, IsRising}
-use Rattle.jc_types.specs.Tables.{at, puts, Sets}
-use Rattle.jc_types.specs.Writes.{PodStep, CanPut, CanGo, Stored}
+use Rattle.jc_log.specs.Log.{Live, life, pods_in, pods_under}
+use Rattle.jc_states.specs.PodLists.{put_pod, drop_pod, RisesFrom, IsRising}
+use Rattle.jc_log.specs.Tables.{at, puts, Sets}
+use Rattle.jc_states.specs.ObjectChanges.{PodStep}
+use Rattle.jc_log.specs.Writes.{CanPut, CanGo, Stored}
 use Rattle.jc_types.proofs.KeyFacts.{same_key-eq, same_key-itself, same_uid-eq, same_key-either_way}
 use Rattle.jc_types.proofs.ListFacts.{Each-weaker, Each-take}
-use Rattle.jc_types.proofs.TableFacts.{set_value-puts, Sets-puts}
-use Rattle.jc_types.proofs.PodFacts.{rises_filter, pods_in-rises, pods_in-live}
-use Rattle.jc_cache.specs.Caches.{rows_of, AreApart, pods_at, owned_after}
+use Rattle.jc_log.proofs.TableFacts.{set_value-puts, Sets-puts}
+use Rattle.jc_states.proofs.PodListFacts.{put_pod-above, put_pod-below, put_pod-there, rises_filter}
+use Rattle.jc_log.proofs.PodFacts.{pods_in-rises, pods_in-live}
+use Rattle.jc_cache.specs.Caches.{job_rows, AreApart, pods_at, owned_after}
 
 -- ---- Jobs
 
 -- A Job of a new key is put in a row at the end.
-pub puts-new : (jobs : List Job) (job : Job) → Each (λ other. same_key job.key other.key ≡ false) jobs → puts same_key (rows_of jobs) job.key job ≡ rows_of (jobs ++ job ∷ [])
+pub puts-new : (jobs : List Job) (job : Job) → Each (λ other. same_key job.key other.key ≡ false) jobs → puts same_key (job_rows jobs) job.key job ≡ job_rows (jobs ++ job ∷ [])
 puts-new [] job h = refl
 puts-new (other ∷ jobs) job h =
-    cond-false (same_key job.key other.key) ((other.key, job) ∷ rows_of jobs) ((other.key, other) ∷ puts same_key (rows_of jobs) job.key job) h.0
+    cond-false (same_key job.key other.key) ((other.key, job) ∷ job_rows jobs) ((other.key, other) ∷ puts same_key (job_rows jobs) job.key job) h.0
     ∙ ap (λ rows. (other.key, other) ∷ rows) (puts-new jobs job h.1)
 
 -- Keys of the first Jobs are apart where those of all are.
@@ -47,13 +49,13 @@ apart_last (other ∷ jobs) job h = (same_key-either_way job.key other.key ∙ l
 
 -- The table of the first Jobs once the next is put.
 pub table-next : (jobs : List Job) (i : ℕ) (job again : Job) (key : Key) (table new : List (Key × Job)) → AreApart jobs → take (i + 1) jobs ≡ take i jobs ++ job ∷ []
-    → table ≡ rows_of (take i jobs) → key ≡ job.key → again ≡ job → new ≡ puts same_key table key again → new ≡ rows_of (take (i + 1) jobs)
+    → table ≡ job_rows (take i jobs) → key ≡ job.key → again ≡ job → new ≡ puts same_key table key again → new ≡ job_rows (take (i + 1) jobs)
 table-next jobs i job again key table new apart more first k a put =
     put ∙ ap (λ rows. puts same_key rows key again) first
-    ∙ ap (λ key. puts same_key (rows_of (take i jobs)) key again) k
-    ∙ ap (puts same_key (rows_of (take i jobs)) job.key) a
+    ∙ ap (λ key. puts same_key (job_rows (take i jobs)) key again) k
+    ∙ ap (puts same_key (job_rows (take i jobs)) job.key) a
     ∙ puts-new (take i jobs) job (apart_last (take i jobs) job (subst AreApart more (apart_take (i + 1) jobs apart)))
-    ∙ ap rows_of (sym more)
+    ∙ ap job_rows (sym more)
 
 -- ---- the row of an owner
 
@@ -105,11 +107,6 @@ drop-last rows mid new pod left pods is there drops none sets k =
         ∙ Sets-puts same_key same_key-eq same_key-itself pod.owner left rows k
         ∙ cond-false (same_key pod.owner k) (Some left) (at same_key rows k) s)
 
--- What holds anyway holds where a result is an error.
-pub on_err : {X E : Type 0} (r : Result X E) (P : Type 0) → P → OnErr r P
-on_err (Ok x) P h = tt
-on_err (Err e) P h = h
-
 -- ---- pods in ascending UID
 
 -- The first of ascending pods are ascending.
@@ -123,25 +120,6 @@ rises_take (suc n) low (pod ∷ pods) r = (r.0, rises_take n (pod.uid.0 + 1) pod
 rises_last : (low : ℕ) (pods : List Pod) (pod : Pod) → RisesFrom low (pods ++ pod ∷ []) → low ≤ pod.uid.0
 rises_last low [] pod r = r.0
 rises_last low (q ∷ pods) pod r = let far = rises_last (q.uid.0 + 1) pods pod r.1 in omega (arith, far, r.0)
-
--- A pod below all others is put in front of them.
-put_pod-below : (pod : Pod) (low : ℕ) (pods : List Pod) → pod.uid.0 < low → RisesFrom low pods → put_pod pod pods ≡ pod ∷ pods
-put_pod-below pod low [] h r = refl
-put_pod-below pod low (q ∷ pods) h r =
-    cond-true (nat_lt pod.uid.0 q.uid.0) (pod ∷ q ∷ pods) (cond (pod.uid.0 == q.uid.0) (pod ∷ pods) (q ∷ put_pod pod pods))
-    (lt-ltb pod.uid.0 q.uid.0 (omega (arith, h, r.0)))
-
--- A pod above the first is put among the others.
-put_pod-above : (pod q : Pod) (pods : List Pod) → nat_lt pod.uid.0 q.uid.0 ≡ false → (pod.uid.0 == q.uid.0) ≡ false → put_pod pod (q ∷ pods) ≡ q ∷ put_pod pod pods
-put_pod-above pod q pods l e =
-    cond-false (nat_lt pod.uid.0 q.uid.0) (pod ∷ q ∷ pods) (cond (pod.uid.0 == q.uid.0) (pod ∷ pods) (q ∷ put_pod pod pods)) l
-    ∙ cond-false (pod.uid.0 == q.uid.0) (pod ∷ pods) (q ∷ put_pod pod pods) e
-
--- A pod with the UID of the first is put in its place.
-put_pod-there : (pod q : Pod) (pods : List Pod) → nat_lt pod.uid.0 q.uid.0 ≡ false → (pod.uid.0 == q.uid.0) ≡ true → put_pod pod (q ∷ pods) ≡ pod ∷ pods
-put_pod-there pod q pods l e =
-    cond-false (nat_lt pod.uid.0 q.uid.0) (pod ∷ q ∷ pods) (cond (pod.uid.0 == q.uid.0) (pod ∷ pods) (q ∷ put_pod pod pods)) l
-    ∙ cond-true (pod.uid.0 == q.uid.0) (pod ∷ pods) (q ∷ put_pod pod pods) e
 
 -- The pods of an owner, once a pod is put or dropped among all of them.
 module _ (k : Key) where

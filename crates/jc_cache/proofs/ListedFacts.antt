@@ -6,12 +6,12 @@ use Rattle.jc_types.specs.declared.objects.Entry.TheVariants.{JobPut, JobGone, P
 use Rattle.jc_types.specs.declared.objects.Job.{Job}
 use Rattle.jc_types.specs.declared.objects.Key.{Key}
 use Rattle.jc_types.specs.Keys.{same_key}
-use Rattle.jc_types.specs.Log.{jobs_in}
-use Rattle.jc_types.specs.Tables.{puts, takes}
+use Rattle.jc_log.specs.Log.{jobs_in}
+use Rattle.jc_log.specs.Tables.{puts, takes}
 use Rattle.jc_types.proofs.KeyFacts.{same_key-eq}
-use Rattle.jc_types.proofs.ObjectFacts.{Apart-jobs_in}
-use Rattle.jc_types.proofs.TableFacts.{Apart}
-use Rattle.jc_cache.specs.Caches.{rows_of, AreApart}
+use Rattle.jc_log.proofs.ObjectFacts.{Apart-jobs_in}
+use Rattle.jc_log.proofs.TableFacts.{Apart}
+use Rattle.jc_cache.specs.Caches.{job_rows, AreApart}
 
 -- The Jobs of the rows.
 abbrev jobs_of : List (Key × Job) → List Job
@@ -44,10 +44,10 @@ keyed_jobs_in (JobGone job ∷ older) = keyed_takes job.key (jobs_in older) (key
 keyed_jobs_in (PodPut pod ∷ older) = keyed_jobs_in older
 keyed_jobs_in (PodGone pod ∷ older) = keyed_jobs_in older
 
-rows_of-jobs_of : (rows : List (Key × Job)) → AreKeyed rows → rows_of (jobs_of rows) ≡ rows
+rows_of-jobs_of : (rows : List (Key × Job)) → AreKeyed rows → job_rows (jobs_of rows) ≡ rows
 rows_of-jobs_of [] h = refl
 rows_of-jobs_of (row ∷ rows) h =
-    ap (λ k. (k, row.1) ∷ rows_of (jobs_of rows)) (sym h.0) ∙ ap (λ rest. row ∷ rest) (rows_of-jobs_of rows h.1)
+    ap (λ k. (k, row.1) ∷ job_rows (jobs_of rows)) (sym h.0) ∙ ap (λ rest. row ∷ rest) (rows_of-jobs_of rows h.1)
 
 apart_jobs_of : (rows : List (Key × Job)) → AreKeyed rows → Apart same_key rows → AreApart (jobs_of rows)
 apart_jobs_of [] h apart = tt
@@ -63,5 +63,5 @@ pub listed-apart : (log : List Entry) → AreApart (map (λ row. row.1) (jobs_in
 listed-apart log = apart_jobs_of (jobs_in log) (keyed_jobs_in log) (Apart-jobs_in log)
 
 -- The Jobs of a log, each under its key, are the log's table.
-pub listed-filled : (log : List Entry) → rows_of (map (λ row. row.1) (jobs_in log)) ≡ jobs_in log
+pub listed-filled : (log : List Entry) → job_rows (map (λ row. row.1) (jobs_in log)) ≡ jobs_in log
 listed-filled log = rows_of-jobs_of (jobs_in log) (keyed_jobs_in log)

@@ -3,11 +3,13 @@
 --     CachedJobs              a cache of Jobs: its number, and its Jobs by key
 --     CachedPods              a cache of pods: its number, and its pods apart by owner key
 --     IsNext number v         v is the version after the number
---     rows_of jobs            each Job under its key, in the order given
+--     job_rows jobs            each Job under its key, in the order given
 --     AreApart jobs           no two of the Jobs have the same key
 --     pods_at k rows          the pods under the owner key
 --     owned_after k e pods    the pods under the owner key after one more entry
-use Rattle.std.specs.Prelude.{◌≡◌, ◌+◌, false, List, [], ◌∷◌, map, Option, Some, None, if◌then◌else◌}
+--     TakesIn e old new       new has under each owner key the pods of old after one more entry
+--     HoldsByOwner pods rows  the rows have the pods, each under the key of its owner
+use Rattle.std.specs.Prelude.{◌≡◌, ◌+◌, false, List, [], ◌∷◌, map, Option, Some, None, filter, if◌then◌else◌}
 use Rattle.std.specs.List.{AllByRecursion as Each}
 use Rattle.std.specs.Option.{option_map_or}
 use Rattle.jc_types.specs.declared.numbers.Version.{Version}
@@ -17,8 +19,8 @@ use Rattle.jc_types.specs.declared.objects.Job.{Job}
 use Rattle.jc_types.specs.declared.objects.Key.{Key}
 use Rattle.jc_types.specs.declared.objects.Pod.{Pod}
 use Rattle.jc_types.specs.Keys.{same_key}
-use Rattle.jc_types.specs.Log.{put_pod, drop_pod}
-use Rattle.jc_types.specs.Tables.{at}
+use Rattle.jc_states.specs.PodLists.{put_pod, drop_pod}
+use Rattle.jc_log.specs.Tables.{at}
 
 -- A cache of Jobs: its number, and its Jobs by key in the order in which their keys came.
 pub record CachedJobs : Type 0 where
@@ -36,8 +38,8 @@ IsNext None version = ⊥
 IsNext (Some number) version = version.0 ≡ number.0 + 1
 
 -- Each Job under its key, in the order given.
-abbrev pub rows_of : List Job → List (Key × Job)
-rows_of jobs = map (λ job. (job.key, job)) jobs
+abbrev pub job_rows : List Job → List (Key × Job)
+job_rows jobs = map (λ job. (job.key, job)) jobs
 
 -- No two of the Jobs have the same key.
 abbrev pub AreApart : List Job → Type 0
@@ -54,3 +56,11 @@ owned_after k (JobPut job) pods = pods
 owned_after k (JobGone job) pods = pods
 owned_after k (PodPut pod) pods = if same_key pod.owner k then put_pod pod pods else pods
 owned_after k (PodGone pod) pods = if same_key pod.owner k then drop_pod pod.uid pods else pods
+
+-- The new rows have under each owner key the pods of the old rows after one more entry.
+abbrev pub TakesIn : Entry → List (Key × List Pod) → List (Key × List Pod) → Type 0
+TakesIn e old new = (k : Key) → pods_at k new ≡ owned_after k e (pods_at k old)
+
+-- The rows have the pods, each under the key of its owner.
+abbrev pub HoldsByOwner : List Pod → List (Key × List Pod) → Type 0
+HoldsByOwner pods rows = (k : Key) → pods_at k rows ≡ filter (λ pod. same_key pod.owner k) pods

@@ -3,9 +3,9 @@
 ghost use Rattle.std.specs.Prelude.{◌≡◌, [], IfOk, None, OnErr, OnOk, Some};
 ghost use Rattle.std.specs.Option.{option_copied};
 ghost use Rattle.jc_types.specs.Keys.{same_key};
-ghost use Rattle.jc_types.specs.Log.{jobs_after};
-ghost use Rattle.jc_types.specs.Tables.{at};
-ghost use Rattle.jc_cache.specs.Caches.{AreApart, IsNext, rows_of};
+ghost use Rattle.jc_log.specs.Log.{jobs_after};
+ghost use Rattle.jc_log.specs.Tables.{at};
+ghost use Rattle.jc_cache.specs.Caches.{AreApart, IsNext, job_rows};
 
 use jc_table::Table;
 use jc_types::{Copied, Entry, Job, Jobs, Key, Version, Want};
@@ -29,10 +29,10 @@ impl Model for JobCache {
     ghost view = { λ c. record { number = c.number; jobs = c.jobs } };
 }
 
-/// A table of the Jobs by key, in their order.
+// A table of the Jobs by key, in their order.
 fn table_of(alloc: Global, jobs: &[Job]) -> Result<Table<Key, Job>, Want>
     requires { AreApart jobs.now }
-    ensures { IfOk result (λ table. table ≡ rows_of jobs.now) }
+    ensures { IfOk result (λ table. table ≡ job_rows jobs.now) }
 {
     let mut table = Table::new(alloc);
     for job in jobs {
@@ -41,10 +41,9 @@ fn table_of(alloc: Global, jobs: &[Job]) -> Result<Table<Key, Job>, Want>
     Ok(table)
 }
 
-/// Takes one more entry in. One about a pod changes nothing.
-///
-/// # Errors
-/// `Want` where there is no memory for it; the table is then as before.
+// Takes one more entry in. One about a pod changes nothing.
+//
+// `Want` where there is no memory for it; the table is then as before.
 fn take_in(table: &mut Table<Key, Job>, entry: &Entry) -> Result<(), Want>
     ensures jobs { OnOk result (table.new ≡ jobs_after entry.now table.old) }
     ensures kept { OnErr result (table.new ≡ table.old) }
@@ -93,7 +92,7 @@ impl JobCache {
     pub fn replace(&mut self, jobs: Jobs, at: Version) -> Result<(), Want>
         requires { AreApart jobs }
         ensures number { OnOk result (self.new.number ≡ Some at) }
-        ensures jobs { OnOk result (self.new.jobs ≡ rows_of jobs) }
+        ensures jobs { OnOk result (self.new.jobs ≡ job_rows jobs) }
         ensures kept { OnErr result (self.new ≡ self.old) }
     {
         self.jobs = table_of(self.alloc, jobs.as_slice())?;

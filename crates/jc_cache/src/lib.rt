@@ -14,6 +14,3 @@ mod pods;
 pub use jobs::JobCache;
 pub use laws::{listed_jobs_fill_the_table, pods_stay_with_their_owner};
 pub use pods::PodCache;
-
-#[cfg(test)]
-mod tests;

@@ -1,11 +1,9 @@
 //! The cache of pods.
 
-ghost use Rattle.std.specs.Prelude.{◌≡◌, [], IfOk, None, OnErr, OnOk, Some, filter};
-ghost use Rattle.jc_types.specs.declared.objects.Key.{Key};
+ghost use Rattle.std.specs.Prelude.{◌≡◌, [], IfOk, None, OnErr, OnOk, Some};
 ghost use Rattle.jc_types.specs.declared.objects.Entry.TheVariants.{PodGone, PodPut};
-ghost use Rattle.jc_types.specs.Keys.{same_key};
-ghost use Rattle.jc_types.specs.Log.{IsRising};
-ghost use Rattle.jc_cache.specs.Caches.{IsNext, owned_after, pods_at};
+ghost use Rattle.jc_states.specs.PodLists.{IsRising};
+ghost use Rattle.jc_cache.specs.Caches.{HoldsByOwner, IsNext, TakesIn, pods_at};
 
 use indexmap::IndexMap;
 use jc_table::PodTable;
@@ -31,12 +29,11 @@ impl Model for PodCache {
     ghost view = { λ c. record { number = c.number; rows = c.rows.entries } };
 }
 
-/// Puts a pod among those of its owner.
-///
-/// # Errors
-/// `Want` where there is no memory for it; the rows are then as before.
+// Puts a pod among those of its owner.
+//
+// `Want` where there is no memory for it; the rows are then as before.
 fn put_pod(alloc: Global, rows: &mut IndexMap<Key, PodTable>, pod: &Pod) -> Result<(), Want>
-    ensures puts { OnOk result ((k : Key) → pods_at k rows.new.entries ≡ owned_after k (PodPut pod.now) (pods_at k rows.old.entries)) }
+    ensures puts { OnOk result (TakesIn (PodPut pod.now) rows.old.entries rows.new.entries) }
     ensures kept { OnErr result (rows.new.entries ≡ rows.old.entries) }
 {
     let again = pod.copy()?;
@@ -51,9 +48,9 @@ fn put_pod(alloc: Global, rows: &mut IndexMap<Key, PodTable>, pod: &Pod) -> Resu
     Ok(())
 }
 
-/// Drops a pod from those of its owner; an owner without pods has no row.
+// Drops a pod from those of its owner; an owner without pods has no row.
 fn drop_pod(rows: &mut IndexMap<Key, PodTable>, pod: &Pod)
-    ensures { (k : Key) → pods_at k rows.new.entries ≡ owned_after k (PodGone pod.now) (pods_at k rows.old.entries) }
+    ensures { TakesIn (PodGone pod.now) rows.old.entries rows.new.entries }
 {
     let Some(pods) = rows.get_mut(&pod.owner) else {
         return;
@@ -64,12 +61,11 @@ fn drop_pod(rows: &mut IndexMap<Key, PodTable>, pod: &Pod)
     }
 }
 
-/// Takes one more entry in. One about a Job changes nothing.
-///
-/// # Errors
-/// `Want` where there is no memory for it; the rows are then as before.
+// Takes one more entry in. One about a Job changes nothing.
+//
+// `Want` where there is no memory for it; the rows are then as before.
 fn take_in(alloc: Global, rows: &mut IndexMap<Key, PodTable>, entry: &Entry) -> Result<(), Want>
-    ensures pods { OnOk result ((k : Key) → pods_at k rows.new.entries ≡ owned_after k entry.now (pods_at k rows.old.entries)) }
+    ensures pods { OnOk result (TakesIn entry.now rows.old.entries rows.new.entries) }
     ensures kept { OnErr result (rows.new.entries ≡ rows.old.entries) }
 {
     match entry {
@@ -82,10 +78,10 @@ fn take_in(alloc: Global, rows: &mut IndexMap<Key, PodTable>, entry: &Entry) -> 
     }
 }
 
-/// The pods apart by owner, each in ascending UID as all of them are.
+// The pods apart by owner, each in ascending UID as all of them are.
 fn rows_of(alloc: Global, pods: &[Pod]) -> Result<IndexMap<Key, PodTable>, Want>
     requires { IsRising pods.now }
-    ensures { IfOk result (λ rows. (k : Key) → pods_at k rows.entries ≡ filter (λ pod. same_key pod.owner k) pods.now) }
+    ensures { IfOk result (λ rows. HoldsByOwner pods.now rows.entries) }
 {
     let mut rows = IndexMap::new(alloc);
     for pod in pods {
@@ -94,7 +90,7 @@ fn rows_of(alloc: Global, pods: &[Pod]) -> Result<IndexMap<Key, PodTable>, Want>
     Ok(rows)
 }
 
-/// The pods of a table in a list of their own.
+// The pods of a table in a list of their own.
 fn listed(alloc: Global, table: &PodTable) -> Result<Pods, Want>
     ensures pods { IfOk result (λ pods. pods ≡ table.now) }
     ensures rising { IfOk result (λ pods. IsRising pods) }
@@ -149,7 +145,7 @@ impl PodCache {
     pub fn replace(&mut self, pods: Pods, at: Version) -> Result<(), Want>
         requires { IsRising pods }
         ensures number { OnOk result (self.new.number ≡ Some at) }
-        ensures pods { OnOk result ((k : Key) → pods_at k self.new.rows ≡ filter (λ pod. same_key pod.owner k) pods) }
+        ensures pods { OnOk result (HoldsByOwner pods self.new.rows) }
         ensures kept { OnErr result (self.new ≡ self.old) }
     {
         self.rows = rows_of(self.alloc, pods.as_slice())?;
@@ -164,7 +160,7 @@ impl PodCache {
     pub fn deliver(&mut self, entry: &Entry, version: Version) -> Result<(), Want>
         requires { IsNext self.old.number version }
         ensures number { OnOk result (self.new.number ≡ Some version) }
-        ensures pods { OnOk result ((k : Key) → pods_at k self.new.rows ≡ owned_after k entry.now (pods_at k self.old.rows)) }
+        ensures pods { OnOk result (TakesIn entry.now self.old.rows self.new.rows) }
         ensures kept { OnErr result (self.new ≡ self.old) }
     {
         take_in(self.alloc, &mut self.rows, entry)?;

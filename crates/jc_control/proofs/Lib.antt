@@ -1,2 +1,3 @@
 pub mod LawFacts
+pub mod RoomFacts
 pub mod TurnFacts

@@ -3,23 +3,24 @@ use Rattle.std.proofs.Common.{◌≡◌, ℕ, ◌+◌, ◌≤◌, Bool, true, fa
 use Rattle.std.specs.List.{IsDistinct}
 use Rattle.std.specs.Map.{keys_of}
 use Rattle.std.specs.Option.{unwrap_or}
-use Rattle.jc_control.specs.Held.{AreKnown, Controlled, unknown}
-use Rattle.jc_control.specs.Turns.{Beginning, all_added, basis_of, begun, begun_at, begun_first, begun_unless, lag, noted, noted_at}
-use Rattle.jc_control.specs.declared.begins.Begin.TheVariants.{Begun}
-use Rattle.jc_control.specs.declared.known.Known.{Known}
+use Rattle.jc_control.specs.Schedules.{AreKnown, ControllerView, unknown}
+use Rattle.jc_control.specs.ControllerCalls.{Beginning, TakesFirst, TakesKey, all_added, basis_of, begun, begun_at, begun_first, begun_unless, followed, lag, noted, noted_at, unchanged}
+use Rattle.jc_control.specs.declared.begins.Begin.TheVariants.{NotSynced, NoKey, Begun}
+use Rattle.jc_control.specs.declared.begins.Lag.{Lag}
+use Rattle.jc_control.specs.declared.controller.Known.{Known}
 use Rattle.jc_queue.proofs.BackFacts.{retracted-added}
 use Rattle.jc_queue.proofs.DueFacts.{due_keys-none, due_keys-some, fewer-left, left_after-none, left_after-some, once-left}
-use Rattle.jc_queue.proofs.QueueFacts.{is_in-last}
+use Rattle.jc_queue.proofs.QueueFacts.{first_is_idle, is_in-last}
 use Rattle.jc_queue.specs.Delayed.{Delayed, due_key, due_keys, left_after, left_by}
-use Rattle.jc_queue.specs.Queued.{IsQueue, Queued, added, finished, got, got_first, is_in, retracted, without}
+use Rattle.jc_queue.specs.Queued.{IsQueue, Queued, added, finished, got, got_first, has_key, retracted, sent_back, sent_back_first, without}
 use Rattle.std.proofs.lemmas.Bool.{or_right}
 use Rattle.jc_types.specs.declared.numbers.Version.{Version}
 use Rattle.jc_types.specs.declared.objects.Key.{Key}
 use Rattle.jc_types.specs.declared.syncs.Basis.{Basis}
 use Rattle.jc_types.specs.Keys.{same_key}
-use Rattle.jc_types.specs.Tables.{Sets, at}
+use Rattle.jc_log.specs.Tables.{Sets, at}
 use Rattle.jc_types.proofs.KeyFacts.{same_key-eq, same_key-itself}
-use Rattle.jc_types.proofs.TableFacts.{Sets-puts}
+use Rattle.jc_log.proofs.TableFacts.{Sets-puts}
 
 -- ---- keys are added
 
@@ -33,10 +34,10 @@ all_added-next key q before after xs i next x more b a =
     a ∙ ap (λ q. added q (key x)) b ∙ sym (all_added-last key q (take i xs) x) ∙ ap (λ ys. all_added q (map key ys)) (sym more)
 
 -- Keys that are added change nothing of those that are processing.
-added-processing : (q : Queued) (k : Key) → (added q k).processing ≡ q.processing
-added-processing q k = by (is_in k q.dirty)
+pub added-processing : (q : Queued) (k : Key) → (added q k).processing ≡ q.processing
+added-processing q k = by (has_key k q.dirty)
   where
-    by : (b : Bool) → (cond {A = Queued} b q (record { line = cond (is_in k q.processing) q.line (q.line ++ k ∷ []); dirty = q.dirty ++ k ∷ []; processing = q.processing })).processing ≡ q.processing
+    by : (b : Bool) → (cond {A = Queued} b q (record { line = cond (has_key k q.processing) q.line (q.line ++ k ∷ []); dirty = q.dirty ++ k ∷ []; processing = q.processing })).processing ≡ q.processing
     by true = refl
     by false = refl
 
@@ -44,9 +45,12 @@ pub all_added-processing : (q : Queued) (keys : List Key) → (all_added q keys)
 all_added-processing q [] = refl
 all_added-processing q (k ∷ keys) = all_added-processing (added q k) keys ∙ added-processing q k
 
--- The rows of the processing keys are still there.
-pub known_still : (q new : Queued) (keys : List Key) (rows : List (Key × Known)) → AreKnown q.processing rows → new ≡ all_added q keys → AreKnown new.processing rows
-known_still q new keys rows known e = subst (λ some. AreKnown some rows) (sym (ap (λ (q : Queued). q.processing) e ∙ all_added-processing q keys)) known
+pub sent-processing : (q : Queued) → (sent_back q).processing ≡ q.processing
+sent-processing q = by q.line
+  where
+    by : (line : List Key) → (sent_back_first line q).processing ≡ q.processing
+    by [] = refl
+    by (k ∷ rest) = refl
 
 -- ---- keys that are due
 
@@ -88,12 +92,12 @@ none_left q d now q₀ d₀ h few = by d.moments refl
 -- ---- a delivery that found no memory
 
 -- The key that was added is taken back.
-pub taken_back : (old seen : Controlled) (mid new : Queued) (k : Key) → IsQueue old.held.queue → is_in k old.held.queue.dirty ≡ false → mid ≡ added old.held.queue k → seen ≡ record old { held = record old.held { queue = mid } } → new ≡ retracted seen.held.queue k → record seen { held = record seen.held { queue = new } } ≡ old
+pub taken_back : (old seen : ControllerView) (mid new : Queued) (k : Key) → IsQueue old.schedule.queue → has_key k old.schedule.queue.dirty ≡ false → mid ≡ added old.schedule.queue k → seen ≡ record old { schedule = record old.schedule { queue = mid } } → new ≡ retracted seen.schedule.queue k → record seen { schedule = record seen.schedule { queue = new } } ≡ old
 taken_back old seen mid new k queue clean m s n =
-    (λ i. record seen { held = record seen.held { queue = n i } })
-    ∙ ap (λ (seen : Controlled). record seen { held = record seen.held { queue = retracted seen.held.queue k } }) s
-    ∙ ap (λ mid. record old { held = record old.held { queue = retracted mid k } }) m
-    ∙ ap (λ q. record old { held = record old.held { queue = q } }) (retracted-added old.held.queue k queue clean)
+    (λ i. record seen { schedule = record seen.schedule { queue = n i } })
+    ∙ ap (λ (seen : ControllerView). record seen { schedule = record seen.schedule { queue = retracted seen.schedule.queue k } }) s
+    ∙ ap (λ mid. record old { schedule = record old.schedule { queue = retracted mid k } }) m
+    ∙ ap (λ q. record old { schedule = record old.schedule { queue = q } }) (retracted-added old.schedule.queue k queue clean)
 
 -- ---- rows of what is known
 
@@ -130,13 +134,13 @@ or-weaker : (a b c : Bool) → (b ≡ true → c ≡ true) → (a || b) ≡ true
 or-weaker true b c w h = refl
 or-weaker false b c w h = w h
 
-in_without : (j k : Key) (keys : List Key) → is_in j (without k keys) ≡ true → is_in j keys ≡ true
+in_without : (j k : Key) (keys : List Key) → has_key j (without k keys) ≡ true → has_key j keys ≡ true
 in_without j k [] h = h
 in_without j k (x ∷ keys) h = by (same_key k x) h (in_without j k keys)
   where
-    by : (b : Bool) → is_in j (cond b keys (x ∷ without k keys)) ≡ true → (is_in j (without k keys) ≡ true → is_in j keys ≡ true) → (same_key j x || is_in j keys) ≡ true
-    by true h ih = or_right (same_key j x) (is_in j keys) h
-    by false h ih = or-weaker (same_key j x) (is_in j (without k keys)) (is_in j keys) ih h
+    by : (b : Bool) → has_key j (cond b keys (x ∷ without k keys)) ≡ true → (has_key j (without k keys) ≡ true → has_key j keys ≡ true) → (same_key j x || has_key j keys) ≡ true
+    by true h ih = or_right (same_key j x) (has_key j keys) h
+    by false h ih = or-weaker (same_key j x) (has_key j (without k keys)) (has_key j keys) ih h
 
 -- A key that is done needs no row.
 pub known_done : (q new : Queued) (k : Key) (rows : List (Key × Known)) → AreKnown q.processing rows → new ≡ finished q k → AreKnown new.processing rows
@@ -149,41 +153,71 @@ pub head_is : (line : List Key) (k : Key) → Some k ≡ slice_get line 0 → (r
 head_is [] k e = absurd (true≢false (ap is_some e))
 head_is (x ∷ line) k e = (line, ap (λ o. unwrap_or o k ∷ line) (sym e))
 
+-- The key that is got is processing besides.
+pub got-processing : (q : Queued) (k : Key) → Some k ≡ slice_get q.line 0 → (got q).processing ≡ q.processing ++ k ∷ []
+got-processing q k first = let h = head_is q.line k first in ap (λ line. (got_first line q).processing) h.1
+
 -- The key that is got has a row.
 pub known_got : (q new : Queued) (k : Key) (rows after : List (Key × Known)) → Some k ≡ slice_get q.line 0 → AreKnown q.processing rows → after ≡ noted rows k → new ≡ got q → AreKnown new.processing after
 known_got q new k rows after first known a n =
     subst (λ some. AreKnown some after) (sym processing) (subst (λ rows. AreKnown (q.processing ++ k ∷ []) rows) (sym a) rows_are)
   where
     processing : new.processing ≡ q.processing ++ k ∷ []
-    processing = let h = head_is q.line k first in ap (λ (q : Queued). q.processing) n ∙ ap (λ line. (got_first line q).processing) h.1
+    processing = ap (λ (q : Queued). q.processing) n ∙ got-processing q k first
 
     rows_are : AreKnown (q.processing ++ k ∷ []) (noted rows k)
-    rows_are j busy = by (is_in j q.processing) refl (same_key j k) refl (sym (is_in-last j k q.processing) ∙ busy)
+    rows_are j busy = by (has_key j q.processing) refl (same_key j k) refl (sym (is_in-last j k q.processing) ∙ busy)
       where
-        by : (a : Bool) → is_in j q.processing ≡ a → (b : Bool) → same_key j k ≡ b → (a || b) ≡ true → is_some (at same_key (noted rows k) j) ≡ true
+        by : (a : Bool) → has_key j q.processing ≡ a → (b : Bool) → same_key j k ≡ b → (a || b) ≡ true → is_some (at same_key (noted rows k) j) ≡ true
         by true h b s e = noted_keeps rows k j (known j h)
         by false h true s e = ap (λ j. is_some (at same_key (noted rows k) j)) (same_key-eq j k s) ∙ noted_there rows k
         by false h false s e = absurd (true≢false (sym e))
 
-module _ (c : Controlled) (now : ℕ) (j p : Version) (k : Key) (jobs : Some j ≡ c.held.jobs_at) (pods : Some p ≡ c.held.pods_at) (first : Some k ≡ slice_get c.held.queue.line 0) (none : lag k c j p ≡ None) where
-  begun_is : begun now c ≡ begun_unless now c j p k None
-  begun_is =
-      (λ i. begun_at now c (sym jobs i) (sym pods i))
-      ∙ ap (λ line. begun_first now c j p line) (head_is c.held.queue.line k first).1
-      ∙ ap (λ lag. begun_unless now c j p k lag) none
-
-  -- The answer is the basis.
-  pub begun-answer : (basis : Basis) → basis ≡ basis_of now c j p k → Begun basis ≡ (begun now c).answer
-  begun-answer basis e = ap (λ b. Begun b) e ∙ sym (ap (λ (b : Beginning). b.answer) begun_is)
-
-  -- The key is got, and has a row.
-  pub begun-held : (queue : Queued) (known : List (Key × Known)) → queue ≡ got c.held.queue → known ≡ noted c.held.known k → record c.held { queue = queue; known = known } ≡ (begun now c).held
-  begun-held queue known q r =
-      (λ i. record c.held { queue = q i; known = r i }) ∙ sym (ap (λ (b : Beginning). b.held) begun_is)
-
 -- The key that is got is processing.
-pub got_busy : (q new : Queued) (k : Key) → Some k ≡ slice_get q.line 0 → new ≡ got q → is_in k new.processing ≡ true
+pub got_busy : (q new : Queued) (k : Key) → Some k ≡ slice_get q.line 0 → new ≡ got q → has_key k new.processing ≡ true
 got_busy q new k first n =
     let h = head_is q.line k first in
-    ap (λ (q : Queued). is_in k q.processing) (n ∙ ap (λ line. got_first line q) h.1)
-    ∙ is_in-last k k q.processing ∙ or_right (is_in k q.processing) (same_key k k) (same_key-itself k)
+    ap (λ (q : Queued). has_key k q.processing) (n ∙ ap (λ line. got_first line q) h.1)
+    ∙ is_in-last k k q.processing ∙ or_right (has_key k q.processing) (same_key k k) (same_key-itself k)
+
+-- The answer of a begin is the basis.
+pub begun-answer : (c : ControllerView) (now : ℕ) (j p : Version) (k : Key) → Some j ≡ c.schedule.jobs_at → Some p ≡ c.schedule.pods_at → Some k ≡ slice_get c.schedule.queue.line 0 → lag k c j p ≡ None → (basis : Basis) → basis ≡ basis_of now c j p k → Begun basis ≡ (begun now c).answer
+begun-answer c now j p k jobs pods first none basis e =
+    ap (λ b. Begun b) e
+    ∙ sym (ap (λ (b : Beginning). b.answer)
+    ((λ i. begun_at now c (sym jobs i) (sym pods i))
+    ∙ ap (λ line. begun_first now c j p line) (head_is c.schedule.queue.line k first).1
+    ∙ ap (λ lag. begun_unless now c j p k lag) none))
+
+-- What holds of each begin holds where a cache has no number, where no key waits, where a cache is behind and
+-- where a sync begins.
+pub each_begin : (P : Beginning → Type 0) (c : ControllerView) (now : ℕ) → P (unchanged c.schedule NotSynced) → P (unchanged c.schedule NoKey) → ((j p : Version) (k : Key) (rest : List Key) (lag : Lag) → c.schedule.queue.line ≡ k ∷ rest → P (begun_unless now c j p k (Some lag)))
+    → ((j p : Version) (k : Key) (rest : List Key) → c.schedule.jobs_at ≡ Some j → c.schedule.pods_at ≡ Some p → c.schedule.queue.line ≡ k ∷ rest → lag k c j p ≡ None → P (begun_unless now c j p k None)) → P (begun now c)
+each_begin P c now not_synced no_key behind begins = at_numbers c.schedule.jobs_at refl c.schedule.pods_at refl
+  where
+    at_lag : (j p : Version) (k : Key) (rest : List Key) → c.schedule.jobs_at ≡ Some j → c.schedule.pods_at ≡ Some p → c.schedule.queue.line ≡ k ∷ rest → (o : Option Lag) → lag k c j p ≡ o → P (begun_unless now c j p k o)
+    at_lag j p k rest a b l None e = begins j p k rest a b l e
+    at_lag j p k rest a b l (Some lag) e = behind j p k rest lag l
+
+    at_line : (j p : Version) → c.schedule.jobs_at ≡ Some j → c.schedule.pods_at ≡ Some p → (line : List Key) → c.schedule.queue.line ≡ line → P (begun_first now c j p line)
+    at_line j p a b [] l = no_key
+    at_line j p a b (k ∷ rest) l = at_lag j p k rest a b l (lag k c j p) refl
+
+    at_numbers : (jobs : Option Version) → c.schedule.jobs_at ≡ jobs → (pods : Option Version) → c.schedule.pods_at ≡ pods → P (begun_at now c jobs pods)
+    at_numbers None a pods b = not_synced
+    at_numbers (Some j) a None b = not_synced
+    at_numbers (Some j) a (Some p) b = at_line j p a b c.schedule.queue.line refl
+
+-- What is left is what the answer leaves.
+pub begun_is : (c : ControllerView) (now : ℕ) → followed c.schedule (begun now c).answer ≡ (begun now c).schedule
+begun_is c now = each_begin (λ b. followed c.schedule b.answer ≡ b.schedule) c now refl refl (λ j p k rest lag l. refl) (λ j p k rest a b l e. refl)
+
+-- The key of a sync that begins is the first.
+pub begun-first : (c : ControllerView) (now : ℕ) → TakesFirst (begun now c).answer c.schedule.queue.line
+begun-first c now = each_begin (λ b. TakesFirst b.answer c.schedule.queue.line) c now tt tt (λ j p k rest lag l. tt) (λ j p k rest a b l e. ap (λ line. slice_get line 0) (sym l))
+
+-- It is processing, and was not before.
+pub begun-taken : (c : ControllerView) (now : ℕ) → IsQueue c.schedule.queue → TakesKey (begun now c).answer c.schedule.queue.processing (begun now c).schedule.queue.processing
+begun-taken c now s =
+    each_begin (λ b. TakesKey b.answer c.schedule.queue.processing b.schedule.queue.processing) c now tt tt (λ j p k rest lag l. tt)
+    (λ j p k rest a b l e. (first_is_idle c.schedule.queue s k rest l, got_busy c.schedule.queue (got c.schedule.queue) k (ap (λ line. slice_get line 0) (sym l)) refl))

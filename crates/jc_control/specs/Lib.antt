@@ -1,2 +1,2 @@
-pub mod Held
-pub mod Turns
+pub mod Schedules
+pub mod ControllerCalls

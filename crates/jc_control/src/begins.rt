@@ -1,7 +1,7 @@
 //! The begin of a sync.
 
 ghost use Rattle.std.specs.Prelude.{◌≡◌};
-ghost use Rattle.jc_control.specs.Turns.{behind, later};
+ghost use Rattle.jc_control.specs.ControllerCalls.{behind, later};
 
 use jc_types::{Arc, Basis, Kind, Version};
 

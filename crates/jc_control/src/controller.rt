@@ -1,28 +1,35 @@
 //! The controller.
 
-ghost use Rattle.std.specs.Prelude.{◌≡◌, [], IfOk, OnErr, OnOk, Some, filter, true, unwrap_or};
-ghost use Rattle.std.specs.Option.{option_map};
-ghost use Rattle.jc_cache.specs.Caches.{AreApart, IsNext, pods_at, rows_of};
-ghost use Rattle.jc_control.specs.Held.{idle, number_of, unknown};
-ghost use Rattle.jc_control.specs.Turns.{IsTaken, answered, basis_of, begun, clocked, delivered, ended, forgot, is_ready, jobs_delivered, jobs_kept, kept_backoff, lag, listed_jobs, listed_pods, noted, numbered, pods_delivered, rows_after, rows_kept};
-ghost use Rattle.jc_queue.specs.Delayed.{first_of};
-ghost use Rattle.jc_queue.specs.Queued.{is_in};
-ghost use Rattle.jc_types.specs.declared.objects.Key.{Key};
+ghost use Rattle.std.specs.Prelude.{◌≡◌, [], IfOk, OnErr, OnOk, Some, slice_get, true, unwrap_or};
+ghost use Rattle.std.specs.Option.{option_copied, option_map};
+ghost use Rattle.jc_cache.specs.Caches.{AreApart, HoldsByOwner, IsNext, job_rows};
+ghost use Rattle.jc_control.specs.Schedules.{idle, number_of, unknown};
+ghost use Rattle.jc_control.specs.ControllerCalls.{DeliversPods, TakesFirst, TakesKey, answered, basis_of, begun, can_begin, clocked, delivered, ended, followed, forgot, jobs_delivered, jobs_kept, kept_backoff, lag, listed_jobs, listed_pods, noted, numbered, rows_after, rows_kept, taken};
+ghost use Rattle.jc_queue.specs.Delayed.{HasOneMoment, first_of};
+ghost use Rattle.jc_queue.specs.Queued.{IsQueue, has_key};
 ghost use Rattle.jc_types.specs.Keys.{same_key};
-ghost use Rattle.jc_types.specs.Log.{IsRising};
-ghost use Rattle.jc_types.specs.Tables.{at};
+ghost use Rattle.jc_states.specs.PodLists.{IsRising};
+ghost use Rattle.jc_log.specs.Tables.{Sets, at};
 
 use crate::begins::{Begin, Lag, behind, later};
 use crate::ends::{SyncEnd, delay, is_lost};
-use crate::known::Known;
-use crate::queues::{clocked, told, with_jobs, with_owners};
+use crate::queues::{move_due, told, with_jobs, with_owners};
 use jc_cache::{JobCache, PodCache};
 use jc_moment::Moment;
-use jc_queue::{Delays, Queue};
+use jc_queue::{Delays, Queue, Supply};
 use jc_table::Table;
 use jc_types::{Arc, Backoff, Basis, Copied, Entry, Jobs, Key, Kind, Pods, Version, Want};
 use std::alloc::Global;
 use std::marker::Model;
+
+/// What a controller knows of a key. A restart loses it.
+#[derive(Drop)]
+pub struct Known {
+    /// The greatest version that an answer to a request for the key had; no sync of the key begins on
+    /// caches that are behind it.
+    pub floor: Version,
+    pub backoff: Backoff,
+}
 
 /// What one controller knows.
 #[derive(Drop)]
@@ -34,23 +41,35 @@ pub struct Controller {
     delays: Delays,
     // A row for each key of which a sync has begun.
     known: Table<Key, Known>,
+    // The copies of each processing key that the end of its sync needs.
+    supplies: Table<Key, Supply>,
 }
 
 impl Model for Controller {
-    ghost use Rattle.jc_control.specs.Held.{AreKnown, Controlled};
+    ghost use Rattle.jc_control.specs.Schedules.{ControllerView, IsProvided};
 
-    ghost Value = { Controlled };
+    ghost Value = { ControllerView };
 
-    ghost view = { λ c. record { held = record { jobs_at = c.jobs.number; pods_at = c.pods.number; queue = c.queue; delays = c.delays; known = c.known }; jobs = c.jobs.jobs; rows = c.pods.rows } };
+    ghost view = { λ c. record {
+      schedule = record {
+        jobs_at = c.jobs.number;
+        pods_at = c.pods.number;
+        queue = c.queue.queue;
+        delays = c.delays.delays;
+        known = c.known;
+      };
+      jobs = c.jobs.jobs;
+      rows = c.pods.rows;
+    } };
 
-    // What an answer brings is kept with no memory.
-    ghost invariant = { λ c. AreKnown c.queue.processing c.known };
+    // What an answer brings is kept with no memory. So end the syncs, and so come the keys that are due.
+    ghost invariant = { λ c. IsProvided c.queue c.delays c.known c.supplies };
 }
 
 impl Controller {
     /// A controller that knows nothing. It takes no memory.
     pub fn new(alloc: Global) -> Controller
-        ensures held { result.held ≡ idle }
+        ensures schedule { result.schedule ≡ idle }
         ensures jobs { result.jobs ≡ [] }
         ensures rows { result.rows ≡ [] }
     {
@@ -61,12 +80,13 @@ impl Controller {
             queue: Queue::new(alloc),
             delays: Delays::new(alloc),
             known: Table::new(alloc),
+            supplies: Table::new(alloc),
         }
     }
 
     /// Forgets all, as a process that starts anew. It takes no memory.
     pub fn restart(&mut self)
-        ensures held { self.new.held ≡ idle }
+        ensures schedule { self.new.schedule ≡ idle }
         ensures jobs { self.new.jobs ≡ [] }
         ensures rows { self.new.rows ≡ [] }
     {
@@ -75,7 +95,7 @@ impl Controller {
 
     /// The version up to which the cache of the kind has seen the log; `None` exactly where it has no number.
     pub fn at(&self, kind: Kind) -> Option<Version>
-        ensures { result ≡ number_of kind self.now.held }
+        ensures { result ≡ number_of kind self.now.schedule }
     {
         match kind {
             Kind::Jobs => self.jobs.at(),
@@ -90,8 +110,8 @@ impl Controller {
     /// `Want` where there is no memory for it; the list is then given up, and the controller is as before.
     pub fn list_jobs(&mut self, jobs: Jobs, at: Version) -> Result<(), Want>
         requires { AreApart jobs }
-        ensures held { OnOk result (self.new.held ≡ listed_jobs self.old.held jobs at) }
-        ensures jobs { OnOk result (self.new.jobs ≡ rows_of jobs) }
+        ensures schedule { OnOk result (self.new.schedule ≡ listed_jobs self.old.schedule jobs at) }
+        ensures jobs { OnOk result (self.new.jobs ≡ job_rows jobs) }
         ensures rows { OnOk result (self.new.rows ≡ self.old.rows) }
         ensures kept { OnErr result (self.new ≡ self.old) }
     {
@@ -108,9 +128,9 @@ impl Controller {
     /// `Want` where there is no memory for it; the list is then given up, and the controller is as before.
     pub fn list_pods(&mut self, pods: Pods, at: Version) -> Result<(), Want>
         requires { IsRising pods }
-        ensures held { OnOk result (self.new.held ≡ listed_pods self.old.held pods at) }
+        ensures schedule { OnOk result (self.new.schedule ≡ listed_pods self.old.schedule pods at) }
         ensures jobs { OnOk result (self.new.jobs ≡ self.old.jobs) }
-        ensures pods { OnOk result ((k : Key) → pods_at k self.new.rows ≡ filter (λ pod. same_key pod.owner k) pods) }
+        ensures pods { OnOk result (HoldsByOwner pods self.new.rows) }
         ensures kept { OnErr result (self.new ≡ self.old) }
     {
         let queue = with_owners(&self.queue, pods.as_slice())?;
@@ -126,10 +146,11 @@ impl Controller {
     /// # Errors
     /// `Want` where there is no memory for it; the controller is then as before.
     pub fn deliver(&mut self, kind: Kind, entry: &Entry, version: Version) -> Result<(), Want>
-        requires { IsNext (number_of kind self.old.held) version }
-        ensures held { OnOk result (self.new.held ≡ delivered self.old.held kind entry.now version) }
+        requires { IsNext (number_of kind self.old.schedule) version }
+        ensures schedule { OnOk result
+            (self.new.schedule ≡ delivered self.old.schedule kind entry.now version) }
         ensures jobs { OnOk result (self.new.jobs ≡ jobs_delivered kind entry.now self.old.jobs) }
-        ensures pods { OnOk result ((k : Key) → pods_at k self.new.rows ≡ pods_delivered kind k entry.now (pods_at k self.old.rows)) }
+        ensures pods { OnOk result (DeliversPods kind entry.now self.old.rows self.new.rows) }
         ensures kept { OnErr result (self.new ≡ self.old) }
     {
         let Some(key) = told(kind, entry) else {
@@ -148,7 +169,7 @@ impl Controller {
 
     /// Forgets the cache of the kind: it must be listed anew. It takes no memory.
     pub fn forget(&mut self, kind: Kind)
-        ensures held { self.new.held ≡ forgot self.old.held kind }
+        ensures schedule { self.new.schedule ≡ forgot self.old.schedule kind }
         ensures jobs { self.new.jobs ≡ jobs_kept kind self.old.jobs }
         ensures rows { self.new.rows ≡ rows_kept kind self.old.rows }
     {
@@ -159,26 +180,19 @@ impl Controller {
     }
 
     /// Moves the keys that are due from the delays to the queue, in the order in which they are due: by
-    /// moment, and then by key.
-    ///
-    /// # Errors
-    /// `Want` where there is no memory for it; the controller is then as before.
-    pub fn clock(&mut self, now: Moment) -> Result<(), Want>
-        ensures held { OnOk result (self.new.held ≡ clocked self.old.held now) }
-        ensures jobs { OnOk result (self.new.jobs ≡ self.old.jobs) }
-        ensures rows { OnOk result (self.new.rows ≡ self.old.rows) }
-        ensures kept { OnErr result (self.new ≡ self.old) }
+    /// moment, and then by key. It takes no memory.
+    pub fn clock(&mut self, now: Moment)
+        ensures schedule { self.new.schedule ≡ clocked self.old.schedule now }
+        ensures jobs { self.new.jobs ≡ self.old.jobs }
+        ensures rows { self.new.rows ≡ self.old.rows }
     {
-        let (queue, delays) = clocked(&self.queue, &self.delays, now)?;
-        self.queue = queue;
-        self.delays = delays;
-        Ok(())
+        move_due(&mut self.queue, &mut self.delays, now);
     }
 
     /// Whether the next begin starts a sync: both caches have numbers, the line is not empty, and neither
     /// cache is behind what the sync of its first key must know.
     pub fn ready(&self) -> bool
-        ensures { result ≡ is_ready self.now }
+        ensures { result ≡ can_begin self.now }
     {
         let Some(jobs_at) = self.jobs.at() else {
             return false;
@@ -192,20 +206,21 @@ impl Controller {
         self.lag(key, jobs_at, pods_at).is_none()
     }
 
-    /// Begins the sync of the first key of the line. `NotSynced` comes exactly where a cache has no number,
-    /// else `NoKey` exactly where the line is empty, else `Behind` exactly where a cache has not seen the log
-    /// up to the key's floor, or the pod cache not up to the version of the cached Job, Jobs before Pods; the
-    /// key then goes to the line's end. `NotSynced` and `NoKey` change nothing.
+    /// The first key of the line; `None` exactly where the line is empty.
+    pub fn first(&self) -> Option<&Key>
+        ensures { option_copied result ≡ slice_get self.now.schedule.queue.line 0 }
+    {
+        self.queue.first()
+    }
+
+    /// What a begin answers now: `NotSynced` exactly where a cache has no number, else `NoKey` exactly where
+    /// the line is empty, else `Behind` exactly where a cache has not seen the log up to the key's floor, or
+    /// the pod cache not up to the version of the cached Job, Jobs before Pods.
     ///
     /// # Errors
-    /// `Want` where there is no memory for it; the controller is then as before.
-    pub fn begin(&mut self, now: Moment) -> Result<Begin, Want>
-        ensures answer { IfOk result (λ answer. answer ≡ (begun now self.old).answer) }
-        ensures held { OnOk result (self.new.held ≡ (begun now self.old).held) }
-        ensures taken { IfOk result (λ answer. IsTaken answer self.old.held.queue.processing self.new.held.queue.processing) }
-        ensures jobs { OnOk result (self.new.jobs ≡ self.old.jobs) }
-        ensures rows { OnOk result (self.new.rows ≡ self.old.rows) }
-        ensures kept { OnErr result (self.new ≡ self.old) }
+    /// `Want` where there is no memory for it.
+    pub fn peek(&self, now: Moment) -> Result<Begin, Want>
+        ensures { IfOk result (λ answer. answer ≡ (begun now self.now).answer) }
     {
         let Some(jobs_at) = self.jobs.at() else {
             return Ok(Begin::NotSynced);
@@ -217,7 +232,6 @@ impl Controller {
             return Ok(Begin::NoKey);
         };
         if let Some(lag) = self.lag(key, jobs_at, pods_at) {
-            self.queue.send_back();
             return Ok(Begin::Behind {
                 kind: lag.kind,
                 need: lag.need,
@@ -225,18 +239,36 @@ impl Controller {
             });
         }
         let basis = self.basis(key, jobs_at, pods_at, now)?;
-        let first = key.copy()?;
-        note(&mut self.known, first)?;
-        self.queue.get();
         Ok(Begin::Begun(basis))
+    }
+
+    /// Begins the sync of the first key of the line, and answers as `peek` does. A key for which a cache is
+    /// behind goes to the line's end. `NotSynced` and `NoKey` change nothing. The memory that `answered`,
+    /// `keep_backoff`, `end` and `clock` need is taken here.
+    ///
+    /// # Errors
+    /// `Want` where there is no memory for it; the controller is then as before.
+    pub fn begin(&mut self, now: Moment) -> Result<Begin, Want>
+        ensures answer { IfOk result (λ answer. answer ≡ (begun now self.old).answer) }
+        ensures schedule { OnOk result (self.new.schedule ≡ (begun now self.old).schedule) }
+        ensures taken { IfOk result (λ answer.
+            TakesKey answer self.old.schedule.queue.processing self.new.schedule.queue.processing) }
+        ensures jobs { OnOk result (self.new.jobs ≡ self.old.jobs) }
+        ensures rows { OnOk result (self.new.rows ≡ self.old.rows) }
+        ensures kept { OnErr result (self.new ≡ self.old) }
+    {
+        self.facts();
+        let answer = self.peek(now)?;
+        self.follow(&answer)?;
+        Ok(answer)
     }
 
     /// Takes note that a request for the key was answered with the version: its floor becomes the greater of
     /// both. It takes no memory.
     pub fn answered(&mut self, key: &Key, version: Version)
-        requires processing { is_in key.now self.old.held.queue.processing ≡ true }
-        ensures held { self.new.held ≡ answered self.old.held key.now version }
-        ensures queue { self.new.held.queue ≡ self.old.held.queue }
+        requires processing { has_key key.now self.old.schedule.queue.processing ≡ true }
+        ensures schedule { self.new.schedule ≡ answered self.old.schedule key.now version }
+        ensures queue { self.new.schedule.queue ≡ self.old.schedule.queue }
         ensures jobs { self.new.jobs ≡ self.old.jobs }
         ensures rows { self.new.rows ≡ self.old.rows }
     {
@@ -250,9 +282,9 @@ impl Controller {
 
     /// Keeps the backoff of the key in place of its old one. It takes no memory.
     pub fn keep_backoff(&mut self, key: &Key, backoff: Backoff)
-        requires processing { is_in key.now self.old.held.queue.processing ≡ true }
-        ensures held { self.new.held ≡ kept_backoff self.old.held key.now backoff }
-        ensures queue { self.new.held.queue ≡ self.old.held.queue }
+        requires processing { has_key key.now self.old.schedule.queue.processing ≡ true }
+        ensures schedule { self.new.schedule ≡ kept_backoff self.old.schedule key.now backoff }
+        ensures queue { self.new.schedule.queue ≡ self.old.schedule.queue }
         ensures jobs { self.new.jobs ≡ self.old.jobs }
         ensures rows { self.new.rows ≡ self.old.rows }
     {
@@ -265,42 +297,89 @@ impl Controller {
 
     /// Ends the sync of the key. It is done. After `Retry` and `Unavailable` it has failed once more, and is
     /// due after a while; after `Ended` and `Gone` its failures are forgotten, and it is due at the moment
-    /// that `Ended` gives. `Unavailable` also forgets both caches.
-    ///
-    /// # Errors
-    /// `Want` where there is no memory for it; the controller is then as before.
-    pub fn end(&mut self, key: &Key, end: SyncEnd, now: Moment) -> Result<(), Want>
-        requires processing { is_in key.now self.old.held.queue.processing ≡ true }
-        ensures held { OnOk result (self.new.held ≡ ended self.old.held key.now end now) }
-        ensures jobs { OnOk result (self.new.jobs ≡ rows_after end self.old.jobs) }
-        ensures rows { OnOk result (self.new.rows ≡ rows_after end self.old.rows) }
-        ensures kept { OnErr result (self.new ≡ self.old) }
+    /// that `Ended` gives. `Unavailable` also forgets both caches. It takes no memory.
+    pub fn end(&mut self, key: &Key, end: SyncEnd, now: Moment)
+        requires processing { has_key key.now self.old.schedule.queue.processing ≡ true }
+        ensures schedule { self.new.schedule ≡ ended self.old.schedule key.now end now }
+        ensures jobs { self.new.jobs ≡ rows_after end self.old.jobs }
+        ensures rows { self.new.rows ≡ rows_after end self.old.rows }
     {
-        let done = key.copy()?;
-        delay(&mut self.delays, key, &end, now)?;
-        self.queue.done(done);
+        let _waiting = self.queue.len();
+        let Some(supply) = self.supplies.take(key) else {
+            unreachable!()
+        };
+        delay(&mut self.delays, key, supply, &end, now);
+        self.queue.done(key);
         if is_lost(&end) {
             self.jobs.forget();
             self.pods.forget();
         }
-        Ok(())
     }
 
     /// The earliest moment at which a key is due; `None` exactly where no key is delayed.
     pub fn next_moment(&self) -> Option<Moment>
-        ensures { result ≡ option_map (λ row. row.1) (first_of self.now.held.delays.moments) }
+        ensures { result ≡ option_map (λ row. row.1) (first_of self.now.schedule.delays.moments) }
     {
         self.delays.next_moment()
+    }
+
+    /// What holds of each controller: its queue is one, and no key has two moments.
+    pub fn facts(&self)
+        ensures queue { IsQueue self.now.schedule.queue }
+        ensures delays { HasOneMoment self.now.schedule.delays }
+    {
+        let _waiting = self.queue.len();
+        let _delayed = self.delays.len();
+    }
+
+    // Does what the answer of a begin says.
+    //
+    // `Want` where there is no memory for it; the controller is then as before.
+    fn follow(&mut self, answer: &Begin) -> Result<(), Want>
+        requires first { TakesFirst answer.now self.old.schedule.queue.line }
+        ensures schedule { OnOk result (self.new.schedule ≡ followed self.old.schedule answer.now) }
+        ensures jobs { OnOk result (self.new.jobs ≡ self.old.jobs) }
+        ensures rows { OnOk result (self.new.rows ≡ self.old.rows) }
+        ensures kept { OnErr result (self.new ≡ self.old) }
+    {
+        match answer {
+            Begin::NotSynced | Begin::NoKey => Ok(()),
+            Begin::Behind { .. } => {
+                self.queue.send_back();
+                Ok(())
+            }
+            Begin::Begun(basis) => self.take_first(&basis.key),
+        }
+    }
+
+    // Takes the first key of the line for its sync, and the memory that the sync needs besides.
+    //
+    // `Want` where there is no memory for it; the controller is then as before.
+    fn take_first(&mut self, key: &Key) -> Result<(), Want>
+        requires first { Some key.now ≡ slice_get self.old.schedule.queue.line 0 }
+        ensures schedule { OnOk result (self.new.schedule ≡ taken self.old.schedule key.now) }
+        ensures jobs { OnOk result (self.new.jobs ≡ self.old.jobs) }
+        ensures rows { OnOk result (self.new.rows ≡ self.old.rows) }
+        ensures kept { OnErr result (self.new ≡ self.old) }
+    {
+        let syncs = self.queue.processing() + 1;
+        self.queue.reserve(self.delays.len() + syncs)?;
+        self.delays.reserve(syncs)?;
+        supply(&mut self.supplies, key)?;
+        note(&mut self.known, key)?;
+        self.queue.get();
+        Ok(())
     }
 
     // Tells the cache of the kind of the next entry of the log.
     //
     // `Want` where there is no memory for it; the controller is then as before.
     fn tell(&mut self, kind: Kind, entry: &Entry, version: Version) -> Result<(), Want>
-        requires { IsNext (number_of kind self.old.held) version }
-        ensures held { OnOk result (self.new.held ≡ numbered self.old.held kind (Some version)) }
+        requires { IsNext (number_of kind self.old.schedule) version }
+        ensures schedule { OnOk result
+            (self.new.schedule ≡ numbered self.old.schedule kind (Some version)) }
         ensures jobs { OnOk result (self.new.jobs ≡ jobs_delivered kind entry.now self.old.jobs) }
-        ensures pods { OnOk result ((k : Key) → pods_at k self.new.rows ≡ pods_delivered kind k entry.now (pods_at k self.old.rows)) }
+        ensures pods { OnOk result (DeliversPods kind entry.now self.old.rows self.new.rows) }
         ensures kept { OnErr result (self.new ≡ self.old) }
     {
         match kind {
@@ -380,16 +459,28 @@ fn known_of(rows: &Table<Key, Known>, key: &Key) -> Known
 // Puts a row for the key, where it has none.
 //
 // `Want` where there is no memory for it; the rows are then as before.
-fn note(rows: &mut Table<Key, Known>, key: Key) -> Result<(), Want>
-    ensures noted { OnOk result (rows.new ≡ noted rows.old key) }
+fn note(rows: &mut Table<Key, Known>, key: &Key) -> Result<(), Want>
+    ensures noted { OnOk result (rows.new ≡ noted rows.old key.now) }
     ensures kept { OnErr result (rows.new ≡ rows.old) }
 {
-    if rows.contains(&key) {
+    if rows.contains(key) {
         return Ok(());
     }
     let unknown = Known {
         floor: Version(0),
         backoff: no_failures(),
     };
-    rows.put(key, unknown)
+    rows.put(key.copy()?, unknown)
+}
+
+// Puts a supply of the key, in place of an older one.
+//
+// `Want` where there is no memory for it; the supplies are then as before.
+fn supply(supplies: &mut Table<Key, Supply>, key: &Key) -> Result<(), Want>
+    ensures supplied { OnOk result
+        (Sets same_key supplies.old supplies.new key.now (Some key.now)) }
+    ensures kept { OnErr result (supplies.new ≡ supplies.old) }
+{
+    let supply = Supply::of(key)?;
+    supplies.put(key.copy()?, supply)
 }

@@ -1,11 +1,11 @@
 //! The end of a sync.
 
-ghost use Rattle.std.specs.Prelude.{◌≡◌, OnErr, OnOk};
-ghost use Rattle.jc_control.specs.Turns.{delays_after, is_lost};
+ghost use Rattle.std.specs.Prelude.{◌≡◌, ◌+◌, ◌<◌, ◌≤◌};
+ghost use Rattle.jc_control.specs.ControllerCalls.{delays_after, forgets_caches};
 
 use jc_moment::Moment;
-use jc_queue::Delays;
-use jc_types::{Key, Want};
+use jc_queue::{Delays, Supply};
+use jc_types::Key;
 
 /// How a sync has ended.
 #[derive(Clone, Copy)]
@@ -22,28 +22,24 @@ pub enum SyncEnd {
 
 // Whether the end forgets both caches.
 pub(crate) fn is_lost(end: &SyncEnd) -> bool
-    ensures { result ≡ is_lost end.now }
+    ensures { result ≡ forgets_caches end.now }
 {
     matches!(end, SyncEnd::Unavailable)
 }
 
-// Delays the key as the end of its sync says.
-//
-// `Want` where there is no memory for it; the delays are then as before.
-pub(crate) fn delay(delays: &mut Delays, key: &Key, end: &SyncEnd, now: Moment) -> Result<(), Want>
-    ensures delays { OnOk result (delays.new ≡ delays_after delays.old key.now end.now now) }
-    ensures kept { OnErr result (delays.new ≡ delays.old) }
+// Delays the key as the end of its sync says, in the room that there is.
+pub(crate) fn delay(delays: &mut Delays, key: &Key, supply: Supply, end: &SyncEnd, now: Moment)
+    requires same { supply ≡ key.now }
+    requires room { 0 < delays.old.room }
+    ensures delays { delays.new.delays ≡ delays_after delays.old.delays key.now end.now now }
+    ensures room { delays.old.room ≤ delays.new.room + 1 }
 {
     match end {
-        SyncEnd::Ended { next: None } | SyncEnd::Gone => {
-            delays.forget(key);
-            Ok(())
-        }
+        SyncEnd::Ended { next: None } | SyncEnd::Gone => delays.forget(key),
         SyncEnd::Ended { next: Some(moment) } => {
-            delays.add_after(key, *moment)?;
+            delays.delay(supply.into_twice(), *moment);
             delays.forget(key);
-            Ok(())
         }
-        SyncEnd::Retry | SyncEnd::Unavailable => delays.retry(key, now),
+        SyncEnd::Retry | SyncEnd::Unavailable => delays.fail(supply, now),
     }
 }

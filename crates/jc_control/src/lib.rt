@@ -9,18 +9,13 @@
 mod begins;
 mod controller;
 mod ends;
-mod known;
 mod laws;
 mod queues;
 
 pub use begins::{Begin, Lag};
-pub use controller::Controller;
+pub use controller::{Controller, Known};
 pub use ends::SyncEnd;
-pub use known::Known;
 pub use laws::{
     caches_follow_the_log, forgotten_caches_have_no_number, known_stands_by_key,
-    no_processing_key_is_first,
+    no_processing_key_is_first, syncs_begin_on_fresh_caches,
 };
-
-#[cfg(test)]
-mod tests;

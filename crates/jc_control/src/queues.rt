@@ -1,7 +1,8 @@
 //! Queues to which many keys are added at once.
 
-ghost use Rattle.std.specs.Prelude.{◌≡◌, IfOk, map};
-ghost use Rattle.jc_control.specs.Turns.{all_added, told};
+ghost use Rattle.std.specs.Prelude.{◌≡◌, ◌≤◌, IfOk, length};
+ghost use Rattle.jc_control.specs.ControllerCalls.{all_added, job_keys, pod_owners, told};
+ghost use Rattle.jc_control.specs.Schedules.{RoomMoves};
 ghost use Rattle.jc_queue.specs.Delayed.{due_keys, left_after};
 ghost use Rattle.std.specs.Option.{option_copied};
 
@@ -11,7 +12,8 @@ use jc_types::{Copied, Entry, Job, Key, Kind, Pod, Want};
 
 // A copy of the queue to which the keys of the Jobs are added, in their order.
 pub(crate) fn with_jobs(queue: &Queue, jobs: &[Job]) -> Result<Queue, Want>
-    ensures { IfOk result (λ q. q ≡ all_added queue.now (map (λ job. job.key) jobs.now)) }
+    ensures added { IfOk result (λ q. q.queue ≡ all_added queue.now.queue (job_keys jobs.now)) }
+    ensures room { IfOk result (λ q. q.room ≡ queue.now.room) }
 {
     let mut with_keys = queue.copy()?;
     for job in jobs {
@@ -22,7 +24,8 @@ pub(crate) fn with_jobs(queue: &Queue, jobs: &[Job]) -> Result<Queue, Want>
 
 // A copy of the queue to which the keys of the pods' owners are added, in their order.
 pub(crate) fn with_owners(queue: &Queue, pods: &[Pod]) -> Result<Queue, Want>
-    ensures { IfOk result (λ q. q ≡ all_added queue.now (map (λ pod. pod.owner) pods.now)) }
+    ensures added { IfOk result (λ q. q.queue ≡ all_added queue.now.queue (pod_owners pods.now)) }
+    ensures room { IfOk result (λ q. q.room ≡ queue.now.room) }
 {
     let mut with_keys = queue.copy()?;
     for pod in pods {
@@ -31,20 +34,20 @@ pub(crate) fn with_owners(queue: &Queue, pods: &[Pod]) -> Result<Queue, Want>
     Ok(with_keys)
 }
 
-// Copies of queue and delays between which the keys that are due at the moment have moved.
-pub(crate) fn clocked(queue: &Queue, delays: &Delays, now: Moment) -> Result<(Queue, Delays), Want>
-    ensures queue { IfOk result (λ both. both.0 ≡ all_added queue.now (due_keys delays.now now)) }
-    ensures delays { IfOk result (λ both. both.1 ≡ left_after delays.now now) }
+// Moves the keys that are due at the moment from the delays to the queue, in the order in which they are
+// due.
+pub(crate) fn move_due(queue: &mut Queue, delays: &mut Delays, now: Moment)
+    requires room { length delays.old.delays.moments ≤ queue.old.room }
+    ensures queue { queue.new.queue ≡ all_added queue.old.queue (due_keys delays.old.delays now) }
+    ensures delays { delays.new.delays ≡ left_after delays.old.delays now }
+    ensures room { RoomMoves queue.old delays.old queue.new delays.new }
 {
-    let mut with_keys = queue.copy()?;
-    let mut left = delays.copy()?;
     for _ in 0..delays.len() {
-        let Some(key) = left.due(now) else {
-            return Ok((with_keys, left));
+        let Some(key) = delays.take_due(now) else {
+            return;
         };
-        with_keys.add(&key)?;
+        queue.add_reserved(key);
     }
-    Ok((with_keys, left))
 }
 
 // The key that a cache of the kind adds where it is told of the entry.

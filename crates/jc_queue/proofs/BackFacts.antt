@@ -6,7 +6,7 @@ use Rattle.jc_types.specs.Keys.{same_key}
 use Rattle.jc_types.proofs.KeyFacts.{same_key-either_way, same_key-itself}
 use Rattle.jc_queue.proofs.QueueFacts.{distinct-last, distinct-without, is_in-last, is_in-without, none_is}
 use Rattle.jc_queue.proofs.Steps.{no_place}
-use Rattle.jc_queue.specs.Queued.{Queued, IsQueue, added, is_in, retracted, sent_back, sent_back_first, without}
+use Rattle.jc_queue.specs.Queued.{Queued, IsQueue, added, has_key, retracted, sent_back, sent_back_first, without}
 
 -- ---- the first key goes last
 
@@ -22,7 +22,7 @@ back_is k rest dirty processing s = record {
   line_once = distinct-last k rest (none_is k rest s.line_once.0) s.line_once.1;
   dirty_once = s.dirty_once;
   processing_once = s.processing_once;
-  waiting = λ j. is_in-last j k rest ∙ swapped (is_in j rest) (same_key j k) ∙ s.waiting j;
+  waiting = λ j. is_in-last j k rest ∙ swapped (has_key j rest) (same_key j k) ∙ s.waiting j;
 }
 
 -- With the first key at the line's end it is a queue as before.
@@ -51,43 +51,43 @@ retracted_is q k s = record {
   dirty_once = distinct-without k q.dirty s.dirty_once;
   processing_once = s.processing_once;
   waiting = λ j. is_in-without j k q.line s.line_once
-      ∙ and-both (not (same_key k j)) (is_in j q.line) (is_in j q.dirty) (not (is_in j q.processing)) (s.waiting j)
-      ∙ ap (λ b. b && not (is_in j q.processing)) (sym (is_in-without j k q.dirty s.dirty_once));
+      ∙ and-both (not (same_key k j)) (has_key j q.line) (has_key j q.dirty) (not (has_key j q.processing)) (s.waiting j)
+      ∙ ap (λ b. b && not (has_key j q.processing)) (sym (is_in-without j k q.dirty s.dirty_once));
 }
 
 -- Without what went last, the keys are as before.
-without-last : (k : Key) (keys : List Key) → is_in k keys ≡ false → without k (keys ++ k ∷ []) ≡ keys
+without-last : (k : Key) (keys : List Key) → has_key k keys ≡ false → without k (keys ++ k ∷ []) ≡ keys
 without-last k [] h = ap (λ b. cond b [] (k ∷ [])) (same_key-itself k)
 without-last k (x ∷ xs) h = by (same_key k x) refl h (without-last k xs)
   where
-    by : (b : Bool) → same_key k x ≡ b → (b || is_in k xs) ≡ false → (is_in k xs ≡ false → without k (xs ++ k ∷ []) ≡ xs) → cond (same_key k x) (xs ++ k ∷ []) (x ∷ without k (xs ++ k ∷ [])) ≡ x ∷ xs
+    by : (b : Bool) → same_key k x ≡ b → (b || has_key k xs) ≡ false → (has_key k xs ≡ false → without k (xs ++ k ∷ []) ≡ xs) → cond (same_key k x) (xs ++ k ∷ []) (x ∷ without k (xs ++ k ∷ [])) ≡ x ∷ xs
     by true t h rest = absurd (true≢false h)
     by false t h rest = ap (λ b. cond b (xs ++ k ∷ []) (x ∷ without k (xs ++ k ∷ []))) t ∙ ap (λ ys. x ∷ ys) (rest h)
 
-without-none : (k : Key) (keys : List Key) → is_in k keys ≡ false → without k keys ≡ keys
+without-none : (k : Key) (keys : List Key) → has_key k keys ≡ false → without k keys ≡ keys
 without-none k [] h = refl
 without-none k (x ∷ xs) h = by (same_key k x) refl h (without-none k xs)
   where
-    by : (b : Bool) → same_key k x ≡ b → (b || is_in k xs) ≡ false → (is_in k xs ≡ false → without k xs ≡ xs) → cond (same_key k x) xs (x ∷ without k xs) ≡ x ∷ xs
+    by : (b : Bool) → same_key k x ≡ b → (b || has_key k xs) ≡ false → (has_key k xs ≡ false → without k xs ≡ xs) → cond (same_key k x) xs (x ∷ without k xs) ≡ x ∷ xs
     by true t h rest = absurd (true≢false h)
     by false t h rest = ap (λ b. cond b xs (x ∷ without k xs)) t ∙ ap (λ ys. x ∷ ys) (rest h)
 
 -- A key that has no place is not taken out.
 pub without-unplaced : (k : Key) (keys : List Key) → None ≡ position (same_key k) keys → keys ≡ without k keys
-without-unplaced k keys e = sym (without-none k keys (by (is_in k keys) refl))
+without-unplaced k keys e = sym (without-none k keys (by (has_key k keys) refl))
   where
-    by : (b : Bool) → is_in k keys ≡ b → b ≡ false
+    by : (b : Bool) → has_key k keys ≡ b → b ≡ false
     by true t = absurd (no_place (same_key k) keys t e)
     by false t = refl
 
 -- A key that was not dirty, and is added and taken back, leaves the queue as it was.
-pub retracted-added : (q : Queued) (k : Key) → IsQueue q → is_in k q.dirty ≡ false → retracted (added q k) k ≡ q
+pub retracted-added : (q : Queued) (k : Key) → IsQueue q → has_key k q.dirty ≡ false → retracted (added q k) k ≡ q
 retracted-added q k s clean =
-    ap (λ b. retracted (cond b q (record { line = cond (is_in k q.processing) q.line (q.line ++ k ∷ []); dirty = q.dirty ++ k ∷ []; processing = q.processing })) k) clean
-    ∙ (λ i. record { line = line (is_in k q.processing) i; dirty = without-last k q.dirty clean i; processing = q.processing })
+    ap (λ b. retracted (cond b q (record { line = cond (has_key k q.processing) q.line (q.line ++ k ∷ []); dirty = q.dirty ++ k ∷ []; processing = q.processing })) k) clean
+    ∙ (λ i. record { line = line (has_key k q.processing) i; dirty = without-last k q.dirty clean i; processing = q.processing })
   where
-    out : is_in k q.line ≡ false
-    out = s.waiting k ∙ ap (λ b. b && not (is_in k q.processing)) clean
+    out : has_key k q.line ≡ false
+    out = s.waiting k ∙ ap (λ b. b && not (has_key k q.processing)) clean
 
     line : (b : Bool) → without k (cond b q.line (q.line ++ k ∷ [])) ≡ q.line
     line true = without-none k q.line out
@@ -101,17 +101,17 @@ each-at P (x ∷ xs) zero k h within at = subst P (sym at) h.0
 each-at P (x ∷ xs) (suc i) k h within at = each-at P xs i k h.1 (omega (arith, within)) at
 
 -- The key at a place is none of those before it.
-pub before_is : (keys : List Key) (i : ℕ) (k : Key) → IsDistinct same_key keys → i < length keys → k ≡ get_or keys i k → is_in k (take i keys) ≡ false
+pub before_is : (keys : List Key) (i : ℕ) (k : Key) → IsDistinct same_key keys → i < length keys → k ≡ get_or keys i k → has_key k (take i keys) ≡ false
 unfolding IsDistinct
 before_is [] i k d within at = absurd (omega (arith, within))
 before_is (x ∷ xs) zero k d within at = refl
 before_is (x ∷ xs) (suc i) k d within at =
-    ap (λ b. b || is_in k (take i xs)) (same_key-either_way k x ∙ each-at (λ y. same_key x y ≡ false) xs i k d.0 (omega (arith, within)) at)
+    ap (λ b. b || has_key k (take i xs)) (same_key-either_way k x ∙ each-at (λ y. same_key x y ≡ false) xs i k d.0 (omega (arith, within)) at)
     ∙ before_is xs i k d.1 (omega (arith, within)) at
 
 -- The key that is copied next.
-pub key-copied : (keys before after : List Key) (i next : ℕ) (k again : Key) → IsDistinct same_key keys → i < length keys → k ≡ get_or keys i k → take next keys ≡ take i keys ++ k ∷ [] → again ≡ k → before ≡ take i keys → after ≡ cond (is_in again before) before (before ++ again ∷ []) → after ≡ take next keys
+pub key-copied : (keys before after : List Key) (i next : ℕ) (k again : Key) → IsDistinct same_key keys → i < length keys → k ≡ get_or keys i k → take next keys ≡ take i keys ++ k ∷ [] → again ≡ k → before ≡ take i keys → after ≡ cond (has_key again before) before (before ++ again ∷ []) → after ≡ take next keys
 key-copied keys before after i next k again d within at more a b e =
-    e ∙ (λ j. cond (is_in (a j) (b j)) (b j) (b j ++ a j ∷ []))
+    e ∙ (λ j. cond (has_key (a j) (b j)) (b j) (b j ++ a j ∷ []))
     ∙ ap (λ c. cond c (take i keys) (take i keys ++ k ∷ [])) (before_is keys i k d within at)
     ∙ sym more

@@ -1,19 +1,20 @@
 -- Calls keep a queue a queue, get no key that is processing, and may be made one by one.
-use Rattle.std.proofs.Common.{◌≡◌, ℕ, ◌+◌, ◌<◌, get_or, length, take, true, false, List, [], ◌∷◌, ◌++◌, Option, None, Some, is_some, slice_get, map, append_assoc, append-nil, refl, sym, ap, ◌∙◌, true≢false}
+use Rattle.std.proofs.Common.{◌≡◌, ℕ, ◌+◌, ◌<◌, get_or, length, take, Bool, true, false, cond, List, [], ◌∷◌, ◌++◌, Option, None, Some, is_some, slice_get, map, append_assoc, append-nil, refl, sym, ap, ◌∙◌, true≢false}
 use Rattle.std.specs.List.{AllByRecursion as Each}
 use Rattle.std.specs.Option.{option_to_list, unwrap_or}
 use Rattle.std.proofs.lemmas.List.{map-append, take_more}
 use Rattle.jc_types.specs.declared.objects.Key.{Key}
 use Rattle.jc_queue.specs.declared.calls.Call.{Call}
-use Rattle.jc_queue.specs.declared.calls.Call.TheVariants.{Add, Get, Done}
-use Rattle.jc_queue.specs.Calls.{after, all_gots, called, finished_first, got_beside, gots_of, keys_got}
-use Rattle.jc_queue.specs.Queued.{IsQueue, Queued, finished, is_in}
+use Rattle.jc_queue.specs.declared.calls.Call.TheVariants.{Add, Get, Done, Finish, SendBack, Retract}
+use Rattle.jc_queue.specs.Calls.{GetsIdle, after, all_gots, called, finished_first, got_beside, gots_of, keys_got}
+use Rattle.jc_queue.specs.Queued.{IsQueue, Queued, finished, has_key}
+use Rattle.jc_queue.proofs.BackFacts.{retracted_is, sent_back_is}
 use Rattle.jc_queue.proofs.QueueFacts.{added_is, finished_is, first_in, first_is_idle, got_first_is}
 
 -- The first of the processing keys is processing.
-pub first_is_busy : (k : Key) (keys : List Key) → Some k ≡ slice_get keys 0 → is_in k keys ≡ true
+pub first_is_busy : (k : Key) (keys : List Key) → Some k ≡ slice_get keys 0 → has_key k keys ≡ true
 first_is_busy k [] e = absurd (true≢false (ap is_some e))
-first_is_busy k (first ∷ rest) e = ap (λ j. is_in j (first ∷ rest)) (ap (λ o. unwrap_or o k) e) ∙ first_in first rest
+first_is_busy k (first ∷ rest) e = ap (λ j. has_key j (first ∷ rest)) (ap (λ o. unwrap_or o k) e) ∙ first_in first rest
 
 -- The first of the processing keys is done.
 pub finished_first-some : (q : Queued) (k : Key) (keys : List Key) → Some k ≡ slice_get keys 0 → finished q k ≡ finished_first keys q
@@ -32,17 +33,27 @@ called_is q Done s = by q.processing refl
   where
     by : (keys : List Key) → q.processing ≡ keys → IsQueue (finished_first keys q)
     by [] e = s
-    by (k ∷ rest) e = finished_is q k s (ap (λ keys. is_in k keys) e ∙ first_in k rest)
+    by (k ∷ rest) e = finished_is q k s (ap (λ keys. has_key k keys) e ∙ first_in k rest)
+called_is q (Finish k) s = by (has_key k q.processing) refl
+  where
+    by : (b : Bool) → has_key k q.processing ≡ b → IsQueue (cond b (finished q k) q)
+    by true e = finished_is q k s e
+    by false e = s
+called_is q SendBack s = sent_back_is q s
+called_is q (Retract k) s = retracted_is q k s
 
 -- What a call gets is not processing.
-gots_idle : (q : Queued) (call : Call) → IsQueue q → Each (λ got. is_in got.0 got.1 ≡ false) (gots_of q call)
+gots_idle : (q : Queued) (call : Call) → IsQueue q → Each (λ got. has_key got.0 got.1 ≡ false) (gots_of q call)
 gots_idle q (Add k) s = tt
 gots_idle q Get s = by q.line refl
   where
-    by : (line : List Key) → q.line ≡ line → Each (λ got. is_in got.0 got.1 ≡ false) (got_beside line q.processing)
+    by : (line : List Key) → q.line ≡ line → Each (λ got. has_key got.0 got.1 ≡ false) (got_beside line q.processing)
     by [] l = tt
     by (k ∷ rest) l = (first_is_idle q s k rest l, tt)
 gots_idle q Done s = tt
+gots_idle q (Finish k) s = tt
+gots_idle q SendBack s = tt
+gots_idle q (Retract k) s = tt
 
 -- What holds of each of two lists holds of each of both together.
 each-both : {X : Type 0} (P : X → Type 0) (xs ys : List X) → Each P xs → Each P ys → Each P (xs ++ ys)
@@ -50,10 +61,10 @@ each-both P [] ys h g = g
 each-both P (x ∷ xs) ys h g = (h.0, each-both P xs ys h.1 g)
 
 -- What calls get is not processing when it is got.
-pub all_idle : (q : Queued) (calls : List Call) → IsQueue q → Each (λ got. is_in got.0 got.1 ≡ false) (all_gots q calls)
+pub all_idle : (q : Queued) (calls : List Call) → IsQueue q → GetsIdle q calls
 all_idle q [] s = tt
 all_idle q (call ∷ calls) s =
-    each-both (λ (got : Key × List Key). is_in got.0 got.1 ≡ false) (gots_of q call) (all_gots (called q call) calls)
+    each-both (λ (got : Key × List Key). has_key got.0 got.1 ≡ false) (gots_of q call) (all_gots (called q call) calls)
     (gots_idle q call s) (all_idle (called q call) calls (called_is q call s))
 
 -- One call more.

@@ -1,14 +1,14 @@
 -- The row that is due first is found from the last row on, and taken out by its place.
-use Rattle.std.proofs.Common.{◌≡◌, ℕ, zero, suc, true, false, cond, List, [], ◌∷◌, Option, Some, is_some, drop, take, refl, sym, ap, ◌∙◌, subst, true≢false}
+use Rattle.std.proofs.Common.{◌≡◌, ℕ, zero, suc, Bool, true, false, cond, List, [], ◌∷◌, Option, None, Some, is_some, drop, refl, sym, ap, ◌∙◌, subst, true≢false}
 use Rattle.std.specs.List.{AllByRecursion as Each, IsDistinct, remove, slice_get}
 use Rattle.std.specs.Map.{keys_of}
 use Rattle.std.specs.Option.{option_and_then, option_map, unwrap_or}
-use Rattle.indexmap.specs.IndexMap.{insert_entry}
 use Rattle.jc_types.specs.declared.objects.Key.{Key}
 use Rattle.jc_types.specs.Keys.{same_key}
-use Rattle.jc_types.specs.Tables.{takes}
+use Rattle.jc_log.specs.Tables.{at, takes}
 use Rattle.jc_types.proofs.KeyFacts.{same_key-either_way, same_key-itself}
-use Rattle.jc_queue.specs.Delayed.{first_of, sooner}
+use Rattle.jc_queue.specs.Delayed.{AreCopied, first_of, sooner}
+use Rattle.jc_queue.specs.Queued.{has_key}
 
 -- The row at a place, or what is due first of the rows after it.
 pub first_from : (rows : List (Key × ℕ)) (after place chosen : ℕ) (other : Option ℕ) → after ≡ suc place → option_and_then (slice_get rows) other ≡ first_of (drop after rows) → slice_get rows chosen ≡ option_map (λ row. sooner row (option_and_then (slice_get rows) other)) (slice_get rows place) → slice_get rows chosen ≡ first_of (drop place rows)
@@ -41,23 +41,23 @@ remove-row (first ∷ rows) (suc place) row d e =
     ap (λ rest. first ∷ rest) (remove-row rows place row d.1 e)
     ∙ sym (ap (λ b. cond b rows (first ∷ takes same_key rows row.0)) other)
 
--- The rows before a place and the row at it are the rows up to the next place.
-pub rows-next : {X : Type 0} (rows : List (Key × X)) (place : ℕ) (key : Key) (value : X) → IsDistinct same_key (keys_of rows) → Some (key, value) ≡ slice_get rows place → insert_entry same_key (take place rows) key value ≡ take (suc place) rows
-unfolding IsDistinct
-rows-next [] zero key value d e = absurd (true≢false (ap is_some e))
-rows-next [] (suc place) key value d e = absurd (true≢false (ap is_some e))
-rows-next (first ∷ rows) zero key value d e =
-    ap (λ o. unwrap_or o (key, value) ∷ []) e ∙ ap (λ rest. first ∷ rest) (sym (none rows))
+-- The key of the row at a place is found.
+pub row_there : (rows : List (Key × ℕ)) (place : ℕ) (row : Key × ℕ) → Some row ≡ slice_get rows place → is_some (at same_key rows row.0) ≡ true
+row_there [] zero row e = absurd (true≢false (ap is_some e))
+row_there [] (suc place) row e = absurd (true≢false (ap is_some e))
+row_there (first ∷ rows) zero row e =
+    let same : same_key row.0 first.0 ≡ true = ap (λ (r : Key × ℕ). same_key r.0 first.0) (ap (λ o. unwrap_or o row) e) ∙ same_key-itself first.0 in
+    ap (λ b. is_some (cond b (Some first.1) (at same_key rows row.0))) same
+row_there (first ∷ rows) (suc place) row e = by (same_key row.0 first.0) (row_there rows place row e)
   where
-    none : {Y : Type 0} (xs : List Y) → take zero xs ≡ []
-    none [] = refl
-    none (x ∷ xs) = refl
-rows-next (first ∷ rows) (suc place) key value d e =
-    let other : same_key key first.0 ≡ false = same_key-either_way key first.0 ∙ key_at (λ k. same_key first.0 k ≡ false) rows place (key, value) d.0 e in
-    ap (λ b. cond b ((first.0, value) ∷ take place rows) (first ∷ insert_entry same_key (take place rows) key value)) other
-    ∙ ap (λ rest. first ∷ rest) (rows-next rows place key value d.1 e)
+    by : (b : Bool) → is_some (at same_key rows row.0) ≡ true → is_some (cond b (Some first.1) (at same_key rows row.0)) ≡ true
+    by true h = refl
+    by false h = h
 
--- The row that is copied next.
-pub row-copied : {X : Type 0} (rows before after : List (Key × X)) (place next : ℕ) (key again : Key) (value same : X) → next ≡ suc place → IsDistinct same_key (keys_of rows) → Some (key, value) ≡ slice_get rows place → again ≡ key → same ≡ value → before ≡ take place rows → after ≡ insert_entry same_key before again same → after ≡ take next rows
-row-copied rows before after place next key again value same n d e k v b a =
-    a ∙ (λ i. insert_entry same_key (b i) (k i) (v i)) ∙ rows-next rows place key value d e ∙ ap (λ m. take m rows) (sym n)
+-- Without a key and its copy, each key that has a moment has a copy still.
+pub copied-taken : (moments left : List (Key × ℕ)) (copies others : List Key) (k : Key) → AreCopied moments copies → ((j : Key) → at same_key left j ≡ cond (same_key k j) None (at same_key moments j)) → ((j : Key) → has_key j others ≡ cond (same_key k j) false (has_key j copies)) → AreCopied left others
+copied-taken moments left copies others k copied takes drops j there = by (same_key k j) (takes j) (drops j)
+  where
+    by : (b : Bool) → at same_key left j ≡ cond b None (at same_key moments j) → has_key j others ≡ cond b false (has_key j copies) → has_key j others ≡ true
+    by true t d = absurd (true≢false (sym there ∙ ap is_some t))
+    by false t d = d ∙ copied j (sym (ap is_some t) ∙ there)

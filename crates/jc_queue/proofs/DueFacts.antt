@@ -7,14 +7,14 @@ use Rattle.std.specs.Option.{unwrap_or}
 use Rattle.std.specs.Ordering.{is_lt}
 use Rattle.jc_types.specs.declared.objects.Key.{Key}
 use Rattle.jc_types.specs.Keys.{same_key}
-use Rattle.jc_types.specs.Tables.{at, takes}
+use Rattle.jc_log.specs.Tables.{at, takes}
 use Rattle.jc_types.proofs.KeyFacts.{same_key-either_way, same_key-eq, same_key-itself}
 use Rattle.jc_queue.specs.Delayed.{Delayed, due_key, due_keys, first_of, in_turn, is_before, is_due, key_by, key_order, left_after, left_by, put_in_turn, sooner}
 use Rattle.jc_queue.specs.Queued.{without}
 use Rattle.jc_queue.proofs.QueueFacts.{distinct-without}
 
 -- The value of an option that is some.
-of_some : {X : Type 0} (x y : X) → Some x ≡ Some y → x ≡ y
+pub of_some : {X : Type 0} (x y : X) → Some x ≡ Some y → x ≡ y
 of_some x y e = ap (λ o. unwrap_or o x) e
 
 -- ---- the row that is due first is one of the rows
@@ -29,7 +29,7 @@ other_key k (row ∷ rows) found moment h e = by (same_key found row.0) refl e (
     by false t e rest = rest e
 
 -- Its moment is found at its key.
-first_found : (rows : List (Key × ℕ)) (f : Key × ℕ) → IsDistinct same_key (keys_of rows) → first_of rows ≡ Some f → at same_key rows f.0 ≡ Some f.1
+pub first_found : (rows : List (Key × ℕ)) (f : Key × ℕ) → IsDistinct same_key (keys_of rows) → first_of rows ≡ Some f → at same_key rows f.0 ≡ Some f.1
 unfolding IsDistinct
 first_found [] f d e = absurd (true≢false (ap is_some (sym e)))
 first_found (row ∷ rows) f d e = by (first_of rows) refl e (λ s. first_found rows s d.1)
@@ -50,7 +50,7 @@ first_found (row ∷ rows) f d e = by (first_of rows) refl e (λ s. first_found 
 
 -- ---- the rows in turn begin with the row that is due first
 
-in_turn-first : (rows : List (Key × ℕ)) (f : Key × ℕ) → IsDistinct same_key (keys_of rows) → first_of rows ≡ Some f → in_turn rows ≡ f ∷ in_turn (takes same_key rows f.0)
+pub in_turn-first : (rows : List (Key × ℕ)) (f : Key × ℕ) → IsDistinct same_key (keys_of rows) → first_of rows ≡ Some f → in_turn rows ≡ f ∷ in_turn (takes same_key rows f.0)
 unfolding IsDistinct
 in_turn-first [] f d e = absurd (true≢false (ap is_some (sym e)))
 in_turn-first (row ∷ rows) f d e = by (first_of rows) refl e (λ s. in_turn-first rows s d.1)
@@ -185,7 +185,7 @@ each-kept P test (row ∷ rows) h = by (test row) (each-kept P test rows h.1)
     by true rest = (h.0, rest)
     by false rest = rest
 
-distinct-kept : (test : Key × ℕ → Bool) (rows : List (Key × ℕ)) → IsDistinct same_key (keys_of rows) → IsDistinct same_key (keys_of (filter test rows))
+pub distinct-kept : (test : Key × ℕ → Bool) (rows : List (Key × ℕ)) → IsDistinct same_key (keys_of rows) → IsDistinct same_key (keys_of (filter test rows))
 unfolding IsDistinct
 distinct-kept test [] d = tt
 distinct-kept test (row ∷ rows) d = by (test row) (distinct-kept test rows d.1)

@@ -3,43 +3,32 @@
 use Rattle.std.proofs.Common.{◌≡◌, Bool, true, false, cond, not, ◌&&◌, ◌||◌, List, [], ◌∷◌, ◌++◌, Bor, IfSome, Option, None, Some, is_some, length, nat_lt, slice_index_or, refl, sym, ap, ◌∙◌, subst, true≢false}
 use Rattle.std.specs.List.{AllByRecursion as Each, IsDistinct}
 use Rattle.std.proofs.lemmas.List.Folds.{list_any-append}
+use Rattle.std.proofs.Math.Bool.{and-false, or-false, or-true}
 use Rattle.jc_types.specs.declared.objects.Key.{Key}
 use Rattle.jc_types.specs.Keys.{same_key}
 use Rattle.jc_types.proofs.KeyFacts.{same_key-eq, same_key-itself, same_key-either_way}
-use Rattle.jc_queue.specs.Queued.{Queued, IsQueue, is_in, without, added, got, got_first, finished}
-
-or-true : (b : Bool) → (b || true) ≡ true
-or-true true = refl
-or-true false = refl
-
-or-false : (b : Bool) → (b || false) ≡ b
-or-false true = refl
-or-false false = refl
-
-and-false : (b : Bool) → (b && false) ≡ false
-and-false true = refl
-and-false false = refl
+use Rattle.jc_queue.specs.Queued.{Queued, IsQueue, has_key, without, added, got, got_first, finished}
 
 -- None of the keys is k, as one test.
-pub none_is : (k : Key) (keys : List Key) → Each (λ y. same_key k y ≡ false) keys → is_in k keys ≡ false
+pub none_is : (k : Key) (keys : List Key) → Each (λ y. same_key k y ≡ false) keys → has_key k keys ≡ false
 none_is k [] h = refl
-none_is k (x ∷ xs) h = ap (λ b. b || is_in k xs) h.0 ∙ none_is k xs h.1
+none_is k (x ∷ xs) h = ap (λ b. b || has_key k xs) h.0 ∙ none_is k xs h.1
 
 -- A key that goes last is among the keys, beside those that were.
-pub is_in-last : (q k : Key) (keys : List Key) → is_in q (keys ++ k ∷ []) ≡ (is_in q keys || same_key q k)
-is_in-last q k keys = list_any-append (same_key q) keys (k ∷ []) ∙ ap (λ b. is_in q keys || b) (or-false (same_key q k))
+pub is_in-last : (q k : Key) (keys : List Key) → has_key q (keys ++ k ∷ []) ≡ (has_key q keys || same_key q k)
+is_in-last q k keys = list_any-append (same_key q) keys (k ∷ []) ∙ ap (λ b. has_key q keys || b) (or-false (same_key q k))
 
 -- A key that is not among the keys may go last.
 each-last : (y k : Key) (keys : List Key) → same_key y k ≡ false → Each (λ z. same_key y z ≡ false) keys → Each (λ z. same_key y z ≡ false) (keys ++ k ∷ [])
 each-last y k [] f h = (f, tt)
 each-last y k (z ∷ zs) f h = (h.0, each-last y k zs f h.1)
 
-pub distinct-last : (k : Key) (keys : List Key) → is_in k keys ≡ false → IsDistinct same_key keys → IsDistinct same_key (keys ++ k ∷ [])
+pub distinct-last : (k : Key) (keys : List Key) → has_key k keys ≡ false → IsDistinct same_key keys → IsDistinct same_key (keys ++ k ∷ [])
 unfolding IsDistinct
 distinct-last k [] h d = (tt, tt)
 distinct-last k (x ∷ xs) h d = by (same_key k x) refl h (distinct-last k xs)
   where
-    by : (b : Bool) → same_key k x ≡ b → (b || is_in k xs) ≡ false → (is_in k xs ≡ false → IsDistinct same_key xs → IsDistinct same_key (xs ++ k ∷ [])) → IsDistinct same_key (x ∷ (xs ++ k ∷ []))
+    by : (b : Bool) → same_key k x ≡ b → (b || has_key k xs) ≡ false → (has_key k xs ≡ false → IsDistinct same_key xs → IsDistinct same_key (xs ++ k ∷ [])) → IsDistinct same_key (x ∷ (xs ++ k ∷ []))
     by true t h rest = absurd (true≢false h)
     by false t h rest = (each-last x k xs (same_key-either_way x k ∙ t) d.0, rest h d.1)
 
@@ -62,7 +51,7 @@ distinct-without k (x ∷ xs) d = by (same_key k x) (distinct-without k xs d.1)
     by false rest = (each-without (λ y. same_key x y ≡ false) k xs d.0, rest)
 
 -- Just k is among the keys no more.
-pub is_in-without : (q k : Key) (keys : List Key) → IsDistinct same_key keys → is_in q (without k keys) ≡ (not (same_key k q) && is_in q keys)
+pub is_in-without : (q k : Key) (keys : List Key) → IsDistinct same_key keys → has_key q (without k keys) ≡ (not (same_key k q) && has_key q keys)
 unfolding IsDistinct
 is_in-without q k [] d = by (same_key k q)
   where
@@ -71,15 +60,15 @@ is_in-without q k [] d = by (same_key k q)
     by false = refl
 is_in-without q k (x ∷ xs) d = by (same_key k x) refl (is_in-without q k xs d.1)
   where
-    by : (b : Bool) → same_key k x ≡ b → is_in q (without k xs) ≡ (not (same_key k q) && is_in q xs) → is_in q (cond b xs (x ∷ without k xs)) ≡ (not (same_key k q) && (same_key q x || is_in q xs))
+    by : (b : Bool) → same_key k x ≡ b → has_key q (without k xs) ≡ (not (same_key k q) && has_key q xs) → has_key q (cond b xs (x ∷ without k xs)) ≡ (not (same_key k q) && (same_key q x || has_key q xs))
     by true t rest = at_key (same_key k q) refl
       where
-        at_key : (b : Bool) → same_key k q ≡ b → is_in q xs ≡ (not b && (same_key q x || is_in q xs))
-        at_key true s = ap (λ z. is_in z xs) (sym (same_key-eq k q s) ∙ same_key-eq k x t) ∙ none_is x xs d.0
-        at_key false s = ap (λ b. b || is_in q xs) (sym (ap (λ z. same_key q z) (sym (same_key-eq k x t)) ∙ same_key-either_way q k ∙ s))
+        at_key : (b : Bool) → same_key k q ≡ b → has_key q xs ≡ (not b && (same_key q x || has_key q xs))
+        at_key true s = ap (λ z. has_key z xs) (sym (same_key-eq k q s) ∙ same_key-eq k x t) ∙ none_is x xs d.0
+        at_key false s = ap (λ b. b || has_key q xs) (sym (ap (λ z. same_key q z) (sym (same_key-eq k x t)) ∙ same_key-either_way q k ∙ s))
     by false t rest = at_key (same_key q x) refl
       where
-        at_key : (b : Bool) → same_key q x ≡ b → (b || is_in q (without k xs)) ≡ (not (same_key k q) && (b || is_in q xs))
+        at_key : (b : Bool) → same_key q x ≡ b → (b || has_key q (without k xs)) ≡ (not (same_key k q) && (b || has_key q xs))
         at_key true s = sym (ap (λ b. not b && true) (ap (λ z. same_key k z) (same_key-eq q x s) ∙ t))
         at_key false s = rest
 
@@ -89,54 +78,54 @@ unfolding IsDistinct
 empty_is = record { line_once = tt; dirty_once = tt; processing_once = tt; waiting = λ k. refl }
 
 -- A dirty key that is not processing stands in line, and a key in line is not processing.
-pub in_line : (q : Queued) → IsQueue q → (k : Key) → is_in k q.line ≡ true → is_in k q.processing ≡ false
-in_line q s k h = by (is_in k q.dirty) (is_in k q.processing) (sym h ∙ s.waiting k)
+pub in_line : (q : Queued) → IsQueue q → (k : Key) → has_key k q.line ≡ true → has_key k q.processing ≡ false
+in_line q s k h = by (has_key k q.dirty) (has_key k q.processing) (sym h ∙ s.waiting k)
   where
     by : (d p : Bool) → true ≡ (d && not p) → p ≡ false
     by true true e = absurd (true≢false e)
     by true false e = refl
     by false p e = absurd (true≢false e)
 
-in_line-dirty : (q : Queued) → IsQueue q → (k : Key) → is_in k q.line ≡ true → is_in k q.dirty ≡ true
-in_line-dirty q s k h = by (is_in k q.dirty) (is_in k q.processing) (sym h ∙ s.waiting k)
+in_line-dirty : (q : Queued) → IsQueue q → (k : Key) → has_key k q.line ≡ true → has_key k q.dirty ≡ true
+in_line-dirty q s k h = by (has_key k q.dirty) (has_key k q.processing) (sym h ∙ s.waiting k)
   where
     by : (d p : Bool) → true ≡ (d && not p) → d ≡ true
     by true p e = refl
     by false p e = absurd (true≢false e)
 
 -- The first key is one of the keys.
-pub first_in : (k : Key) (rest : List Key) → is_in k (k ∷ rest) ≡ true
-first_in k rest = ap (λ b. b || is_in k rest) (same_key-itself k)
+pub first_in : (k : Key) (rest : List Key) → has_key k (k ∷ rest) ≡ true
+first_in k rest = ap (λ b. b || has_key k rest) (same_key-itself k)
 
 -- A key that was not dirty is added.
-pub add_is : (q : Queued) (k : Key) → IsQueue q → is_in k q.dirty ≡ false → IsQueue (record { line = cond (is_in k q.processing) q.line (q.line ++ k ∷ []); dirty = q.dirty ++ k ∷ []; processing = q.processing })
-add_is q k s clean = record { line_once = once (is_in k q.processing); dirty_once = distinct-last k q.dirty clean s.dirty_once; processing_once = s.processing_once; waiting = λ j. waits j (is_in k q.processing) refl (same_key j k) refl }
+pub add_is : (q : Queued) (k : Key) → IsQueue q → has_key k q.dirty ≡ false → IsQueue (record { line = cond (has_key k q.processing) q.line (q.line ++ k ∷ []); dirty = q.dirty ++ k ∷ []; processing = q.processing })
+add_is q k s clean = record { line_once = once (has_key k q.processing); dirty_once = distinct-last k q.dirty clean s.dirty_once; processing_once = s.processing_once; waiting = λ j. waits j (has_key k q.processing) refl (same_key j k) refl }
   where
-    out : is_in k q.line ≡ false
-    out = s.waiting k ∙ ap (λ b. b && not (is_in k q.processing)) clean
+    out : has_key k q.line ≡ false
+    out = s.waiting k ∙ ap (λ b. b && not (has_key k q.processing)) clean
 
     once : (p : Bool) → IsDistinct same_key (cond p q.line (q.line ++ k ∷ []))
     once true = s.line_once
     once false = distinct-last k q.line out s.line_once
 
-    waits : (j : Key) (p : Bool) → is_in k q.processing ≡ p → (m : Bool) → same_key j k ≡ m → is_in j (cond p q.line (q.line ++ k ∷ [])) ≡ (is_in j (q.dirty ++ k ∷ []) && not (is_in j q.processing))
+    waits : (j : Key) (p : Bool) → has_key k q.processing ≡ p → (m : Bool) → same_key j k ≡ m → has_key j (cond p q.line (q.line ++ k ∷ [])) ≡ (has_key j (q.dirty ++ k ∷ []) && not (has_key j q.processing))
     waits j true e true m =
-        ap (λ z. is_in z q.line) (same_key-eq j k m) ∙ out
-        ∙ sym (ap (λ b. is_in j (q.dirty ++ k ∷ []) && not b) (ap (λ z. is_in z q.processing) (same_key-eq j k m) ∙ e) ∙ and-false (is_in j (q.dirty ++ k ∷ [])))
+        ap (λ z. has_key z q.line) (same_key-eq j k m) ∙ out
+        ∙ sym (ap (λ b. has_key j (q.dirty ++ k ∷ []) && not b) (ap (λ z. has_key z q.processing) (same_key-eq j k m) ∙ e) ∙ and-false (has_key j (q.dirty ++ k ∷ [])))
     waits j true e false m =
-        s.waiting j ∙ ap (λ b. b && not (is_in j q.processing)) (sym (is_in-last j k q.dirty ∙ ap (λ b. is_in j q.dirty || b) m ∙ or-false (is_in j q.dirty)))
+        s.waiting j ∙ ap (λ b. b && not (has_key j q.processing)) (sym (is_in-last j k q.dirty ∙ ap (λ b. has_key j q.dirty || b) m ∙ or-false (has_key j q.dirty)))
     waits j false e true m =
-        is_in-last j k q.line ∙ ap (λ b. is_in j q.line || b) m ∙ or-true (is_in j q.line)
-        ∙ sym (ap (λ b. b && not (is_in j q.processing)) (is_in-last j k q.dirty ∙ ap (λ b. is_in j q.dirty || b) m ∙ or-true (is_in j q.dirty))
-        ∙ ap not (ap (λ z. is_in z q.processing) (same_key-eq j k m) ∙ e))
+        is_in-last j k q.line ∙ ap (λ b. has_key j q.line || b) m ∙ or-true (has_key j q.line)
+        ∙ sym (ap (λ b. b && not (has_key j q.processing)) (is_in-last j k q.dirty ∙ ap (λ b. has_key j q.dirty || b) m ∙ or-true (has_key j q.dirty))
+        ∙ ap not (ap (λ z. has_key z q.processing) (same_key-eq j k m) ∙ e))
     waits j false e false m =
-        is_in-last j k q.line ∙ ap (λ b. is_in j q.line || b) m ∙ or-false (is_in j q.line) ∙ s.waiting j
-        ∙ ap (λ b. b && not (is_in j q.processing)) (sym (is_in-last j k q.dirty ∙ ap (λ b. is_in j q.dirty || b) m ∙ or-false (is_in j q.dirty)))
+        is_in-last j k q.line ∙ ap (λ b. has_key j q.line || b) m ∙ or-false (has_key j q.line) ∙ s.waiting j
+        ∙ ap (λ b. b && not (has_key j q.processing)) (sym (is_in-last j k q.dirty ∙ ap (λ b. has_key j q.dirty || b) m ∙ or-false (has_key j q.dirty)))
 
 pub added_is : (q : Queued) (k : Key) → IsQueue q → IsQueue (added q k)
-added_is q k s = by (is_in k q.dirty) refl
+added_is q k s = by (has_key k q.dirty) refl
   where
-    by : (b : Bool) → is_in k q.dirty ≡ b → IsQueue (cond b q (record { line = cond (is_in k q.processing) q.line (q.line ++ k ∷ []); dirty = q.dirty ++ k ∷ []; processing = q.processing }))
+    by : (b : Bool) → has_key k q.dirty ≡ b → IsQueue (cond b q (record { line = cond (has_key k q.processing) q.line (q.line ++ k ∷ []); dirty = q.dirty ++ k ∷ []; processing = q.processing }))
     by true e = s
     by false e = add_is q k s e
 
@@ -145,51 +134,51 @@ pub got_is : (k : Key) (rest dirty processing : List Key) → IsQueue (record { 
 unfolding IsDistinct
 got_is k rest dirty processing s = record { line_once = s.line_once.1; dirty_once = distinct-without k dirty s.dirty_once; processing_once = distinct-last k processing idle s.processing_once; waiting = λ j. waits j (same_key k j) refl }
   where
-    idle : is_in k processing ≡ false
+    idle : has_key k processing ≡ false
     idle = in_line (record { line = k ∷ rest; dirty = dirty; processing = processing }) s k (first_in k rest)
 
-    waits : (j : Key) (m : Bool) → same_key k j ≡ m → is_in j rest ≡ (is_in j (without k dirty) && not (is_in j (processing ++ k ∷ [])))
+    waits : (j : Key) (m : Bool) → same_key k j ≡ m → has_key j rest ≡ (has_key j (without k dirty) && not (has_key j (processing ++ k ∷ [])))
     waits j true m =
-        ap (λ z. is_in z rest) (sym (same_key-eq k j m)) ∙ none_is k rest s.line_once.0
-        ∙ sym (ap (λ b. b && not (is_in j (processing ++ k ∷ []))) (is_in-without j k dirty s.dirty_once ∙ ap (λ b. not b && is_in j dirty) m))
+        ap (λ z. has_key z rest) (sym (same_key-eq k j m)) ∙ none_is k rest s.line_once.0
+        ∙ sym (ap (λ b. b && not (has_key j (processing ++ k ∷ []))) (is_in-without j k dirty s.dirty_once ∙ ap (λ b. not b && has_key j dirty) m))
     waits j false m =
         let other : same_key j k ≡ false = same_key-either_way j k ∙ m in
-        ap (λ b. b || is_in j rest) (sym other) ∙ s.waiting j
-        ∙ sym (ap (λ b. b && not (is_in j (processing ++ k ∷ []))) (is_in-without j k dirty s.dirty_once ∙ ap (λ b. not b && is_in j dirty) m)
-        ∙ ap (λ b. is_in j dirty && not b) (is_in-last j k processing ∙ ap (λ b. is_in j processing || b) other ∙ or-false (is_in j processing)))
+        ap (λ b. b || has_key j rest) (sym other) ∙ s.waiting j
+        ∙ sym (ap (λ b. b && not (has_key j (processing ++ k ∷ []))) (is_in-without j k dirty s.dirty_once ∙ ap (λ b. not b && has_key j dirty) m)
+        ∙ ap (λ b. has_key j dirty && not b) (is_in-last j k processing ∙ ap (λ b. has_key j processing || b) other ∙ or-false (has_key j processing)))
 
 -- A key that is processing is done.
-pub finished_is : (q : Queued) (k : Key) → IsQueue q → is_in k q.processing ≡ true → IsQueue (finished q k)
-finished_is q k s busy = record { line_once = once (is_in k q.dirty); dirty_once = s.dirty_once; processing_once = distinct-without k q.processing s.processing_once; waiting = λ j. waits j (is_in k q.dirty) refl (same_key k j) refl }
+pub finished_is : (q : Queued) (k : Key) → IsQueue q → has_key k q.processing ≡ true → IsQueue (finished q k)
+finished_is q k s busy = record { line_once = once (has_key k q.dirty); dirty_once = s.dirty_once; processing_once = distinct-without k q.processing s.processing_once; waiting = λ j. waits j (has_key k q.dirty) refl (same_key k j) refl }
   where
-    out : is_in k q.line ≡ false
-    out = s.waiting k ∙ ap (λ b. is_in k q.dirty && not b) busy ∙ and-false (is_in k q.dirty)
+    out : has_key k q.line ≡ false
+    out = s.waiting k ∙ ap (λ b. has_key k q.dirty && not b) busy ∙ and-false (has_key k q.dirty)
 
     once : (d : Bool) → IsDistinct same_key (cond d (q.line ++ k ∷ []) q.line)
     once true = distinct-last k q.line out s.line_once
     once false = s.line_once
 
-    left : (j : Key) (m : Bool) → same_key k j ≡ m → is_in j (without k q.processing) ≡ (not m && is_in j q.processing)
-    left j m e = is_in-without j k q.processing s.processing_once ∙ ap (λ b. not b && is_in j q.processing) e
+    left : (j : Key) (m : Bool) → same_key k j ≡ m → has_key j (without k q.processing) ≡ (not m && has_key j q.processing)
+    left j m e = is_in-without j k q.processing s.processing_once ∙ ap (λ b. not b && has_key j q.processing) e
 
-    waits : (j : Key) (d : Bool) → is_in k q.dirty ≡ d → (m : Bool) → same_key k j ≡ m → is_in j (cond d (q.line ++ k ∷ []) q.line) ≡ (is_in j q.dirty && not (is_in j (without k q.processing)))
+    waits : (j : Key) (d : Bool) → has_key k q.dirty ≡ d → (m : Bool) → same_key k j ≡ m → has_key j (cond d (q.line ++ k ∷ []) q.line) ≡ (has_key j q.dirty && not (has_key j (without k q.processing)))
     waits j true e true m =
-        is_in-last j k q.line ∙ ap (λ b. is_in j q.line || b) (same_key-either_way j k ∙ m) ∙ or-true (is_in j q.line)
-        ∙ sym (ap (λ b. b && not (is_in j (without k q.processing))) (ap (λ z. is_in z q.dirty) (sym (same_key-eq k j m)) ∙ e) ∙ ap not (left j true m))
+        is_in-last j k q.line ∙ ap (λ b. has_key j q.line || b) (same_key-either_way j k ∙ m) ∙ or-true (has_key j q.line)
+        ∙ sym (ap (λ b. b && not (has_key j (without k q.processing))) (ap (λ z. has_key z q.dirty) (sym (same_key-eq k j m)) ∙ e) ∙ ap not (left j true m))
     waits j true e false m =
-        is_in-last j k q.line ∙ ap (λ b. is_in j q.line || b) (same_key-either_way j k ∙ m) ∙ or-false (is_in j q.line) ∙ s.waiting j
-        ∙ ap (λ b. is_in j q.dirty && not b) (sym (left j false m))
+        is_in-last j k q.line ∙ ap (λ b. has_key j q.line || b) (same_key-either_way j k ∙ m) ∙ or-false (has_key j q.line) ∙ s.waiting j
+        ∙ ap (λ b. has_key j q.dirty && not b) (sym (left j false m))
     waits j false e true m =
-        ap (λ z. is_in z q.line) (sym (same_key-eq k j m)) ∙ out
-        ∙ sym (ap (λ b. b && not (is_in j (without k q.processing))) (ap (λ z. is_in z q.dirty) (sym (same_key-eq k j m)) ∙ e))
-    waits j false e false m = s.waiting j ∙ ap (λ b. is_in j q.dirty && not b) (sym (left j false m))
+        ap (λ z. has_key z q.line) (sym (same_key-eq k j m)) ∙ out
+        ∙ sym (ap (λ b. b && not (has_key j (without k q.processing))) (ap (λ z. has_key z q.dirty) (sym (same_key-eq k j m)) ∙ e))
+    waits j false e false m = s.waiting j ∙ ap (λ b. has_key j q.dirty && not b) (sym (left j false m))
 
 -- The first key of a line is dirty, and is not processing.
-pub first_is_dirty : (q : Queued) → IsQueue q → (k : Key) (rest : List Key) → q.line ≡ k ∷ rest → is_in k q.dirty ≡ true
-first_is_dirty q s k rest l = in_line-dirty q s k (ap (λ line. is_in k line) l ∙ first_in k rest)
+pub first_is_dirty : (q : Queued) → IsQueue q → (k : Key) (rest : List Key) → q.line ≡ k ∷ rest → has_key k q.dirty ≡ true
+first_is_dirty q s k rest l = in_line-dirty q s k (ap (λ line. has_key k line) l ∙ first_in k rest)
 
-pub first_is_idle : (q : Queued) → IsQueue q → (k : Key) (rest : List Key) → q.line ≡ k ∷ rest → is_in k q.processing ≡ false
-first_is_idle q s k rest l = in_line q s k (ap (λ line. is_in k line) l ∙ first_in k rest)
+pub first_is_idle : (q : Queued) → IsQueue q → (k : Key) (rest : List Key) → q.line ≡ k ∷ rest → has_key k q.processing ≡ false
+first_is_idle q s k rest l = in_line q s k (ap (λ line. has_key k line) l ∙ first_in k rest)
 
 -- Whether the line is empty or not.
 pub got_first_is : (q : Queued) → IsQueue q → IsQueue (got q)
@@ -200,10 +189,10 @@ got_first_is q s = by q.line refl
     by (k ∷ rest) l = got_is k rest q.dirty q.processing (subst (λ line. IsQueue (record { line = line; dirty = q.dirty; processing = q.processing })) l s)
 
 -- What is read at the front of the line is not processing.
-pub front_is_idle : (q : Queued) → IsQueue q → (front : Option (Bor Key)) → is_some front ≡ nat_lt 0 (length q.line) → IfSome front (λ k. k.now ≡ slice_index_or q.line 0 k.now) → IfSome front (λ k. is_in k.now q.processing ≡ false)
+pub front_is_idle : (q : Queued) → IsQueue q → (front : Option (Bor Key)) → is_some front ≡ nat_lt 0 (length q.line) → IfSome front (λ k. k.now ≡ slice_index_or q.line 0 k.now) → IfSome front (λ k. has_key k.now q.processing ≡ false)
 front_is_idle q s None some at = tt
 front_is_idle q s (Some k) some at = by q.line refl some at
   where
-    by : (line : List Key) → q.line ≡ line → true ≡ nat_lt 0 (length line) → k.now ≡ slice_index_or line 0 k.now → is_in k.now q.processing ≡ false
+    by : (line : List Key) → q.line ≡ line → true ≡ nat_lt 0 (length line) → k.now ≡ slice_index_or line 0 k.now → has_key k.now q.processing ≡ false
     by [] l some at = absurd (true≢false some)
-    by (first ∷ rest) l some at = ap (λ j. is_in j q.processing) at ∙ first_is_idle q s first rest l
+    by (first ∷ rest) l some at = ap (λ j. has_key j q.processing) at ∙ first_is_idle q s first rest l

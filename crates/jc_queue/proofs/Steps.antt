@@ -1,13 +1,14 @@
 -- What the code writes into its lists is what the words on a queue say.
-use Rattle.std.proofs.Common.{◌≡◌, ℕ, suc, Bool, true, false, cond, not, ◌||◌, ◌+◌, ◌<◌, length, List, [], ◌∷◌, ◌++◌, Some, None, is_some, refl, sym, ap, ◌∙◌, true≢false, arith, nat_lt}
+use Rattle.std.proofs.Common.{◌≡◌, ℕ, suc, Bool, true, false, cond, not, ◌||◌, ◌+◌, ◌<◌, length, List, [], ◌∷◌, ◌++◌, Some, None, is_some, refl, sym, ap, ◌∙◌, true≢false, arith, nat_lt, slice_index_or}
 use Rattle.std.proofs.lemmas.Bool.Decides.{nat_tests}
+use Rattle.std.proofs.lemmas.List.Quantifiers.{position-Some}
 use Rattle.std.specs.List.{find, list_any, position, position_or_len, remove}
 use Rattle.std.specs.Option.{unwrap_or}
 use Rattle.std.specs.Set.{remove_key}
 use Rattle.jc_types.specs.declared.objects.Key.{Key}
 use Rattle.jc_types.specs.Keys.{same_key}
 use Rattle.jc_types.proofs.KeyFacts.{same_key-eq}
-use Rattle.jc_queue.specs.Queued.{Queued, is_in, without, added, finished, got, got_first}
+use Rattle.jc_queue.specs.Queued.{Queued, has_key, without, added, finished, got, got_first}
 
 -- The removal at the first place at which the test passes is the removal of the first key that passes.
 remove-first : {X : Type 0} (test : X → Bool) (xs : List X) → remove xs (position_or_len test xs) ≡ remove_key test xs
@@ -46,27 +47,31 @@ no_place test xs h e =
     let passes : nat_lt (position_or_len test xs) (length xs) ≡ true = grind (arith, nat_tests, within) in
     true≢false (ap is_some (sym (e ∙ ap (λ b. cond b (Some (position_or_len test xs)) None) passes)))
 
+-- The key at the place that was found is the key that was looked up.
+pub placed_is : (k held : Key) (keys : List Key) (i : ℕ) → Some i ≡ position (same_key k) keys → held ≡ slice_index_or keys i held → held ≡ k
+placed_is k held keys i h e = e ∙ sym (same_key-eq k (slice_index_or keys i held) (position-Some (same_key k) keys i held (sym h)).1)
+
 -- A copy of a key that is not among the keys goes last.
-pub goes_last : (k copied : Key) (keys after : List Key) → is_in k keys ≡ false → copied ≡ k → after ≡ cond (is_in copied keys) keys (keys ++ copied ∷ []) → after ≡ keys ++ k ∷ []
+pub goes_last : (k copied : Key) (keys after : List Key) → has_key k keys ≡ false → copied ≡ k → after ≡ cond (has_key copied keys) keys (keys ++ copied ∷ []) → after ≡ keys ++ k ∷ []
 goes_last k copied keys after clean same e =
-    e ∙ ap (λ j. cond (is_in j keys) keys (keys ++ j ∷ [])) same ∙ ap (λ b. cond b keys (keys ++ k ∷ [])) clean
+    e ∙ ap (λ j. cond (has_key j keys) keys (keys ++ j ∷ [])) same ∙ ap (λ b. cond b keys (keys ++ k ∷ [])) clean
 
 -- A queue with these lists is what `added` says.
-pub added-parts : (q : Queued) (k : Key) (line dirty processing : List Key) → is_in k q.dirty ≡ false → line ≡ cond (is_in k q.processing) q.line (q.line ++ k ∷ []) → dirty ≡ q.dirty ++ k ∷ [] → processing ≡ q.processing → record { line = line; dirty = dirty; processing = processing } ≡ added q k
+pub added-parts : (q : Queued) (k : Key) (line dirty processing : List Key) → has_key k q.dirty ≡ false → line ≡ cond (has_key k q.processing) q.line (q.line ++ k ∷ []) → dirty ≡ q.dirty ++ k ∷ [] → processing ≡ q.processing → record { line = line; dirty = dirty; processing = processing } ≡ added q k
 added-parts q k line dirty processing clean l d p =
     (λ i. record { line = l i; dirty = d i; processing = p i })
-    ∙ sym (ap (λ b. cond b q (record { line = cond (is_in k q.processing) q.line (q.line ++ k ∷ []); dirty = q.dirty ++ k ∷ []; processing = q.processing })) clean)
+    ∙ sym (ap (λ b. cond b q (record { line = cond (has_key k q.processing) q.line (q.line ++ k ∷ []); dirty = q.dirty ++ k ∷ []; processing = q.processing })) clean)
 
 -- The line of a key that is processing, and that of another.
-pub stays_out : (k : Key) (line processing : List Key) → is_in k processing ≡ true → line ≡ cond (is_in k processing) line (line ++ k ∷ [])
+pub stays_out : (k : Key) (line processing : List Key) → has_key k processing ≡ true → line ≡ cond (has_key k processing) line (line ++ k ∷ [])
 stays_out k line processing busy = sym (ap (λ b. cond b line (line ++ k ∷ [])) busy)
 
-pub comes_in : (k copied : Key) (line processing after before : List Key) → is_in k processing ≡ false → copied ≡ k → after ≡ before ++ copied ∷ [] → before ≡ line → after ≡ cond (is_in k processing) line (line ++ k ∷ [])
+pub comes_in : (k copied : Key) (line processing after before : List Key) → has_key k processing ≡ false → copied ≡ k → after ≡ before ++ copied ∷ [] → before ≡ line → after ≡ cond (has_key k processing) line (line ++ k ∷ [])
 comes_in k copied line processing after before idle same e f =
     e ∙ (λ i. f i ++ same i ∷ []) ∙ sym (ap (λ b. cond b line (line ++ k ∷ [])) idle)
 
 -- A queue with these lists is what `finished` says.
-pub finished-parts : (q : Queued) (k : Key) (line processing : List Key) → line ≡ cond (is_in k q.dirty) (q.line ++ k ∷ []) q.line → processing ≡ without k q.processing → record { line = line; dirty = q.dirty; processing = processing } ≡ finished q k
+pub finished-parts : (q : Queued) (k : Key) (line processing : List Key) → line ≡ cond (has_key k q.dirty) (q.line ++ k ∷ []) q.line → processing ≡ without k q.processing → record { line = line; dirty = q.dirty; processing = processing } ≡ finished q k
 finished-parts q k line processing l p = λ i. record { line = l i; dirty = q.dirty; processing = p i }
 
 -- The dirty key that was found is the key that was looked up.
@@ -79,11 +84,11 @@ found_is k held (x ∷ xs) h = by (same_key k x) refl h (found_is k held xs)
     by false t e rest = rest e
 
 -- A key that is among the keys is found.
-pub not_missing : (k : Key) (keys : List Key) → is_in k keys ≡ true → None ≡ find (same_key k) keys → ⊥
+pub not_missing : (k : Key) (keys : List Key) → has_key k keys ≡ true → None ≡ find (same_key k) keys → ⊥
 not_missing k [] h e = true≢false (sym h)
 not_missing k (x ∷ xs) h e = by (same_key k x) h e (not_missing k xs)
   where
-    by : (b : Bool) → (b || is_in k xs) ≡ true → None ≡ cond b (Some x) (find (same_key k) xs) → (is_in k xs ≡ true → None ≡ find (same_key k) xs → ⊥) → ⊥
+    by : (b : Bool) → (b || has_key k xs) ≡ true → None ≡ cond b (Some x) (find (same_key k) xs) → (has_key k xs ≡ true → None ≡ find (same_key k) xs → ⊥) → ⊥
     by true h e rest = true≢false (ap is_some (sym e))
     by false h e rest = rest h e
 

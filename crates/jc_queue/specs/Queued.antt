@@ -1,6 +1,8 @@
 -- A work queue as three lists of keys, and what each call leaves of it.
 --     Queued             the line, the dirty keys and the keys that are processing
---     is_in k keys       one of the keys is k
+--     queue_of line dirty processing   the queue of these lists
+--     RoomedQueue        a queue beside its room
+--     has_key k keys     one of the keys is k
 --     without k keys     the keys without k
 --     added q k          a key that is not dirty becomes dirty and, where it is not processing, goes last
 --     got q              the first key of the line is processing, and dirty no more
@@ -8,7 +10,7 @@
 --     sent_back q        the first key of the line goes last
 --     retracted q k      the key is in line and dirty no more
 --     IsQueue q          no key stands twice, and just the dirty keys that are not processing are in line
-use Rattle.std.specs.Prelude.{◌≡◌, Bool, not, ◌&&◌, List, [], ◌∷◌, ◌++◌, if◌then◌else◌}
+use Rattle.std.specs.Prelude.{◌≡◌, ℕ, Bool, not, ◌&&◌, List, [], ◌∷◌, ◌++◌, if◌then◌else◌}
 use Rattle.std.specs.List.{IsDistinct}
 use Rattle.std.specs.Set.{is_member, remove_key}
 use Rattle.jc_types.specs.declared.objects.Key.{Key}
@@ -21,9 +23,18 @@ pub record Queued : Type 0 where
   pub dirty : List Key
   pub processing : List Key
 
+-- The queue of these lists.
+abbrev pub queue_of : List Key → List Key → List Key → Queued
+queue_of line dirty processing = record { line = line; dirty = dirty; processing = processing }
+
+-- A queue beside its room: so many more keys it takes with no memory.
+pub record RoomedQueue : Type 0 where
+  pub queue : Queued
+  pub room : ℕ
+
 -- One of the keys is k.
-abbrev pub is_in : Key → List Key → Bool
-is_in k keys = is_member same_key keys k
+abbrev pub has_key : Key → List Key → Bool
+has_key k keys = is_member same_key keys k
 
 -- The keys without k.
 abbrev pub without : Key → List Key → List Key
@@ -33,8 +44,12 @@ without k keys = remove_key (same_key k) keys
 -- line's end.
 abbrev pub added : Queued → Key → Queued
 added q k =
-    if is_in k q.dirty then q
-    else record { line = if is_in k q.processing then q.line else q.line ++ k ∷ []; dirty = q.dirty ++ k ∷ []; processing = q.processing }
+    if has_key k q.dirty then q
+    else record {
+      line = if has_key k q.processing then q.line else q.line ++ k ∷ [];
+      dirty = q.dirty ++ k ∷ [];
+      processing = q.processing;
+    }
 
 -- The first key of this line leaves it, is dirty no more, and is processing.
 abbrev pub got_first : List Key → Queued → Queued
@@ -48,7 +63,11 @@ got q = got_first q.line q
 -- The key is processing no more; where it is dirty it goes to the line's end.
 abbrev pub finished : Queued → Key → Queued
 finished q k =
-    record { line = if is_in k q.dirty then q.line ++ k ∷ [] else q.line; dirty = q.dirty; processing = without k q.processing }
+    record {
+      line = if has_key k q.dirty then q.line ++ k ∷ [] else q.line;
+      dirty = q.dirty;
+      processing = without k q.processing;
+    }
 
 -- The first key of this line goes to the line's end.
 abbrev pub sent_back_first : List Key → Queued → Queued
@@ -68,4 +87,4 @@ pub record IsQueue (q : Queued) : Type 0 where
   pub line_once : IsDistinct same_key q.line
   pub dirty_once : IsDistinct same_key q.dirty
   pub processing_once : IsDistinct same_key q.processing
-  pub waiting : (k : Key) → is_in k q.line ≡ (is_in k q.dirty && not (is_in k q.processing))
+  pub waiting : (k : Key) → has_key k q.line ≡ (has_key k q.dirty && not (has_key k q.processing))

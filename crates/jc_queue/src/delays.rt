@@ -1,19 +1,20 @@
 //! The delays of keys: at most one moment a key, and a count of failures a key.
 
-ghost use Rattle.std.specs.Prelude.{◌≡◌, ◌<◌, ◌≤◌, [], IfOk, IsOk, OnErr, OnOk, length, slice_get};
-ghost use Rattle.std.specs.List.{IsDistinct};
-ghost use Rattle.std.specs.Map.{keys_of};
+ghost use Rattle.std.specs.Prelude.{◌≡◌, ◌+◌, ◌^◌, ◌<◌, ◌≤◌, [], OnErr, OnOk, length, max, min, slice_get, unwrap_or};
 ghost use Rattle.std.specs.Map.Iter.{deref_pair};
-ghost use Rattle.std.specs.Option.{option_and_then, option_map};
+ghost use Rattle.std.specs.Option.{option_map};
 ghost use Rattle.indexmap.specs.IndexMap.{IsUnique, spare};
+ghost use Rattle.indexmap.specs.IndexSet.{spare as set_spare};
+ghost use Rattle.jc_types.specs.declared.objects.Key.{Key};
 ghost use Rattle.jc_types.specs.Keys.{same_key};
-ghost use Rattle.jc_types.specs.Tables.{at, puts};
-ghost use Rattle.jc_queue.specs.Delayed.{delayed, due_key, earlier, first_of, forgotten, is_before, left_by, retried, seconds_after, sooner};
+ghost use Rattle.jc_log.specs.Tables.{at};
+ghost use Rattle.jc_queue.specs.Delayed.{AreCopied, HasOneMoment, at_with_moment, delayed, due_key, first_of, forgotten, is_before, left_by, retried, row_at, seconds_after, sooner, with_moment};
 
-use indexmap::IndexMap;
+use crate::copies::{MOST_ROOM, Supply, Twice};
+use indexmap::{IndexMap, IndexSet};
 use jc_moment::Moment;
-use jc_types::{Copied, Key, Want};
-use std::alloc::Global;
+use jc_types::{Key, Want};
+use std::alloc::{AllocError, Global};
 use std::marker::Model;
 
 /// The most failures in a row that are counted.
@@ -22,30 +23,70 @@ const MOST_FAILURES: u32 = 7;
 /// The most seconds to wait after a failure.
 const MOST_SECONDS: u64 = 60;
 
-/// The moments at which keys are due, and how often in a row each key has failed.
+/// The moments at which keys are due, and how often in a row each key has failed. A contract sees them
+/// beside their room: so many more keys they take with no memory, and so many more failures.
 #[derive(Drop)]
 pub struct Delays {
     moments: IndexMap<Key, Moment>,
+    // A second copy of each key that has a moment, so that a queue takes it with no memory.
+    copies: IndexSet<Key>,
     failures: IndexMap<Key, u32>,
+    room: u32,
 }
 
 impl Model for Delays {
-    ghost use Rattle.jc_queue.specs.Delayed.{Delayed};
+    ghost use Rattle.std.specs.Prelude.{◌≤◌};
+    ghost use Rattle.indexmap.specs.IndexMap.{spare};
+    ghost use Rattle.indexmap.specs.IndexSet.{spare as set_spare};
+    ghost use Rattle.jc_queue.specs.Delayed.{AreCopied, RoomedDelays};
 
-    ghost Value = { Delayed };
+    ghost Value = { RoomedDelays };
 
-    ghost view = { λ d. record { moments = d.moments.entries; failures = d.failures.entries } };
+    ghost view = { λ d. record {
+      delays = record { moments = d.moments.entries; failures = d.failures.entries };
+      room = d.room;
+    } };
+
+    ghost invariant = { λ d. AreCopied d.moments.entries d.copies.keys
+        × (d.room ≤ spare d.moments)
+        × (d.room ≤ set_spare d.copies)
+        × (d.room ≤ spare d.failures) };
 }
 
 impl Delays {
     /// No delays. It takes no memory.
     pub fn new(alloc: Global) -> Self
-        ensures { result ≡ record { moments = []; failures = [] } }
+        ensures delays { result.delays ≡ record { moments = []; failures = [] } }
+        ensures room { result.room ≡ 0 }
     {
         Delays {
             moments: IndexMap::new(alloc),
+            copies: IndexSet::new(alloc),
             failures: IndexMap::new(alloc),
+            room: 0,
         }
+    }
+
+    /// Makes room for so many more keys and failures, where there is less.
+    ///
+    /// # Errors
+    /// `Want` where there is no memory for it; the delays and their room are then as before.
+    pub fn reserve(&mut self, room: usize) -> Result<(), Want>
+        ensures delays { self.new.delays ≡ self.old.delays }
+        ensures room { OnOk result (self.new.room ≡ max self.old.room room) }
+        ensures kept { OnErr result (self.new ≡ self.old) }
+    {
+        if room <= self.room as usize {
+            return Ok(());
+        }
+        if room > MOST_ROOM {
+            return Err(AllocError);
+        }
+        self.moments.reserve(room)?;
+        self.copies.reserve(room)?;
+        self.failures.reserve(room)?;
+        self.room = room as u32;
+        Ok(())
     }
 
     /// Makes the key due at the moment; of two moments of a key the earlier is kept.
@@ -53,10 +94,25 @@ impl Delays {
     /// # Errors
     /// `Want` where there is no memory for it; the delays are then as before.
     pub fn add_after(&mut self, key: &Key, moment: Moment) -> Result<(), Want>
-        ensures delayed { OnOk result (self.new ≡ delayed self.old key.now moment) }
+        ensures delayed { OnOk result (self.new.delays ≡ delayed self.old.delays key.now moment) }
+        ensures room { self.new.room ≡ self.old.room }
         ensures kept { OnErr result (self.new ≡ self.old) }
     {
-        keep_earlier(&mut self.moments, key.copy()?, moment)
+        let twice = Twice::of(key)?;
+        let room = self.room as usize + 1;
+        self.reserve(room)?;
+        self.delay(twice, moment);
+        Ok(())
+    }
+
+    /// Makes the key due as `add_after` does, in the room that there is. It takes no memory.
+    pub fn delay(&mut self, key: Twice, moment: Moment)
+        requires room { 0 < self.old.room }
+        ensures delayed { self.new.delays ≡ delayed self.old.delays key moment }
+        ensures room { self.new.room + 1 ≡ self.old.room }
+    {
+        self.room -= 1;
+        keep(&mut self.moments, &mut self.copies, key, moment);
     }
 
     /// Counts one more failure of the key, and makes it due 1 second after `now`, or twice as long after
@@ -65,33 +121,38 @@ impl Delays {
     /// # Errors
     /// `Want` where there is no memory for it; the delays are then as before.
     pub fn retry(&mut self, key: &Key, now: Moment) -> Result<(), Want>
-        ensures retried { OnOk result (self.new ≡ retried self.old key.now now) }
+        ensures retried { OnOk result (self.new.delays ≡ retried self.old.delays key.now now) }
+        ensures room { self.new.room ≡ self.old.room }
         ensures kept { OnErr result (self.new ≡ self.old) }
     {
-        let count = match self.failures.get(key) {
-            Some(count) => *count,
-            None => 0,
-        };
-        let count = if count < MOST_FAILURES {
-            count + 1
-        } else {
-            MOST_FAILURES
-        };
-        let failed = key.copy()?;
-        let delayed = key.copy()?;
-        self.moments.reserve(1)?;
-        self.failures.insert(failed, count)?;
-        if let Some(moment) = now.plus(pause(count)) {
-            let Ok(()) = keep_earlier(&mut self.moments, delayed, moment) else {
-                unreachable!()
-            };
-        }
+        let supply = Supply::of(key)?;
+        let room = self.room as usize + 1;
+        self.reserve(room)?;
+        self.fail(supply, now);
         Ok(())
     }
 
-    /// Forgets the failures of the key; its moment stays.
+    /// Counts one more failure of the key as `retry` does, in the room that there is. It takes no memory.
+    pub fn fail(&mut self, key: Supply, now: Moment)
+        requires room { 0 < self.old.room }
+        ensures retried { self.new.delays ≡ retried self.old.delays key now }
+        ensures room { self.new.room + 1 ≡ self.old.room }
+    {
+        let (failed, delayed) = key.into_parts();
+        let count = count_after(&self.failures, &failed);
+        self.room -= 1;
+        let Ok(_) = self.failures.insert(failed, count) else {
+            unreachable!()
+        };
+        if let Some(moment) = now.plus(pause(count)) {
+            keep(&mut self.moments, &mut self.copies, delayed, moment);
+        }
+    }
+
+    /// Forgets the failures of the key; its moment stays. It takes no memory.
     pub fn forget(&mut self, key: &Key)
-        ensures { self.new ≡ forgotten self.old key.now }
+        ensures forgotten { self.new.delays ≡ forgotten self.old.delays key.now }
+        ensures room { self.new.room ≡ self.old.room }
     {
         self.failures.shift_remove(key);
     }
@@ -99,8 +160,20 @@ impl Delays {
     /// Takes out the key that is due first, of the keys of one moment the least; `None` exactly where no
     /// moment is at or before `now`.
     pub fn due(&mut self, now: Moment) -> Option<Key>
-        ensures key { result ≡ due_key self.old now }
-        ensures left { self.new ≡ left_by self.old result }
+        ensures key { result ≡ due_key self.old.delays now }
+        ensures left { self.new.delays ≡ left_by self.old.delays result }
+        ensures room { self.new.room ≡ self.old.room }
+    {
+        let (key, _) = self.take_due(now)?.into_keys();
+        Some(key)
+    }
+
+    /// Takes out the key that is due first, as `due` does, in the copies that a queue needs. It takes no
+    /// memory.
+    pub fn take_due(&mut self, now: Moment) -> Option<Twice>
+        ensures key { result ≡ due_key self.old.delays now }
+        ensures left { self.new.delays ≡ left_by self.old.delays result }
+        ensures room { self.new.room ≡ self.old.room }
     {
         let place = first_place(&self.moments)?;
         let (_, moment) = self.moments.get_index(place)?;
@@ -108,21 +181,25 @@ impl Delays {
             return None;
         }
         let (key, _) = self.moments.shift_remove_index(place)?;
-        Some(key)
+        let Some(again) = self.copies.swap_take(&key) else {
+            unreachable!()
+        };
+        Some(Twice::join(key, again))
     }
 
     /// The number of keys that are delayed.
     pub fn len(&self) -> usize
-        ensures count { result ≡ length self.now.moments }
-        ensures once { IsDistinct same_key (keys_of self.now.moments) }
+        ensures count { result ≡ length self.now.delays.moments }
+        ensures small { result < 2 ^ 63 }
+        ensures once { HasOneMoment self.now.delays }
     {
         self.moments.len()
     }
 
     /// The earliest moment; `None` exactly where no key is delayed. No key has two moments.
     pub fn next_moment(&self) -> Option<Moment>
-        ensures moment { result ≡ option_map (λ row. row.1) (first_of self.now.moments) }
-        ensures once { IsDistinct same_key (keys_of self.now.moments) }
+        ensures moment { result ≡ option_map (λ row. row.1) (first_of self.now.delays.moments) }
+        ensures once { HasOneMoment self.now.delays }
     {
         let place = first_place(&self.moments)?;
         let (_, moment) = self.moments.get_index(place)?;
@@ -130,47 +207,59 @@ impl Delays {
     }
 }
 
-impl Copied for Delays {
-    fn copy(&self) -> Result<Delays, Want> {
-        let alloc = *self.moments.allocator();
-        Ok(Delays {
-            moments: copied_rows(alloc, &self.moments)?,
-            failures: copied_rows(alloc, &self.failures)?,
-        })
+// The count of the key with one more failure.
+fn count_after(failures: &IndexMap<Key, u32>, key: &Key) -> u32
+    ensures count { result ≡ min (unwrap_or (at same_key failures.now.entries key.now) 0 + 1) 7 }
+    ensures small { result ≤ 7 }
+{
+    let count = match failures.get(key) {
+        Some(count) => *count,
+        None => 0,
+    };
+    if count < MOST_FAILURES {
+        count + 1
+    } else {
+        MOST_FAILURES
     }
 }
 
-// Copies of the rows, in their order.
-fn copied_rows<V: Copied>(alloc: Global, rows: &IndexMap<Key, V>) -> Result<IndexMap<Key, V>, Want>
-    ensures { IfOk result (λ copied. copied.entries ≡ rows.now.entries) }
+// Makes the key due at the moment, and keeps its second copy.
+fn keep(moments: &mut IndexMap<Key, Moment>, copies: &mut IndexSet<Key>, key: Twice, moment: Moment)
+    requires moments_room { 0 < spare moments.old }
+    requires copies_room { 0 < set_spare copies.old }
+    ensures earlier { moments.new.entries ≡ with_moment moments.old.entries key moment }
+    ensures copied { AreCopied moments.old.entries copies.old.keys →
+        AreCopied moments.new.entries copies.new.keys }
+    ensures moments_left { spare moments.old ≤ spare moments.new + 1 }
+    ensures copies_left { set_spare copies.old ≤ set_spare copies.new + 1 }
 {
-    let mut copied = IndexMap::new(alloc);
-    for place in 0..rows.len() {
-        let Some((key, value)) = rows.get_index(place) else {
-            unreachable!()
-        };
-        copied.insert(key.copy()?, value.copy()?)?;
-    }
-    Ok(copied)
+    let (key, again) = key.into_keys();
+    let Ok(_) = copies.insert(again) else {
+        unreachable!()
+    };
+    keep_earlier(moments, key, moment);
 }
 
 // Keeps the moment for the key; of two moments of a key the earlier.
-fn keep_earlier(moments: &mut IndexMap<Key, Moment>, key: Key, moment: Moment) -> Result<(), Want>
-    ensures earlier { OnOk result (moments.new.entries ≡ puts same_key moments.old.entries key (earlier (at same_key moments.old.entries key) moment)) }
-    ensures kept { OnErr result (moments.new.entries ≡ moments.old.entries) }
-    ensures succeeds { 0 < spare moments.old → IsOk result }
+fn keep_earlier(moments: &mut IndexMap<Key, Moment>, key: Key, moment: Moment)
+    requires room { 0 < spare moments.old }
+    ensures earlier { moments.new.entries ≡ with_moment moments.old.entries key moment }
+    ensures there { (k : Key) →
+        at same_key moments.new.entries k ≡ at_with_moment moments.old.entries key moment k }
+    ensures room { spare moments.old ≤ spare moments.new + 1 }
 {
     let kept = match moments.get(&key) {
         Some(there) if *there < moment => *there,
         _ => moment,
     };
-    moments.insert(key, kept)?;
-    Ok(())
+    let Ok(_) = moments.insert(key, kept) else {
+        unreachable!()
+    };
 }
 
 // The place of the row that is due first.
 fn first_place(rows: &IndexMap<Key, Moment>) -> Option<usize>
-    ensures first { option_and_then (slice_get rows.now.entries) result ≡ first_of rows.now.entries }
+    ensures first { row_at rows.now.entries result ≡ first_of rows.now.entries }
     ensures unique { IsUnique same_key rows.now }
 {
     let mut first = None;
@@ -182,7 +271,9 @@ fn first_place(rows: &IndexMap<Key, Moment>) -> Option<usize>
 
 // Of a place and another, where there is one, that of the row that is due first.
 fn sooner_place(rows: &IndexMap<Key, Moment>, place: usize, other: Option<usize>) -> usize
-    ensures { slice_get rows.now.entries result ≡ option_map (λ row. sooner row (option_and_then (slice_get rows.now.entries) other)) (slice_get rows.now.entries place) }
+    ensures { slice_get rows.now.entries result ≡
+        option_map (λ row. sooner row (row_at rows.now.entries other))
+        (slice_get rows.now.entries place) }
 {
     let Some(other) = other else {
         return place;

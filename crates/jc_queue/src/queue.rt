@@ -1,53 +1,88 @@
 //! The work queue: a line of keys without repeats, the dirty keys, and those that are processing.
 
-ghost use Rattle.std.specs.Prelude.{◌≡◌, ◌+◌, ◌++◌, ◌≤◌, ◌<◌, [], IfOk, IfSome, OnErr, OnOk, false, length, position, slice_get, true};
+ghost use Rattle.std.specs.Prelude.{◌≡◌, ◌+◌, ◌++◌, ◌≤◌, ◌<◌, ◌^◌, [], IfOk, IfSome, OnErr, OnOk, false, length, max, position, slice_get, true};
 ghost use Rattle.std.specs.List.{IsDistinct};
 ghost use Rattle.std.specs.Option.{option_copied};
 ghost use Rattle.std.specs.Vec.{vec_capacity, vec_len};
 ghost use Rattle.std.specs.VecDeque.{deque_capacity, deque_len};
 ghost use Rattle.jc_types.specs.Keys.{same_key};
-ghost use Rattle.jc_queue.specs.Queued.{IsQueue, added, finished, got, is_in, retracted, sent_back, without};
+ghost use Rattle.jc_queue.specs.Queued.{IsQueue, added, finished, got, has_key, queue_of, retracted, sent_back, without};
 
+use crate::copies::{MOST_ROOM, Twice};
 use indexmap::IndexSet;
+use jc_table::has_key;
 use jc_types::{Copied, Key, Want};
-use std::alloc::Global;
+use std::alloc::{AllocError, Global};
 use std::collections::VecDeque;
 use std::marker::Model;
 
 /// A work queue. A key that was added is dirty until it is got, and a key that was got is processing
-/// until it is done. The line holds the dirty keys that are not processing.
+/// until it is done. The line holds the dirty keys that are not processing. A contract sees it beside its
+/// room: so many more keys it takes with no memory.
 #[derive(Drop)]
 pub struct Queue {
     line: VecDeque<Key>,
     dirty: IndexSet<Key>,
     // Few: at most one for each worker.
     processing: Vec<Key>,
+    room: u32,
 }
 
 impl Model for Queue {
     ghost use Rattle.std.specs.Prelude.{◌+◌, ◌≤◌};
     ghost use Rattle.std.specs.Vec.{vec_capacity, vec_len};
     ghost use Rattle.std.specs.VecDeque.{deque_capacity, deque_len};
-    ghost use Rattle.jc_queue.specs.Queued.{IsQueue, Queued};
+    ghost use Rattle.indexmap.specs.IndexSet.{spare};
+    ghost use Rattle.jc_queue.specs.Queued.{IsQueue, RoomedQueue, queue_of};
 
-    ghost Value = { Queued };
+    ghost Value = { RoomedQueue };
 
-    ghost view = { λ q. record { line = q.line.items; dirty = q.dirty.keys; processing = q.processing.items } };
+    ghost view = { λ q. record {
+      queue = queue_of q.line.items q.dirty.keys q.processing.items;
+      room = q.room;
+    } };
 
     // A key in line may come to be processing, and a processing key may come into line, with no memory.
-    ghost invariant = { λ q. IsQueue (record { line = q.line.items; dirty = q.dirty.keys; processing = q.processing.items }) × (deque_len q.line + vec_len q.processing ≤ deque_capacity q.line) × (deque_len q.line + vec_len q.processing ≤ vec_capacity q.processing) };
+    ghost invariant = { λ q. IsQueue (queue_of q.line.items q.dirty.keys q.processing.items)
+        × (deque_len q.line + vec_len q.processing + q.room ≤ deque_capacity q.line)
+        × (deque_len q.line + vec_len q.processing + q.room ≤ vec_capacity q.processing)
+        × (q.room ≤ spare q.dirty) };
 }
 
 impl Queue {
     /// The empty queue. It takes no memory.
     pub fn new(alloc: Global) -> Self
-        ensures { result ≡ record { line = []; dirty = []; processing = [] } }
+        ensures queue { result.queue ≡ queue_of [] [] [] }
+        ensures room { result.room ≡ 0 }
     {
         Queue {
             line: VecDeque::new(alloc),
             dirty: IndexSet::new(alloc),
             processing: Vec::new(alloc),
+            room: 0,
         }
+    }
+
+    /// Makes room for so many more keys, where there is less.
+    ///
+    /// # Errors
+    /// `Want` where there is no memory for it; the queue and its room are then as before.
+    pub fn reserve(&mut self, room: usize) -> Result<(), Want>
+        ensures queue { self.new.queue ≡ self.old.queue }
+        ensures room { OnOk result (self.new.room ≡ max self.old.room room) }
+        ensures kept { OnErr result (self.new ≡ self.old) }
+    {
+        if room <= self.room as usize {
+            return Ok(());
+        }
+        if room > MOST_ROOM {
+            return Err(AllocError);
+        }
+        self.line.reserve(self.processing.len() + room)?;
+        self.processing.reserve(self.line.len() + room)?;
+        self.dirty.reserve(room)?;
+        self.room = room as u32;
+        Ok(())
     }
 
     /// Adds a key. A key that is dirty changes nothing; another becomes dirty and, where it is not
@@ -56,30 +91,44 @@ impl Queue {
     /// # Errors
     /// `Want` where there is no memory for it; the queue is then as before.
     pub fn add(&mut self, key: &Key) -> Result<(), Want>
-        ensures added { OnOk result (self.new ≡ added self.old key.now) }
+        ensures added { OnOk result (self.new.queue ≡ added self.old.queue key.now) }
+        ensures room { self.new.room ≡ self.old.room }
         ensures kept { OnErr result (self.new ≡ self.old) }
     {
-        if self.dirty.contains(key) {
-            return Ok(());
-        }
-        if is_among(&self.processing, key) {
-            self.dirty.insert(key.copy()?)?;
-            return Ok(());
-        }
-        let waiting = key.copy()?;
-        self.line.reserve(self.processing.len() + 1)?;
-        self.processing.reserve(self.line.len() + 1)?;
-        self.dirty.insert(key.copy()?)?;
-        self.line.push_back_reserved(waiting);
+        let twice = Twice::of(key)?;
+        let room = self.room as usize + 1;
+        self.reserve(room)?;
+        self.add_reserved(twice);
         Ok(())
+    }
+
+    /// Adds a key as `add` does, in the room that there is. It takes no memory.
+    pub fn add_reserved(&mut self, key: Twice)
+        requires room { 0 < self.old.room }
+        ensures added { self.new.queue ≡ added self.old.queue key }
+        ensures room { self.new.room + 1 ≡ self.old.room }
+    {
+        let (key, again) = key.into_keys();
+        self.room -= 1;
+        if self.dirty.contains(&key) {
+            return;
+        }
+        let Ok(_) = self.dirty.insert(again) else {
+            unreachable!()
+        };
+        if has_key(&self.processing, &key) {
+            return;
+        }
+        self.line.push_back_reserved(key);
     }
 
     /// Takes the first key from the line; it is then processing, and dirty no more. `None` exactly where
     /// the line is empty. It takes no memory.
     pub fn get(&mut self) -> Option<Key>
-        ensures first { result ≡ slice_get self.old.line 0 }
-        ensures got { self.new ≡ got self.old }
-        ensures apart { IfSome result (λ k. is_in k self.old.processing ≡ false) }
+        ensures first { result ≡ slice_get self.old.queue.line 0 }
+        ensures got { self.new.queue ≡ got self.old.queue }
+        ensures apart { IfSome result (λ k. has_key k self.old.queue.processing ≡ false) }
+        ensures room { self.new.room ≡ self.old.room }
     {
         let key = self.line.pop_front()?;
         let Some(held) = self.dirty.shift_take(&key) else {
@@ -90,20 +139,21 @@ impl Queue {
     }
 
     /// Ends the processing of a key; where it is dirty it goes to the line's end. It takes no memory.
-    pub fn done(&mut self, key: Key)
-        requires processing { is_in key self.old.processing ≡ true }
-        ensures finished { self.new ≡ finished self.old key }
+    pub fn done(&mut self, key: &Key)
+        requires processing { has_key key.now self.old.queue.processing ≡ true }
+        ensures finished { self.new.queue ≡ finished self.old.queue key.now }
+        ensures room { self.new.room ≡ self.old.room }
     {
-        take_out(&mut self.processing, &key);
-        if self.dirty.contains(&key) {
-            self.line.push_back_reserved(key);
+        let held = take_out(&mut self.processing, key);
+        if self.dirty.contains(key) {
+            self.line.push_back_reserved(held);
         }
     }
 
     /// The first key of the line; `None` exactly where the line is empty.
     pub fn first(&self) -> Option<&Key>
-        ensures first { option_copied result ≡ slice_get self.now.line 0 }
-        ensures apart { IfSome result (λ k. is_in k.now self.now.processing ≡ false) }
+        ensures first { option_copied result ≡ slice_get self.now.queue.line 0 }
+        ensures apart { IfSome result (λ k. has_key k.now self.now.queue.processing ≡ false) }
     {
         self.line.front()
     }
@@ -111,7 +161,8 @@ impl Queue {
     /// Sends the first key of the line to the line's end; it stays dirty. An empty line changes nothing.
     /// It takes no memory.
     pub fn send_back(&mut self)
-        ensures { self.new ≡ sent_back self.old }
+        ensures sent_back { self.new.queue ≡ sent_back self.old.queue }
+        ensures room { self.new.room ≡ self.old.room }
     {
         let Some(key) = self.line.pop_front() else {
             return;
@@ -121,7 +172,8 @@ impl Queue {
 
     /// Takes a key back: it is in line and dirty no more, as before it was added. It takes no memory.
     pub fn retract(&mut self, key: &Key)
-        ensures { self.new ≡ retracted self.old key.now }
+        ensures retracted { self.new.queue ≡ retracted self.old.queue key.now }
+        ensures room { self.new.room ≡ self.old.room }
     {
         take_from_line(&mut self.line, key);
         self.dirty.shift_remove(key);
@@ -129,23 +181,38 @@ impl Queue {
 
     /// Whether the key is dirty.
     pub fn is_dirty(&self, key: &Key) -> bool
-        ensures dirty { result ≡ is_in key.now self.now.dirty }
-        ensures queue { IsQueue self.now }
+        ensures dirty { result ≡ has_key key.now self.now.queue.dirty }
+        ensures queue { IsQueue self.now.queue }
     {
         self.dirty.contains(key)
     }
 
+    /// Whether the key is processing.
+    pub fn is_processing(&self, key: &Key) -> bool
+        ensures { result ≡ has_key key.now self.now.queue.processing }
+    {
+        has_key(&self.processing, key)
+    }
+
     /// The number of keys in line.
     pub fn len(&self) -> usize
-        ensures count { result ≡ length self.now.line }
-        ensures queue { IsQueue self.now }
+        ensures count { result ≡ length self.now.queue.line }
+        ensures queue { IsQueue self.now.queue }
     {
         self.line.len()
     }
 
+    /// The number of keys that are processing.
+    pub fn processing(&self) -> usize
+        ensures count { result ≡ length self.now.queue.processing }
+        ensures small { result < 2 ^ 63 }
+    {
+        self.processing.len()
+    }
+
     // The key that has been processing for longest.
     pub(crate) fn oldest(&self) -> Option<&Key>
-        ensures { option_copied result ≡ slice_get self.now.processing 0 }
+        ensures { option_copied result ≡ slice_get self.now.queue.processing 0 }
     {
         self.processing.first()
     }
@@ -154,16 +221,19 @@ impl Queue {
 impl Copied for Queue {
     fn copy(&self) -> Result<Queue, Want> {
         let alloc = *self.line.allocator();
+        let room = self.room as usize;
         let (front, back) = self.line.as_slices();
         let mut line = copied(alloc, front, back)?;
         let mut processing = copied(alloc, self.processing.as_slice(), &[])?;
-        let dirty = copied_set(alloc, self.dirty.as_slice())?;
-        line.reserve(processing.len())?;
-        processing.reserve(line.len())?;
+        let mut dirty = copied_set(alloc, self.dirty.as_slice())?;
+        line.reserve(processing.len() + room)?;
+        processing.reserve(line.len() + room)?;
+        dirty.reserve(room)?;
         Ok(Queue {
             line: VecDeque::from_vec(line),
             dirty,
             processing,
+            room: self.room,
         })
     }
 }
@@ -220,13 +290,6 @@ fn take_from_line(line: &mut VecDeque<Key>, key: &Key)
     line.remove(place);
 }
 
-// Whether the key is among the keys.
-fn is_among(keys: &[Key], key: &Key) -> bool
-    ensures { result ≡ is_in key.now keys.now }
-{
-    keys.iter().any(|other| *key == *other)
-}
-
 // The place of the key among the keys.
 fn place_of(keys: &[Key], key: &Key) -> Option<usize>
     ensures { result ≡ position (same_key key.now) keys.now }
@@ -234,9 +297,10 @@ fn place_of(keys: &[Key], key: &Key) -> Option<usize>
     keys.iter().position(|other| *key == *other)
 }
 
-// Takes the key out of the keys.
-fn take_out(keys: &mut Vec<Key>, key: &Key)
-    requires there { is_in key.now keys.old.items ≡ true }
+// Takes the key out of the keys, and hands it over.
+fn take_out(keys: &mut Vec<Key>, key: &Key) -> Key
+    requires there { has_key key.now keys.old.items ≡ true }
+    ensures taken { result ≡ key.now }
     ensures items { keys.new.items ≡ without key.now keys.old.items }
     ensures count { vec_len keys.new + 1 ≡ vec_len keys.old }
     ensures capacity { vec_capacity keys.new ≡ vec_capacity keys.old }
@@ -244,5 +308,5 @@ fn take_out(keys: &mut Vec<Key>, key: &Key)
     let Some(place) = place_of(keys, key) else {
         unreachable!()
     };
-    keys.remove(place);
+    keys.remove(place)
 }

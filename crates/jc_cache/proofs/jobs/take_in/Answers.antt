@@ -1,8 +1,8 @@
 use Rattle.std.proofs.Common.{◌≡◌, subst, sym}
 use Rattle.std.specs.Prelude.{OnOk}
 use Rattle.jc_types.specs.Keys.{same_key}
-use Rattle.jc_types.specs.Log.{jobs_after}
-use Rattle.jc_types.specs.Tables.{puts}
+use Rattle.jc_log.specs.Log.{jobs_after}
+use Rattle.jc_log.specs.Tables.{puts}
 use Rattle.jc_cache.proofs.jobs.take_in.Goals as goal
 
 -- What is put are copies of the entry's Job and of its key.

@@ -1,7 +1,8 @@
 use Rattle.std.proofs.Common.{Some, ap, sym, ◌∙◌}
 use Rattle.std.specs.Option.{option_copied_mut}
-use Rattle.jc_types.specs.Log.{put_pod}
-use Rattle.jc_cache.proofs.CacheFacts.{on_err, put-first, set-same}
+use Rattle.jc_states.specs.PodLists.{put_pod}
+use Rattle.jc_table.proofs.ResultFacts.{on_err}
+use Rattle.jc_cache.proofs.CacheFacts.{put-first, set-same}
 use Rattle.jc_cache.proofs.pods.put_pod.Goals as goal
 
 -- The pods of the owner are as before, and so are all rows.

@@ -8,6 +8,8 @@ pub loop-job-preserved : goal.loop-job-preserved
 loop-job-preserved c =
     let jobs = c.args.jobs.now in
     let i = c.loop-job.job-index in
-    let job = c.job-item.result in
-    all_added-next (λ (job : Job). job.key) c.args.queue.now c.loop-job.with_keys c.add.new.self jobs i (i + 1) job
-    (take_more jobs i job (omega (arith, c.loop-job-test.true)) ∙ ap (λ job. take i jobs ++ job ∷ []) (sym c.job-item.is)) c.loop-job.invariant c.in_ok-add.ensures.added
+    let job = c.job-item.result in (
+      all_added-next (λ (job : Job). job.key) c.args.queue.now.queue c.loop-job.with_keys.queue c.add.new.self.queue jobs i (i + 1) job
+          (take_more jobs i job (omega (arith, c.loop-job-test.true)) ∙ ap (λ job. take i jobs ++ job ∷ []) (sym c.job-item.is)) c.loop-job.invariant.0 c.in_ok-add.ensures.added,
+      c.in_ok-add.ensures.room ∙ c.loop-job.invariant.1,
+    )

@@ -1,7 +1,7 @@
 use Rattle.std.proofs.Common.{◌≡◌, map, take}
-use Rattle.jc_control.specs.Turns.{all_added}
+use Rattle.jc_control.specs.ControllerCalls.{all_added}
 use Rattle.jc_control.proofs.queues.with_owners.Given as goal
 
 -- The keys of the owners of the pods before the index are added.
 abbrev pub invariant-loop-pod : goal.invariant-loop-pod
-invariant-loop-pod l = l.with_keys ≡ all_added l.fn.queue (map (λ pod. pod.owner) (take l.pod-index l.pods))
+invariant-loop-pod l = (l.with_keys.queue ≡ all_added l.fn.queue.queue (map (λ pod. pod.owner) (take l.pod-index l.pods))) × (l.with_keys.room ≡ l.fn.queue.room)

@@ -7,7 +7,7 @@ use Rattle.jc_queue.proofs.calls.run.Goals.{in-Some, in_default}
 
 pub loop-call-preserved : goal.loop-call-preserved
 loop-call-preserved c =
-    let step = stepped c.args.queue.now c.loop-call.queue c.make.new.queue c.args.calls.now c.loop-call.call-index c.call-item.result c.loop-call.keys.items c.match-branch-4.keys.items c.in_ok-key.field-0
+    let step = stepped c.args.queue.now.queue c.loop-call.queue.queue c.make.new.queue.queue c.args.calls.now c.loop-call.call-index c.call-item.result c.loop-call.keys.items c.match-branch-4.keys.items c.in_ok-key.field-0
     (omega (arith, c.loop-call-test.true)) c.call-item.is c.loop-call.invariant.0 c.loop-call.invariant.1 c.in_ok-key.ensures.state c.in_ok-key.ensures.key in
     elim c.match-branch-4.branch [
       | in-Some w ↦
@@ -19,13 +19,13 @@ loop-call-preserved c =
     ]
 
 pub returns-in_err-keys-clause-apart : goal.returns-in_err-keys-clause-apart
-returns-in_err-keys-clause-apart c = all_idle c.args.queue.now c.args.calls.now c.len.ensures.queue
+returns-in_err-keys-clause-apart c = all_idle c.args.queue.now.queue c.args.calls.now c.len.ensures.queue
 
 pub returns-in_err-reserve-clause-apart : goal.returns-in_err-reserve-clause-apart
-returns-in_err-reserve-clause-apart c = all_idle c.args.queue.now c.args.calls.now c.len.ensures.queue
+returns-in_err-reserve-clause-apart c = all_idle c.args.queue.now.queue c.args.calls.now c.len.ensures.queue
 
 pub returns-in_err-key-clause-apart : goal.returns-in_err-key-clause-apart
-returns-in_err-key-clause-apart c = all_idle c.args.queue.now c.args.calls.now c.len.ensures.queue
+returns-in_err-key-clause-apart c = all_idle c.args.queue.now.queue c.args.calls.now c.len.ensures.queue
 
 pub returns-clause-apart : goal.returns-clause-apart
-returns-clause-apart c = all_idle c.args.queue.now c.args.calls.now c.len.ensures.queue
+returns-clause-apart c = all_idle c.args.queue.now.queue c.args.calls.now c.len.ensures.queue

@@ -1,13 +1,13 @@
 use Rattle.std.proofs.Common.{sym, ◌∙◌}
-use Rattle.jc_control.specs.Held.{Controlled}
+use Rattle.jc_control.specs.Schedules.{ControllerView}
 use Rattle.jc_control.proofs.TurnFacts.{taken_back}
 use Rattle.jc_control.proofs.controller.Controller.deliver.Goals as goal
 
 -- The key that was added is taken back.
 pub returns-then-not-was_dirty-clause-kept : goal.returns-then-not-was_dirty-clause-kept
 returns-then-not-was_dirty-clause-kept c =
-    let old : Controlled = record { held = record { jobs_at = c.self.inside.jobs.number; pods_at = c.self.inside.pods.number; queue = c.self.inside.queue; delays = c.self.inside.delays; known = c.self.inside.known }; jobs = c.self.inside.jobs.jobs; rows = c.self.inside.pods.rows } in
-    let seen : Controlled = record { held = record { jobs_at = c.self-2.inside.jobs.number; pods_at = c.self-2.inside.pods.number; queue = c.self-2.inside.queue; delays = c.self-2.inside.delays; known = c.self-2.inside.known }; jobs = c.self-2.inside.jobs.jobs; rows = c.self-2.inside.pods.rows } in
-    taken_back old seen c.add.new.self c.retract.new.self c.in-Some.key.now c.is_dirty-was_dirty.ensures.queue (sym c.if-not-was_dirty.ensures.dirty)
-    c.in_ok-add.ensures.added (c.self-2.view_is ∙ c.in-Err.ensures.kept) c.retract.ensures
+    let old : ControllerView = record { schedule = record { jobs_at = c.self.inside.jobs.number; pods_at = c.self.inside.pods.number; queue = c.self.inside.queue.queue; delays = c.self.inside.delays.delays; known = c.self.inside.known }; jobs = c.self.inside.jobs.jobs; rows = c.self.inside.pods.rows } in
+    let seen : ControllerView = record { schedule = record { jobs_at = c.self-2.inside.jobs.number; pods_at = c.self-2.inside.pods.number; queue = c.self-2.inside.queue.queue; delays = c.self-2.inside.delays.delays; known = c.self-2.inside.known }; jobs = c.self-2.inside.jobs.jobs; rows = c.self-2.inside.pods.rows } in
+    taken_back old seen c.add.new.self.queue c.retract.new.self.queue c.in-Some.key.now c.is_dirty-was_dirty.ensures.queue (sym c.if-not-was_dirty.ensures.dirty)
+    c.in_ok-add.ensures.added (c.self-2.view_is ∙ c.in-Err.ensures.kept) c.retract.ensures.retracted
     ∙ c.self.view_is

@@ -2,7 +2,7 @@ use Rattle.std.proofs.Common.{sym, ap, ◌∙◌, subst, arith}
 use Rattle.jc_queue.proofs.QueueFacts.{first_is_dirty, first_is_idle, got_first_is}
 use Rattle.jc_queue.proofs.Steps.{found_is, got-parts, not_missing}
 use Rattle.jc_queue.proofs.queue.Queue.get.Goals as goal
-use Rattle.jc_queue.specs.Queued.{IsQueue, Queued, got, is_in}
+use Rattle.jc_queue.specs.Queued.{IsQueue, Queued, RoomedQueue, got, has_key}
 
 -- A key in line is dirty.
 pub unreachable-requires : goal.unreachable-requires
@@ -17,12 +17,12 @@ returns-clause-got c =
     let q : Queued = record { line = c.self.inside.line.items; dirty = c.self.inside.dirty.keys; processing = c.self.inside.processing.items } in
     got-parts q c.in_ok-key.key c.in-Some.held c.pop_front.new.self.items c.shift_take.new.self.keys c.push_reserved.new.self.items
     c.in_ok-key.ensures.items (found_is c.in_ok-key.key c.in-Some.held q.dirty c.in-Some.ensures.key) c.shift_take.ensures.keys c.push_reserved.ensures.items
-    ∙ ap got c.self.view_is
+    ∙ ap (λ (q : RoomedQueue). got q.queue) c.self.view_is
 
 pub returns-clause-apart : goal.returns-clause-apart
 returns-clause-apart c =
     let q : Queued = record { line = c.self.inside.line.items; dirty = c.self.inside.dirty.keys; processing = c.self.inside.processing.items } in
-    ap (λ (q : Queued). is_in c.in_ok-key.key q.processing) (sym c.self.view_is)
+    ap (λ (q : RoomedQueue). has_key c.in_ok-key.key q.queue.processing) (sym c.self.view_is)
     ∙ first_is_idle q c.self.invariant.0 c.in_ok-key.key c.pop_front.new.self.items c.in_ok-key.ensures.items
 
 pub invariant_of-self-2 : goal.invariant_of-self-2
@@ -33,4 +33,5 @@ invariant_of-self-2 c =
       subst IsQueue (sym same) (got_first_is q c.self.invariant.0),
       omega (arith, c.self.invariant.1, c.pop_front.ensures.capacity, c.push_reserved.ensures.len, c.in_ok-key.ensures.cases),
       omega (arith, c.self.invariant.2, c.push_reserved.ensures.capacity, c.push_reserved.ensures.len, c.in_ok-key.ensures.cases),
+      omega (arith, c.self.invariant.3, c.shift_take.ensures.room.0),
     )

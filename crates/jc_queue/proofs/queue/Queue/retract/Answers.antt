@@ -9,4 +9,5 @@ invariant_of-self c =
       subst IsQueue (λ i. record { line = (sym c.take_from_line.ensures.items) i; dirty = (sym c.shift_remove.ensures.keys) i; processing = q.processing }) (retracted_is q c.args.key.now c.self.invariant.0),
       omega (arith, c.self.invariant.1, c.take_from_line.ensures.fewer, c.take_from_line.ensures.capacity),
       omega (arith, c.self.invariant.2, c.take_from_line.ensures.fewer),
+      omega (arith, c.self.invariant.3, c.shift_remove.ensures.room.0),
     )

@@ -10,4 +10,5 @@ invariant_of-self-2 c =
       subst IsQueue (sym same) (sent_back_is q c.self.invariant.0),
       omega (arith, c.self.invariant.1, c.pop_front.ensures.capacity, c.push_back_reserved.ensures.len, c.push_back_reserved.ensures.capacity, c.in-Some.ensures.cases),
       omega (arith, c.self.invariant.2, c.push_back_reserved.ensures.len, c.in-Some.ensures.cases),
+      c.self.invariant.3,
     )

@@ -1,9 +1,0 @@
-use Rattle.std.proofs.Common.{arith, ◌+◌}
-use Rattle.jc_queue.proofs.DelayFacts.{row-copied}
-use Rattle.jc_queue.proofs.delays.copied_rows.Goals as goal
-
-pub loop-place-preserved : goal.loop-place-preserved
-loop-place-preserved g c =
-    row-copied c.args.rows.now.entries c.loop-place.copied.entries c.insert.new.self.entries c.loop-place.place (c.loop-place.place + 1)
-    c.in-Some.key.now c.in_ok-copy.field-0 c.in-Some.value.now c.in_ok-copy-2.field-0 (omega arith) c.len-place-end.ensures.unique c.in-Some.ensures.entry c.in_ok-copy.ensures c.in_ok-copy-2.ensures
-    c.loop-place.invariant c.in_ok-insert.ensures.entries

@@ -1,0 +1,106 @@
+//! Copies of a key that are made ahead, and the most room: so a queue and delays take keys with no memory.
+
+ghost use Rattle.std.specs.Prelude.{◌≡◌, IfOk};
+
+use jc_types::{Copied, Key, Want};
+use std::marker::Model;
+
+// The most keys for which room is kept. No table of keys has so many places.
+pub(crate) const MOST_ROOM: usize = 4_294_967_295;
+
+/// A key in two copies, as a queue keeps it.
+#[derive(Drop)]
+pub struct Twice {
+    key: Key,
+    again: Key,
+}
+
+impl Model for Twice {
+    ghost use Rattle.std.specs.Prelude.{◌≡◌};
+    ghost use Rattle.jc_types.specs.declared.objects.Key.{Key};
+
+    ghost Value = { Key };
+
+    ghost view = { λ t. t.key };
+
+    ghost invariant = { λ t. t.again ≡ t.key };
+}
+
+impl Twice {
+    /// Two copies of the key.
+    ///
+    /// # Errors
+    /// `Want` where there is no memory for them.
+    pub fn of(key: &Key) -> Result<Twice, Want>
+        ensures { IfOk result (λ twice. twice ≡ key.now) }
+    {
+        Ok(Twice {
+            key: key.copy()?,
+            again: key.copy()?,
+        })
+    }
+
+    // The two copies as one.
+    pub(crate) fn join(key: Key, again: Key) -> Twice
+        requires same { again ≡ key }
+        ensures { result ≡ key }
+    {
+        Twice { key, again }
+    }
+
+    // Both copies.
+    pub(crate) fn into_keys(self) -> (Key, Key)
+        ensures key { result.0 ≡ self }
+        ensures again { result.1 ≡ self }
+    {
+        (self.key, self.again)
+    }
+}
+
+/// All copies of a key that one more failure of it needs: for its count, and for its delay.
+#[derive(Drop)]
+pub struct Supply {
+    failed: Key,
+    delayed: Twice,
+}
+
+impl Model for Supply {
+    ghost use Rattle.std.specs.Prelude.{◌≡◌};
+    ghost use Rattle.jc_types.specs.declared.objects.Key.{Key};
+
+    ghost Value = { Key };
+
+    ghost view = { λ s. s.delayed };
+
+    ghost invariant = { λ s. s.failed ≡ s.delayed };
+}
+
+impl Supply {
+    /// The supply of the key.
+    ///
+    /// # Errors
+    /// `Want` where there is no memory for it.
+    pub fn of(key: &Key) -> Result<Supply, Want>
+        ensures { IfOk result (λ supply. supply ≡ key.now) }
+    {
+        Ok(Supply {
+            failed: key.copy()?,
+            delayed: Twice::of(key)?,
+        })
+    }
+
+    /// What the delay alone needs.
+    pub fn into_twice(self) -> Twice
+        ensures { result ≡ self }
+    {
+        self.delayed
+    }
+
+    // The copy for the count, and those for the delay.
+    pub(crate) fn into_parts(self) -> (Key, Twice)
+        ensures failed { result.0 ≡ self }
+        ensures delayed { result.1 ≡ self }
+    {
+        (self.failed, self.delayed)
+    }
+}
