@@ -12,24 +12,26 @@ use Rattle.jc_types.specs.declared.objects.Pod.{Pod}
 use Rattle.jc_types.specs.declared.specifications.Mode.{Mode}
 use Rattle.jc_types.specs.declared.specifications.Mode.TheVariants.{NonIndexed, Indexed}
 use Rattle.jc_types.specs.Keys.{same_uid}
-use Rattle.jc_types.specs.Log.{Live, upto, job_in, life, is_lost, pods_of}
-use Rattle.jc_types.specs.Uids.{is_in, join}
-use Rattle.jc_types.specs.Writes.{JobStep, Stored}
+use Rattle.jc_log.specs.Log.{Live, upto, job_in, life, is_lost, pods_of}
+use Rattle.jc_states.specs.UidLists.{is_in, join}
+use Rattle.jc_states.specs.ObjectChanges.{JobStep}
+use Rattle.jc_log.specs.Writes.{Stored}
 use Rattle.jc_types.proofs.KeyFacts.{same_uid-eq}
 use Rattle.jc_types.proofs.ListFacts.{Each-weaker, filter_filter, filter_same, find_passes}
-use Rattle.jc_types.proofs.PlaceFacts.{job_in-entry}
-use Rattle.jc_types.proofs.PodFacts.{pods_of-live}
-use Rattle.jc_types.proofs.WriteFacts.{kept_to, Kept, lost_stays}
+use Rattle.jc_log.proofs.PlaceFacts.{job_in-entry}
+use Rattle.jc_log.proofs.PodFacts.{pods_of-live}
+use Rattle.jc_log.proofs.WriteFacts.{kept_to, Kept, lost_stays}
 use Rattle.jc_failpol.specs.declared.outcomes.Outcome.{Outcome}
 use Rattle.jc_failpol.specs.declared.outcomes.Outcome.TheVariants.{Alive, Succeeded, Failed, Ignored}
-use Rattle.jc_failpol.specs.Outcomes.{outcome_of}
+use Rattle.jc_failpol.specs.Outcomes.{is_verdict, outcome_of, same_outcome}
 use Rattle.jc_failpol.proofs.Settled.{success_stays}
 use Rattle.jc_states.specs.Listed.{is_listed}
-use Rattle.jc_account.specs.Judged.{is_new, newly, same_outcome}
+use Rattle.jc_account.specs.Judged.{is_fresh, is_new, newly}
 use Rattle.jc_account.specs.Modes.{indexes_of}
-use Rattle.jc_ledger.specs.Ledger.{Record, record_of, is_verdict, is_fresh, chosen, successes, Ledger}
+use Rattle.jc_account.proofs.JudgementFacts.{newly-is}
+use Rattle.jc_ledger.specs.Ledger.{Record, record_of, has_record, chosen, successes, Ledger}
 use Rattle.jc_ledger.specs.Once.{is_listable}
-use Rattle.jc_ledger.specs.Tied.{IsTidy, IsListing, IsCurrent, TiesJob}
+use Rattle.jc_ledger.specs.Tied.{HasSoundLists, IsListing, IsCurrent, TiesJob}
 use Rattle.jc_ledger.proofs.DoneFacts.{Alike, Same, Known, join-alike}
 use Rattle.jc_ledger.proofs.MadeFacts.{outcome-step}
 
@@ -47,7 +49,7 @@ module _ (made : Job) (log : List Entry) (ledger : Ledger) (job : Job) (y : ℕ)
   pub now_of : IsCurrent log ledger job
   now_of = a.ties.now job a.there a.uid
 
-  pub tidy_of : IsTidy job
+  pub tidy_of : HasSoundLists job
   tidy_of = a.ties.tidy job.version.0 job (job_in-entry made.key log job a.stored a.there) a.uid
 
   pub listing_of : IsListing ledger.records job.version.0 job.status
@@ -151,12 +153,13 @@ module _ (made : Job) (log : List Entry) (ledger : Ledger) (job : Job) (y : ℕ)
   pub failed-chosen : filter (λ pod. same_outcome (outcome_of job.spec pod) Failed) (chosen job ledger.records (pods_of made.uid (upto y log))) ≡ newly job (pods_of made.uid (upto y log)) Failed
   failed-chosen =
       let own = pods_of made.uid (upto y log) in
-      filter_filter (λ pod. same_outcome (outcome_of job.spec pod) Failed) (is_fresh job ledger.records) own
-      ∙ filter_same (λ pod. is_fresh job ledger.records pod && same_outcome (outcome_of job.spec pod) Failed) (is_new job Failed) own
-      (Each-weaker (λ pod. life pod.uid (upto y log) ≡ Live pod) (λ pod. (is_fresh job ledger.records pod && same_outcome (outcome_of job.spec pod) Failed) ≡ is_new job Failed pod)
+      filter_filter (λ pod. same_outcome (outcome_of job.spec pod) Failed) (is_fresh job.spec (has_record ledger.records)) own
+      ∙ filter_same (λ pod. is_fresh job.spec (has_record ledger.records) pod && same_outcome (outcome_of job.spec pod) Failed) (is_new job Failed) own
+      (Each-weaker (λ pod. life pod.uid (upto y log) ≡ Live pod) (λ pod. (is_fresh job.spec (has_record ledger.records) pod && same_outcome (outcome_of job.spec pod) Failed) ≡ is_new job Failed pod)
       (λ pod live.
       fresh_failed pod.tracked (outcome_of job.spec pod) (is_some (record_of pod.uid ledger.records)) (is_listed job.status pod.uid)
       (λ tracked failed. by pod live failed (agree made log ledger job y a pod.uid pod live tracked))) own (pods_of-live made.uid (upto y log)))
+      ∙ sym (newly-is job own Failed refl)
     where
       by : (pod : Pod) → life pod.uid (upto y log) ≡ Live pod → outcome_of job.spec pod ≡ Failed → Agrees ledger job pod.uid → is_some (record_of pod.uid ledger.records) ≡ is_listed job.status pod.uid
       by pod live failed (Listed e) = e
@@ -166,12 +169,13 @@ module _ (made : Job) (log : List Entry) (ledger : Ledger) (job : Job) (y : ℕ)
   pub succeeded-chosen : job.spec.mode ≡ NonIndexed → successes job (chosen job ledger.records (pods_of made.uid (upto y log))) ≡ newly job (pods_of made.uid (upto y log)) Succeeded
   succeeded-chosen plain =
       let own = pods_of made.uid (upto y log) in
-      filter_filter (λ pod. same_outcome (outcome_of job.spec pod) Succeeded) (is_fresh job ledger.records) own
-      ∙ filter_same (λ pod. is_fresh job ledger.records pod && same_outcome (outcome_of job.spec pod) Succeeded) (is_new job Succeeded) own
-      (Each-weaker (λ pod. life pod.uid (upto y log) ≡ Live pod) (λ pod. (is_fresh job ledger.records pod && same_outcome (outcome_of job.spec pod) Succeeded) ≡ is_new job Succeeded pod)
+      filter_filter (λ pod. same_outcome (outcome_of job.spec pod) Succeeded) (is_fresh job.spec (has_record ledger.records)) own
+      ∙ filter_same (λ pod. is_fresh job.spec (has_record ledger.records) pod && same_outcome (outcome_of job.spec pod) Succeeded) (is_new job Succeeded) own
+      (Each-weaker (λ pod. life pod.uid (upto y log) ≡ Live pod) (λ pod. (is_fresh job.spec (has_record ledger.records) pod && same_outcome (outcome_of job.spec pod) Succeeded) ≡ is_new job Succeeded pod)
       (λ pod live.
       fresh_succeeded pod.tracked (outcome_of job.spec pod) (is_some (record_of pod.uid ledger.records)) (is_listed job.status pod.uid)
       (λ tracked succeeded. by pod (agree made log ledger job y a pod.uid pod live tracked))) own (pods_of-live made.uid (upto y log)))
+      ∙ sym (newly-is job own Succeeded refl)
     where
       is_plain : Mode → Bool
       is_plain NonIndexed = true
@@ -191,22 +195,23 @@ module _ (made : Job) (log : List Entry) (ledger : Ledger) (job : Job) (y : ℕ)
   pub indexes-chosen : IsIncreasing ledger.done → join ledger.done (indexes_of (successes job (chosen job ledger.records (pods_of made.uid (upto y log))))) ≡ join ledger.done (indexes_of (newly job (pods_of made.uid (upto y log)) Succeeded))
   indexes-chosen s =
       let own = pods_of made.uid (upto y log) in
-      ap (λ pods. join ledger.done (indexes_of pods)) (filter_filter (λ pod. same_outcome (outcome_of job.spec pod) Succeeded) (is_fresh job ledger.records) own)
-      ∙ join-alike ledger.done (λ pod. is_fresh job ledger.records pod && same_outcome (outcome_of job.spec pod) Succeeded) (is_new job Succeeded) own s
+      ap (λ pods. join ledger.done (indexes_of pods)) (filter_filter (λ pod. same_outcome (outcome_of job.spec pod) Succeeded) (is_fresh job.spec (has_record ledger.records)) own)
+      ∙ join-alike ledger.done (λ pod. is_fresh job.spec (has_record ledger.records) pod && same_outcome (outcome_of job.spec pod) Succeeded) (is_new job Succeeded) own s
       (Each-weaker (λ pod. life pod.uid (upto y log) ≡ Live pod)
-      (λ pod. Alike ledger.done (is_fresh job ledger.records pod && same_outcome (outcome_of job.spec pod) Succeeded) (is_new job Succeeded pod) pod.index)
+      (λ pod. Alike ledger.done (is_fresh job.spec (has_record ledger.records) pod && same_outcome (outcome_of job.spec pod) Succeeded) (is_new job Succeeded pod) pod.index)
       (λ pod live. at pod live pod.tracked refl) own (pods_of-live made.uid (upto y log)))
+      ∙ ap (λ pods. join ledger.done (indexes_of pods)) (sym (newly-is job own Succeeded refl))
     where
       same : (pod : Pod) → (pod.tracked ≡ true → is_some (record_of pod.uid ledger.records) ≡ is_listed job.status pod.uid)
-          → Alike ledger.done (is_fresh job ledger.records pod && same_outcome (outcome_of job.spec pod) Succeeded) (is_new job Succeeded pod) pod.index
+          → Alike ledger.done (is_fresh job.spec (has_record ledger.records) pod && same_outcome (outcome_of job.spec pod) Succeeded) (is_new job Succeeded pod) pod.index
       same pod e = Same (fresh_succeeded pod.tracked (outcome_of job.spec pod) (is_some (record_of pod.uid ledger.records)) (is_listed job.status pod.uid) (λ t o. e t))
 
       by : (pod : Pod) → life pod.uid (upto y log) ≡ Live pod → Agrees ledger job pod.uid
-          → Alike ledger.done (is_fresh job ledger.records pod && same_outcome (outcome_of job.spec pod) Succeeded) (is_new job Succeeded pod) pod.index
+          → Alike ledger.done (is_fresh job.spec (has_record ledger.records) pod && same_outcome (outcome_of job.spec pod) Succeeded) (is_new job Succeeded pod) pod.index
       by pod live (Listed e) = same pod (λ t. e)
       by pod live (Old r h o mode) = Known (index_known pod r h o mode live)
 
       at : (pod : Pod) → life pod.uid (upto y log) ≡ Live pod → (t : Bool) → pod.tracked ≡ t
-          → Alike ledger.done (is_fresh job ledger.records pod && same_outcome (outcome_of job.spec pod) Succeeded) (is_new job Succeeded pod) pod.index
+          → Alike ledger.done (is_fresh job.spec (has_record ledger.records) pod && same_outcome (outcome_of job.spec pod) Succeeded) (is_new job Succeeded pod) pod.index
       at pod live true t = by pod live (agree made log ledger job y a pod.uid pod live t)
       at pod live false t = same pod (λ tracked. absurd (true≢false (sym tracked ∙ t)))

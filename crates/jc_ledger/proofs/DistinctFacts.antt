@@ -6,20 +6,19 @@ use Rattle.jc_types.specs.declared.numbers.Uid.{Uid}
 use Rattle.jc_types.specs.declared.objects.Entry.{Entry}
 use Rattle.jc_types.specs.declared.objects.Job.{Job}
 use Rattle.jc_types.specs.declared.objects.Pod.{Pod}
-use Rattle.jc_types.specs.Deeds.{Deed}
+use Rattle.jc_log.specs.Deeds.{Deed}
 use Rattle.jc_types.specs.Keys.{same_uid}
-use Rattle.jc_types.specs.Log.{upto, pods_in, pods_of, RisesFrom}
-use Rattle.jc_types.specs.Pods.{is_tracked}
-use Rattle.jc_types.specs.Uids.{is_in, AscendsFrom, uids_of}
+use Rattle.jc_log.specs.Log.{upto, pods_in, pods_of}
+use Rattle.jc_states.specs.PodLists.{RisesFrom}
+use Rattle.jc_states.specs.Pods.{is_tracked}
+use Rattle.jc_states.specs.UidLists.{is_in, AscendsFrom, uids_of}
 use Rattle.jc_types.proofs.ListFacts.{Each-weaker, Each-passes, Each-map}
-use Rattle.jc_types.proofs.PodFacts.{pods_in-rises, rises_filter}
-use Rattle.jc_types.proofs.UidFacts.{uids_of-ascends}
-use Rattle.jc_failpol.specs.Outcomes.{outcome_of}
-use Rattle.jc_ledger.specs.Ledger.{Record, record_of, is_verdict, is_fresh, chosen, recorded, bump, Judging, judging_of, judged_by, Ledger, ledger_of}
-
--- The UIDs of the pods that have a record.
-abbrev pub judged_uids : List Record → List Uid
-judged_uids records = map (λ (r : Record). r.pod.uid) records
+use Rattle.jc_log.proofs.PodFacts.{pods_in-rises}
+use Rattle.jc_states.proofs.PodListFacts.{rises_filter}
+use Rattle.jc_states.proofs.UidListFacts.{uids_of-ascends}
+use Rattle.jc_failpol.specs.Outcomes.{is_verdict, outcome_of}
+use Rattle.jc_account.specs.Judged.{is_fresh}
+use Rattle.jc_ledger.specs.Ledger.{Record, record_of, judged_uids, has_record, chosen, recorded, entered, Judging, judging_of, judged_by, Ledger, ledger_of}
 
 -- ---- lists of UIDs
 
@@ -88,7 +87,7 @@ judged_uids-more job seen at [] pods = recorded_uids job seen at pods
 judged_uids-more job seen at (r ∷ records) pods = ap (λ (l : List Uid). r.pod.uid ∷ l) (judged_uids-more job seen at records pods)
 
 -- A pod that is still to be judged has no record.
-fresh_new : (job : Job) (records : List Record) (pod : Pod) → is_fresh job records pod ≡ true → is_in pod.uid (judged_uids records) ≡ false
+fresh_new : (job : Job) (records : List Record) (pod : Pod) → is_fresh job.spec (has_record records) pod ≡ true → is_in pod.uid (judged_uids records) ≡ false
 fresh_new job records pod h =
     let tracked = is_tracked pod in
     let verdict = is_verdict (outcome_of job.spec pod) in
@@ -96,16 +95,16 @@ fresh_new job records pod h =
     is_in-judged pod.uid records ∙ not-true (is_some (record_of pod.uid records)) (and_parts verdict new (and_parts tracked (verdict && new) h).1).1
 
 -- What a write judges of ascending pods keeps one record of a pod.
-distinct_bump : (job : Job) (pods : List Pod) (seen at : ℕ) (ledger : Ledger) → RisesFrom 0 pods → IsDistinct same_uid (judged_uids ledger.records)
-    → IsDistinct same_uid (judged_uids (bump job pods seen at ledger).records)
-distinct_bump job pods seen at ledger rises d =
+distinct_entered : (job : Job) (pods : List Pod) (seen at : ℕ) (ledger : Ledger) → RisesFrom 0 pods → IsDistinct same_uid (judged_uids ledger.records)
+    → IsDistinct same_uid (judged_uids (entered job pods seen at ledger).records)
+distinct_entered job pods seen at ledger rises d =
     let few = chosen job ledger.records pods in
     subst (IsDistinct same_uid) (sym (judged_uids-more job seen at ledger.records few))
     (distinct_append (judged_uids ledger.records) (uids_of few) d
-    (ascends_distinct 0 (uids_of few) (uids_of-ascends 0 few (rises_filter 0 (is_fresh job ledger.records) pods rises)))
+    (ascends_distinct 0 (uids_of few) (uids_of-ascends 0 few (rises_filter 0 (is_fresh job.spec (has_record ledger.records)) pods rises)))
     (Each-map (λ (pod : Pod). pod.uid) (λ u. is_in u (judged_uids ledger.records) ≡ false) few
-    (Each-weaker (λ pod. is_fresh job ledger.records pod ≡ true) (λ pod. is_in pod.uid (judged_uids ledger.records) ≡ false) (λ pod h. fresh_new job ledger.records pod h) few
-    (Each-passes (is_fresh job ledger.records) pods))))
+    (Each-weaker (λ pod. is_fresh job.spec (has_record ledger.records) pod ≡ true) (λ pod. is_in pod.uid (judged_uids ledger.records) ≡ false) (λ pod h. fresh_new job ledger.records pod h) few
+    (Each-passes (is_fresh job.spec (has_record ledger.records)) pods))))
 
 -- So does any deed.
 distinct_judged : (j : Uid) (log : List Entry) (judging : Option Judging) (ledger : Ledger) → IsDistinct same_uid (judged_uids ledger.records)
@@ -119,8 +118,8 @@ distinct_judged j log (Some judging) ledger d = by (same_uid judging.job.uid j)
     rising : RisesFrom 0 pods
     rising = rises_filter 0 (λ pod. same_uid pod.owner_uid j) (pods_in (upto judging.seen log)) (pods_in-rises (upto judging.seen log))
 
-    by : (b : Bool) → IsDistinct same_uid (judged_uids (cond b (bump judging.job pods judging.seen judging.at ledger) ledger).records)
-    by true = distinct_bump judging.job pods judging.seen judging.at ledger rising d
+    by : (b : Bool) → IsDistinct same_uid (judged_uids (cond b (entered judging.job pods judging.seen judging.at ledger) ledger).records)
+    by true = distinct_entered judging.job pods judging.seen judging.at ledger rising d
     by false = d
 
 -- In every history a ledger has one record of a pod.

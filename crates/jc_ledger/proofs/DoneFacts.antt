@@ -8,14 +8,14 @@ use Rattle.jc_ranges.proofs.Order.{each_weaker, increasing_append, present}
 use Rattle.jc_types.specs.declared.numbers.Uid.{Uid}
 use Rattle.jc_types.specs.declared.objects.Entry.{Entry}
 use Rattle.jc_types.specs.declared.objects.Pod.{Pod}
-use Rattle.jc_types.specs.Deeds.{Deed}
+use Rattle.jc_log.specs.Deeds.{Deed}
 use Rattle.jc_types.specs.Keys.{same_uid}
-use Rattle.jc_types.specs.Log.{pods_of, upto}
-use Rattle.jc_types.specs.Uids.{join}
+use Rattle.jc_log.specs.Log.{pods_of, upto}
+use Rattle.jc_states.specs.UidLists.{join}
 use Rattle.jc_types.proofs.ListFacts.{Each-filter, Each-passes, Each-weaker}
-use Rattle.jc_types.proofs.UidFacts.{has-join}
+use Rattle.jc_states.proofs.UidListFacts.{has-join}
 use Rattle.jc_account.specs.Modes.{indexes_of}
-use Rattle.jc_ledger.specs.Ledger.{Ledger, Judging, chosen, successes, bump, judged_by, judging_of, ledger_of}
+use Rattle.jc_ledger.specs.Ledger.{Ledger, Judging, chosen, successes, entered, judged_by, judging_of, ledger_of}
 
 -- ---- joins increase
 
@@ -56,7 +56,7 @@ done-increases j (d ∷ past) log = by (judging_of d past log) (ledger_of j past
     by None ledger s = s
     by (Some judging) ledger s = either (same_uid judging.job.uid j)
       where
-        either : (b : Bool) → IsIncreasing (cond b (bump judging.job (pods_of j (upto judging.seen log)) judging.seen judging.at ledger) ledger).done
+        either : (b : Bool) → IsIncreasing (cond b (entered judging.job (pods_of j (upto judging.seen log)) judging.seen judging.at ledger) ledger).done
         either true =
             increases_join ledger.done (indexes_of (successes judging.job (chosen judging.job ledger.records (pods_of j (upto judging.seen log))))) s
         either false = s

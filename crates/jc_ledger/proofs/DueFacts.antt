@@ -11,44 +11,48 @@ use Rattle.jc_types.specs.declared.objects.Entry.TheVariants.{JobPut, PodPut}
 use Rattle.jc_types.specs.declared.objects.Job.{Job}
 use Rattle.jc_types.specs.declared.objects.Key.{Key}
 use Rattle.jc_types.specs.declared.objects.Pod.{Pod}
-use Rattle.jc_types.specs.declared.replies.Answer.{Answer}
 use Rattle.jc_types.specs.declared.specifications.Mode.{Mode}
 use Rattle.jc_types.specs.declared.specifications.Mode.TheVariants.{NonIndexed, Indexed}
 use Rattle.jc_types.specs.declared.statuses.JobStatus.{JobStatus}
-use Rattle.jc_types.specs.Bases.{is_own, own_pods}
-use Rattle.jc_types.specs.Conditions.{has_target}
-use Rattle.jc_types.specs.Deeds.{Deed}
+use Rattle.jc_states.specs.Owners.{is_foreign}
+use Rattle.jc_states.specs.Bases.{is_own, own_pods}
+use Rattle.jc_states.specs.Conditions.{has_target}
+use Rattle.jc_log.specs.Deeds.{Deed}
 use Rattle.jc_types.specs.Keys.{same_uid}
-use Rattle.jc_types.specs.Log.{upto, entry_at, job_in, is_job_of, is_born, life, Life, Never, Live, Gone}
-use Rattle.jc_types.specs.Pods.{is_final, is_tracked, is_active}
-use Rattle.jc_types.specs.Uids.{is_in, uids_of}
-use Rattle.jc_types.specs.Writes.{JobStep, PodStep, Allowed, Writes, Stored}
-use Rattle.jc_types.proofs.BirthFacts.{life_is_interval, Owned, owner_first}
+use Rattle.jc_log.specs.Log.{upto, entry_at, job_in, is_job_of, is_born, life, Life, Never, Live, Gone}
+use Rattle.jc_states.specs.Pods.{is_final, is_tracked, is_active}
+use Rattle.jc_states.specs.UidLists.{is_in, uids_of}
+use Rattle.jc_states.specs.ObjectChanges.{JobStep, PodStep}
+use Rattle.jc_log.specs.Writes.{Allowed, Writes, Stored}
+use Rattle.jc_log.proofs.BirthFacts.{life_is_interval, Owned, owner_first}
 use Rattle.jc_types.proofs.KeyFacts.{same_uid-eq, same_uid-itself, same_uid-either_way}
 use Rattle.jc_types.proofs.ListFacts.{any_filter, find_passes}
-use Rattle.jc_types.proofs.LogFacts.{upto-upto, upto-all, length-upto, entry_at-place, entry_at-stays, entry_at-upto}
-use Rattle.jc_types.proofs.PlaceFacts.{job_in-entry, job_in-within, life-entry, life-place, life-stood}
-use Rattle.jc_types.proofs.WriteFacts.{Follows-upto, Stored-from_legal, persists, is_born-more}
+use Rattle.jc_log.proofs.LogFacts.{upto-upto, upto-all, length-upto, entry_at-place, entry_at-stays, entry_at-upto}
+use Rattle.jc_log.proofs.PlaceFacts.{job_in-entry, job_in-within, life-entry, life-place, life-stood}
+use Rattle.jc_log.proofs.WriteFacts.{Follows-upto, Stored-from_legal, persists, is_born-more}
 use Rattle.jc_failpol.specs.declared.outcomes.Outcome.{Outcome}
 use Rattle.jc_failpol.specs.declared.outcomes.Outcome.TheVariants.{Alive, Succeeded, Failed, Ignored}
 use Rattle.jc_failpol.specs.FailJob.{is_failure, policy_fails_job, fails_job}
-use Rattle.jc_failpol.specs.Outcomes.{outcome_of}
+use Rattle.jc_failpol.specs.Outcomes.{is_verdict, outcome_of, outcome_place, same_outcome}
 use Rattle.jc_failpol.proofs.Settled.{ignored_stays, end_stays}
 use Rattle.jc_states.specs.Listed.{is_listed}
-use Rattle.jc_account.specs.Judged.{same_outcome, outcome_place, has_come_to, is_new, newly, is_to_release, has_tracked}
-use Rattle.jc_account.specs.Modes.{has_index}
+use Rattle.jc_account.specs.Judged.{has_come_to, is_new, newly, is_to_release, has_tracked}
+use Rattle.jc_states.specs.Indexes.{has_index}
+use Rattle.jc_account.proofs.JudgementFacts.{newly-is}
 use Rattle.jc_account.proofs.AccountFacts.{newly-member, failed-in, succeeded-in, indexes-in}
 use Rattle.jc_ledger.specs.declared.flights.Flight.{Flight}
-use Rattle.jc_ledger.specs.Facts.{Releases, IsForeign, Orphans, LetsGo}
+use Rattle.jc_ledger.specs.EventKinds.{FinalizerWrite, Releases, Orphans, LetsGo}
 use Rattle.jc_ledger.specs.Flights.{IsSent, Flies}
-use Rattle.jc_ledger.specs.Ledger.{Record, record_of, is_verdict, ledger_of}
+use Rattle.jc_ledger.specs.Ledger.{Record, record_of, ledger_of}
 use Rattle.jc_ledger.specs.Once.{IsJudged, PutBefore, Cause, WasJudged, IsIgnored, WasActive, WasCompleted}
 use Rattle.jc_ledger.specs.Tied.{made_as, IsListing, IsSound, TiesJob, Tied}
-use Rattle.jc_ledger.proofs.FrameFacts.{AllFly-one}
+use Rattle.jc_ledger.proofs.DuePods.{IsDue, due_from}
+use Rattle.jc_ledger.proofs.FrameFacts.{AllFly-one, PodsHaveIndexes-now}
 use Rattle.jc_ledger.proofs.MadeFacts.{outcome-step, fails_job-step, made_as-uid, made_as-upto, made_as-born, WasMadeUnder, has_job-was_made, put-step}
-use Rattle.jc_ledger.proofs.OwnFacts.{found_any}
+use Rattle.jc_ledger.proofs.OwnFacts.{basis-rises, found_any}
 use Rattle.jc_ledger.proofs.PutFacts.{ties_of}
-use Rattle.jc_ledger.proofs.SeenFacts.{step_to, step_on, Saw, saw, active_alive, succeeded_phase, fails_early}
+use Rattle.jc_log.proofs.LastingFacts.{step_to, step_on}
+use Rattle.jc_ledger.proofs.SeenFacts.{Saw, saw, active_alive, succeeded_phase, fails_early}
 use Rattle.jc_ledger.proofs.TakenFacts.{Justly}
 
 -- ---- a pod of the Job
@@ -57,6 +61,7 @@ use Rattle.jc_ledger.proofs.TakenFacts.{Justly}
 pub record Due (past : List Deed) (log : List Entry) (flight : Flight) (job : Job) (seen now : Pod) (made : Job) : Type 0 where
   pub stored : Stored log
   pub ties : TiesJob made log (ledger_of made.uid past log)
+  pub due : IsDue job seen
   pub uid : job.uid ≡ made.uid
   pub job_step : JobStep made job
   pub entry : entry_at job.version.0 log ≡ Some (JobPut job)
@@ -75,44 +80,48 @@ job_entry k m log job all within h =
     sym (entry_at-upto job.version.0 m log (omega (arith, long, place))) ∙ job_in-entry k (upto m log) job there h
 
 -- So it is of each pod of the Job that is released.
-pub due_of : (d : Deed) (past : List Deed) (log : List Entry) (front back : List Flight) (flight : Flight) (job : Job) (e : Entry) (seen pod : Pod) (answer : Answer)
-    → Tied past log (front ++ flight ∷ back) → Releases d log flight job e seen pod answer
-    → (now : Pod) → life seen.uid log ≡ Live now → (made : Job) → made_as now.owner_uid log ≡ Some made → Due past log flight job seen now made
-due_of d past log front back flight job e seen pod answer t r now there made is_made = record {
+pub due_of : (d : Deed) (past : List Deed) (log : List Entry) (front back : List Flight) (job : Job) (f : FinalizerWrite)
+    → Tied past log (front ++ f.flight ∷ back) → Releases d log job f
+    → (now : Pod) → life f.seen.uid log ≡ Live now → (made : Job) → made_as now.owner_uid log ≡ Some made → Due past log f.flight job f.seen now made
+due_of d past log front back job f t r now there made is_made = record {
   stored = stored;
-  ties = ties_of past log (front ++ flight ∷ back) made t made_it;
+  ties = ties_of past log (front ++ f.flight ∷ back) made t made_it;
+  due = due;
   uid = uid;
   job_step = put-step job.version.0 log made job stored made_it entry uid;
   entry = entry;
-  reached = subst (λ (o : Option Job). IfSome o (λ job. job.version.0 ≤ flight.basis.pods_at.0)) r.saw flies.reached;
-  sent = subst (λ (o : Option Job). IfSome o (λ job. IsSent log flight job)) r.saw flies.sent;
+  reached = subst (λ (o : Option Job). IfSome o (λ job. job.version.0 ≤ f.flight.basis.pods_at.0)) r.saw flies.reached;
+  sent = subst (λ (o : Option Job). IfSome o (λ job. IsSent log f.flight job)) r.saw flies.sent;
   stood = seen_then.stood;
   step = step;
-  numbered = subst (λ (o : Option Job). IfSome o (λ made. made.spec.mode ≡ Indexed → is_some now.index ≡ true)) is_made (t.numbered seen.uid now there);
+  numbered = subst (λ (o : Option Job). IfSome o (λ made. made.spec.mode ≡ Indexed → is_some now.index ≡ true)) is_made (PodsHaveIndexes-now log t.numbered f.seen.uid now there);
 }
   where
     stored : Stored log
     stored = Stored-from_legal log t.legal
 
-    flies : Flies log flight
-    flies = AllFly-one log front back flight t.flying
+    flies : Flies log f.flight
+    flies = AllFly-one log front back f.flight t.flying
 
-    seen_then : Saw log flight.basis seen
-    seen_then = saw log flight.basis seen flies.basis r.taken.is_seen
+    due : IsDue job f.seen
+    due = due_from job f.flight.basis.pods f.seen (basis-rises log f.flight.basis flies.basis) r.taken.is_seen r.due
 
-    step : PodStep seen now
-    step = step_on seen.uid flight.basis.pods_at.0 log stored seen now seen_then.stood there
+    seen_then : Saw log f.flight.basis f.seen
+    seen_then = saw log f.flight.basis f.seen flies.basis r.taken.is_seen
+
+    step : PodStep f.seen now
+    step = step_on f.seen.uid f.flight.basis.pods_at.0 log stored f.seen now seen_then.stood there
 
     uid : job.uid ≡ made.uid
     uid =
-        sym (same_uid-eq seen.owner_uid job.uid (and_parts (is_own job seen) (is_to_release job seen) r.due).0)
+        sym (same_uid-eq f.seen.owner_uid job.uid due.own)
         ∙ sym step.owner_uid ∙ sym (made_as-uid now.owner_uid log made is_made)
 
     made_it : made_as made.uid log ≡ Some made
     made_it = ap (λ j. made_as j log) (made_as-uid now.owner_uid log made is_made) ∙ is_made
 
     entry : entry_at job.version.0 log ≡ Some (JobPut job)
-    entry = job_entry flight.basis.key flight.basis.jobs_at.0 log job stored flies.basis.jobs_at (sym flies.basis.job ∙ r.saw)
+    entry = job_entry f.flight.basis.key f.flight.basis.jobs_at.0 log job stored flies.basis.jobs_at (sym flies.basis.job ∙ r.saw)
 
 -- ---- what is listed has a record
 
@@ -180,10 +189,10 @@ new_one job outcome seen tracked is =
     (ap (λ o. same_outcome o outcome) is ∙ eq-eqb (outcome_place outcome) (outcome_place outcome) refl)
 
 -- It is among those that are judged.
-newly_in : (job : Job) (outcome : Outcome) (pods : List Pod) (seen : Pod) → find (λ (p : Pod). same_uid p.uid seen.uid) pods ≡ Some seen → is_own job seen ≡ true
+newly_in : (job : Job) (outcome : Outcome) (pods : List Pod) (seen : Pod) → is_verdict outcome ≡ true → find (λ (p : Pod). same_uid p.uid seen.uid) pods ≡ Some seen → is_own job seen ≡ true
     → has_come_to job outcome seen ≡ true → is_listed job.status seen.uid ≡ false → is_in seen.uid (uids_of (newly job (own_pods job pods) outcome)) ≡ true
-newly_in job outcome pods seen found own come unlisted =
-    newly-member seen.uid job (own_pods job pods) outcome
+newly_in job outcome pods seen verdict found own come unlisted =
+    newly-member seen.uid job (own_pods job pods) outcome verdict
     ∙ and_from (not (is_listed job.status seen.uid)) (list_any (λ p. has_come_to job outcome p && same_uid p.uid seen.uid) (own_pods job pods)) (not_from_false (is_listed job.status seen.uid) unlisted)
     (any_filter (λ p. has_come_to job outcome p && same_uid p.uid seen.uid) (is_own job) pods
     ∙ found_any (λ p. same_uid p.uid seen.uid) (λ p. is_own job p && (has_come_to job outcome p && same_uid p.uid seen.uid)) pods seen found
@@ -194,7 +203,8 @@ newly_in job outcome pods seen found own come unlisted =
 index_in : (job : Job) (pods : List Pod) (seen : Pod) (n : ℕ) → find (λ (p : Pod). same_uid p.uid seen.uid) pods ≡ Some seen → is_own job seen ≡ true
     → has_come_to job Succeeded seen ≡ true → is_listed job.status seen.uid ≡ false → seen.index ≡ Some n → list_any (has_index n) (newly job (own_pods job pods) Succeeded) ≡ true
 index_in job pods seen n found own come unlisted index =
-    any_filter (has_index n) (is_new job Succeeded) (own_pods job pods)
+    ap (list_any (has_index n)) (newly-is job (own_pods job pods) Succeeded refl)
+    ∙ any_filter (has_index n) (is_new job Succeeded) (own_pods job pods)
     ∙ any_filter (λ p. is_new job Succeeded p && has_index n p) (is_own job) pods
     ∙ found_any (λ p. same_uid p.uid seen.uid) (λ p. is_own job p && (is_new job Succeeded p && has_index n p)) pods seen found
     (and_from (is_own job seen) (is_new job Succeeded seen && has_index n seen) own
@@ -205,181 +215,181 @@ index_in job pods seen n found own come unlisted index =
 -- ---- the cause
 
 -- Of a pod that was to be released.
-pub due_cause : (d : Deed) (past : List Deed) (log : List Entry) (flight : Flight) (job : Job) (e : Entry) (seen pod : Pod) (answer : Answer) (now : Pod) (made : Job)
-    → Releases d log flight job e seen pod answer → Due past log flight job seen now made
-    → Cause made (ledger_of made.uid past log).records (suc (length log)) (e ∷ log) false now
-due_cause d past log flight job e seen pod answer now made r due = by_list (is_listed job.status seen.uid) refl
+pub due_cause : (d : Deed) (past : List Deed) (log : List Entry) (job : Job) (f : FinalizerWrite) (now : Pod) (made : Job)
+    → Releases d log job f → Due past log f.flight job f.seen now made
+    → Cause made (ledger_of made.uid past log).records (suc (length log)) (f.entry ∷ log) false now
+due_cause d past log job f now made r due = by_list (is_listed job.status f.seen.uid) refl
   where
-    own : is_own job seen ≡ true
-    own = (and_parts (is_own job seen) (is_to_release job seen) r.due).0
+    own : is_own job f.seen ≡ true
+    own = due.due.own
 
-    ended : is_to_release job seen ≡ true
-    ended = (and_parts (is_own job seen) (is_to_release job seen) r.due).1
+    ended : is_to_release job f.seen ≡ true
+    ended = due.due.ends
 
-    tracked : seen.tracked ≡ true
-    tracked = (and_parts (is_tracked seen) (not (same_outcome (outcome_of job.spec seen) Alive) || is_listed job.status seen.uid) ended).0
+    tracked : f.seen.tracked ≡ true
+    tracked = (and_parts (is_tracked f.seen) (not (same_outcome (outcome_of job.spec f.seen) Alive) || is_listed job.status f.seen.uid) ended).0
 
-    sent_at : flight.sends.0 ≤ length log
-    sent_at = (entry_at-place flight.sends.0 log (JobPut due.sent.put) due.sent.is_put).1
+    sent_at : f.flight.sends.0 ≤ length log
+    sent_at = (entry_at-place f.flight.sends.0 log (JobPut due.sent.put) due.sent.is_put).1
 
-    listing : IsListing (ledger_of made.uid past log).records flight.sends.0 due.sent.put.status
-    listing = due.ties.listed flight.sends.0 due.sent.put due.sent.is_put (due.sent.uid ∙ due.uid)
+    listing : IsListing (ledger_of made.uid past log).records f.flight.sends.0 due.sent.put.status
+    listing = due.ties.listed f.flight.sends.0 due.sent.put due.sent.is_put (due.sent.uid ∙ due.uid)
 
-    come : (outcome : Outcome) → outcome_of made.spec seen ≡ outcome → has_come_to job outcome seen ≡ true
-    come outcome is = new_one job outcome seen tracked (outcome-step made job seen due.job_step ∙ is)
+    come : (outcome : Outcome) → outcome_of made.spec f.seen ≡ outcome → has_come_to job outcome f.seen ≡ true
+    come outcome is = new_one job outcome f.seen tracked (outcome-step made job f.seen due.job_step ∙ is)
 
-    judged : (outcome : Outcome) → IsJudged (ledger_of made.uid past log).records seen.uid outcome flight.sends.0 → Cause made (ledger_of made.uid past log).records (suc (length log)) (e ∷ log) false now
+    judged : (outcome : Outcome) → IsJudged (ledger_of made.uid past log).records f.seen.uid outcome f.flight.sends.0 → Cause made (ledger_of made.uid past log).records (suc (length log)) (f.entry ∷ log) false now
     judged outcome h =
-        recorded_cause past log e seen now made flight.sends.0 due.step.uid sent_at (recorded_from (ledger_of made.uid past log).records seen.uid outcome flight.sends.0 h)
+        recorded_cause past log f.entry f.seen now made f.flight.sends.0 due.step.uid sent_at (recorded_from (ledger_of made.uid past log).records f.seen.uid outcome f.flight.sends.0 h)
 
-    failed : is_listed job.status seen.uid ≡ false → outcome_of made.spec seen ≡ Failed → is_in seen.uid due.sent.put.status.uncounted_failed ≡ true
+    failed : is_listed job.status f.seen.uid ≡ false → outcome_of made.spec f.seen ≡ Failed → is_in f.seen.uid due.sent.put.status.uncounted_failed ≡ true
     failed unlisted is =
-        ap (λ (s : JobStatus). is_in seen.uid s.uncounted_failed) due.sent.status
-        ∙ ap (is_in seen.uid) r.counted.uncounted_failed
-        ∙ failed-in seen.uid job flight.basis.pods
-        ∙ or_right (is_in seen.uid job.status.uncounted_failed && has_tracked (own_pods job flight.basis.pods) seen.uid) (is_in seen.uid (uids_of (newly job (own_pods job flight.basis.pods) Failed)))
-        (newly_in job Failed flight.basis.pods seen r.taken.is_seen own (come Failed is) unlisted)
+        ap (λ (s : JobStatus). is_in f.seen.uid s.uncounted_failed) due.sent.status
+        ∙ ap (is_in f.seen.uid) r.counted.uncounted_failed
+        ∙ failed-in f.seen.uid job f.flight.basis.pods
+        ∙ or_right (is_in f.seen.uid job.status.uncounted_failed && has_tracked (own_pods job f.flight.basis.pods) f.seen.uid) (is_in f.seen.uid (uids_of (newly job (own_pods job f.flight.basis.pods) Failed)))
+        (newly_in job Failed f.flight.basis.pods f.seen refl r.taken.is_seen own (come Failed is) unlisted)
 
-    succeeded : is_listed job.status seen.uid ≡ false → outcome_of made.spec seen ≡ Succeeded → made.spec.mode ≡ NonIndexed → is_in seen.uid due.sent.put.status.uncounted_succeeded ≡ true
+    succeeded : is_listed job.status f.seen.uid ≡ false → outcome_of made.spec f.seen ≡ Succeeded → made.spec.mode ≡ NonIndexed → is_in f.seen.uid due.sent.put.status.uncounted_succeeded ≡ true
     succeeded unlisted is mode =
-        ap (λ (s : JobStatus). is_in seen.uid s.uncounted_succeeded) due.sent.status
-        ∙ ap (is_in seen.uid) r.counted.uncounted_succeeded
-        ∙ succeeded-in seen.uid job flight.basis.pods (due.job_step.mode ∙ mode)
-        ∙ or_right (is_in seen.uid job.status.uncounted_succeeded && has_tracked (own_pods job flight.basis.pods) seen.uid) (is_in seen.uid (uids_of (newly job (own_pods job flight.basis.pods) Succeeded)))
-        (newly_in job Succeeded flight.basis.pods seen r.taken.is_seen own (come Succeeded is) unlisted)
+        ap (λ (s : JobStatus). is_in f.seen.uid s.uncounted_succeeded) due.sent.status
+        ∙ ap (is_in f.seen.uid) r.counted.uncounted_succeeded
+        ∙ succeeded-in f.seen.uid job f.flight.basis.pods (due.job_step.mode ∙ mode)
+        ∙ or_right (is_in f.seen.uid job.status.uncounted_succeeded && has_tracked (own_pods job f.flight.basis.pods) f.seen.uid) (is_in f.seen.uid (uids_of (newly job (own_pods job f.flight.basis.pods) Succeeded)))
+        (newly_in job Succeeded f.flight.basis.pods f.seen refl r.taken.is_seen own (come Succeeded is) unlisted)
 
-    completed : is_listed job.status seen.uid ≡ false → outcome_of made.spec seen ≡ Succeeded → made.spec.mode ≡ Indexed → (index : Option ℕ) → now.index ≡ index → is_some index ≡ true
+    completed : is_listed job.status f.seen.uid ≡ false → outcome_of made.spec f.seen ≡ Succeeded → made.spec.mode ≡ Indexed → (index : Option ℕ) → now.index ≡ index → is_some index ≡ true
         → option_map_or (λ n. has n due.sent.put.status.completed) index false ≡ true
     completed unlisted is mode None at some = absurd (true≢false (sym some))
     completed unlisted is mode (Some n) at some =
         ap (λ (s : JobStatus). has n s.completed) due.sent.status
         ∙ ap (has n) r.counted.completed
-        ∙ indexes-in n job flight.basis.pods (due.job_step.mode ∙ mode)
-        ∙ or_right (has n job.status.completed) (list_any (has_index n) (newly job (own_pods job flight.basis.pods) Succeeded))
-        (index_in job flight.basis.pods seen n r.taken.is_seen own (come Succeeded is) unlisted (sym due.step.index ∙ at))
+        ∙ indexes-in n job f.flight.basis.pods (due.job_step.mode ∙ mode)
+        ∙ or_right (has n job.status.completed) (list_any (has_index n) (newly job (own_pods job f.flight.basis.pods) Succeeded))
+        (index_in job f.flight.basis.pods f.seen n r.taken.is_seen own (come Succeeded is) unlisted (sym due.step.index ∙ at))
 
-    by_mode : is_listed job.status seen.uid ≡ false → outcome_of made.spec seen ≡ Succeeded → (m : Mode) → made.spec.mode ≡ m
-        → Cause made (ledger_of made.uid past log).records (suc (length log)) (e ∷ log) false now
-    by_mode unlisted is NonIndexed mode = judged Succeeded (listing.succeeded seen.uid (succeeded unlisted is mode))
+    by_mode : is_listed job.status f.seen.uid ≡ false → outcome_of made.spec f.seen ≡ Succeeded → (m : Mode) → made.spec.mode ≡ m
+        → Cause made (ledger_of made.uid past log).records (suc (length log)) (f.entry ∷ log) false now
+    by_mode unlisted is NonIndexed mode = judged Succeeded (listing.succeeded f.seen.uid (succeeded unlisted is mode))
     by_mode unlisted is Indexed mode =
-        let phase = succeeded_phase made.spec seen is in
+        let phase = succeeded_phase made.spec f.seen is in
         WasCompleted mode (due.step.phase (ap is_final phase) ∙ phase)
         (record {
-          version = flight.sends.0;
+          version = f.flight.sends.0;
           before = omega (arith, sent_at);
           put = due.sent.put;
-          is_put = entry_at-stays flight.sends.0 e (JobPut due.sent.put) log due.sent.is_put;
+          is_put = entry_at-stays f.flight.sends.0 f.entry (JobPut due.sent.put) log due.sent.is_put;
           uid = due.sent.uid ∙ due.uid;
           holds = completed unlisted is mode now.index refl (due.numbered mode);
         })
 
-    by_outcome : is_listed job.status seen.uid ≡ false → (o : Outcome) → outcome_of made.spec seen ≡ o → Cause made (ledger_of made.uid past log).records (suc (length log)) (e ∷ log) false now
-    by_outcome unlisted Alive is = absurd (seen_ended past log flight job seen now made due ended is)
+    by_outcome : is_listed job.status f.seen.uid ≡ false → (o : Outcome) → outcome_of made.spec f.seen ≡ o → Cause made (ledger_of made.uid past log).records (suc (length log)) (f.entry ∷ log) false now
+    by_outcome unlisted Alive is = absurd (seen_ended past log f.flight job f.seen now made due ended is)
     by_outcome unlisted Succeeded is = by_mode unlisted is made.spec.mode refl
-    by_outcome unlisted Failed is = judged Failed (listing.failed seen.uid (failed unlisted is))
-    by_outcome unlisted Ignored is = IsIgnored (ignored_stays made.spec.replacement made.spec.failure due.ties.waits seen now due.step is)
+    by_outcome unlisted Failed is = judged Failed (listing.failed f.seen.uid (failed unlisted is))
+    by_outcome unlisted Ignored is = IsIgnored (ignored_stays made.spec.replacement made.spec.failure due.ties.waits f.seen now due.step is)
 
-    by_list : (b : Bool) → is_listed job.status seen.uid ≡ b → Cause made (ledger_of made.uid past log).records (suc (length log)) (e ∷ log) false now
+    by_list : (b : Bool) → is_listed job.status f.seen.uid ≡ b → Cause made (ledger_of made.uid past log).records (suc (length log)) (f.entry ∷ log) false now
     by_list true l =
-        recorded_cause past log e seen now made job.version.0 due.step.uid (entry_at-place job.version.0 log (JobPut job) due.entry).1
-        (listed_recorded (ledger_of made.uid past log).records job.version.0 job.status seen.uid (due.ties.listed job.version.0 job due.entry due.uid) l)
-    by_list false unlisted = by_outcome unlisted (outcome_of made.spec seen) refl
+        recorded_cause past log f.entry f.seen now made job.version.0 due.step.uid (entry_at-place job.version.0 log (JobPut job) due.entry).1
+        (listed_recorded (ledger_of made.uid past log).records job.version.0 job.status f.seen.uid (due.ties.listed job.version.0 job due.entry due.uid) l)
+    by_list false unlisted = by_outcome unlisted (outcome_of made.spec f.seen) refl
 
 -- Where it fails the Job a target stood in what the sync sent.
-pub due_target : (d : Deed) (past : List Deed) (log : List Entry) (flight : Flight) (job : Job) (e : Entry) (seen pod : Pod) (answer : Answer) (now : Pod) (made : Job)
-    → Releases d log flight job e seen pod answer → Due past log flight job seen now made
-    → fails_job made.spec now ≡ true → PutBefore (λ put. has_target put.status.conditions ≡ true) made.uid (suc (length log)) (e ∷ log)
-due_target d past log flight job e seen pod answer now made r due fails =
-    let place = entry_at-place flight.sends.0 log (JobPut due.sent.put) due.sent.is_put in
-    let ended = seen_ended past log flight job seen now made due (and_parts (is_own job seen) (is_to_release job seen) r.due).1 in
-    let early = fails_early made.spec seen now due.ties.waits due.step ended fails in
+pub due_target : (d : Deed) (past : List Deed) (log : List Entry) (job : Job) (f : FinalizerWrite) (now : Pod) (made : Job)
+    → Releases d log job f → Due past log f.flight job f.seen now made
+    → fails_job made.spec now ≡ true → PutBefore (λ put. has_target put.status.conditions ≡ true) made.uid (suc (length log)) (f.entry ∷ log)
+due_target d past log job f now made r due fails =
+    let place = entry_at-place f.flight.sends.0 log (JobPut due.sent.put) due.sent.is_put in
+    let ended = seen_ended past log f.flight job f.seen now made due due.due.ends in
+    let early = fails_early made.spec f.seen now due.ties.waits due.step ended fails in
     record {
-      version = flight.sends.0;
+      version = f.flight.sends.0;
       before = omega (arith, place.1);
       put = due.sent.put;
-      is_put = entry_at-stays flight.sends.0 e (JobPut due.sent.put) log due.sent.is_put;
+      is_put = entry_at-stays f.flight.sends.0 f.entry (JobPut due.sent.put) log due.sent.is_put;
       uid = due.sent.uid ∙ due.uid;
-      holds = ap (λ (s : JobStatus). has_target s.conditions) due.sent.status ∙ r.target (fails_job-step made job seen due.job_step ∙ early);
+      holds = ap (λ (s : JobStatus). has_target s.conditions) due.sent.status ∙ r.target (fails_job-step made job f.seen due.job_step ∙ early);
     }
 
 -- A pod that was to be released may be released.
-pub release_justly : (d : Deed) (past : List Deed) (log : List Entry) (front back : List Flight) (flight : Flight) (job : Job) (e : Entry) (seen pod : Pod) (answer : Answer)
-    → Tied past log (front ++ flight ∷ back) → Releases d log flight job e seen pod answer → Justly past e log seen.uid false
-release_justly d past log front back flight job e seen pod answer t r now there made is_made is_there =
-    let due = due_of d past log front back flight job e seen pod answer t r now there made is_made in
+pub release_justly : (d : Deed) (past : List Deed) (log : List Entry) (front back : List Flight) (job : Job) (f : FinalizerWrite)
+    → Tied past log (front ++ f.flight ∷ back) → Releases d log job f → Justly past f.entry log f.seen.uid false
+release_justly d past log front back job f t r now there made is_made is_there =
+    let due = due_of d past log front back job f t r now there made is_made in
     record {
-      cause = due_cause d past log flight job e seen pod answer now made r due;
-      target = due_target d past log flight job e seen pod answer now made r due;
+      cause = due_cause d past log job f now made r due;
+      target = due_target d past log job f now made r due;
     }
 
 -- ---- orphans
 
 -- The Job of an orphan is not there: being older than the pod, it would have been there for the sync to see.
-pub orphan_justly : (d : Deed) (past : List Deed) (log : List Entry) (front back : List Flight) (flight : Flight) (e : Entry) (seen pod : Pod) (answer : Answer)
-    → Tied past log (front ++ flight ∷ back) → Orphans d log flight e seen pod answer → Justly past e log seen.uid false
-orphan_justly d past log front back flight e seen pod answer t o now there made is_made is_there =
-    absurd (foreign flight.basis.job o.foreign (ap (is_job_of seen.owner_uid) flies.basis.job ∙ was_there))
+pub orphan_justly : (d : Deed) (past : List Deed) (log : List Entry) (front back : List Flight) (f : FinalizerWrite)
+    → Tied past log (front ++ f.flight ∷ back) → Orphans d log f → Justly past f.entry log f.seen.uid false
+orphan_justly d past log front back f t o now there made is_made is_there =
+    absurd (foreign f.flight.basis.job o.foreign (ap (is_job_of f.seen.owner_uid) flies.basis.job ∙ was_there))
   where
     stored : Stored log
     stored = Stored-from_legal log t.legal
 
-    flies : Flies log flight
-    flies = AllFly-one log front back flight t.flying
+    flies : Flies log f.flight
+    flies = AllFly-one log front back f.flight t.flying
 
-    seen_then : Saw log flight.basis seen
-    seen_then = saw log flight.basis seen flies.basis o.taken.is_seen
+    seen_then : Saw log f.flight.basis f.seen
+    seen_then = saw log f.flight.basis f.seen flies.basis o.taken.is_seen
 
-    owner : now.owner_uid ≡ seen.owner_uid
-    owner = (step_on seen.uid flight.basis.pods_at.0 log stored seen now seen_then.stood there).owner_uid
+    owner : now.owner_uid ≡ f.seen.owner_uid
+    owner = (step_on f.seen.uid f.flight.basis.pods_at.0 log stored f.seen now seen_then.stood there).owner_uid
 
-    by_then : seen.version.0 ≤ flight.basis.pods_at.0
+    by_then : f.seen.version.0 ≤ f.flight.basis.pods_at.0
     by_then =
-        let long = length-upto flight.basis.pods_at.0 log flies.basis.pods_at in
-        let place = life-place seen.uid (upto flight.basis.pods_at.0 log) seen (Follows-upto Writes flight.basis.pods_at.0 log stored) seen_then.stood in
+        let long = length-upto f.flight.basis.pods_at.0 log flies.basis.pods_at in
+        let place = life-place f.seen.uid (upto f.flight.basis.pods_at.0 log) f.seen (Follows-upto Writes f.flight.basis.pods_at.0 log stored) seen_then.stood in
         omega (arith, long, place)
 
-    at_version : life seen.uid (upto seen.version.0 log) ≡ Live seen
+    at_version : life f.seen.uid (upto f.seen.version.0 log) ≡ Live f.seen
     at_version =
-        ap (life seen.uid) (sym (upto-upto seen.version.0 flight.basis.pods_at.0 log by_then))
-        ∙ life-stood seen.uid (upto flight.basis.pods_at.0 log) seen (Follows-upto Writes flight.basis.pods_at.0 log stored) seen_then.stood
+        ap (life f.seen.uid) (sym (upto-upto f.seen.version.0 f.flight.basis.pods_at.0 log by_then))
+        ∙ life-stood f.seen.uid (upto f.flight.basis.pods_at.0 log) f.seen (Follows-upto Writes f.flight.basis.pods_at.0 log stored) seen_then.stood
 
-    put_first : WasMadeUnder (upto seen.version.0 log) seen.owner_uid seen.owner
+    put_first : WasMadeUnder (upto f.seen.version.0 log) f.seen.owner_uid f.seen.owner
     put_first =
-        has_job-was_made seen.owner_uid seen.owner (upto seen.version.0 log) (Follows-upto Writes seen.version.0 log stored)
-        (subst (Owned (upto seen.version.0 log)) at_version (owner_first seen.uid (upto seen.version.0 log) (Follows-upto Allowed seen.version.0 log t.legal)))
+        has_job-was_made f.seen.owner_uid f.seen.owner (upto f.seen.version.0 log) (Follows-upto Writes f.seen.version.0 log stored)
+        (subst (Owned (upto f.seen.version.0 log)) at_version (owner_first f.seen.uid (upto f.seen.version.0 log) (Follows-upto Allowed f.seen.version.0 log t.legal)))
 
     same : put_first.made ≡ made
     same =
         ap (λ (o : Option Job). elim o [ None ↦ made | Some job ↦ job ])
-        (sym (made_as-upto seen.owner_uid seen.version.0 log put_first.made put_first.is_made) ∙ ap (λ j. made_as j log) (sym owner) ∙ is_made)
+        (sym (made_as-upto f.seen.owner_uid f.seen.version.0 log put_first.made put_first.is_made) ∙ ap (λ j. made_as j log) (sym owner) ∙ is_made)
 
-    key : made.key ≡ flight.basis.key
+    key : made.key ≡ f.flight.basis.key
     key = ap (λ (job : Job). job.key) (sym same) ∙ put_first.key ∙ seen_then.owner
 
-    made_uid : made.uid ≡ seen.owner_uid
+    made_uid : made.uid ≡ f.seen.owner_uid
     made_uid = made_as-uid now.owner_uid log made is_made ∙ owner
 
-    born : is_born seen.owner_uid (upto flight.basis.jobs_at.0 log) ≡ true
+    born : is_born f.seen.owner_uid (upto f.flight.basis.jobs_at.0 log) ≡ true
     born =
-        persists Allowed (λ l. is_born seen.owner_uid l ≡ true) (λ e older a rest b. is_born-more seen.owner_uid e older b) seen.version.0 flight.basis.jobs_at.0 log t.legal o.version
-        (made_as-born seen.owner_uid (upto seen.version.0 log) put_first.made put_first.is_made)
+        persists Allowed (λ l. is_born f.seen.owner_uid l ≡ true) (λ e older a rest b. is_born-more f.seen.owner_uid e older b) f.seen.version.0 f.flight.basis.jobs_at.0 log t.legal o.version
+        (made_as-born f.seen.owner_uid (upto f.seen.version.0 log) put_first.made put_first.is_made)
 
-    was_there : is_job_of seen.owner_uid (job_in flight.basis.key (upto flight.basis.jobs_at.0 log)) ≡ true
+    was_there : is_job_of f.seen.owner_uid (job_in f.flight.basis.key (upto f.flight.basis.jobs_at.0 log)) ≡ true
     was_there =
-        life_is_interval seen.owner_uid flight.basis.key flight.basis.jobs_at.0 (length log) log stored flies.basis.jobs_at born
-        (ap (λ l. is_job_of seen.owner_uid (job_in flight.basis.key l)) (upto-all (length log) log (omega arith))
-        ∙ ap (λ k. is_job_of seen.owner_uid (job_in k log)) (sym key) ∙ ap (λ j. is_job_of j (job_in made.key log)) (sym made_uid) ∙ is_there)
+        life_is_interval f.seen.owner_uid f.flight.basis.key f.flight.basis.jobs_at.0 (length log) log stored flies.basis.jobs_at born
+        (ap (λ l. is_job_of f.seen.owner_uid (job_in f.flight.basis.key l)) (upto-all (length log) log (omega arith))
+        ∙ ap (λ k. is_job_of f.seen.owner_uid (job_in k log)) (sym key) ∙ ap (λ j. is_job_of j (job_in made.key log)) (sym made_uid) ∙ is_there)
 
-    foreign : (b : Option Job) → IsForeign b seen → is_job_of seen.owner_uid b ≡ true → ⊥
-    foreign None f h = true≢false (sym h)
-    foreign (Some job) f h = both_ways (is_own job seen) f (same_uid-either_way seen.owner_uid job.uid ∙ h)
+    foreign : (b : Option Job) → is_foreign b f.seen ≡ true → is_job_of f.seen.owner_uid b ≡ true → ⊥
+    foreign None other h = true≢false (sym h)
+    foreign (Some job) other h = both_ways (is_own job f.seen) (not-true (is_own job f.seen) other) (same_uid-either_way f.seen.owner_uid job.uid ∙ h)
 
 -- ---- pods that are let go
 
 -- The pod is as the sync saw it: it was active.
-pub let_go_justly : (d : Deed) (past : List Deed) (log : List Entry) (front back : List Flight) (flight : Flight) (e : Entry) (seen old pod : Pod) (answer : Answer)
-    → Tied past log (front ++ flight ∷ back) → LetsGo d log flight e seen old pod answer → Justly past e log seen.uid true
-let_go_justly d past log front back flight e seen old pod answer t l now there made is_made is_there = record {
+pub let_go_justly : (d : Deed) (past : List Deed) (log : List Entry) (front back : List Flight) (old : Pod) (f : FinalizerWrite)
+    → Tied past log (front ++ f.flight ∷ back) → LetsGo d log old f → Justly past f.entry log f.seen.uid true
+let_go_justly d past log front back old f t l now there made is_made is_there = record {
   cause = WasActive refl active;
   target = λ fails. absurd (true≢false (sym (and_parts (is_failure (outcome_of made.spec now)) (policy_fails_job made.spec.failure now) fails).0 ∙ ap is_failure (active_alive made.spec now active)));
 }
@@ -387,30 +397,30 @@ let_go_justly d past log front back flight e seen old pod answer t l now there m
     stored : Stored log
     stored = Stored-from_legal log t.legal
 
-    flies : Flies log flight
-    flies = AllFly-one log front back flight t.flying
+    flies : Flies log f.flight
+    flies = AllFly-one log front back f.flight t.flying
 
     now_old : now ≡ old
     now_old = ap (λ (l : Life). elim l [ Never ↦ old | Live p ↦ p | Gone ↦ old ]) (sym there ∙ l.there)
 
-    seen_then : Saw log flight.basis seen
-    seen_then = saw log flight.basis seen flies.basis l.taken.is_seen
+    seen_then : Saw log f.flight.basis f.seen
+    seen_then = saw log f.flight.basis f.seen flies.basis l.taken.is_seen
 
-    put_seen : entry_at seen.version.0 log ≡ Some (PodPut seen)
+    put_seen : entry_at f.seen.version.0 log ≡ Some (PodPut f.seen)
     put_seen =
-        let before = Follows-upto Writes flight.basis.pods_at.0 log stored in
-        let long = length-upto flight.basis.pods_at.0 log flies.basis.pods_at in
-        let place = life-place seen.uid (upto flight.basis.pods_at.0 log) seen before seen_then.stood in
-        sym (entry_at-upto seen.version.0 flight.basis.pods_at.0 log (omega (arith, long, place))) ∙ life-entry seen.uid (upto flight.basis.pods_at.0 log) seen before seen_then.stood
+        let before = Follows-upto Writes f.flight.basis.pods_at.0 log stored in
+        let long = length-upto f.flight.basis.pods_at.0 log flies.basis.pods_at in
+        let place = life-place f.seen.uid (upto f.flight.basis.pods_at.0 log) f.seen before seen_then.stood in
+        sym (entry_at-upto f.seen.version.0 f.flight.basis.pods_at.0 log (omega (arith, long, place))) ∙ life-entry f.seen.uid (upto f.flight.basis.pods_at.0 log) f.seen before seen_then.stood
 
-    old_seen : old ≡ seen
-    old_seen = pod_put (sym (life-entry seen.uid log old stored l.there) ∙ ap (λ (v : Version). entry_at v.0 log) l.version ∙ put_seen)
+    old_seen : old ≡ f.seen
+    old_seen = pod_put (sym (life-entry f.seen.uid log old stored l.there) ∙ ap (λ (v : Version). entry_at v.0 log) l.version ∙ put_seen)
       where
         pod_in_it : Option Entry → Pod
         pod_in_it (Some (PodPut p)) = p
         pod_in_it other = old
 
-        pod_put : Some (PodPut old) ≡ Some (PodPut seen) → old ≡ seen
+        pod_put : Some (PodPut old) ≡ Some (PodPut f.seen) → old ≡ f.seen
         pod_put h = ap pod_in_it h
 
     active : is_active now ≡ true

@@ -11,28 +11,32 @@ use Rattle.jc_types.specs.declared.objects.Job.{Job}
 use Rattle.jc_types.specs.declared.objects.Pod.{Pod}
 use Rattle.jc_types.specs.declared.specifications.Mode.{Mode}
 use Rattle.jc_types.specs.declared.specifications.Mode.TheVariants.{NonIndexed, Indexed}
-use Rattle.jc_types.specs.Bases.{own_pods}
+use Rattle.jc_states.specs.Bases.{own_pods}
 use Rattle.jc_types.specs.Keys.{same_uid}
-use Rattle.jc_types.specs.Log.{Life, Never, Live, Gone, IsRising, upto, life, is_lost, pods_of}
-use Rattle.jc_types.specs.Uids.{Ascends, is_in, join, uids_of}
-use Rattle.jc_types.specs.Writes.{JobStep, Legal}
+use Rattle.jc_log.specs.Log.{Life, Never, Live, Gone, upto, life, is_lost, pods_of}
+use Rattle.jc_states.specs.PodLists.{IsRising}
+use Rattle.jc_states.specs.UidLists.{Ascends, is_in, join, uids_of}
+use Rattle.jc_states.specs.ObjectChanges.{JobStep}
+use Rattle.jc_log.specs.Writes.{Legal}
 use Rattle.jc_types.proofs.KeyFacts.{same_uid-eq}
 use Rattle.jc_types.proofs.ListFacts.{Each-weaker, Each-both, Each-filter, Each-passes, find_passes}
-use Rattle.jc_types.proofs.PodFacts.{pods_of-live}
-use Rattle.jc_types.proofs.UidFacts.{Found as Passing, passes_in, some_in}
-use Rattle.jc_types.proofs.WriteFacts.{lost_on}
+use Rattle.jc_log.proofs.PodFacts.{pods_of-live}
+use Rattle.jc_states.proofs.UidListFacts.{Found as Passing, passes_in, some_in}
+use Rattle.jc_log.proofs.WriteFacts.{lost_on}
 use Rattle.jc_failpol.specs.declared.outcomes.Outcome.{Outcome}
 use Rattle.jc_failpol.specs.declared.outcomes.Outcome.TheVariants.{Succeeded, Failed}
-use Rattle.jc_failpol.specs.Outcomes.{outcome_of}
+use Rattle.jc_failpol.specs.Outcomes.{is_verdict, outcome_of, same_outcome}
+use Rattle.jc_failpol.proofs.OutcomeFacts.{outcome-exact}
+use Rattle.jc_account.proofs.JudgementFacts.{newly-is}
 use Rattle.jc_account.specs.Accounts.{counted_in}
 use Rattle.jc_states.specs.Listed.{is_listed}
-use Rattle.jc_account.specs.Judged.{has_come_to, has_tracked, is_new, newly, same_outcome}
+use Rattle.jc_account.specs.Judged.{has_come_to, has_tracked, is_fresh, is_new, newly}
 use Rattle.jc_account.specs.Modes.{completed_after, indexes_of}
-use Rattle.jc_account.proofs.AccountFacts.{empty-in, failed-cases, failed-in, failed-order, failed-sum, indexed-total, lists-apart, outcome-exact, plain-set, succeeded-cases, succeeded-in, succeeded-order, succeeded-sum}
-use Rattle.jc_ledger.specs.Facts.{CountsIn}
-use Rattle.jc_ledger.specs.Ledger.{Record, record_of, recorded, is_verdict, is_fresh, chosen, judged_as, Ledger, entered}
+use Rattle.jc_account.proofs.AccountFacts.{empty-in, failed-cases, failed-in, failed-order, failed-sum, indexed-total, lists-apart, plain-set, succeeded-cases, succeeded-in, succeeded-order, succeeded-sum}
+use Rattle.jc_ledger.specs.EventKinds.{CountsIn}
+use Rattle.jc_ledger.specs.Ledger.{Record, record_of, recorded, has_record, chosen, judged_as, Ledger, entered}
 use Rattle.jc_ledger.specs.Once.{IsJudged, is_listable}
-use Rattle.jc_ledger.specs.Tied.{made_as, IsTidy}
+use Rattle.jc_ledger.specs.Tied.{made_as, HasSoundLists}
 use Rattle.jc_ledger.proofs.AgreementFacts.{Agreeing, now_of, tidy_of, listing_of, seen_before, stood_of, failed-chosen, succeeded-chosen, indexes-chosen}
 use Rattle.jc_ledger.proofs.MadeFacts.{outcome-step}
 use Rattle.jc_ledger.proofs.OwnFacts.{own-live, untracked-lost}
@@ -100,7 +104,7 @@ module _ (made : Job) (log : List Entry) (ledger : Ledger) (job : Job) (pods : L
   picked = chosen job ledger.records own
 
   abbrev after : Ledger
-  after = entered job picked y (suc (length log)) ledger
+  after = entered job own y (suc (length log)) ledger
 
   -- Both have one mode.
   mode_of_new : new.spec.mode ≡ job.spec.mode
@@ -108,7 +112,7 @@ module _ (made : Job) (log : List Entry) (ledger : Ledger) (job : Job) (pods : L
 
   -- ---- the pods that the write judges
 
-  chosen_at : (pod : Pod) → ((life pod.uid (upto y log) ≡ Live pod) × (pod.owner_uid ≡ made.uid)) × (is_fresh job ledger.records pod ≡ true) → IsChosen made log ledger.records y pod
+  chosen_at : (pod : Pod) → ((life pod.uid (upto y log) ≡ Live pod) × (pod.owner_uid ≡ made.uid)) × (is_fresh job.spec (has_record ledger.records) pod ≡ true) → IsChosen made log ledger.records y pod
   chosen_at pod q =
       let first = and_parts pod.tracked (is_verdict (outcome_of job.spec pod) && not (is_some (record_of pod.uid ledger.records))) q.1 in
       let rest = and_parts (is_verdict (outcome_of job.spec pod)) (not (is_some (record_of pod.uid ledger.records))) first.1 in
@@ -123,23 +127,23 @@ module _ (made : Job) (log : List Entry) (ledger : Ledger) (job : Job) (pods : L
   each_chosen : Each (IsChosen made log ledger.records y) picked
   each_chosen =
       let P = λ (pod : Pod). (life pod.uid (upto y log) ≡ Live pod) × (pod.owner_uid ≡ made.uid) in
-      let Q = λ (pod : Pod). is_fresh job ledger.records pod ≡ true in
+      let Q = λ (pod : Pod). is_fresh job.spec (has_record ledger.records) pod ≡ true in
       Each-weaker (λ pod. P pod × Q pod) (IsChosen made log ledger.records y) chosen_at picked
-      (Each-both P Q picked (Each-filter P (is_fresh job ledger.records) own (own-live made.uid (upto y log))) (Each-passes (is_fresh job ledger.records) own))
+      (Each-both P Q picked (Each-filter P (is_fresh job.spec (has_record ledger.records)) own (own-live made.uid (upto y log))) (Each-passes (is_fresh job.spec (has_record ledger.records)) own))
 
   picked_live : Each (λ pod. life pod.uid (upto y log) ≡ Live pod) picked
-  picked_live = Each-filter (λ pod. life pod.uid (upto y log) ≡ Live pod) (is_fresh job ledger.records) own (pods_of-live made.uid (upto y log))
+  picked_live = Each-filter (λ pod. life pod.uid (upto y log) ≡ Live pod) (is_fresh job.spec (has_record ledger.records)) own (pods_of-live made.uid (upto y log))
 
   -- ---- what is listed is judged
 
   -- A new pod is judged by this write.
-  new_judged : (outcome : Outcome) (u : Uid) → filter (λ pod. same_outcome (outcome_of job.spec pod) outcome) picked ≡ newly job own outcome
+  new_judged : (outcome : Outcome) (u : Uid) → is_verdict outcome ≡ true → filter (λ pod. same_outcome (outcome_of job.spec pod) outcome) picked ≡ newly job own outcome
       → is_in u (uids_of (newly job own outcome)) ≡ true → IsJudged after.records u outcome (suc (length log))
-  new_judged outcome u same new_in =
+  new_judged outcome u verdict same new_in =
       let test = λ (pod : Pod). same_outcome (outcome_of job.spec pod) outcome in
       let in_picked : is_in u (uids_of picked) ≡ true = in_whole u test picked (ap (λ ps. is_in u (uids_of ps)) same ∙ new_in) in
-      let fresh = some_in (λ pod. life pod.uid (upto y log) ≡ Live pod) (is_fresh job ledger.records) u own (pods_of-live made.uid (upto y log)) in_picked in
-      let one = some_in (λ pod. life pod.uid (upto y log) ≡ Live pod) (is_new job outcome) u own (pods_of-live made.uid (upto y log)) new_in in
+      let fresh = some_in (λ pod. life pod.uid (upto y log) ≡ Live pod) (is_fresh job.spec (has_record ledger.records)) u own (pods_of-live made.uid (upto y log)) in_picked in
+      let one = some_in (λ pod. life pod.uid (upto y log) ≡ Live pod) (is_new job outcome) u own (pods_of-live made.uid (upto y log)) (sym (ap (λ ps. is_in u (uids_of ps)) (newly-is job own outcome verdict)) ∙ new_in) in
       IsJudged-new u ledger.records job y (suc (length log)) picked outcome (unjudged fresh)
       (Each-weaker (λ pod. (same_uid pod.uid u ≡ true) × (life pod.uid (upto y log) ≡ Live pod)) (λ pod. outcome_of job.spec pod ≡ outcome) (λ pod q. as_one one pod q.0 q.1)
       (filter (λ pod. same_uid pod.uid u) picked)
@@ -148,7 +152,7 @@ module _ (made : Job) (log : List Entry) (ledger : Ledger) (job : Job) (pods : L
       (Each-filter (λ pod. life pod.uid (upto y log) ≡ Live pod) (λ pod. same_uid pod.uid u) picked picked_live)))
       in_picked
     where
-      unjudged : Passing (λ pod. life pod.uid (upto y log) ≡ Live pod) (is_fresh job ledger.records) u → record_of u ledger.records ≡ None
+      unjudged : Passing (λ pod. life pod.uid (upto y log) ≡ Live pod) (is_fresh job.spec (has_record ledger.records)) u → record_of u ledger.records ≡ None
       unjudged f =
           let first = and_parts f.pod.tracked (is_verdict (outcome_of job.spec f.pod) && not (is_some (record_of f.pod.uid ledger.records))) f.passes in
           let rest = and_parts (is_verdict (outcome_of job.spec f.pod)) (not (is_some (record_of f.pod.uid ledger.records))) first.1 in
@@ -171,7 +175,7 @@ module _ (made : Job) (log : List Entry) (ledger : Ledger) (job : Job) (pods : L
   listed_failed u g =
       elim (failed-cases u job pods (sym (ap (is_in u) h.counts.uncounted_failed) ∙ g)) [
         | inl stays ↦ old_judged Failed u ((listing_of made log ledger job y h.agrees).failed u (and_parts (is_in u job.status.uncounted_failed) (has_tracked (own_pods job pods) u) stays).0)
-        | inr fresh ↦ new_judged Failed u (failed-chosen made log ledger job y h.agrees) (ap (λ ps. is_in u (uids_of (newly job ps Failed))) (sym h.own) ∙ fresh)
+        | inr fresh ↦ new_judged Failed u refl (failed-chosen made log ledger job y h.agrees) (ap (λ ps. is_in u (uids_of (newly job ps Failed))) (sym h.own) ∙ fresh)
       ]
 
   listed_succeeded : (u : Uid) → is_in u new.status.uncounted_succeeded ≡ true → IsJudged after.records u Succeeded (suc (length log))
@@ -183,7 +187,7 @@ module _ (made : Job) (log : List Entry) (ledger : Ledger) (job : Job) (pods : L
       by NonIndexed at =
           elim (succeeded-cases u job pods (sym (ap (is_in u) h.counts.uncounted_succeeded) ∙ g)) [
             | inl stays ↦ old_judged Succeeded u ((listing_of made log ledger job y h.agrees).succeeded u (and_parts (is_in u job.status.uncounted_succeeded) (has_tracked (own_pods job pods) u) stays).0)
-            | inr fresh ↦ new_judged Succeeded u (succeeded-chosen made log ledger job y h.agrees at) (ap (λ ps. is_in u (uids_of (newly job ps Succeeded))) (sym h.own) ∙ fresh)
+            | inr fresh ↦ new_judged Succeeded u refl (succeeded-chosen made log ledger job y h.agrees at) (ap (λ ps. is_in u (uids_of (newly job ps Succeeded))) (sym h.own) ∙ fresh)
           ]
 
   -- ---- what is not listed is lost
@@ -234,15 +238,15 @@ module _ (made : Job) (log : List Entry) (ledger : Ledger) (job : Job) (pods : L
       let as_succeeded = λ (pod : Pod). same_outcome (outcome_of job.spec pod) Succeeded in
       let P = λ (pod : Pod). as_failed pod ≡ true → is_in pod.uid (uids_of (filter as_failed picked)) ≡ true in
       let Q = λ (pod : Pod). as_succeeded pod ≡ true → is_in pod.uid (uids_of (filter as_succeeded picked)) ≡ true in
-      let R = λ (pod : Pod). is_fresh job ledger.records pod ≡ true in
+      let R = λ (pod : Pod). is_fresh job.spec (has_record ledger.records) pod ≡ true in
       Each-weaker (λ pod. P pod × (Q pod × R pod)) IsListedNow (λ pod q. at pod q.0 q.1.0 q.1.1 (as_failed pod) refl) picked
       (Each-both P (λ pod. Q pod × R pod) picked (passes_in as_failed picked)
-      (Each-both Q R picked (passes_in as_succeeded picked) (Each-passes (is_fresh job ledger.records) own)))
+      (Each-both Q R picked (passes_in as_succeeded picked) (Each-passes (is_fresh job.spec (has_record ledger.records)) own)))
     where
       at : (pod : Pod)
           → (same_outcome (outcome_of job.spec pod) Failed ≡ true → is_in pod.uid (uids_of (filter (λ p. same_outcome (outcome_of job.spec p) Failed) picked)) ≡ true)
           → (same_outcome (outcome_of job.spec pod) Succeeded ≡ true → is_in pod.uid (uids_of (filter (λ p. same_outcome (outcome_of job.spec p) Succeeded) picked)) ≡ true)
-          → is_fresh job ledger.records pod ≡ true → (b : Bool) → same_outcome (outcome_of job.spec pod) Failed ≡ b → IsListedNow pod
+          → is_fresh job.spec (has_record ledger.records) pod ≡ true → (b : Bool) → same_outcome (outcome_of job.spec pod) Failed ≡ b → IsListedNow pod
       at pod f s fresh true b l =
           failed_listed pod.uid (sym (ap (λ ps. is_in pod.uid (uids_of ps)) (failed-chosen made log ledger job y h.agrees)) ∙ f b)
       at pod f s fresh false b l =
@@ -303,7 +307,7 @@ module _ (made : Job) (log : List Entry) (ledger : Ledger) (job : Job) (pods : L
       ∙ ap (λ xs. join xs (indexes_of (newly job own Succeeded))) ((now_of made log ledger job y h.agrees).completed indexed)
       ∙ sym (indexes-chosen made log ledger job y h.agrees h.increases)
 
-  tidy_new : IsTidy new
+  tidy_new : HasSoundLists new
   tidy_new =
       let tidy = tidy_of made log ledger job y h.agrees in
       record {
@@ -319,7 +323,7 @@ module _ (made : Job) (log : List Entry) (ledger : Ledger) (job : Job) (pods : L
       }
 
   -- The entry puts the new Job over the one that is there, and judges those pods.
-  pub first_puts : Puts made log ledger job picked y job new
+  pub first_puts : Puts made log ledger job own y job new
   first_puts = record {
     legal = h.legal;
     is_made = h.is_made;

@@ -4,16 +4,15 @@ use Rattle.std.specs.Prelude.{IfSome}
 use Rattle.jc_types.specs.declared.objects.Entry.{Entry}
 use Rattle.jc_types.specs.declared.objects.Entry.TheVariants.{JobPut}
 use Rattle.jc_types.specs.declared.objects.Job.{Job}
-use Rattle.jc_types.specs.declared.replies.Answer.{Answer}
-use Rattle.jc_types.specs.Deeds.{Deed}
-use Rattle.jc_types.specs.Log.{upto, entry_at, pods_of}
-use Rattle.jc_types.specs.Writes.{Legal}
-use Rattle.jc_types.proofs.LogFacts.{entry_at-newest}
-use Rattle.jc_types.proofs.WriteFacts.{Stored-from_legal}
+use Rattle.jc_log.specs.Deeds.{Deed}
+use Rattle.jc_log.specs.Log.{upto, entry_at, pods_of}
+use Rattle.jc_log.specs.Writes.{Legal}
+use Rattle.jc_log.proofs.LogFacts.{entry_at-newest}
+use Rattle.jc_log.proofs.WriteFacts.{Stored-from_legal}
 use Rattle.jc_ledger.specs.declared.flights.Flight.{Flight}
-use Rattle.jc_ledger.specs.Facts.{WritesFirst, with_first}
+use Rattle.jc_ledger.specs.EventKinds.{StatusWrite, WritesFirst, with_written}
 use Rattle.jc_ledger.specs.Flights.{IsSent, Flies}
-use Rattle.jc_ledger.specs.Ledger.{chosen, ledger_of}
+use Rattle.jc_ledger.specs.Ledger.{ledger_of}
 use Rattle.jc_ledger.specs.Tied.{Tied}
 use Rattle.jc_ledger.proofs.AcceptFacts.{IsOneJob, one_job, tied_accepted}
 use Rattle.jc_ledger.proofs.DoneFacts.{done-increases}
@@ -24,29 +23,29 @@ use Rattle.jc_ledger.proofs.PutFacts.{Puts, ties_of}
 
 -- The Job that is there is the one that the sync saw: it has written nothing yet, so it sends the version of
 -- that one.
-pub current-seen : (d : Deed) (past : List Deed) (log : List Entry) (flight : Flight) (job current new : Job) (answer : Answer) → IsOneJob log flight job current new
-    → Flies log flight → WritesFirst d past log flight job current new answer → job ≡ current
-current-seen d past log flight job current new answer one flies w =
-    let sent = subst (λ (o : Option Job). IfSome o (λ j. IsSent log flight j)) w.accepted.seen flies.sent in
+pub current-seen : (d : Deed) (past : List Deed) (log : List Entry) (s : StatusWrite) → IsOneJob log s
+    → Flies log s.flight → WritesFirst d past log s → s.job ≡ s.current
+current-seen d past log s one flies w =
+    let sent = subst (λ (o : Option Job). IfSome o (λ j. IsSent log s.flight j)) w.accepted.seen flies.sent in
     let same = w.accepted.version ∙ sent.unwritten w.unwritten in
     ap (λ (o : Option Entry). job_of o) (sym one.saw ∙ ap (λ v. entry_at v log) (ap (λ v. v.0) (sym same)) ∙ one.stands)
   where
     job_of : Option Entry → Job
-    job_of None = job
+    job_of None = s.job
     job_of (Some (JobPut j)) = j
-    job_of (Some other) = job
+    job_of (Some other) = s.job
 
 -- The event has what the law on plain variables asks for.
-first-of : (d : Deed) (past : List Deed) (log : List Entry) (flights : List Flight) (flight : Flight) (job current new : Job) (answer : Answer) (one : IsOneJob log flight job current new)
-    → Tied past log flights → Flies log flight → Legal (JobPut new ∷ log) → WritesFirst d past log flight job current new answer
-    → IsFirst one.made log (ledger_of one.made.uid past log) job flight.basis.pods flight.basis.pods_at.0 new
-first-of d past log flights flight job current new answer one t flies legal w =
-    let y = flight.basis.pods_at.0 in
+first-of : (d : Deed) (past : List Deed) (log : List Entry) (flights : List Flight) (s : StatusWrite) (one : IsOneJob log s)
+    → Tied past log flights → Flies log s.flight → Legal (JobPut s.new ∷ log) → WritesFirst d past log s
+    → IsFirst one.made log (ledger_of one.made.uid past log) s.job s.flight.basis.pods s.flight.basis.pods_at.0 s.new
+first-of d past log flights s one t flies legal w =
+    let y = s.flight.basis.pods_at.0 in
     record {
       agrees = record {
         stored = Stored-from_legal log t.legal;
         ties = ties_of past log flights one.made t one.is_made;
-        there = one.there ∙ ap (λ j. Some j) (sym (current-seen d past log flight job current new answer one flies w));
+        there = one.there ∙ ap (λ j. Some j) (sym (current-seen d past log s one flies w));
         uid = one.job_step.uid;
         step = one.job_step;
         reached = subst (λ (o : Option Job). IfSome o (λ j. j.version.0 ≤ y)) w.accepted.seen flies.reached;
@@ -54,27 +53,27 @@ first-of d past log flights flight job current new answer one t flies legal w =
       legal = legal;
       is_made = one.is_made;
       increases = done-increases one.made.uid past log;
-      own = own-is log flight.basis job t.legal flies.basis w.accepted.seen ∙ ap (λ j. pods_of j (upto y log)) one.job_step.uid;
-      rises = basis-rises log flight.basis flies.basis;
+      own = own-is log s.flight.basis s.job t.legal flies.basis w.accepted.seen ∙ ap (λ j. pods_of j (upto y log)) one.job_step.uid;
+      rises = basis-rises log s.flight.basis flies.basis;
       within = flies.basis.pods_at;
       counts = w.counts;
       new_step = one.new_step;
     }
 
 -- The sync goes on with what it has written.
-flies-first : (d : Deed) (past : List Deed) (log : List Entry) (flight : Flight) (job current new : Job) (answer : Answer) → IsOneJob log flight job current new
-    → Legal (JobPut new ∷ log) → Flies (JobPut new ∷ log) flight → WritesFirst d past log flight job current new answer → Flies (JobPut new ∷ log) (with_first flight new)
-flies-first d past log flight job current new answer one legal flies w = record {
+flies-first : (d : Deed) (past : List Deed) (log : List Entry) (s : StatusWrite) → IsOneJob log s
+    → Legal (JobPut s.new ∷ log) → Flies (JobPut s.new ∷ log) s.flight → WritesFirst d past log s → Flies (JobPut s.new ∷ log) (with_written s.flight s.new)
+flies-first d past log s one legal flies w = record {
   basis = flies.basis;
   reached = flies.reached;
-  sent = subst (λ (o : Option Job). IfSome o (λ j. IsSent (JobPut new ∷ log) (with_first flight new) j)) (sym w.accepted.seen) sent;
+  sent = subst (λ (o : Option Job). IfSome o (λ j. IsSent (JobPut s.new ∷ log) (with_written s.flight s.new) j)) (sym w.accepted.seen) sent;
   released = flies.released;
 }
   where
-    sent : IsSent (JobPut new ∷ log) (with_first flight new) job
+    sent : IsSent (JobPut s.new ∷ log) (with_written s.flight s.new) s.job
     sent = record {
-      put = new;
-      is_put = ap (λ v. entry_at v (JobPut new ∷ log)) legal.0.writes.version ∙ entry_at-newest (JobPut new) log;
+      put = s.new;
+      is_put = ap (λ v. entry_at v (JobPut s.new ∷ log)) legal.0.writes.version ∙ entry_at-newest (JobPut s.new) log;
       uid = one.new_step.uid ∙ sym one.job_step.uid;
       key = one.new_step.key ∙ sym one.job_step.key;
       status = refl;
@@ -82,20 +81,20 @@ flies-first d past log flight job current new answer one legal flies w = record 
     }
 
 -- The first status is written.
-pub first_written : (d : Deed) (past : List Deed) (log : List Entry) (front back : List Flight) (flight : Flight) (job current new : Job) (answer : Answer)
-    → Tied past log (front ++ flight ∷ back) → WritesFirst d past log flight job current new answer → Tied (d ∷ past) (JobPut new ∷ log) (front ++ with_first flight new ∷ back)
-first_written d past log front back flight job current new answer t w =
-    let flights = front ++ flight ∷ back in
+pub first_written : (d : Deed) (past : List Deed) (log : List Entry) (front back : List Flight) (s : StatusWrite)
+    → Tied past log (front ++ s.flight ∷ back) → WritesFirst d past log s → Tied (d ∷ past) (JobPut s.new ∷ log) (front ++ with_written s.flight s.new ∷ back)
+first_written d past log front back s t w =
+    let flights = front ++ s.flight ∷ back in
     let a = w.accepted in
-    let g = grow d past (JobPut new) log flights t a.written in
-    let flies = AllFly-one log front back flight t.flying in
-    let one = one_job d past log flight job current new answer a g.legal flies.basis in
-    let y = flight.basis.pods_at.0 in
+    let g = grow d past (JobPut s.new) log flights t a.written in
+    let flies = AllFly-one log front back s.flight t.flying in
+    let one = one_job d past log s a g.legal flies.basis in
+    let y = s.flight.basis.pods_at.0 in
     let ledger = ledger_of one.made.uid past log in
-    let puts : Puts one.made log ledger job (chosen job ledger.records (pods_of one.made.uid (upto y log))) y current new =
-    subst (λ (there : Job). Puts one.made log ledger job (chosen job ledger.records (pods_of one.made.uid (upto y log))) y there new)
-    (current-seen d past log flight job current new answer one flies w)
-    (first_puts one.made log ledger job flight.basis.pods y new (first-of d past log flights flight job current new answer one t flies g.legal w)) in
-    tied_accepted d past log flights (front ++ with_first flight new ∷ back) flight job current new one.made answer t a flies.basis one.job_step.uid puts
-    (AllFly-put (JobPut new ∷ log) front back flight (with_first flight new) (AllFly-more (JobPut new) log flights g.legal t.flying)
-    (flies-first d past log flight job current new answer one g.legal (Flies-more (JobPut new) log flight g.legal flies) w))
+    let puts : Puts one.made log ledger s.job (pods_of one.made.uid (upto y log)) y s.current s.new =
+    subst (λ (there : Job). Puts one.made log ledger s.job (pods_of one.made.uid (upto y log)) y there s.new)
+    (current-seen d past log s one flies w)
+    (first_puts one.made log ledger s.job s.flight.basis.pods y s.new (first-of d past log flights s one t flies g.legal w)) in
+    tied_accepted d past log flights (front ++ with_written s.flight s.new ∷ back) s one.made t a flies.basis one.job_step.uid puts
+    (AllFly-put (JobPut s.new ∷ log) front back s.flight (with_written s.flight s.new) (AllFly-more (JobPut s.new) log flights g.legal t.flying)
+    (flies-first d past log s one g.legal (Flies-more (JobPut s.new) log s.flight g.legal flies) w))

@@ -1,5 +1,5 @@
 -- What an appended entry leaves as it is.
-use Rattle.std.proofs.Common.{◌≡◌, ℕ, suc, ◌≤◌, ◌==◌, Bool, true, false, cond, not, List, [], ◌∷◌, ◌++◌, length, Option, Some, None, is_some, refl, sym, ap, ◌∙◌, subst, arith, lt-ltb, true≢false}
+use Rattle.std.proofs.Common.{◌≡◌, ℕ, suc, ◌≤◌, ◌==◌, nat_lt, Bool, true, false, cond, not, List, [], ◌∷◌, ◌++◌, length, Option, Some, None, is_some, refl, sym, ap, ◌∙◌, subst, arith, lt-ltb, true≢false}
 use Rattle.std.specs.Prelude.{IfSome}
 use Rattle.std.specs.List.{AllByRecursion as Each}
 use Rattle.std.proofs.lemmas.Bool.{both_ways, cond-false, not-true}
@@ -12,24 +12,25 @@ use Rattle.jc_types.specs.declared.objects.Key.{Key}
 use Rattle.jc_types.specs.declared.objects.Pod.{Pod}
 use Rattle.jc_types.specs.declared.specifications.Mode.TheVariants.{Indexed}
 use Rattle.jc_types.specs.declared.syncs.Basis.{Basis}
-use Rattle.jc_types.specs.Conditions.{has_target}
-use Rattle.jc_types.specs.Deeds.{Deed}
+use Rattle.jc_states.specs.Conditions.{has_target}
+use Rattle.jc_log.specs.Deeds.{Deed}
 use Rattle.jc_types.specs.Keys.{same_key, same_uid}
-use Rattle.jc_types.specs.Log.{Life, Never, Live, Gone, upto, entry_at, job_in, is_job_of, life, is_lost, pods_under}
-use Rattle.jc_types.specs.Writes.{CanPut, Allowed, Legal}
-use Rattle.jc_types.proofs.BirthFacts.{Owned, owner_first}
+use Rattle.jc_log.specs.Log.{Life, Never, Live, Gone, upto, entry_at, job_in, is_job_of, life, is_lost, pods_under}
+use Rattle.jc_log.specs.Writes.{CanPut, Allowed, Legal}
+use Rattle.jc_log.proofs.BirthFacts.{Owned, owner_first}
 use Rattle.jc_types.proofs.KeyFacts.{same_uid-eq, same_from_eq, same_uid-itself}
 use Rattle.jc_types.proofs.ListFacts.{Each-weaker, Each-append}
-use Rattle.jc_types.proofs.LogFacts.{upto-fixed, entry_at-stays}
-use Rattle.jc_types.proofs.PlaceFacts.{job_in-within}
-use Rattle.jc_types.proofs.WriteFacts.{lost_entry, Follows-upto, Stored-from_legal}
+use Rattle.jc_log.proofs.LogFacts.{upto-fixed, upto-all, entry_at-stays}
+use Rattle.jc_log.proofs.PlaceFacts.{job_in-within}
+use Rattle.jc_log.proofs.WriteFacts.{lost_entry, Follows-upto, Stored-from_legal}
 use Rattle.jc_ledger.specs.declared.flights.Flight.{Flight}
-use Rattle.jc_ledger.specs.Facts.{IsWritten, pod_of}
+use Rattle.jc_ledger.specs.EventKinds.{IsWritten, pod_of}
 use Rattle.jc_ledger.specs.Flights.{IsBasisOf, IsSent, Flies}
 use Rattle.jc_ledger.specs.Ledger.{Record, Ledger, ledger_of}
-use Rattle.jc_ledger.specs.Once.{Taking, taking_of, PutBefore, Cause, WasJudged, IsIgnored, WasActive, WasCompleted, is_completed, IsJustified}
+use Rattle.jc_ledger.specs.Once.{Taking, taking_of, PutBefore, Cause, WasJudged, IsIgnored, WasActive, WasCompleted, IsJustified}
+use Rattle.jc_states.specs.Indexes.{is_completed}
 use Rattle.jc_ledger.specs.Syncs.{reach, request_of, appends}
-use Rattle.jc_ledger.specs.Tied.{made_as, made_after, IsSound, IsCurrent, TiesJob, Ties, IsNumbered, TakesWell, AllWell, IsWithin, IsReached, Tied}
+use Rattle.jc_ledger.specs.Tied.{made_as, made_after, IsSound, IsCurrent, TiesJob, Ties, HasIndexIn, PodsHaveIndexes, TakesWell, AllWell, IsWithin, IsReached, Tied}
 use Rattle.jc_ledger.proofs.LedgerFacts.{AllWithin, AllWithin-more, reach-is, ledger_of-more}
 use Rattle.jc_ledger.proofs.MadeFacts.{made_as-uid, made_as-more, made_as-upto, WasMadeUnder, has_job-was_made}
 
@@ -197,18 +198,17 @@ made_more : (Q : Job → Type 0) (e : Entry) (log : List Entry) (pod : Pod) → 
 made_more Q e log pod w h =
     subst (λ o. IfSome o Q) (sym (made_as-more pod.owner_uid e log w.made w.is_made)) (subst (λ o. IfSome o Q) w.is_made h)
 
--- A pod that lived stays numbered.
-numbered_old : (e : Entry) (log : List Entry) (u : Uid) (pod : Pod) → Legal log → IsNumbered log → life u log ≡ Live pod
-    → IfSome (made_as pod.owner_uid (e ∷ log)) (λ made. made.spec.mode ≡ Indexed → is_some pod.index ≡ true)
-numbered_old e log u pod legal num is =
+-- A pod that lived keeps its index.
+index_kept : (e : Entry) (log : List Entry) (u : Uid) (pod : Pod) → Legal log → PodsHaveIndexes log → life u log ≡ Live pod → HasIndexIn (e ∷ log) pod
+index_kept e log u pod legal num is =
     made_more (λ made. made.spec.mode ≡ Indexed → is_some pod.index ≡ true) e log pod (owner_made u log pod legal is) (num u pod is)
 
--- Pods stay numbered where the entry puts no pod, and where the pod that it puts is numbered if it is new.
-pub IsNumbered-job : (e : Entry) (log : List Entry) → Legal (e ∷ log) → pod_of e ≡ None → IsNumbered log → IsNumbered (e ∷ log)
-IsNumbered-job (JobPut job) log legal none num = λ u pod is. numbered_old (JobPut job) log u pod legal.1 num is
-IsNumbered-job (JobGone job) log legal none num = λ u pod is. numbered_old (JobGone job) log u pod legal.1 num is
-IsNumbered-job (PodPut pod) log legal none num = absurd (true≢false (ap is_some none))
-IsNumbered-job (PodGone pod) log legal none num = absurd (true≢false (ap is_some none))
+-- Pods have indexes where the entry is of no pod.
+pub PodsHaveIndexes-job : (e : Entry) (log : List Entry) → Legal (e ∷ log) → pod_of e ≡ None → PodsHaveIndexes log → PodsHaveIndexes (e ∷ log)
+PodsHaveIndexes-job (JobPut job) log legal none num = λ u pod is. index_kept (JobPut job) log u pod legal.1 num is
+PodsHaveIndexes-job (JobGone job) log legal none num = λ u pod is. index_kept (JobGone job) log u pod legal.1 num is
+PodsHaveIndexes-job (PodPut pod) log legal none num = absurd (true≢false (ap is_some none))
+PodsHaveIndexes-job (PodGone pod) log legal none num = absurd (true≢false (ap is_some none))
 
 -- No life is two things.
 live_one : (old new : Pod) → Live old ≡ Live new → old ≡ new
@@ -218,13 +218,13 @@ live_one old new h = ap (λ (l : Life). elim l [ Never ↦ old | Live p ↦ p | 
 gone_live : (pod : Pod) → Gone ≡ Live pod → ⊥
 gone_live pod h = true≢false (ap (λ (l : Life). elim l [ Never ↦ false | Live p ↦ false | Gone ↦ true ]) h)
 
--- A pod that the store may put is numbered, if one that it makes is.
-numbered_put : (log : List Entry) (pod : Pod) → Allowed log (PodPut pod)
-    → (life pod.uid log ≡ Never → IfSome (made_as pod.owner_uid log) (λ made. made.spec.mode ≡ Indexed → is_some pod.index ≡ true))
-    → IsNumbered log → IfSome (made_as pod.owner_uid log) (λ made. made.spec.mode ≡ Indexed → is_some pod.index ≡ true)
-numbered_put log pod allowed new num = by (life pod.uid log) refl allowed.writes.can.0
+-- A pod that the store may put has an index, if one that it makes has.
+index_put : (log : List Entry) (pod : Pod) → Allowed log (PodPut pod)
+    → (life pod.uid log ≡ Never → HasIndexIn log pod)
+    → PodsHaveIndexes log → HasIndexIn log pod
+index_put log pod allowed new num = by (life pod.uid log) refl allowed.writes.can.0
   where
-    by : (l : Life) → life pod.uid log ≡ l → CanPut log l pod → IfSome (made_as pod.owner_uid log) (λ made. made.spec.mode ≡ Indexed → is_some pod.index ≡ true)
+    by : (l : Life) → life pod.uid log ≡ l → CanPut log l pod → HasIndexIn log pod
     by Never is can = new is
     by (Live old) is can =
         subst (λ o. IfSome o (λ made. made.spec.mode ≡ Indexed → is_some pod.index ≡ true)) (ap (λ j. made_as j log) (sym can.owner_uid))
@@ -232,25 +232,37 @@ numbered_put log pod allowed new num = by (life pod.uid log) refl allowed.writes
         (num pod.uid old is) (λ made f mode. ap is_some can.index ∙ f mode))
     by Gone is can = absurd can
 
--- So it is where the entry is of a pod.
-pub IsNumbered-pod : (e : Entry) (log : List Entry) (pod : Pod) → Legal (e ∷ log) → pod_of e ≡ Some pod
-    → (life pod.uid log ≡ Never → IfSome (made_as pod.owner_uid log) (λ made. made.spec.mode ≡ Indexed → is_some pod.index ≡ true))
-    → IsNumbered log → IsNumbered (e ∷ log)
-IsNumbered-pod (JobPut job) log pod legal is new num = absurd (true≢false (sym (ap is_some is)))
-IsNumbered-pod (JobGone job) log pod legal is new num = absurd (true≢false (sym (ap is_some is)))
-IsNumbered-pod (PodPut put) log pod legal is new num = λ u p there. by u p (same_uid put.uid u) there
+-- So they have where the entry is of a pod that has one if it is new.
+pub PodsHaveIndexes-pod : (e : Entry) (log : List Entry) (pod : Pod) → Legal (e ∷ log) → pod_of e ≡ Some pod
+    → (life pod.uid log ≡ Never → HasIndexIn log pod)
+    → PodsHaveIndexes log → PodsHaveIndexes (e ∷ log)
+PodsHaveIndexes-pod (JobPut job) log pod legal is new num = absurd (true≢false (sym (ap is_some is)))
+PodsHaveIndexes-pod (JobGone job) log pod legal is new num = absurd (true≢false (sym (ap is_some is)))
+PodsHaveIndexes-pod (PodPut put) log pod legal is new num = λ u p there. by u p (same_uid put.uid u) there
   where
-    by : (u : Uid) (p : Pod) (b : Bool) → cond b (Live put) (life u log) ≡ Live p → IfSome (made_as p.owner_uid log) (λ made. made.spec.mode ≡ Indexed → is_some p.index ≡ true)
+    by : (u : Uid) (p : Pod) (b : Bool) → cond b (Live put) (life u log) ≡ Live p → HasIndexIn log p
     by u p true g =
-        subst (λ q. IfSome (made_as q.owner_uid log) (λ made. made.spec.mode ≡ Indexed → is_some q.index ≡ true)) (live_one put p g)
-        (numbered_put log put legal.0
-        (subst (λ q. life q.uid log ≡ Never → IfSome (made_as q.owner_uid log) (λ made. made.spec.mode ≡ Indexed → is_some q.index ≡ true)) (sym (same_Some put pod is)) new) num)
+        subst (HasIndexIn log) (live_one put p g)
+        (index_put log put legal.0
+        (subst (λ (q : Pod). life q.uid log ≡ Never → HasIndexIn log q) (sym (same_Some put pod is)) new) num)
     by u p false g = num u p g
-IsNumbered-pod (PodGone gone) log pod legal is new num = λ u p there. by u p (same_uid gone.uid u) there
+PodsHaveIndexes-pod (PodGone gone) log pod legal is new num = λ u p there. by u p (same_uid gone.uid u) there
   where
-    by : (u : Uid) (p : Pod) (b : Bool) → cond b Gone (life u log) ≡ Live p → IfSome (made_as p.owner_uid log) (λ made. made.spec.mode ≡ Indexed → is_some p.index ≡ true)
+    by : (u : Uid) (p : Pod) (b : Bool) → cond b Gone (life u log) ≡ Live p → HasIndexIn log p
     by u p true g = absurd (gone_live p g)
     by u p false g = num u p g
+
+-- So they have at every version.
+pub PodsHaveIndexes-more : (e : Entry) (log : List Entry) → ((v : ℕ) → PodsHaveIndexes (upto v log)) → PodsHaveIndexes (e ∷ log) → (v : ℕ) → PodsHaveIndexes (upto v (e ∷ log))
+PodsHaveIndexes-more e log old new v = by (nat_lt (length log) v)
+  where
+    by : (b : Bool) → PodsHaveIndexes (cond b (e ∷ log) (upto v log))
+    by true = new
+    by false = old v
+
+-- The log as it is now is one.
+pub PodsHaveIndexes-now : (log : List Entry) → ((v : ℕ) → PodsHaveIndexes (upto v log)) → PodsHaveIndexes log
+PodsHaveIndexes-now log all = subst PodsHaveIndexes (upto-all (length log) log (omega arith)) (all (length log))
 
 -- ---- finalizers that were taken
 

@@ -2,37 +2,42 @@
 use Rattle.std.proofs.Common.{◌≡◌, ℕ, suc, ◌+◌, ◌≤◌, Bool, true, false, ◌&&◌, List, [], ◌∷◌, ◌++◌, length, Option, Some, None, is_some, refl, sym, ap, ◌∙◌, subst, arith, true≢false}
 use Rattle.std.proofs.lemmas.Bool.{cond-true, not_from_false}
 use Rattle.std.proofs.lemmas.List.{append-nil}
+use Rattle.std.proofs.lemmas.Option.{same_Some}
 use Rattle.jc_types.specs.declared.numbers.Uid.{Uid}
 use Rattle.jc_types.specs.declared.objects.Entry.{Entry}
 use Rattle.jc_types.specs.declared.objects.Entry.TheVariants.{JobPut, JobGone, PodPut, PodGone}
 use Rattle.jc_types.specs.declared.objects.Job.{Job}
 use Rattle.jc_types.specs.declared.objects.Pod.{Pod}
 use Rattle.jc_types.specs.declared.statuses.JobStatus.{JobStatus}
-use Rattle.jc_types.specs.Deeds.{Deed}
-use Rattle.jc_types.specs.Keys.{same_key, same_uid}
-use Rattle.jc_types.specs.Log.{entry_at, job_in}
-use Rattle.jc_types.specs.Uids.{Ascends, is_in}
-use Rattle.jc_types.specs.Writes.{JobStep, CanJob, Stored, Legal}
-use Rattle.jc_types.proofs.BirthFacts.{fresh_unborn}
-use Rattle.jc_types.proofs.KeyFacts.{same_key-itself, same_uid-eq, same_uid-itself}
-use Rattle.jc_types.proofs.PlaceFacts.{job_in-entry, job_in-within}
-use Rattle.jc_types.proofs.WriteFacts.{lost_on, Stored-from_legal}
+use Rattle.jc_log.specs.Deeds.{Deed}
+use Rattle.jc_types.specs.Keys.{same_uid}
+use Rattle.jc_log.specs.Log.{entry_at, job_in}
+use Rattle.jc_states.specs.UidLists.{Ascends, is_in}
+use Rattle.jc_states.specs.ObjectChanges.{JobStep}
+use Rattle.jc_log.specs.Writes.{CanJob, Stored, Legal}
+use Rattle.jc_log.proofs.BirthFacts.{fresh_unborn}
+use Rattle.jc_types.proofs.KeyFacts.{same_uid-eq, same_uid-itself}
+use Rattle.jc_log.proofs.PlaceFacts.{job_in-entry, job_in-within}
+use Rattle.jc_log.proofs.WriteFacts.{lost_on, Stored-from_legal}
 use Rattle.jc_failpol.specs.declared.outcomes.Outcome.{Outcome}
-use Rattle.jc_failpol.specs.Steps.{WaitsForEnd}
+use Rattle.jc_failpol.specs.Policies.{WaitsForEnd}
 use Rattle.jc_failpol.specs.declared.outcomes.Outcome.TheVariants.{Succeeded, Failed}
 use Rattle.jc_states.specs.Listed.{is_listed}
 use Rattle.jc_ledger.specs.declared.flights.Flight.{Flight}
-use Rattle.jc_ledger.specs.Facts.{IsWritten, IsPlain, IsEmpty, CreatesJob, UpdatesJob, DeletesJob, pod_of, WritesPod}
+use Rattle.jc_ledger.specs.EventKinds.{IsWritten, IsPlain, IsEmpty, CreatesJob, UpdatesJob, DeletesJob, pod_of, WritesPod}
 use Rattle.jc_ledger.specs.Ledger.{Record, record_of, judged_as, Ledger, entered, ledger_of}
 use Rattle.jc_ledger.specs.Once.{is_listable, taking_of}
 use Rattle.jc_ledger.specs.Syncs.{request_of}
-use Rattle.jc_ledger.specs.Tied.{made_as, made_after, IsTidy, IsListing, IsCurrent, TiesJob, Ties, IsNumbered, TakesWell, Tied}
-use Rattle.jc_ledger.proofs.FrameFacts.{AllFly-more, puts_other, Ties-more, IsNumbered-job, IsNumbered-pod, grow}
+use Rattle.jc_ledger.specs.Tied.{made_as, made_after, HasSoundLists, IsListing, IsCurrent, TiesJob, Ties, PodsHaveIndexes, TakesWell, Tied}
+use Rattle.jc_ledger.proofs.FrameFacts.{AllFly-more, puts_other, Ties-more, PodsHaveIndexes-job, PodsHaveIndexes-pod, PodsHaveIndexes-more, PodsHaveIndexes-now, grow}
 use Rattle.jc_ledger.proofs.LedgerFacts.{ledger_of-more, ledger_of-other}
-use Rattle.jc_ledger.proofs.MadeFacts.{JobStep-itself, made_as-more, made_as-unborn, put-was_made, job_in-was_made}
-use Rattle.jc_ledger.proofs.PutFacts.{Puts, Placed, Here, Below, placed, ties_put, ties_of, ties_from}
+use Rattle.jc_states.proofs.ObjectChangeFacts.{JobStep-itself}
+use Rattle.jc_ledger.proofs.MadeFacts.{made_as-more, made_as-unborn, put-was_made, job_in-was_made}
+use Rattle.jc_ledger.proofs.OnceFacts.{once_more}
+use Rattle.jc_ledger.proofs.PutFacts.{Puts, Placed, Here, Below, job_in-newest, placed, ties_put, ties_of, ties_from}
 use Rattle.jc_ledger.proofs.QuietFacts.{IfSome-absent}
 use Rattle.jc_ledger.proofs.RecordFacts.{IsJudged-more}
+use Rattle.jc_ledger.proofs.TotalFacts.{totals_more}
 
 -- ---- a deed that appended an entry, is no write of a status and takes no finalizer
 
@@ -44,17 +49,21 @@ ledger_of-plain j d past e log flights t p = ledger_of-other j d past (e ∷ log
 pub TakesWell-none : (d : Deed) (past : List Deed) (log : List Entry) → taking_of (request_of d.reply) ≡ None → TakesWell d past log
 TakesWell-none d past log none = IfSome-absent (taking_of (request_of d.reply)) _ none
 
--- What ties the Jobs, and that pods stay numbered, is all that is to be shown.
+-- What ties the Jobs, and that pods have indexes, is all that is to be shown.
 pub tied_plain : (d : Deed) (past : List Deed) (e : Entry) (log : List Entry) (flights : List Flight) → Tied past log flights → IsWritten d log e → IsPlain d
-    → (Legal (e ∷ log) → (j : Uid) → Ties (made_as j (e ∷ log)) (e ∷ log) (ledger_of j past log)) → (Legal (e ∷ log) → IsNumbered (e ∷ log)) → Tied (d ∷ past) (e ∷ log) flights
+    → (Legal (e ∷ log) → (j : Uid) → Ties (made_as j (e ∷ log)) (e ∷ log) (ledger_of j past log)) → (Legal (e ∷ log) → PodsHaveIndexes (e ∷ log)) → Tied (d ∷ past) (e ∷ log) flights
 tied_plain d past e log flights t w p jobs numbered =
     let g = grow d past e log flights t w in
+    let all : (j : Uid) → Ties (made_as j (e ∷ log)) (e ∷ log) (ledger_of j (d ∷ past) (e ∷ log)) =
+    λ j. subst (Ties (made_as j (e ∷ log)) (e ∷ log)) (sym (ledger_of-plain j d past e log flights t p)) (jobs g.legal j) in
     record {
       legal = g.legal;
       reached = g.reached;
       within = g.within;
-      jobs = λ j. subst (Ties (made_as j (e ∷ log)) (e ∷ log)) (sym (ledger_of-plain j d past e log flights t p)) (jobs g.legal j);
-      numbered = numbered g.legal;
+      jobs = all;
+      numbered = PodsHaveIndexes-more e log t.numbered (numbered g.legal);
+      totals = totals_more d past e log g.legal t.within all t.totals;
+      once = once_more e past log flights t;
       taken = (TakesWell-none d past (e ∷ log) p.taking, g.taken);
       flying = AllFly-more e log flights g.legal t.flying;
     }
@@ -63,7 +72,7 @@ tied_plain d past e log flights t w p jobs numbered =
 tied_job : (d : Deed) (past : List Deed) (log : List Entry) (flights : List Flight) (job : Job) → Tied past log flights → IsWritten d log (JobPut job) → IsPlain d
     → (Legal (JobPut job ∷ log) → Ties (made_as job.uid (JobPut job ∷ log)) (JobPut job ∷ log) (ledger_of job.uid past log)) → Tied (d ∷ past) (JobPut job ∷ log) flights
 tied_job d past log flights job t w p own =
-    tied_plain d past (JobPut job) log flights t w p (λ legal j. by legal j (same_uid job.uid j) refl) (λ legal. IsNumbered-job (JobPut job) log legal refl t.numbered)
+    tied_plain d past (JobPut job) log flights t w p (λ legal j. by legal j (same_uid job.uid j) refl) (λ legal. PodsHaveIndexes-job (JobPut job) log legal refl (PodsHaveIndexes-now log t.numbered))
   where
     by : Legal (JobPut job ∷ log) → (j : Uid) → (b : Bool) → same_uid job.uid j ≡ b → Ties (made_as j (JobPut job ∷ log)) (JobPut job ∷ log) (ledger_of j past log)
     by legal j true s = subst (λ (u : Uid). Ties (made_as u (JobPut job ∷ log)) (JobPut job ∷ log) (ledger_of u past log)) (same_uid-eq job.uid j s) (own legal)
@@ -83,9 +92,9 @@ nothing_found u r h = true≢false (sym (ap is_some h))
 in_empty : (u : Uid) (uids : List Uid) → uids ≡ [] → is_in u uids ≡ false
 in_empty u uids empty = ap (is_in u) empty
 
--- A new status is tidy.
-IsTidy-new : (job : Job) → IsEmpty job.status → IsTidy job
-IsTidy-new job e = record {
+-- The lists of a new status are sound.
+HasSoundLists-new : (job : Job) → IsEmpty job.status → HasSoundLists job
+HasSoundLists-new job e = record {
   failed = subst Ascends (sym e.uncounted_failed) tt;
   succeeded = subst Ascends (sym e.uncounted_succeeded) tt;
   apart = λ u. ap (λ b. b && is_in u job.status.uncounted_failed) (in_empty u job.status.uncounted_succeeded e.uncounted_succeeded);
@@ -122,8 +131,7 @@ unmade_unput v log j job stored none uid h =
 
 -- The Job of a key after an entry that puts it.
 job_in-put : (log : List Entry) (new job : Job) → job_in new.key (JobPut new ∷ log) ≡ Some job → new ≡ job
-job_in-put log new job h =
-    ap (λ (o : Option Job). elim o [ None ↦ new | Some j ↦ j ]) (sym (cond-true (same_key new.key new.key) (Some new) (job_in new.key log) (same_key-itself new.key)) ∙ h)
+job_in-put log new job h = same_Some new job (sym (job_in-newest new.key log new refl) ∙ h)
 
 -- What ties the ledger of a new Job.
 TiesJob-new : (log : List Entry) (job : Job) → Stored log → made_as job.uid log ≡ None → WaitsForEnd job.spec → IsEmpty job.status → TiesJob job (JobPut job ∷ log) blank
@@ -136,8 +144,8 @@ TiesJob-new log job stored none waits empty = record {
   indexes = λ m u r found. absurd (nothing_found u r found);
 }
   where
-    tidy_at : (v : ℕ) (other : Job) → other.uid ≡ job.uid → Placed v log job other → IsTidy other
-    tidy_at v other uid (Here place is) = subst IsTidy is (IsTidy-new job empty)
+    tidy_at : (v : ℕ) (other : Job) → other.uid ≡ job.uid → Placed v log job other → HasSoundLists other
+    tidy_at v other uid (Here place is) = subst HasSoundLists is (HasSoundLists-new job empty)
     tidy_at v other uid (Below put) = absurd (unmade_unput v log job.uid other stored none uid put)
 
     listed_at : (v : ℕ) (other : Job) → other.uid ≡ job.uid → Placed v log job other → IsListing [] v other.status
@@ -163,16 +171,16 @@ tied_created d past log flights job t c = tied_job d past log flights job t c.wr
     own legal =
         let stored = Stored-from_legal log t.legal in
         let fresh = subst (λ (o : Option Job). CanJob log o job) c.absent legal.0.writes.can in
-        let none = made_as-unborn job.uid log (fresh_unborn job.uid log stored fresh) in
+        let none = made_as-unborn job.uid log (fresh_unborn job.uid log stored fresh.uid) in
         let empty = ledger-blank (made_as job.uid log) log (ledger_of job.uid past log) none (t.jobs job.uid) in
         subst (λ (o : Option Job). Ties o (JobPut job ∷ log) (ledger_of job.uid past log)) (sym (made_as-new log job none))
         (subst (TiesJob job (JobPut job ∷ log)) (sym empty) (TiesJob-new log job stored none c.waits c.empty))
 
 -- ---- a Job is updated
 
--- What is tidy stays so.
-IsTidy-same : (old job : Job) → job.status ≡ old.status → job.spec.mode ≡ old.spec.mode → IsTidy old → IsTidy job
-IsTidy-same old job status mode t = record {
+-- Sound lists stay so.
+HasSoundLists-same : (old job : Job) → job.status ≡ old.status → job.spec.mode ≡ old.spec.mode → HasSoundLists old → HasSoundLists job
+HasSoundLists-same old job status mode t = record {
   failed = subst (λ (st : JobStatus). Ascends st.uncounted_failed) (sym status) t.failed;
   succeeded = subst (λ (st : JobStatus). Ascends st.uncounted_succeeded) (sym status) t.succeeded;
   apart = subst (λ (st : JobStatus). (u : Uid) → (is_in u st.uncounted_succeeded && is_in u st.uncounted_failed) ≡ false) (sym status) t.apart;
@@ -194,7 +202,7 @@ Puts-updated made log ledger old job legal is_made ties there was step status = 
   seen = omega arith;
   step = JobStep-itself made;
   each = tt;
-  tidy = IsTidy-same old job status step.mode (ties.tidy old.version.0 old place was.uid);
+  tidy = HasSoundLists-same old job status step.mode (ties.tidy old.version.0 old place was.uid);
   listed = record {
     failed = λ u h. IsJudged-more u ledger.records [] Failed old.version.0 (suc (length log)) before (listing.failed u (subst (λ (st : JobStatus). is_in u st.uncounted_failed ≡ true) status h));
     succeeded = λ u h. IsJudged-more u ledger.records [] Succeeded old.version.0 (suc (length log)) before (listing.succeeded u (subst (λ (st : JobStatus). is_in u st.uncounted_succeeded ≡ true) status h));
@@ -257,7 +265,7 @@ tied_updated d past log flights old job t up = tied_job d past log flights job t
 pub tied_deleted : (d : Deed) (past : List Deed) (log : List Entry) (flights : List Flight) (job : Job) → Tied past log flights → DeletesJob d log job → Tied (d ∷ past) (JobGone job ∷ log) flights
 tied_deleted d past log flights job t g =
     tied_plain d past (JobGone job) log flights t g.written g.plain
-    (λ legal j. Ties-more j (JobGone job) log (ledger_of j past log) legal refl (t.jobs j)) (λ legal. IsNumbered-job (JobGone job) log legal refl t.numbered)
+    (λ legal j. Ties-more j (JobGone job) log (ledger_of j past log) legal refl (t.jobs j)) (λ legal. PodsHaveIndexes-job (JobGone job) log legal refl (PodsHaveIndexes-now log t.numbered))
 
 -- ---- a pod is written
 
@@ -272,4 +280,4 @@ puts_other-pod j (PodGone other) pod h = refl
 pub tied_pod : (d : Deed) (past : List Deed) (log : List Entry) (flights : List Flight) (e : Entry) (pod : Pod) → Tied past log flights → WritesPod d log e pod → Tied (d ∷ past) (e ∷ log) flights
 tied_pod d past log flights e pod t w =
     tied_plain d past e log flights t w.written w.plain
-    (λ legal j. Ties-more j e log (ledger_of j past log) legal (puts_other-pod j e pod w.is_pod) (t.jobs j)) (λ legal. IsNumbered-pod e log pod legal w.is_pod w.numbered t.numbered)
+    (λ legal j. Ties-more j e log (ledger_of j past log) legal (puts_other-pod j e pod w.is_pod) (t.jobs j)) (λ legal. PodsHaveIndexes-pod e log pod legal w.is_pod w.numbered (PodsHaveIndexes-now log t.numbered))

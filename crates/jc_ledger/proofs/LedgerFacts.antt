@@ -8,12 +8,12 @@ use Rattle.std.proofs.lemmas.Option.{IfSome_then}
 use Rattle.jc_types.specs.declared.numbers.Uid.{Uid}
 use Rattle.jc_types.specs.declared.objects.Entry.{Entry}
 use Rattle.jc_types.specs.declared.objects.Job.{Job}
-use Rattle.jc_types.specs.Deeds.{Deed}
+use Rattle.jc_log.specs.Deeds.{Deed}
 use Rattle.jc_types.specs.Keys.{same_uid}
-use Rattle.jc_types.specs.Log.{upto, job_in, pods_of}
+use Rattle.jc_log.specs.Log.{upto, job_in, pods_of}
 use Rattle.jc_types.proofs.ListFacts.{Each-weaker, find_each}
-use Rattle.jc_types.proofs.LogFacts.{upto-fixed}
-use Rattle.jc_ledger.specs.Ledger.{Ledger, Judging, bump, is_status, judging_at, judging_of, judged_by, ledger_of}
+use Rattle.jc_log.proofs.LogFacts.{upto-fixed}
+use Rattle.jc_ledger.specs.Ledger.{Ledger, Judging, entered, is_status, judging_at, judging_of, judged_by, ledger_of}
 use Rattle.jc_ledger.specs.Syncs.{reach, Began, began_of, is_begin, began_by, sync_of, stepper, request_of, step_sync, appends}
 use Rattle.jc_ledger.specs.Tied.{IsWithin, IsReached}
 
@@ -91,7 +91,7 @@ judging_of-within n d past log all = by (is_status (request_of d.reply) && appen
 judged_by-more : (j : Uid) (e : Entry) (log : List Entry) (o : Option Judging) (ledger : Ledger) → IfSome o (λ judging. judging.seen ≤ length log) → judged_by j (e ∷ log) o ledger ≡ judged_by j log o ledger
 judged_by-more j e log None ledger h = refl
 judged_by-more j e log (Some judging) ledger h =
-    ap (λ l. cond (same_uid judging.job.uid j) (bump judging.job (pods_of j l) judging.seen judging.at ledger) ledger) (upto-fixed judging.seen e log h)
+    ap (λ l. cond (same_uid judging.job.uid j) (entered judging.job (pods_of j l) judging.seen judging.at ledger) ledger) (upto-fixed judging.seen e log h)
 
 -- A ledger is fixed.
 pub ledger_of-more : (j : Uid) (deeds : List Deed) (e : Entry) (log : List Entry) → AllWithin (length log) deeds → ledger_of j deeds (e ∷ log) ≡ ledger_of j deeds log

@@ -7,9 +7,11 @@ pub mod DistinctFacts
 pub mod QuietFacts
 pub mod JobLaws
 pub mod OnceFacts
+pub mod TotalFacts
 pub mod RunFacts
 pub mod SeenFacts
 pub mod TakenFacts
+pub mod DuePods
 pub mod DueFacts
 pub mod ReleaseFacts
 pub mod OwnFacts

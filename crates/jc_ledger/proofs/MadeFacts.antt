@@ -9,30 +9,15 @@ use Rattle.jc_types.specs.declared.objects.Job.{Job}
 use Rattle.jc_types.specs.declared.objects.Key.{Key}
 use Rattle.jc_types.specs.declared.objects.Pod.{Pod}
 use Rattle.jc_types.specs.Keys.{same_key, same_uid}
-use Rattle.jc_types.specs.Log.{upto, entry_at, job_in, has_job, is_born}
-use Rattle.jc_types.specs.Writes.{JobStep, CanJob, Stored}
-use Rattle.jc_types.proofs.BirthFacts.{fresh_unborn}
+use Rattle.jc_log.specs.Log.{upto, entry_at, job_in, has_job, is_born}
+use Rattle.jc_states.specs.ObjectChanges.{JobStep}
+use Rattle.jc_log.specs.Writes.{CanJob, Stored}
+use Rattle.jc_states.proofs.ObjectChangeFacts.{JobStep-itself, JobStep-then}
+use Rattle.jc_log.proofs.BirthFacts.{fresh_unborn}
 use Rattle.jc_types.proofs.KeyFacts.{same_key-eq, same_uid-eq, same_uid-itself}
 use Rattle.jc_failpol.specs.FailJob.{is_failure, policy_fails_job, fails_job}
 use Rattle.jc_failpol.specs.Outcomes.{judged, outcome_of}
 use Rattle.jc_ledger.specs.Tied.{made_as, made_after}
-
--- A Job is a step from itself.
-pub JobStep-itself : (job : Job) → JobStep job job
-JobStep-itself job = record { key = refl; uid = refl; created = refl; mode = refl; replacement = refl; failure = refl; success = refl; template = refl }
-
--- Two steps are one.
-pub JobStep-then : (a b c : Job) → JobStep a b → JobStep b c → JobStep a c
-JobStep-then a b c f g = record {
-  key = g.key ∙ f.key;
-  uid = g.uid ∙ f.uid;
-  created = g.created ∙ f.created;
-  mode = g.mode ∙ f.mode;
-  replacement = g.replacement ∙ f.replacement;
-  failure = g.failure ∙ f.failure;
-  success = g.success ∙ f.success;
-  template = g.template ∙ f.template;
-}
 
 -- What never changes of a Job decides about its pods.
 pub outcome-step : (old new : Job) (pod : Pod) → JobStep old new → outcome_of new.spec pod ≡ outcome_of old.spec pod
@@ -107,7 +92,7 @@ new-was_made job older all before = by (job_in job.key older) refl all.0.can
     by None is can = record {
       made = job;
       is_made =
-          ap (made_after job.uid job) (made_as-unborn job.uid older (fresh_unborn job.uid older all.1 can))
+          ap (made_after job.uid job) (made_as-unborn job.uid older (fresh_unborn job.uid older all.1 can.uid))
           ∙ cond-true (same_uid job.uid job.uid) (Some job) None (same_uid-itself job.uid);
       step = JobStep-itself job;
     }

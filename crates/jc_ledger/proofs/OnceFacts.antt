@@ -7,19 +7,20 @@ use Rattle.jc_types.specs.declared.objects.Entry.TheVariants.{JobPut}
 use Rattle.jc_types.specs.declared.objects.Job.{Job}
 use Rattle.jc_types.specs.declared.objects.Key.{Key}
 use Rattle.jc_types.specs.declared.objects.Pod.{Pod}
-use Rattle.jc_types.specs.Deeds.{Deed}
-use Rattle.jc_types.specs.Log.{Live, upto, entry_at, job_in, is_job_of, is_born, life}
-use Rattle.jc_types.specs.Writes.{JobStep, Allowed, Legal}
-use Rattle.jc_types.proofs.BirthFacts.{life_is_interval}
+use Rattle.jc_log.specs.Deeds.{Deed}
+use Rattle.jc_log.specs.Log.{Live, upto, entry_at, job_in, is_job_of, is_born, life}
+use Rattle.jc_states.specs.ObjectChanges.{JobStep}
+use Rattle.jc_log.specs.Writes.{Allowed, Legal}
+use Rattle.jc_log.proofs.BirthFacts.{life_is_interval}
 use Rattle.jc_types.proofs.KeyFacts.{same_uid-itself}
-use Rattle.jc_types.proofs.LogFacts.{upto-all}
-use Rattle.jc_types.proofs.PlaceFacts.{job_in-entry}
-use Rattle.jc_types.proofs.WriteFacts.{Follows-upto, Stored-from_legal, job_in-key}
+use Rattle.jc_log.proofs.LogFacts.{upto-all, upto-fixed}
+use Rattle.jc_log.proofs.PlaceFacts.{job_in-entry}
+use Rattle.jc_log.proofs.WriteFacts.{Follows-upto, Stored-from_legal, job_in-key}
 use Rattle.jc_ledger.specs.declared.flights.Flight.{Flight}
 use Rattle.jc_ledger.specs.Ledger.{Record, ledger_of}
-use Rattle.jc_ledger.specs.Once.{taking_of, PutBefore, Cause, WasJudged, IsIgnored, WasActive, WasCompleted, IsJustified, TakesJustly, AllJustified, CountsOnce, Once}
+use Rattle.jc_ledger.specs.Once.{taking_of, PutBefore, Cause, WasJudged, IsIgnored, WasActive, WasCompleted, IsJustified, TakesJustly, AllJustified, CountsOnce, Once, OnceAtEach}
 use Rattle.jc_ledger.specs.Syncs.{reach, request_of}
-use Rattle.jc_ledger.specs.Tied.{made_as, IsTidy, IsListing, IsCurrent, TiesJob, TakesWell, AllWell, IsReached, Tied}
+use Rattle.jc_ledger.specs.Tied.{made_as, HasSoundLists, IsListing, IsCurrent, TiesJob, TakesWell, AllWell, IsReached, Tied}
 use Rattle.jc_ledger.proofs.DistinctFacts.{ascends_distinct}
 use Rattle.jc_ledger.proofs.FrameFacts.{owner_made}
 use Rattle.jc_ledger.proofs.MadeFacts.{outcome-step, fails_job-step, job_in-was_made, made_as-born}
@@ -118,7 +119,7 @@ counts_once deeds log flights made job t a = record {
     now : IsCurrent log (ledger_of job.uid deeds log) job
     now = ties.now job a.there a.step.uid
 
-    tidy : IsTidy job
+    tidy : HasSoundLists job
     tidy = ties.tidy job.version.0 job place a.step.uid
 
     listing : IsListing (ledger_of job.uid deeds log).records job.version.0 job.status
@@ -135,3 +136,25 @@ tied_once deeds log flights t k job there =
       step = was.step;
       there = ap (λ key. job_in key log) (sym was.step.key ∙ job_in-key k log job there) ∙ there;
     })
+
+-- ---- after each deed
+
+-- Each deed left the log as long as it told.
+pub once_tied : (deeds : List Deed) (log : List Entry) (flights : List Flight) → Tied deeds log flights → OnceAtEach deeds log
+once_tied [] log flights t = tt
+once_tied (d ∷ past) log flights t =
+    let same = t.reached.0 in
+    (subst (Once (d ∷ past)) (sym (upto-all d.length.0 log (omega (arith, same)))) (tied_once (d ∷ past) log flights t), t.once)
+
+-- What was once counted so stays so.
+once_stays : (e : Entry) (deeds : List Deed) (log : List Entry) (n : ℕ) → IsReached deeds n → n ≤ length log → OnceAtEach deeds log → OnceAtEach deeds (e ∷ log)
+once_stays e [] log n reached le o = tt
+once_stays e (d ∷ past) log n reached le o =
+    let same = reached.0 in
+    let lower = reached.1.0 in
+    (subst (Once (d ∷ past)) (sym (upto-fixed d.length.0 e log (omega (arith, same, le)))) o.0, once_stays e past log (reach past) reached.1.1 (omega (arith, lower, le)) o.1)
+
+-- So it is after one more entry.
+pub once_more : (e : Entry) (past : List Deed) (log : List Entry) (flights : List Flight) → Tied past log flights → OnceAtEach past (e ∷ log)
+once_more e past log flights t =
+    once_stays e past log (length log) t.reached (omega arith) (once_tied past log flights t)

@@ -9,15 +9,17 @@ use Rattle.jc_types.specs.declared.objects.Job.{Job}
 use Rattle.jc_types.specs.declared.objects.Key.{Key}
 use Rattle.jc_types.specs.declared.objects.Pod.{Pod}
 use Rattle.jc_types.specs.declared.syncs.Basis.{Basis}
-use Rattle.jc_types.specs.Bases.{is_own, own_pods}
+use Rattle.jc_states.specs.Bases.{is_own, own_pods}
 use Rattle.jc_types.specs.Keys.{same_key, same_uid}
-use Rattle.jc_types.specs.Log.{Life, Never, Live, Gone, upto, job_in, life, living, is_lost, pods_in, pods_of, IsRising}
-use Rattle.jc_types.specs.Pods.{is_tracked}
-use Rattle.jc_types.specs.Writes.{Allowed, Legal, Stored}
+use Rattle.jc_log.specs.Log.{Life, Never, Live, Gone, upto, job_in, life, living, is_lost, pods_in, pods_of}
+use Rattle.jc_states.specs.PodLists.{IsRising}
+use Rattle.jc_states.specs.Pods.{is_tracked}
+use Rattle.jc_log.specs.Writes.{Allowed, Legal, Stored}
 use Rattle.jc_types.proofs.KeyFacts.{same_key-itself, same_uid-eq, same_uid-itself}
 use Rattle.jc_types.proofs.ListFacts.{Each-weaker, any_filter, filter_filter, filter_same}
-use Rattle.jc_types.proofs.PodFacts.{pods_in-among, pods_in-live, pods_in-rises, pods_of-live, pods_of-owned, rises_filter}
-use Rattle.jc_types.proofs.WriteFacts.{Follows-upto, Stored-from_legal, job_in-key, kept_to, Kept}
+use Rattle.jc_log.proofs.PodFacts.{pods_in-among, pods_in-live, pods_in-rises, pods_of-live, pods_of-owned}
+use Rattle.jc_states.proofs.PodListFacts.{rises_filter}
+use Rattle.jc_log.proofs.WriteFacts.{Follows-upto, Stored-from_legal, job_in-key, kept_to, Kept}
 use Rattle.jc_account.specs.Judged.{has_tracked}
 use Rattle.jc_ledger.specs.Flights.{IsBasisOf}
 use Rattle.jc_ledger.specs.Tied.{made_as}

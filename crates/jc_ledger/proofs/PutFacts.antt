@@ -4,32 +4,34 @@ use Rattle.std.specs.Prelude.{IfSome}
 use Rattle.std.specs.List.{AllByRecursion as Each, list_any}
 use Rattle.std.specs.Option.{option_map_or}
 use Rattle.std.proofs.lemmas.Bool.{cond-true, or_left, or_right}
-use Rattle.std.proofs.lemmas.Option.{IfSome_then}
+use Rattle.std.proofs.lemmas.Option.{IfSome_then, same_Some}
 use Rattle.jc_ranges.specs.Sets.{has}
 use Rattle.jc_types.specs.declared.numbers.Uid.{Uid}
 use Rattle.jc_types.specs.declared.objects.Entry.{Entry}
 use Rattle.jc_types.specs.declared.objects.Entry.TheVariants.{JobPut}
 use Rattle.jc_types.specs.declared.objects.Job.{Job}
+use Rattle.jc_types.specs.declared.objects.Key.{Key}
 use Rattle.jc_types.specs.declared.objects.Pod.{Pod}
 use Rattle.jc_types.specs.declared.specifications.Mode.TheVariants.{NonIndexed, Indexed}
-use Rattle.jc_types.specs.Deeds.{Deed}
+use Rattle.jc_log.specs.Deeds.{Deed}
 use Rattle.jc_types.specs.Keys.{same_key}
-use Rattle.jc_types.specs.Log.{upto, entry_at, job_in, life, Live, is_lost}
-use Rattle.jc_types.specs.Writes.{JobStep, Legal}
+use Rattle.jc_log.specs.Log.{upto, entry_at, job_in, life, Live, is_lost}
+use Rattle.jc_states.specs.ObjectChanges.{JobStep}
+use Rattle.jc_log.specs.Writes.{Legal}
 use Rattle.jc_types.proofs.KeyFacts.{same_key-itself}
 use Rattle.jc_types.proofs.ListFacts.{Each-weaker, Each-both}
-use Rattle.jc_types.proofs.LogFacts.{upto-fixed, upto-all}
-use Rattle.jc_types.proofs.UidFacts.{has-join}
+use Rattle.jc_log.proofs.LogFacts.{upto-fixed, upto-all}
+use Rattle.jc_states.proofs.UidListFacts.{has-join}
 use Rattle.jc_failpol.specs.declared.outcomes.Outcome.TheVariants.{Succeeded, Failed}
-use Rattle.jc_failpol.specs.Outcomes.{outcome_of}
+use Rattle.jc_failpol.specs.Outcomes.{is_verdict, outcome_of, same_outcome}
 use Rattle.jc_states.specs.Listed.{is_listed}
-use Rattle.jc_account.specs.Judged.{same_outcome}
-use Rattle.jc_account.specs.Modes.{has_index, indexes_of}
+use Rattle.jc_states.specs.Indexes.{has_index}
+use Rattle.jc_account.specs.Modes.{indexes_of}
 use Rattle.jc_account.proofs.ListedFacts.{has-indexes}
 use Rattle.jc_ledger.specs.declared.flights.Flight.{Flight}
-use Rattle.jc_ledger.specs.Ledger.{Record, record_of, recorded, is_verdict, judged_as, Ledger, successes, entered, ledger_of}
+use Rattle.jc_ledger.specs.Ledger.{Record, record_of, recorded, chosen, judged_as, Ledger, successes, entered, ledger_of}
 use Rattle.jc_ledger.specs.Once.{is_listable}
-use Rattle.jc_ledger.specs.Tied.{made_as, IsTidy, IsSound, IsListing, IsCurrent, TiesJob, Ties, Tied}
+use Rattle.jc_ledger.specs.Tied.{made_as, HasSoundLists, IsSound, IsListing, IsCurrent, TiesJob, Ties, Tied}
 use Rattle.jc_ledger.proofs.FrameFacts.{IsSound-more}
 use Rattle.jc_ledger.proofs.MadeFacts.{outcome-step}
 use Rattle.jc_ledger.proofs.RecordFacts.{Found, Old, New, record_of-found, IsJudged-more}
@@ -42,7 +44,7 @@ pub record IsChosen (made : Job) (log : List Entry) (records : List Record) (see
   pub verdict : is_verdict (outcome_of made.spec pod) ≡ true
   pub fresh : is_some (record_of pod.uid records) ≡ false
 
--- The entry puts `new` over `current`, and judges the pods, whose sync saw `job`.
+-- The entry puts `new` over `current`, and judges pods. Its sync saw `job` and these pods of it.
 pub record Puts (made : Job) (log : List Entry) (ledger : Ledger) (job : Job) (pods : List Pod) (seen_at : ℕ) (current new : Job) : Type 0 where
   pub legal : Legal (JobPut new ∷ log)
   pub is_made : made_as made.uid log ≡ Some made
@@ -52,8 +54,8 @@ pub record Puts (made : Job) (log : List Entry) (ledger : Ledger) (job : Job) (p
   pub key : new.key ≡ made.key
   pub seen : seen_at ≤ length log
   pub step : JobStep made job
-  pub each : Each (IsChosen made log ledger.records seen_at) pods
-  pub tidy : IsTidy new
+  pub each : Each (IsChosen made log ledger.records seen_at) (chosen job ledger.records pods)
+  pub tidy : HasSoundLists new
   pub listed : IsListing (entered job pods seen_at (suc (length log)) ledger).records (suc (length log)) new.status
   pub lost : (u : Uid) (r : Record) → record_of u (entered job pods seen_at (suc (length log)) ledger).records ≡ Some r → is_listable new.spec.mode r.outcome ≡ true
       → is_listed new.status u ≡ false → is_lost (life u log) ≡ true
@@ -81,6 +83,11 @@ placed v log new job h = by (length (JobPut new ∷ log) == v) refl h
     by : (b : Bool) → (length (JobPut new ∷ log) == v) ≡ b → cond b (Some (JobPut new)) (entry_at v log) ≡ Some (JobPut job) → Placed v log new job
     by true t g = Here (sym (eqb-true (length (JobPut new ∷ log)) v t)) (ap job_of g)
     by false t g = Below g
+
+-- The Job of a key after an entry that puts it.
+pub job_in-newest : (k : Key) (log : List Entry) (job : Job) → job.key ≡ k → job_in k (JobPut job ∷ log) ≡ Some job
+job_in-newest k log job key =
+    cond-true (same_key job.key k) (Some job) (job_in k log) (ap (λ own. same_key own k) key ∙ same_key-itself k)
 
 -- ---- indexes
 
@@ -117,15 +124,19 @@ IsEntered made log ledger job pods seen pod =
     IsChosen made log ledger.records seen pod × (same_outcome (outcome_of job.spec pod) Succeeded ≡ true → IfSome pod.index (λ n. has n (indexes_of (successes job pods)) ≡ true))
 
 module _ (made : Job) (log : List Entry) (ledger : Ledger) (job : Job) (pods : List Pod) (seen : ℕ) (current new : Job) (p : Puts made log ledger job pods seen current new) where
+  -- The pods that the write judges.
+  abbrev judges : List Pod
+  judges = chosen job ledger.records pods
+
   -- The records and the set after the write.
   abbrev after : Ledger
   after = entered job pods seen (suc (length log)) ledger
 
   -- A record is an old one, or that of a pod that the write judges.
-  found : (u : Uid) (r : Record) → record_of u after.records ≡ Some r → Found (IsEntered made log ledger job pods seen) u ledger.records job seen (suc (length log)) r
+  found : (u : Uid) (r : Record) → record_of u after.records ≡ Some r → Found (IsEntered made log ledger job judges seen) u ledger.records job seen (suc (length log)) r
   found u r h =
-      record_of-found (IsEntered made log ledger job pods seen) u ledger.records job seen (suc (length log)) pods r
-      (Each-both (IsChosen made log ledger.records seen) (λ pod. same_outcome (outcome_of job.spec pod) Succeeded ≡ true → IfSome pod.index (λ n. has n (indexes_of (successes job pods)) ≡ true)) pods p.each (index_in (λ pod. same_outcome (outcome_of job.spec pod) Succeeded) pods)) h
+      record_of-found (IsEntered made log ledger job judges seen) u ledger.records job seen (suc (length log)) judges r
+      (Each-both (IsChosen made log ledger.records seen) (λ pod. same_outcome (outcome_of job.spec pod) Succeeded ≡ true → IfSome pod.index (λ n. has n (indexes_of (successes job judges)) ≡ true)) judges p.each (index_in (λ pod. same_outcome (outcome_of job.spec pod) Succeeded) judges)) h
 
   -- The record of a pod that the write judges is sound.
   sound_new : (pod : Pod) → IsChosen made log ledger.records seen pod → IsSound made (JobPut new ∷ log) (recorded job seen (suc (length log)) pod)
@@ -143,20 +154,20 @@ module _ (made : Job) (log : List Entry) (ledger : Ledger) (job : Job) (pods : L
       }
 
   -- Each record is sound.
-  sound_found : (u : Uid) (r : Record) → Found (IsEntered made log ledger job pods seen) u ledger.records job seen (suc (length log)) r → IsSound made (JobPut new ∷ log) r
+  sound_found : (u : Uid) (r : Record) → Found (IsEntered made log ledger job judges seen) u ledger.records job seen (suc (length log)) r → IsSound made (JobPut new ∷ log) r
   sound_found u r (Old e) = IsSound-more made (JobPut new) log r (p.ties.sound u r e)
   sound_found u r (New none pod uid has is) = subst (IsSound made (JobPut new ∷ log)) (sym is) (sound_new pod has.0)
 
   -- The index of each success is in the set.
-  index_found : made.spec.mode ≡ Indexed → (u : Uid) (r : Record) → r.outcome ≡ Succeeded → Found (IsEntered made log ledger job pods seen) u ledger.records job seen (suc (length log)) r
+  index_found : made.spec.mode ≡ Indexed → (u : Uid) (r : Record) → r.outcome ≡ Succeeded → Found (IsEntered made log ledger job judges seen) u ledger.records job seen (suc (length log)) r
       → IfSome r.pod.index (λ n. has n after.done ≡ true)
   index_found mode u r s (Old e) =
       IfSome_then r.pod.index (p.ties.indexes mode u r e s)
-      (λ n h. has-join n ledger.done (indexes_of (successes job pods)) ∙ or_left (has n ledger.done) (has n (indexes_of (successes job pods))) h)
+      (λ n h. has-join n ledger.done (indexes_of (successes job judges)) ∙ or_left (has n ledger.done) (has n (indexes_of (successes job judges))) h)
   index_found mode u r s (New none pod uid both is) =
       subst (λ (x : Record). IfSome x.pod.index (λ n. has n after.done ≡ true)) (sym is)
       (IfSome_then pod.index (both.1 (ap (λ o. same_outcome o Succeeded) (ap (λ (x : Record). x.outcome) (sym is) ∙ s)))
-      (λ n h. has-join n ledger.done (indexes_of (successes job pods)) ∙ or_right (has n ledger.done) (has n (indexes_of (successes job pods))) h))
+      (λ n h. has-join n ledger.done (indexes_of (successes job judges)) ∙ or_right (has n ledger.done) (has n (indexes_of (successes job judges))) h))
 
   -- Of the Job as it is put all is known.
   current_new : IsCurrent (JobPut new ∷ log) after new
@@ -174,13 +185,11 @@ module _ (made : Job) (log : List Entry) (ledger : Ledger) (job : Job) (pods : L
   -- The Job of the key is the one that is put.
   now_new : (other : Job) → job_in made.key (JobPut new ∷ log) ≡ Some other → IsCurrent (JobPut new ∷ log) after other
   now_new other h =
-      let is : Some new ≡ Some other =
-      sym (cond-true (same_key new.key made.key) (Some new) (job_in made.key log) (ap (λ k. same_key k made.key) p.key ∙ same_key-itself made.key)) ∙ h in
-      subst (IsCurrent (JobPut new ∷ log) after) (ap (λ (o : Option Job). elim o [ None ↦ new | Some x ↦ x ]) is) current_new
+      subst (IsCurrent (JobPut new ∷ log) after) (same_Some new other (sym (job_in-newest made.key log new p.key) ∙ h)) current_new
 
   -- The Jobs that were put are tidy.
-  tidy_placed : (v : ℕ) (other : Job) → other.uid ≡ made.uid → Placed v log new other → IsTidy other
-  tidy_placed v other uid (Here at is) = subst IsTidy is p.tidy
+  tidy_placed : (v : ℕ) (other : Job) → other.uid ≡ made.uid → Placed v log new other → HasSoundLists other
+  tidy_placed v other uid (Here at is) = subst HasSoundLists is p.tidy
   tidy_placed v other uid (Below e) = p.ties.tidy v other e uid
 
   -- What they list was judged by then.
@@ -190,8 +199,8 @@ module _ (made : Job) (log : List Entry) (ledger : Ledger) (job : Job) (pods : L
   listed_placed v other uid (Below e) =
       let old = p.ties.listed v other e uid in
       record {
-        failed = λ u h. IsJudged-more u ledger.records (map (recorded job seen (suc (length log))) pods) Failed v v (omega arith) (old.failed u h);
-        succeeded = λ u h. IsJudged-more u ledger.records (map (recorded job seen (suc (length log))) pods) Succeeded v v (omega arith) (old.succeeded u h);
+        failed = λ u h. IsJudged-more u ledger.records (map (recorded job seen (suc (length log))) judges) Failed v v (omega arith) (old.failed u h);
+        succeeded = λ u h. IsJudged-more u ledger.records (map (recorded job seen (suc (length log))) judges) Succeeded v v (omega arith) (old.succeeded u h);
       }
 
 -- What ties the ledger goes over.

@@ -12,23 +12,25 @@ use Rattle.jc_types.specs.declared.objects.Entry.TheVariants.{JobPut}
 use Rattle.jc_types.specs.declared.objects.Job.{Job}
 use Rattle.jc_types.specs.declared.objects.Key.{Key}
 use Rattle.jc_types.specs.declared.statuses.JobStatus.{JobStatus}
-use Rattle.jc_types.specs.Deeds.{Deed}
+use Rattle.jc_log.specs.Deeds.{Deed}
 use Rattle.jc_types.specs.Keys.{same_uid}
-use Rattle.jc_types.specs.Log.{Life, Never, Live, Gone, upto, entry_at, job_in, life, is_lost}
-use Rattle.jc_types.specs.Uids.{is_in}
-use Rattle.jc_types.specs.Writes.{Writes, Legal}
+use Rattle.jc_log.specs.Log.{Life, Never, Live, Gone, upto, entry_at, job_in, life, is_lost}
+use Rattle.jc_states.specs.UidLists.{is_in}
+use Rattle.jc_log.specs.Writes.{Writes, Legal}
 use Rattle.jc_types.proofs.KeyFacts.{same_uid-eq}
-use Rattle.jc_types.proofs.LogFacts.{length-upto, entry_at-upto}
-use Rattle.jc_types.proofs.PlaceFacts.{job_in-entry, job_in-within}
-use Rattle.jc_types.proofs.WriteFacts.{Follows-upto, Stored-from_legal}
+use Rattle.jc_log.proofs.LogFacts.{length-upto, entry_at-upto}
+use Rattle.jc_log.proofs.PlaceFacts.{job_in-entry, job_in-within}
+use Rattle.jc_log.proofs.WriteFacts.{Follows-upto, Stored-from_legal}
 use Rattle.jc_ledger.specs.declared.flights.Flight.{Flight}
-use Rattle.jc_ledger.specs.Facts.{IsQuiet, Begins, FindsNothing, with_released}
+use Rattle.jc_ledger.specs.EventKinds.{IsQuiet, Begins, FindsNothing, with_released}
 use Rattle.jc_ledger.specs.Flights.{IsSent, Flies}
+use Rattle.jc_ledger.specs.Ledger.{Ledger}
 use Rattle.jc_ledger.specs.Once.{taking_of}
 use Rattle.jc_ledger.specs.Syncs.{reach, request_of, appends}
-use Rattle.jc_ledger.specs.Tied.{made_as, Ties, TakesWell, IsReached, Tied}
+use Rattle.jc_ledger.specs.Tied.{made_as, Ties, TotalsWithin, TakesWell, IsReached, Tied}
 use Rattle.jc_ledger.proofs.FrameFacts.{AllFly-put, AllFly-add, AllFly-drop, AllFly-one}
 use Rattle.jc_ledger.proofs.LedgerFacts.{reach-is, ledger_of-still}
+use Rattle.jc_ledger.proofs.OnceFacts.{once_tied}
 
 -- What holds of every value holds of the one that is there.
 pub IfSome-each : {X : Type 0} (o : Option X) (P : X → Type 0) → ((x : X) → P x) → IfSome o P
@@ -58,8 +60,10 @@ tied_start = record {
   reached = refl;
   within = tt;
   jobs = λ j. (refl, refl);
-  numbered = λ u pod h. absurd (true≢false (ap is_unborn h));
+  numbered = λ v u pod h. absurd (true≢false (ap is_unborn h));
+  totals = λ v job h. absurd (true≢false (sym (ap is_some h)));
   taken = tt;
+  once = tt;
   flying = tt;
 }
   where
@@ -95,6 +99,8 @@ tied_quiet d past log flights t q =
       within = (q.within, t.within);
       jobs = λ j. subst (Ties (made_as j log) log) (sym (ledger_of-still j d past log still)) (t.jobs j);
       numbered = t.numbered;
+      totals = λ v job is. subst (λ (l : Ledger). TotalsWithin (length l.records) job) (sym (ledger_of-still job.uid d past log still)) (t.totals v job is);
+      once = once_tied past log flights t;
       taken = (TakesWell-still d past log still, t.taken);
       flying = t.flying;
     }
@@ -107,7 +113,9 @@ tied_flying deeds log flights others t all = record {
   within = t.within;
   jobs = t.jobs;
   numbered = t.numbered;
+  totals = t.totals;
   taken = t.taken;
+  once = t.once;
   flying = all;
 }
 

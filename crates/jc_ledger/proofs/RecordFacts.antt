@@ -10,12 +10,11 @@ use Rattle.jc_types.specs.declared.numbers.Uid.{Uid}
 use Rattle.jc_types.specs.declared.objects.Job.{Job}
 use Rattle.jc_types.specs.declared.objects.Pod.{Pod}
 use Rattle.jc_types.specs.Keys.{same_uid}
-use Rattle.jc_types.specs.Uids.{is_in, uids_of}
+use Rattle.jc_states.specs.UidLists.{is_in, uids_of}
 use Rattle.jc_types.proofs.KeyFacts.{same_uid-eq}
 use Rattle.jc_types.proofs.ListFacts.{filter-map}
 use Rattle.jc_failpol.specs.declared.outcomes.Outcome.{Outcome}
-use Rattle.jc_failpol.specs.Outcomes.{outcome_of}
-use Rattle.jc_account.specs.Judged.{same_outcome}
+use Rattle.jc_failpol.specs.Outcomes.{outcome_of, same_outcome}
 use Rattle.jc_ledger.specs.Ledger.{Record, record_of, recorded, judged_as}
 use Rattle.jc_ledger.specs.Once.{IsJudged}
 

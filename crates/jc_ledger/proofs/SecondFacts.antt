@@ -13,27 +13,30 @@ use Rattle.jc_types.specs.declared.objects.Job.{Job}
 use Rattle.jc_types.specs.declared.objects.Pod.{Pod}
 use Rattle.jc_types.specs.declared.specifications.Mode.{Mode}
 use Rattle.jc_types.specs.declared.specifications.Mode.TheVariants.{NonIndexed, Indexed}
-use Rattle.jc_types.specs.Bases.{own_pods}
-use Rattle.jc_types.specs.Log.{upto, entry_at, job_in, life, Live, is_lost}
-use Rattle.jc_types.specs.Pods.{is_tracked}
-use Rattle.jc_types.specs.Uids.{Ascends, is_in, uids_of}
-use Rattle.jc_types.specs.Writes.{JobStep, Legal}
+use Rattle.jc_states.specs.Bases.{own_pods}
+use Rattle.jc_log.specs.Log.{upto, entry_at, job_in, life, Live, is_lost}
+use Rattle.jc_states.specs.Pods.{is_tracked}
+use Rattle.jc_states.specs.UidLists.{Ascends, is_in, uids_of}
+use Rattle.jc_states.specs.ObjectChanges.{JobStep}
+use Rattle.jc_log.specs.Writes.{Legal}
 use Rattle.jc_types.proofs.ListFacts.{Each-weaker, Each-both, Each-filter, Each-passes, filter_none}
-use Rattle.jc_types.proofs.UidFacts.{is_in-filter, passes_in}
-use Rattle.jc_types.proofs.WriteFacts.{Stored-from_legal, lost_on}
+use Rattle.jc_states.proofs.UidListFacts.{is_in-filter, passes_in}
+use Rattle.jc_log.proofs.WriteFacts.{Stored-from_legal, lost_on}
 use Rattle.jc_failpol.specs.declared.outcomes.Outcome.{Outcome}
 use Rattle.jc_failpol.specs.declared.outcomes.Outcome.TheVariants.{Succeeded, Failed}
-use Rattle.jc_failpol.specs.Outcomes.{outcome_of}
+use Rattle.jc_failpol.specs.Outcomes.{is_verdict, outcome_of, same_outcome}
 use Rattle.jc_account.specs.Accounts.{counted_in}
 use Rattle.jc_states.specs.Listed.{is_listed}
-use Rattle.jc_account.specs.Judged.{has_come_to, has_tracked, is_new, newly, same_outcome}
-use Rattle.jc_account.specs.Modes.{has_index, indexes_of}
+use Rattle.jc_account.specs.Judged.{has_come_to, has_tracked, is_fresh, is_new, newly}
+use Rattle.jc_states.specs.Indexes.{has_index}
+use Rattle.jc_account.specs.Modes.{indexes_of}
 use Rattle.jc_account.proofs.AccountFacts.{failed-in, failed-list-empty, failed-out-sum, failed-released, indexed-in, indexes-in, succeeded-in, succeeded-list-empty, succeeded-out-sum, succeeded-released}
+use Rattle.jc_account.proofs.JudgementFacts.{newly-is}
 use Rattle.jc_account.proofs.ListedFacts.{among_passing, has-indexes}
-use Rattle.jc_ledger.specs.Facts.{CountsIn, CountsOut}
-use Rattle.jc_ledger.specs.Ledger.{Record, record_of, is_verdict, is_fresh, chosen, Ledger, successes, entered}
+use Rattle.jc_ledger.specs.EventKinds.{CountsIn, CountsOut}
+use Rattle.jc_ledger.specs.Ledger.{Record, record_of, has_record, chosen, Ledger, successes, entered}
 use Rattle.jc_ledger.specs.Once.{is_listable}
-use Rattle.jc_ledger.specs.Tied.{made_as, IsTidy, IsListing, IsCurrent, TiesJob}
+use Rattle.jc_ledger.specs.Tied.{made_as, HasSoundLists, IsListing, IsCurrent, TiesJob}
 use Rattle.jc_ledger.proofs.DoneFacts.{join-known}
 use Rattle.jc_ledger.proofs.MadeFacts.{outcome-step}
 use Rattle.jc_ledger.proofs.PutFacts.{IsChosen, Puts, index_in}
@@ -79,7 +82,7 @@ module _ (made : Job) (log : List Entry) (ledger : Ledger) (job : Job) (pods : L
   listing : IsListing ledger.records current.version.0 current.status
   listing = h.ties.listed current.version.0 current h.stands h.current_step.uid
 
-  tidy : IsTidy current
+  tidy : HasSoundLists current
   tidy = h.ties.tidy current.version.0 current h.stands h.current_step.uid
 
   now : IsCurrent log ledger current
@@ -112,8 +115,8 @@ module _ (made : Job) (log : List Entry) (ledger : Ledger) (job : Job) (pods : L
 
   -- ---- what is listed has a record, and is released
 
-  has_record : (u : Uid) → is_listed current.status u ≡ true → is_some (record_of u ledger.records) ≡ true
-  has_record u l =
+  listed_record : (u : Uid) → is_listed current.status u ≡ true → is_some (record_of u ledger.records) ≡ true
+  listed_record u l =
       elim (or_cases (is_in u current.status.uncounted_succeeded) (is_in u current.status.uncounted_failed) l) [
         | inl s ↦ ap is_some (listing.succeeded u s).is_found
         | inr f ↦ ap is_some (listing.failed u f).is_found
@@ -192,30 +195,35 @@ module _ (made : Job) (log : List Entry) (ledger : Ledger) (job : Job) (pods : L
       let index = λ (pod : Pod). is_new job Succeeded pod ≡ true → IfSome pod.index (λ n. has n (indexes_of (newly job own Succeeded)) ≡ true) in
       Each-weaker (λ pod. (tracked pod × failed pod) × (succeeded pod × index pod)) IsAmong (λ pod b. (b.0.0, b.0.1, b.1.0, b.1.1)) own
       (Each-both (λ pod. tracked pod × failed pod) (λ pod. succeeded pod × index pod) own
-      (Each-both tracked failed own (passes_in is_tracked own) (passes_in (is_new job Failed) own))
-      (Each-both succeeded index own (passes_in (is_new job Succeeded) own) (index_in (is_new job Succeeded) own)))
+      (Each-both tracked failed own (passes_in is_tracked own)
+      (subst (λ ps. Each (λ pod. is_new job Failed pod ≡ true → is_in pod.uid (uids_of ps) ≡ true) own) (sym (newly-is job own Failed refl)) (passes_in (is_new job Failed) own)))
+      (subst (λ ps. Each (λ pod. (is_new job Succeeded pod ≡ true → is_in pod.uid (uids_of ps) ≡ true) × (is_new job Succeeded pod ≡ true → IfSome pod.index (λ n. has n (indexes_of ps) ≡ true))) own)
+      (sym (newly-is job own Succeeded refl))
+      (Each-both (λ pod. is_new job Succeeded pod ≡ true → is_in pod.uid (uids_of (filter (is_new job Succeeded) own)) ≡ true)
+      (λ pod. is_new job Succeeded pod ≡ true → IfSome pod.index (λ n. has n (indexes_of (filter (is_new job Succeeded) own)) ≡ true)) own
+      (passes_in (is_new job Succeeded) own) (index_in (is_new job Succeeded) own))))
 
   -- The parts of the test of a pod that is still to be judged.
-  fresh_tracked : (pod : Pod) → is_fresh job ledger.records pod ≡ true → is_tracked pod ≡ true
+  fresh_tracked : (pod : Pod) → is_fresh job.spec (has_record ledger.records) pod ≡ true → is_tracked pod ≡ true
   fresh_tracked pod f = (and_parts (is_tracked pod) (is_verdict (outcome_of job.spec pod) && not (is_some (record_of pod.uid ledger.records))) f).0
 
-  fresh_verdict : (pod : Pod) → is_fresh job ledger.records pod ≡ true → is_verdict (outcome_of job.spec pod) ≡ true
+  fresh_verdict : (pod : Pod) → is_fresh job.spec (has_record ledger.records) pod ≡ true → is_verdict (outcome_of job.spec pod) ≡ true
   fresh_verdict pod f =
       (and_parts (is_verdict (outcome_of job.spec pod)) (not (is_some (record_of pod.uid ledger.records)))
       (and_parts (is_tracked pod) (is_verdict (outcome_of job.spec pod) && not (is_some (record_of pod.uid ledger.records))) f).1).0
 
-  fresh_new : (pod : Pod) → is_fresh job ledger.records pod ≡ true → is_some (record_of pod.uid ledger.records) ≡ false
+  fresh_new : (pod : Pod) → is_fresh job.spec (has_record ledger.records) pod ≡ true → is_some (record_of pod.uid ledger.records) ≡ false
   fresh_new pod f =
       not-true (is_some (record_of pod.uid ledger.records))
       (and_parts (is_verdict (outcome_of job.spec pod)) (not (is_some (record_of pod.uid ledger.records)))
       (and_parts (is_tracked pod) (is_verdict (outcome_of job.spec pod) && not (is_some (record_of pod.uid ledger.records))) f).1).1
 
   -- Such a pod is not listed now,
-  not_listed_now : (pod : Pod) → is_fresh job ledger.records pod ≡ true → is_listed current.status pod.uid ≡ true → ⊥
-  not_listed_now pod f l = true≢false (sym (has_record pod.uid l) ∙ fresh_new pod f)
+  not_listed_now : (pod : Pod) → is_fresh job.spec (has_record ledger.records) pod ≡ true → is_listed current.status pod.uid ≡ true → ⊥
+  not_listed_now pod f l = true≢false (sym (listed_record pod.uid l) ∙ fresh_new pod f)
 
   -- and was not when the sync began; so it is newly judged there.
-  judged_new : (outcome : Outcome) (pod : Pod) → IsAmong pod → is_fresh job ledger.records pod ≡ true → same_outcome (outcome_of job.spec pod) outcome ≡ true → is_new job outcome pod ≡ true
+  judged_new : (outcome : Outcome) (pod : Pod) → IsAmong pod → is_fresh job.spec (has_record ledger.records) pod ≡ true → same_outcome (outcome_of job.spec pod) outcome ≡ true → is_new job outcome pod ≡ true
   judged_new outcome pod a f o =
       let tracked : has_tracked own pod.uid ≡ true = sym (among_passing pod.uid is_tracked own) ∙ a.0 (fresh_tracked pod f) in
       let unlisted = false_from_ne_true (is_listed job.status pod.uid) (λ l. not_listed_now pod f (stays_listed pod.uid l tracked)) in
@@ -224,15 +232,15 @@ module _ (made : Job) (log : List Entry) (ledger : Ledger) (job : Job) (pods : L
       (not_from_false (is_listed job.status pod.uid) unlisted)
 
   -- It has not failed; if it has succeeded the Job is Indexed, and its index is in the set.
-  not_failed : (pod : Pod) → IsAmong pod → is_fresh job ledger.records pod ≡ true → same_outcome (outcome_of job.spec pod) Failed ≡ false
+  not_failed : (pod : Pod) → IsAmong pod → is_fresh job.spec (has_record ledger.records) pod ≡ true → same_outcome (outcome_of job.spec pod) Failed ≡ false
   not_failed pod a f =
       false_from_ne_true (same_outcome (outcome_of job.spec pod) Failed) (λ o. not_listed_now pod f (new_failed pod.uid (a.1 (judged_new Failed pod a f o))))
 
-  not_succeeded : (pod : Pod) → IsAmong pod → is_fresh job ledger.records pod ≡ true → job.spec.mode ≡ NonIndexed → same_outcome (outcome_of job.spec pod) Succeeded ≡ false
+  not_succeeded : (pod : Pod) → IsAmong pod → is_fresh job.spec (has_record ledger.records) pod ≡ true → job.spec.mode ≡ NonIndexed → same_outcome (outcome_of job.spec pod) Succeeded ≡ false
   not_succeeded pod a f at =
       false_from_ne_true (same_outcome (outcome_of job.spec pod) Succeeded) (λ o. not_listed_now pod f (new_succeeded pod.uid at (a.2 (judged_new Succeeded pod a f o))))
 
-  known_index : (pod : Pod) → IsAmong pod → is_fresh job ledger.records pod ≡ true → job.spec.mode ≡ Indexed → same_outcome (outcome_of job.spec pod) Succeeded ≡ true
+  known_index : (pod : Pod) → IsAmong pod → is_fresh job.spec (has_record ledger.records) pod ≡ true → job.spec.mode ≡ Indexed → same_outcome (outcome_of job.spec pod) Succeeded ≡ true
       → IfSome pod.index (λ n. has n ledger.done ≡ true)
   known_index pod a f at o = IfSome_then pod.index (a.3 (judged_new Succeeded pod a f o)) (λ n i. new_index n at i)
 
@@ -241,12 +249,12 @@ module _ (made : Job) (log : List Entry) (ledger : Ledger) (job : Job) (pods : L
   judges = chosen job ledger.records own
 
   abbrev IsJudgedNow : Pod → Type 0
-  IsJudgedNow pod = StoodOwn made log seen_at pod × IsAmong pod × (is_fresh job ledger.records pod ≡ true)
+  IsJudgedNow pod = StoodOwn made log seen_at pod × IsAmong pod × (is_fresh job.spec (has_record ledger.records) pod ≡ true)
 
   each_judged : Each IsJudgedNow judges
   each_judged =
       let both = λ (pod : Pod). StoodOwn made log seen_at pod × IsAmong pod in
-      let test = is_fresh job ledger.records in
+      let test = is_fresh job.spec (has_record ledger.records) in
       Each-weaker (λ pod. both pod × (test pod ≡ true)) IsJudgedNow (λ pod b. (b.0.0, b.0.1, b.1)) judges
       (Each-both both (λ pod. test pod ≡ true) judges
       (Each-filter both test own (Each-both (StoodOwn made log seen_at) IsAmong own h.own among)) (Each-passes test own))
@@ -276,7 +284,7 @@ module _ (made : Job) (log : List Entry) (ledger : Ledger) (job : Job) (pods : L
       (Each-weaker IsJudgedNow (λ pod. same_outcome (outcome_of job.spec pod) Succeeded ≡ false) (λ pod j. not_succeeded pod j.1 j.2 at) judges each_judged)
 
   -- The set stays.
-  done_stays : job.spec.mode ≡ Indexed → (entered job judges seen_at (suc (length log)) ledger).done ≡ ledger.done
+  done_stays : job.spec.mode ≡ Indexed → (entered job own seen_at (suc (length log)) ledger).done ≡ ledger.done
   done_stays at =
       let test = λ (pod : Pod). same_outcome (outcome_of job.spec pod) Succeeded in
       let both = λ (pod : Pod). IsJudgedNow pod × (test pod ≡ true) in
@@ -312,7 +320,7 @@ module _ (made : Job) (log : List Entry) (ledger : Ledger) (job : Job) (pods : L
       absurd (not_listable pod j (ap (λ m. is_listable m (outcome_of job.spec pod)) (sym mode_of_new) ∙ ap (λ (x : Record). is_listable new.spec.mode x.outcome) (sym is) ∙ l))
 
   -- The new status is tidy.
-  tidy_new : IsTidy new
+  tidy_new : HasSoundLists new
   tidy_new = record {
     failed = subst Ascends (sym none_failed) tt;
     succeeded = subst Ascends (sym none_succeeded) tt;
@@ -327,7 +335,7 @@ module _ (made : Job) (log : List Entry) (ledger : Ledger) (job : Job) (pods : L
   }
 
   -- The entry keeps what ties the ledger.
-  pub second-puts : Puts made log ledger job judges seen_at current new
+  pub second-puts : Puts made log ledger job own seen_at current new
   second-puts =
       let at = suc (length log) in
       record {

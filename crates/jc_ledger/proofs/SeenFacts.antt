@@ -1,5 +1,5 @@
 -- A pod as a sync saw it, and what it has come to by now.
-use Rattle.std.proofs.Common.{◌≡◌, ◌≢◌, ℕ, ◌≤◌, Bool, true, false, not, ◌&&◌, List, find, Option, Some, None, is_some, IsSome, refl, sym, ap, ◌∙◌, subst, true≢false}
+use Rattle.std.proofs.Common.{◌≡◌, ◌≢◌, ℕ, Bool, true, false, not, ◌&&◌, List, find, Option, Some, None, IsSome, refl, sym, ap, ◌∙◌, subst, true≢false}
 use Rattle.std.proofs.lemmas.Bool.{and_parts}
 use Rattle.jc_types.specs.declared.numbers.Uid.{Uid}
 use Rattle.jc_types.specs.declared.objects.Entry.{Entry}
@@ -12,73 +12,22 @@ use Rattle.jc_types.specs.declared.specifications.Replacement.{Replacement}
 use Rattle.jc_types.specs.declared.specifications.Replacement.TheVariants.{TerminatingOrFailed, FailedOnly}
 use Rattle.jc_types.specs.declared.syncs.Basis.{Basis}
 use Rattle.jc_types.specs.Keys.{same_key, same_uid}
-use Rattle.jc_types.specs.Log.{upto, life, Never, Live, pods_in, pods_under}
-use Rattle.jc_types.specs.Pods.{is_final, is_marked, is_active}
-use Rattle.jc_types.specs.Writes.{PodStep, Stored}
+use Rattle.jc_log.specs.Log.{upto, life, Never, Live, pods_in, pods_under}
+use Rattle.jc_states.specs.Pods.{is_final, is_marked, is_active}
+use Rattle.jc_states.specs.ObjectChanges.{PodStep}
+use Rattle.jc_log.specs.Writes.{Stored}
 use Rattle.jc_types.proofs.KeyFacts.{same_key-eq}
 use Rattle.jc_types.proofs.ListFacts.{Each-filter, Each-passes, find_each}
-use Rattle.jc_types.proofs.PodFacts.{pods_in-live}
-use Rattle.jc_types.proofs.WriteFacts.{Kept, kept_to, kept_on}
+use Rattle.jc_log.proofs.PodFacts.{pods_in-live}
+use Rattle.jc_log.proofs.WriteFacts.{Kept, kept_on}
 use Rattle.jc_failpol.specs.declared.outcomes.Outcome.{Outcome}
 use Rattle.jc_failpol.specs.declared.outcomes.Outcome.TheVariants.{Alive, Succeeded}
 use Rattle.jc_failpol.specs.FailJob.{is_failure, is_fail_job, policy_fails_job, fails_job}
 use Rattle.jc_failpol.specs.Outcomes.{counts_marked, failure_of, judged, outcome_of}
 use Rattle.jc_failpol.specs.Rules.{action_of}
-use Rattle.jc_failpol.specs.Steps.{WaitsForEnd}
+use Rattle.jc_failpol.specs.Policies.{WaitsForEnd}
 use Rattle.jc_failpol.proofs.Settled.{by_phase, phase_succeeded, failure_fails, final_once_ended, same_action, frozen}
 use Rattle.jc_ledger.specs.Flights.{IsBasisOf}
-
--- ---- steps of a pod, one after another
-
--- A pod keeps what it is.
-pub PodStep-itself : (pod : Pod) → PodStep pod pod
-PodStep-itself pod = record {
-  uid = refl;
-  owner = refl;
-  owner_uid = refl;
-  serial = refl;
-  index = refl;
-  restart = refl;
-  created = refl;
-  names = refl;
-  inits = refl;
-  untracked = λ h. h;
-  marked = λ h. refl;
-  begun = λ h. h;
-  phase = λ h. refl;
-  containers = λ h. refl;
-  conditions = λ h. refl;
-}
-
--- Two steps keep what both keep.
-pub PodStep-then : (a b c : Pod) → PodStep a b → PodStep b c → PodStep a c
-PodStep-then a b c f g = record {
-  uid = g.uid ∙ f.uid;
-  owner = g.owner ∙ f.owner;
-  owner_uid = g.owner_uid ∙ f.owner_uid;
-  serial = g.serial ∙ f.serial;
-  index = g.index ∙ f.index;
-  restart = g.restart ∙ f.restart;
-  created = g.created ∙ f.created;
-  names = g.names ∙ f.names;
-  inits = g.inits ∙ f.inits;
-  untracked = λ h. g.untracked (f.untracked h);
-  marked = λ h. g.marked (ap is_some (f.marked h) ∙ h) ∙ f.marked h;
-  begun = λ h. f.begun (g.begun h);
-  phase = λ h. g.phase (ap is_final (f.phase h) ∙ h) ∙ f.phase h;
-  containers = λ h. g.containers (ap is_final (f.phase h) ∙ h) ∙ f.containers h;
-  conditions = λ h. g.conditions (ap is_final (f.phase h) ∙ h) ∙ f.conditions h;
-}
-
--- A pod of a prefix came by steps to that of a longer one.
-pub step_to : (u : Uid) (m n : ℕ) (log : List Entry) → Stored log → m ≤ n → (old now : Pod) → life u (upto m log) ≡ Live old → life u (upto n log) ≡ Live now → PodStep old now
-step_to u m n log all le old now was is =
-    subst (Kept (PodStep old)) is (kept_to (PodStep old) (λ a b s k. PodStep-then old a b k s) u m n log all le old was (PodStep-itself old))
-
--- And to that of the whole log.
-pub step_on : (u : Uid) (m : ℕ) (log : List Entry) → Stored log → (old now : Pod) → life u (upto m log) ≡ Live old → life u log ≡ Live now → PodStep old now
-step_on u m log all old now was is =
-    subst (Kept (PodStep old)) is (kept_on (PodStep old) (λ a b s k. PodStep-then old a b k s) u m log all old was (PodStep-itself old))
 
 -- What was there is known ever since.
 pub known_since : (u : Uid) (m : ℕ) (log : List Entry) → Stored log → (old : Pod) → life u (upto m log) ≡ Live old → life u log ≡ Never → ⊥

@@ -6,26 +6,27 @@ use Rattle.jc_types.specs.declared.objects.Entry.{Entry}
 use Rattle.jc_types.specs.declared.objects.Entry.TheVariants.{JobPut, JobGone, PodPut, PodGone}
 use Rattle.jc_types.specs.declared.objects.Job.{Job}
 use Rattle.jc_types.specs.declared.objects.Pod.{Pod}
-use Rattle.jc_types.specs.declared.replies.Answer.{Answer}
 use Rattle.jc_types.specs.declared.replies.Request.{Request}
-use Rattle.jc_types.specs.Deeds.{Deed}
+use Rattle.jc_log.specs.Deeds.{Deed}
 use Rattle.jc_types.specs.Keys.{same_uid}
-use Rattle.jc_types.specs.Log.{upto, job_in, is_job_of, life, Never, Live, Gone, is_lost}
-use Rattle.jc_types.specs.Writes.{Legal}
+use Rattle.jc_log.specs.Log.{upto, job_in, is_job_of, life, Never, Live, Gone, is_lost}
+use Rattle.jc_log.specs.Writes.{Legal}
 use Rattle.jc_types.proofs.KeyFacts.{same_uid-itself}
-use Rattle.jc_types.proofs.LogFacts.{upto-fixed, upto-all}
-use Rattle.jc_types.proofs.WriteFacts.{Stored-from_legal}
+use Rattle.jc_log.proofs.LogFacts.{upto-fixed, upto-all}
+use Rattle.jc_log.proofs.WriteFacts.{Stored-from_legal}
 use Rattle.jc_ledger.specs.declared.flights.Flight.{Flight}
-use Rattle.jc_ledger.specs.Facts.{IsWritten, IsTaken, pod_of}
+use Rattle.jc_ledger.specs.EventKinds.{FinalizerWrite, IsWritten, TakesFinalizer, pod_of}
 use Rattle.jc_ledger.specs.Flights.{Flies}
 use Rattle.jc_ledger.specs.Ledger.{is_status, ledger_of}
 use Rattle.jc_ledger.specs.Once.{Taking, taking_of, IsJustified}
 use Rattle.jc_ledger.specs.Syncs.{reach, request_of, appends}
 use Rattle.jc_ledger.specs.Tied.{made_as, Ties, TakesWell, Tied}
-use Rattle.jc_ledger.proofs.FrameFacts.{Flies-more, AllFly-more, AllFly-one, AllFly-put, Ties-more, IsNumbered-pod, Grown, grow}
+use Rattle.jc_ledger.proofs.FrameFacts.{Flies-more, AllFly-more, AllFly-one, AllFly-put, Ties-more, PodsHaveIndexes-pod, PodsHaveIndexes-more, PodsHaveIndexes-now, Grown, grow}
 use Rattle.jc_ledger.proofs.JobLaws.{puts_other-pod}
 use Rattle.jc_ledger.proofs.LedgerFacts.{ledger_of-more, ledger_of-other}
+use Rattle.jc_ledger.proofs.OnceFacts.{once_more}
 use Rattle.jc_ledger.proofs.SeenFacts.{saw, known_since}
+use Rattle.jc_ledger.proofs.TotalFacts.{totals_more}
 
 -- ---- an entry on a pod
 
@@ -87,30 +88,37 @@ takes_well d past e log flights pod u lets_go t g written is_pod taking just =
     length_is = let grown = written.grown in omega (arith, grown)
 
 -- All that ties, once it is shown why the finalizer may be taken.
-pub tied_taken : (d : Deed) (past : List Deed) (log : List Entry) (front back : List Flight) (flight next : Flight) (asked : Request) (e : Entry) (seen pod : Pod) (answer : Answer) (lets_go : Bool)
-    → Tied past log (front ++ flight ∷ back) → IsTaken d log flight asked e seen pod answer
-    → is_status (Some asked) ≡ false → taking_of (Some asked) ≡ Some (record { pod = seen.uid; lets_go = lets_go })
-    → Justly past e log seen.uid lets_go → (Flies (e ∷ log) flight → Flies (e ∷ log) next)
-    → Tied (d ∷ past) (e ∷ log) (front ++ next ∷ back)
-tied_taken d past log front back flight next asked e seen pod answer lets_go t taken other taking just next_flies = record {
+pub tied_taken : (d : Deed) (past : List Deed) (log : List Entry) (front back : List Flight) (next : Flight) (asked : Request) (f : FinalizerWrite) (lets_go : Bool)
+    → Tied past log (front ++ f.flight ∷ back) → TakesFinalizer d log asked f
+    → is_status (Some asked) ≡ false → taking_of (Some asked) ≡ Some (record { pod = f.seen.uid; lets_go = lets_go })
+    → Justly past f.entry log f.seen.uid lets_go → (Flies (f.entry ∷ log) f.flight → Flies (f.entry ∷ log) next)
+    → Tied (d ∷ past) (f.entry ∷ log) (front ++ next ∷ back)
+tied_taken d past log front back next asked f lets_go t taken other taking just next_flies = record {
   legal = grown.legal;
   reached = grown.reached;
   within = grown.within;
-  jobs = taken_jobs d past e log (front ++ flight ∷ back) pod t grown.legal taken.is_pod (ap (λ r. is_status (request_of r)) taken.reply ∙ other);
-  numbered = IsNumbered-pod e log pod grown.legal taken.is_pod (λ never. absurd (known (ap (λ u. life u log) (sym taken.uid) ∙ never))) t.numbered;
-  taken = (takes_well d past e log (front ++ flight ∷ back) pod seen.uid lets_go t grown taken.written taken.is_pod (ap (λ r. taking_of (request_of r)) taken.reply ∙ taking) just, grown.taken);
+  jobs = jobs;
+  numbered =
+      PodsHaveIndexes-more f.entry log t.numbered
+      (PodsHaveIndexes-pod f.entry log f.pod grown.legal taken.is_pod (λ never. absurd (known (ap (λ u. life u log) (sym taken.uid) ∙ never))) (PodsHaveIndexes-now log t.numbered));
+  totals = totals_more d past f.entry log grown.legal t.within jobs t.totals;
+  once = once_more f.entry past log (front ++ f.flight ∷ back) t;
+  taken = (takes_well d past f.entry log (front ++ f.flight ∷ back) f.pod f.seen.uid lets_go t grown taken.written taken.is_pod (ap (λ r. taking_of (request_of r)) taken.reply ∙ taking) just, grown.taken);
   flying =
-      AllFly-put (e ∷ log) front back flight next
-      (AllFly-more e log (front ++ flight ∷ back) grown.legal t.flying)
-      (next_flies (Flies-more e log flight grown.legal flies));
+      AllFly-put (f.entry ∷ log) front back f.flight next
+      (AllFly-more f.entry log (front ++ f.flight ∷ back) grown.legal t.flying)
+      (next_flies (Flies-more f.entry log f.flight grown.legal flies));
 }
   where
-    grown : Grown d past e log
-    grown = grow d past e log (front ++ flight ∷ back) t taken.written
+    grown : Grown d past f.entry log
+    grown = grow d past f.entry log (front ++ f.flight ∷ back) t taken.written
 
-    flies : Flies log flight
-    flies = AllFly-one log front back flight t.flying
+    jobs : (j : Uid) → Ties (made_as j (f.entry ∷ log)) (f.entry ∷ log) (ledger_of j (d ∷ past) (f.entry ∷ log))
+    jobs = taken_jobs d past f.entry log (front ++ f.flight ∷ back) f.pod t grown.legal taken.is_pod (ap (λ r. is_status (request_of r)) taken.reply ∙ other)
 
-    known : life seen.uid log ≡ Never → ⊥
+    flies : Flies log f.flight
+    flies = AllFly-one log front back f.flight t.flying
+
+    known : life f.seen.uid log ≡ Never → ⊥
     known never =
-        known_since seen.uid flight.basis.pods_at.0 log (Stored-from_legal log t.legal) seen (saw log flight.basis seen flies.basis taken.is_seen).stood never
+        known_since f.seen.uid f.flight.basis.pods_at.0 log (Stored-from_legal log t.legal) f.seen (saw log f.flight.basis f.seen flies.basis taken.is_seen).stood never

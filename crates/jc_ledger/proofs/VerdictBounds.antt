@@ -11,17 +11,17 @@ use Rattle.jc_types.specs.declared.objects.Entry.{Entry}
 use Rattle.jc_types.specs.declared.objects.Entry.TheVariants.{JobPut, JobGone, PodPut, PodGone}
 use Rattle.jc_types.specs.declared.objects.Job.{Job}
 use Rattle.jc_types.specs.declared.objects.Pod.{Pod}
-use Rattle.jc_types.specs.Deeds.{Deed}
+use Rattle.jc_log.specs.Deeds.{Deed}
 use Rattle.jc_types.specs.Keys.{same_uid}
-use Rattle.jc_types.specs.Log.{Live, Gone, life, upto, pods_of}
+use Rattle.jc_log.specs.Log.{Live, Gone, life, upto, pods_of}
 use Rattle.jc_types.proofs.KeyFacts.{same_uid-eq, same_uid-itself, same_uid-either_way}
 use Rattle.jc_types.proofs.ListFacts.{Each-weaker, Each-filter, Each-append, Each-map}
-use Rattle.jc_types.proofs.PodFacts.{pods_of-live}
+use Rattle.jc_log.proofs.PodFacts.{pods_of-live}
 use Rattle.jc_failpol.specs.declared.outcomes.Outcome.TheVariants.{Succeeded}
-use Rattle.jc_failpol.specs.Outcomes.{outcome_of}
-use Rattle.jc_account.specs.Judged.{same_outcome}
+use Rattle.jc_failpol.specs.Outcomes.{outcome_of, same_outcome}
 use Rattle.jc_account.specs.Modes.{indexes_of}
-use Rattle.jc_ledger.specs.Ledger.{Record, Ledger, Judging, chosen, is_fresh, recorded, successes, bump, judged_by, judging_of, ledger_of}
+use Rattle.jc_account.specs.Judged.{is_fresh}
+use Rattle.jc_ledger.specs.Ledger.{Record, Ledger, Judging, chosen, has_record, recorded, successes, entered, judged_by, judging_of, ledger_of}
 use Rattle.jc_ledger.proofs.VerdictRows.{length-join}
 
 -- Equality of UIDs is an equivalence.
@@ -89,15 +89,15 @@ records_put : (j : Uid) (deeds : List Deed) (log : List Entry) → Each (λ (r :
 records_put j [] log = tt
 records_put j (d ∷ past) log = by (judging_of d past log) (records_put j past log)
   where
-    bumped : (job : Job) (seen at : ℕ) (ledger : Ledger) → Each (λ (r : Record). is_put r.pod.uid log ≡ true) ledger.records → Each (λ (r : Record). is_put r.pod.uid log ≡ true) (bump job (pods_of j (upto seen log)) seen at ledger).records
+    bumped : (job : Job) (seen at : ℕ) (ledger : Ledger) → Each (λ (r : Record). is_put r.pod.uid log ≡ true) ledger.records → Each (λ (r : Record). is_put r.pod.uid log ≡ true) (entered job (pods_of j (upto seen log)) seen at ledger).records
     bumped job seen at ledger ih =
         Each-append (λ (r : Record). is_put r.pod.uid log ≡ true) ledger.records (map (recorded job seen at) (chosen job ledger.records (pods_of j (upto seen log)))) ih
         (Each-map (recorded job seen at) (λ (r : Record). is_put r.pod.uid log ≡ true) (chosen job ledger.records (pods_of j (upto seen log)))
-        (Each-filter (λ pod. is_put pod.uid log ≡ true) (is_fresh job ledger.records) (pods_of j (upto seen log))
+        (Each-filter (λ pod. is_put pod.uid log ≡ true) (is_fresh job.spec (has_record ledger.records)) (pods_of j (upto seen log))
         (Each-weaker (λ pod. life pod.uid (upto seen log) ≡ Live pod) (λ pod. is_put pod.uid log ≡ true) (λ pod live. put_upto pod.uid seen log (live_put pod.uid (upto seen log) pod live)) (pods_of j (upto seen log)) (pods_of-live j (upto seen log)))))
 
     chosen_by : (b : Bool) (judging : Judging) (ledger : Ledger) → Each (λ (r : Record). is_put r.pod.uid log ≡ true) ledger.records
-        → Each (λ (r : Record). is_put r.pod.uid log ≡ true) (cond b (bump judging.job (pods_of j (upto judging.seen log)) judging.seen judging.at ledger) ledger).records
+        → Each (λ (r : Record). is_put r.pod.uid log ≡ true) (cond b (entered judging.job (pods_of j (upto judging.seen log)) judging.seen judging.at ledger) ledger).records
     chosen_by true judging ledger ih = bumped judging.job judging.seen judging.at ledger ih
     chosen_by false judging ledger ih = ih
 
@@ -141,7 +141,7 @@ pub few_done : (j : Uid) (deeds : List Deed) (log : List Entry) → length (ledg
 few_done j [] log = omega arith
 few_done j (d ∷ past) log = by (judging_of d past log) (few_done j past log)
   where
-    bumped : (job : Job) (pods : List Pod) (seen at : ℕ) (ledger : Ledger) → length ledger.done ≤ length ledger.records → length (bump job pods seen at ledger).done ≤ length (bump job pods seen at ledger).records
+    bumped : (job : Job) (pods : List Pod) (seen at : ℕ) (ledger : Ledger) → length ledger.done ≤ length ledger.records → length (entered job pods seen at ledger).done ≤ length (entered job pods seen at ledger).records
     bumped job pods seen at ledger ih =
         let new = chosen job ledger.records pods in
         let joins = length-join ledger.done (indexes_of (successes job new)) in
@@ -151,7 +151,7 @@ few_done j (d ∷ past) log = by (judging_of d past log) (few_done j past log)
         omega (arith, ih, joins, few, sum, same)
 
     chosen_by : (b : Bool) (judging : Judging) (ledger : Ledger) → length ledger.done ≤ length ledger.records
-        → length (cond b (bump judging.job (pods_of j (upto judging.seen log)) judging.seen judging.at ledger) ledger).done ≤ length (cond b (bump judging.job (pods_of j (upto judging.seen log)) judging.seen judging.at ledger) ledger).records
+        → length (cond b (entered judging.job (pods_of j (upto judging.seen log)) judging.seen judging.at ledger) ledger).done ≤ length (cond b (entered judging.job (pods_of j (upto judging.seen log)) judging.seen judging.at ledger) ledger).records
     chosen_by true judging ledger ih = bumped judging.job (pods_of j (upto judging.seen log)) judging.seen judging.at ledger ih
     chosen_by false judging ledger ih = ih
 

@@ -9,18 +9,18 @@ use Rattle.jc_types.specs.declared.objects.Job.{Job}
 use Rattle.jc_types.specs.declared.objects.Key.{Key}
 use Rattle.jc_types.specs.declared.replies.Reply.{Reply}
 use Rattle.jc_types.specs.declared.replies.Reply.TheVariants as reply
-use Rattle.jc_types.specs.Deeds.{Deed}
+use Rattle.jc_log.specs.Deeds.{Deed}
 use Rattle.jc_types.specs.Keys.{same_uid}
-use Rattle.jc_types.specs.Log.{upto, has_job, job_in, pods_of}
-use Rattle.jc_types.specs.Uids.{join}
+use Rattle.jc_log.specs.Log.{upto, has_job, job_in, pods_of}
+use Rattle.jc_states.specs.UidLists.{join}
 use Rattle.jc_types.proofs.KeyFacts.{same_uid-eq}
-use Rattle.jc_types.proofs.LogFacts.{upto-reverse}
+use Rattle.jc_log.proofs.LogFacts.{upto-reverse}
 use Rattle.jc_ledger.specs.declared.rows.Row.{Row}
-use Rattle.jc_ledger.specs.Ledger.{Judging, Ledger, bump, is_status, judged_by, judging_at, judging_of}
+use Rattle.jc_ledger.specs.Ledger.{Judging, Ledger, entered, is_status, judged_by, judging_at, judging_of}
 use Rattle.jc_ledger.specs.Syncs.{Began, appends, began_of, request_of, step_sync}
 use Rattle.jc_ledger.specs.Verdicts.{IsCount, indexes_in, new_rows, sync_at}
-use Rattle.jc_ledger.proofs.VerdictRows.{count_bump}
-use Rattle.jc_ledger.proofs.VerdictKeys.{put_upto, there_put}
+use Rattle.jc_ledger.proofs.VerdictRows.{count_entered}
+use Rattle.jc_log.proofs.HasJobFacts.{put_upto, there_put}
 
 -- The write that judges, by its sync.
 judging_by_sync : (d : Deed) (past : List Deed) (log : List Entry) → judging_of d past log ≡ option_and_then (judging_at d.length.0 log) (sync_at d past)
@@ -57,7 +57,7 @@ module _ (d : Deed) (past : List Deed) (log : List Entry) (key : Key) (jobs_at p
       → IsCount rows done (judged_by j (reverse log) (judging_of d past (reverse log)) ledger)
   taken_other j ledger rows done job w other is =
       subst (λ o. IsCount rows done (judged_by j (reverse log) o ledger)) (sym (wrote (Some job) w))
-      (subst (IsCount rows done) (sym (cond-false (same_uid job.uid j) (bump job (pods_of j (upto pods_at.0 (reverse log))) pods_at.0 d.length.0 ledger) ledger other)) is)
+      (subst (IsCount rows done) (sym (cond-false (same_uid job.uid j) (entered job (pods_of j (upto pods_at.0 (reverse log))) pods_at.0 d.length.0 ledger) ledger other)) is)
 
   -- The Job was there.
   pub taken_own : (j : Uid) (ledger : Ledger) (rows rows' : List Row) (done done' : List ℕ) (job : Job) → Wrote d past log key jobs_at pods_at (Some job) → same_uid job.uid j ≡ true
@@ -66,8 +66,8 @@ module _ (d : Deed) (past : List Deed) (log : List Entry) (key : Key) (jobs_at p
       → IsCount rows done ledger → IsCount rows' done' (judged_by j (reverse log) (judging_of d past (reverse log)) ledger)
   taken_own j ledger rows rows' done done' job w own more joins is =
       subst (λ o. IsCount rows' done' (judged_by j (reverse log) o ledger)) (sym (wrote (Some job) w))
-      (subst (IsCount rows' done') (sym (cond-true (same_uid job.uid j) (bump job (pods_of j (upto pods_at.0 (reverse log))) pods_at.0 d.length.0 ledger) ledger own))
-      (count_bump job (pods_of j (upto pods_at.0 (reverse log))) pods_at.0 d.length.0 ledger rows rows' done done' is
+      (subst (IsCount rows' done') (sym (cond-true (same_uid job.uid j) (entered job (pods_of j (upto pods_at.0 (reverse log))) pods_at.0 d.length.0 ledger) ledger own))
+      (count_entered job (pods_of j (upto pods_at.0 (reverse log))) pods_at.0 d.length.0 ledger rows rows' done done' is
       (more ∙ ap (λ pods. rows ++ new_rows job.spec rows pods) pods_are)
       (joins ∙ ap (λ pods. join done (indexes_in (new_rows job.spec rows pods))) pods_are)))
     where

@@ -7,10 +7,10 @@ use Rattle.jc_types.specs.declared.numbers.Uid.{Uid}
 use Rattle.jc_types.specs.declared.objects.Entry.{Entry}
 use Rattle.jc_types.specs.declared.runs.History.{History}
 use Rattle.jc_types.specs.declared.runs.Past.{Past}
-use Rattle.jc_types.specs.Deeds.{Deed, deeds}
+use Rattle.jc_log.specs.Deeds.{Deed, deeds}
 use Rattle.jc_types.specs.Keys.{same_uid}
 use Rattle.jc_failpol.specs.declared.outcomes.Outcome.TheVariants.{Succeeded, Failed}
-use Rattle.jc_account.specs.Judged.{same_outcome}
+use Rattle.jc_failpol.specs.Outcomes.{same_outcome}
 use Rattle.jc_ledger.specs.declared.rows.Row.{Row}
 use Rattle.jc_ledger.specs.Ledger.{Record, Ledger, judged_as, ledger_of}
 use Rattle.jc_ledger.specs.Verdicts.{IsCount, deeds_of, row_of, verdicts_of}
@@ -18,7 +18,7 @@ use Rattle.jc_ledger.proofs.VerdictRows.{judged_rows}
 use Rattle.jc_ledger.proofs.VerdictBounds.{few_records, few_done}
 
 -- What is kept after all events of a history.
-pub kept_of : (script : Script) (history : History) (events : List Past) (log es : List Entry) (j : Uid) (rows : List Row) (done : List ℕ) → events ≡ history.events → es ≡ log
+pub kept_of : (script : Script) (history : History) (events : List Past) (log es : List Entry) (j : Uid) (rows : List Row) (done : List ℕ) → events ≡ history.events.items → es ≡ log
     → IsCount rows done (ledger_of j (deeds_of script events) (reverse es)) → IsCount rows done (ledger_of j (deeds script history) (reverse log))
 kept_of script history events log es j rows done same log_is kept =
     subst (λ l. IsCount rows done (ledger_of j (deeds script history) (reverse l))) log_is

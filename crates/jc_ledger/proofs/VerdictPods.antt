@@ -1,34 +1,17 @@
 -- The pods of one Job by steps: what one more entry does to them, in any log.
-use Rattle.std.proofs.Common.{◌≡◌, ℕ, ◌+◌, ◌<◌, ◌==◌, nat_lt, Bool, true, false, cond, not, ◌&&◌, List, [], ◌∷◌, filter, refl, sym, ap, ◌∙◌, arith, eq-eqb, lt-ltb, ltb-true, eqb-true, ne_eqb}
+use Rattle.std.proofs.Common.{◌≡◌, ℕ, ◌+◌, ◌<◌, ◌==◌, nat_lt, Bool, true, false, cond, not, ◌&&◌, List, [], ◌∷◌, filter, refl, sym, ap, ◌∙◌, arith, eq-eqb, ltb-true, eqb-true, ne_eqb}
 use Rattle.std.proofs.lemmas.Bool.{cond-true, cond-false, eqb-false}
 use Rattle.jc_types.specs.declared.numbers.Uid.{Uid}
 use Rattle.jc_types.specs.declared.objects.Entry.{Entry}
 use Rattle.jc_types.specs.declared.objects.Entry.TheVariants.{PodPut, PodGone}
 use Rattle.jc_types.specs.declared.objects.Pod.{Pod}
 use Rattle.jc_types.specs.Keys.{same_uid}
-use Rattle.jc_types.specs.Log.{put_pod, drop_pod, pods_in, pods_of, RisesFrom}
+use Rattle.jc_states.specs.PodLists.{put_pod, drop_pod, RisesFrom}
+use Rattle.jc_log.specs.Log.{pods_in, pods_of}
 use Rattle.jc_types.proofs.ListFacts.{filter_filter, filter_same}
-use Rattle.jc_types.proofs.PodFacts.{pods_in-rises, rises_filter}
+use Rattle.jc_log.proofs.PodFacts.{pods_in-rises}
+use Rattle.jc_states.proofs.PodListFacts.{put_pod-above, put_pod-below, put_pod-there, rises_filter}
 use Rattle.jc_account.proofs.ListedFacts.{each}
-
--- A pod below all others is put in front of them.
-put_pod-below : (pod : Pod) (low : ℕ) (pods : List Pod) → pod.uid.0 < low → RisesFrom low pods → put_pod pod pods ≡ pod ∷ pods
-put_pod-below pod low [] h r = refl
-put_pod-below pod low (q ∷ pods) h r =
-    cond-true (nat_lt pod.uid.0 q.uid.0) (pod ∷ q ∷ pods) (cond (pod.uid.0 == q.uid.0) (pod ∷ pods) (q ∷ put_pod pod pods))
-    (lt-ltb pod.uid.0 q.uid.0 (omega (arith, h, r.0)))
-
--- A pod above the first is put among the others.
-put_pod-above : (pod q : Pod) (pods : List Pod) → nat_lt pod.uid.0 q.uid.0 ≡ false → (pod.uid.0 == q.uid.0) ≡ false → put_pod pod (q ∷ pods) ≡ q ∷ put_pod pod pods
-put_pod-above pod q pods l e =
-    cond-false (nat_lt pod.uid.0 q.uid.0) (pod ∷ q ∷ pods) (cond (pod.uid.0 == q.uid.0) (pod ∷ pods) (q ∷ put_pod pod pods)) l
-    ∙ cond-false (pod.uid.0 == q.uid.0) (pod ∷ pods) (q ∷ put_pod pod pods) e
-
--- A pod with the UID of the first is put in its place.
-put_pod-there : (pod q : Pod) (pods : List Pod) → nat_lt pod.uid.0 q.uid.0 ≡ false → (pod.uid.0 == q.uid.0) ≡ true → put_pod pod (q ∷ pods) ≡ pod ∷ pods
-put_pod-there pod q pods l e =
-    cond-false (nat_lt pod.uid.0 q.uid.0) (pod ∷ q ∷ pods) (cond (pod.uid.0 == q.uid.0) (pod ∷ pods) (q ∷ put_pod pod pods)) l
-    ∙ cond-true (pod.uid.0 == q.uid.0) (pod ∷ pods) (q ∷ put_pod pod pods) e
 
 -- A UID below all others is not among them.
 drop_pod-below : (u : Uid) (low : ℕ) (pods : List Pod) → u.0 < low → RisesFrom low pods → drop_pod u pods ≡ pods

@@ -14,18 +14,18 @@ use Rattle.jc_types.specs.declared.numbers.Uid.{Uid}
 use Rattle.jc_types.specs.declared.objects.Job.{Job}
 use Rattle.jc_types.specs.declared.objects.Pod.{Pod}
 use Rattle.jc_types.specs.Keys.{same_uid}
-use Rattle.jc_types.specs.Pods.{is_tracked}
-use Rattle.jc_types.specs.Uids.{join}
+use Rattle.jc_states.specs.Pods.{is_tracked}
+use Rattle.jc_states.specs.UidLists.{join}
 use Rattle.jc_types.proofs.ListFacts.{any_map, filter_same, filter-map}
 use Rattle.jc_failpol.specs.declared.outcomes.Outcome.{Outcome}
 use Rattle.jc_failpol.specs.declared.outcomes.Outcome.TheVariants.{Succeeded}
-use Rattle.jc_failpol.specs.Outcomes.{outcome_of}
-use Rattle.jc_account.specs.Judged.{same_outcome}
+use Rattle.jc_failpol.specs.Outcomes.{is_verdict, outcome_of, same_outcome}
 use Rattle.jc_account.specs.Modes.{indexes_of}
 use Rattle.jc_account.proofs.ListedFacts.{each}
 use Rattle.jc_ledger.specs.declared.rows.Row.{Row}
-use Rattle.jc_ledger.specs.Ledger.{Record, Ledger, record_of, is_verdict, is_fresh, chosen, recorded, judged_as, successes, bump}
-use Rattle.jc_ledger.specs.Verdicts.{row_of, row_for, is_row_of, is_due, new_rows, success_index, indexes_in, IsCount}
+use Rattle.jc_account.specs.Judged.{is_fresh}
+use Rattle.jc_ledger.specs.Ledger.{Record, Ledger, record_of, has_record, chosen, recorded, judged_as, successes, entered}
+use Rattle.jc_ledger.specs.Verdicts.{row_of, row_for, is_row_of, has_row, new_rows, success_index, indexes_in, IsCount}
 
 -- ---- the set of indexes
 
@@ -85,10 +85,10 @@ known_is : (u : Uid) (records : List Record) → is_some (record_of u records) �
 known_is u records = found_some (λ (r : Record). same_uid r.pod.uid u) records ∙ sym (any_map row_of (is_row_of u) records)
 
 -- The pods that are still to be judged.
-pub chosen_is : (job : Job) (records : List Record) (pods : List Pod) → chosen job records pods ≡ filter (is_due job.spec (map row_of records)) pods
+pub chosen_is : (job : Job) (records : List Record) (pods : List Pod) → chosen job records pods ≡ filter (is_fresh job.spec (has_row (map row_of records))) pods
 chosen_is job records pods =
-    filter_same (is_fresh job records) (is_due job.spec (map row_of records)) pods
-    (each (λ pod. is_fresh job records pod ≡ is_due job.spec (map row_of records) pod)
+    filter_same (is_fresh job.spec (has_record records)) (is_fresh job.spec (has_row (map row_of records))) pods
+    (each (λ pod. is_fresh job.spec (has_record records) pod ≡ is_fresh job.spec (has_row (map row_of records)) pod)
     (λ pod. ap (λ b. is_tracked pod && (is_verdict (outcome_of job.spec pod) && not b)) (known_is pod.uid records)) pods)
 
 -- The rows of new records.
@@ -107,9 +107,9 @@ success_indexes job (pod ∷ pods) = by (same_outcome (outcome_of job.spec pod) 
     by false ih = ih
 
 -- What is kept after a write that judges.
-pub count_bump : (job : Job) (pods : List Pod) (seen at : ℕ) (ledger : Ledger) (rows rows' : List Row) (done done' : List ℕ) → IsCount rows done ledger → rows' ≡ rows ++ new_rows job.spec rows pods → done' ≡ join done (indexes_in (new_rows job.spec rows pods))
-    → IsCount rows' done' (bump job pods seen at ledger)
-count_bump job pods seen at ledger rows rows' done done' is more joins = record {
+pub count_entered : (job : Job) (pods : List Pod) (seen at : ℕ) (ledger : Ledger) (rows rows' : List Row) (done done' : List ℕ) → IsCount rows done ledger → rows' ≡ rows ++ new_rows job.spec rows pods → done' ≡ join done (indexes_in (new_rows job.spec rows pods))
+    → IsCount rows' done' (entered job pods seen at ledger)
+count_entered job pods seen at ledger rows rows' done done' is more joins = record {
   rows_are =
       more ∙ ap (λ rs. rs ++ new_rows job.spec rs pods) is.rows_are
       ∙ ap (λ ps. map row_of ledger.records ++ map (row_for job.spec) ps) (sym picks)
@@ -122,7 +122,7 @@ count_bump job pods seen at ledger rows rows' done done' is more joins = record 
       ∙ ap (join ledger.done) (sym (success_indexes job (chosen job ledger.records pods)));
 }
   where
-    picks : chosen job ledger.records pods ≡ filter (is_due job.spec (map row_of ledger.records)) pods
+    picks : chosen job ledger.records pods ≡ filter (is_fresh job.spec (has_row (map row_of ledger.records))) pods
     picks = chosen_is job ledger.records pods
 
 -- How many are judged so, by the rows.

@@ -5,7 +5,7 @@ use Rattle.std.proofs.lemmas.List.{map-append, reverse-append}
 use Rattle.std.proofs.lemmas.Bool.{cond-true}
 use Rattle.jc_types.specs.declared.actions.Script.{Script}
 use Rattle.jc_types.specs.declared.runs.Past.{Past}
-use Rattle.jc_types.specs.Deeds.{deed}
+use Rattle.jc_log.specs.Deeds.{deed}
 use Rattle.jc_ledger.specs.Ledger.{is_status}
 use Rattle.jc_ledger.specs.Syncs.{Began, is_begin, began_of, began_by, sync_of, step_sync, stepper, request_of, appends, reach}
 use Rattle.jc_ledger.specs.Verdicts.{deeds_of, has_begun, sync_at}

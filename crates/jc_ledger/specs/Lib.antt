@@ -3,6 +3,6 @@ pub mod Ledger
 pub mod Once
 pub mod Flights
 pub mod Tied
-pub mod Facts
+pub mod EventKinds
 pub mod Runs
 pub mod Verdicts

@@ -8,10 +8,9 @@
 --     AllJustified job deeds log      each finalizer that a sync took of the Job's pods
 --     CountsOnce deeds log job        the Job's status counts each pod once
 --     Once deeds log                  that of each Job that is there
+--     OnceAtEach deeds log            after each of the deeds, so it was then
 use Rattle.std.specs.Prelude.{◌≡◌, ℕ, ◌+◌, ◌<◌, ◌≤◌, Bool, true, false, ◌&&◌, List, [], ◌∷◌, length, Option, Some, None, IfSome}
 use Rattle.std.specs.List.{IsDistinct}
-use Rattle.std.specs.Option.{option_map_or}
-use Rattle.jc_ranges.specs.Sets.{has}
 use Rattle.jc_types.specs.declared.numbers.Uid.{Uid}
 use Rattle.jc_types.specs.declared.objects.Entry.{Entry}
 use Rattle.jc_types.specs.declared.objects.Entry.TheVariants.{JobPut}
@@ -23,18 +22,18 @@ use Rattle.jc_types.specs.declared.replies.Request.{Request}
 use Rattle.jc_types.specs.declared.replies.Request.TheVariants as request
 use Rattle.jc_types.specs.declared.specifications.Mode.{Mode}
 use Rattle.jc_types.specs.declared.specifications.Mode.TheVariants.{NonIndexed, Indexed}
-use Rattle.jc_types.specs.Conditions.{has_target}
-use Rattle.jc_types.specs.Deeds.{Deed}
+use Rattle.jc_states.specs.Conditions.{has_target}
+use Rattle.jc_log.specs.Deeds.{Deed}
 use Rattle.jc_types.specs.Keys.{same_uid}
-use Rattle.jc_types.specs.Log.{upto, entry_at, job_in, life, Live, is_lost}
-use Rattle.jc_types.specs.Pods.{is_active}
-use Rattle.jc_types.specs.Uids.{is_in}
+use Rattle.jc_log.specs.Log.{upto, entry_at, job_in, life, Live, is_lost}
+use Rattle.jc_states.specs.Pods.{is_active}
+use Rattle.jc_states.specs.Indexes.{is_completed}
+use Rattle.jc_states.specs.UidLists.{is_in}
 use Rattle.jc_failpol.specs.declared.outcomes.Outcome.{Outcome}
 use Rattle.jc_failpol.specs.declared.outcomes.Outcome.TheVariants.{Succeeded, Failed, Ignored}
-use Rattle.jc_failpol.specs.Outcomes.{outcome_of}
+use Rattle.jc_failpol.specs.Outcomes.{outcome_of, same_outcome}
 use Rattle.jc_failpol.specs.FailJob.{fails_job}
 use Rattle.jc_states.specs.Listed.{is_listed}
-use Rattle.jc_account.specs.Judged.{same_outcome}
 use Rattle.jc_ledger.specs.Ledger.{Record, record_of, judged_as, ledger_of}
 use Rattle.jc_ledger.specs.Syncs.{reach, request_of, appends}
 
@@ -72,24 +71,26 @@ pub record PutBefore (P : Job → Type 0) (j : Uid) (w : ℕ) (log : List Entry)
   pub uid : put.uid ≡ j
   pub holds : P put
 
--- The pod's index is one of the completed ones.
-abbrev pub is_completed : List ℕ → Pod → Bool
-is_completed completed pod = option_map_or (λ index. has index completed) pod.index false
-
 -- Why a sync may take the finalizer of the pod of the Job, by an entry of version w: the pod was judged
 -- before; it has failed and is ignored; it was active and is let go; or it has succeeded, and its index was
 -- completed before.
-pub data Cause (job : Job) (records : List Record) (w : ℕ) (log : List Entry) (lets_go : Bool) (pod : Pod) : Type 0 where
-  WasJudged : (r : Record) → record_of pod.uid records ≡ Some r → r.at < w → Cause job records w log lets_go pod
-  IsIgnored : outcome_of job.spec pod ≡ Ignored → Cause job records w log lets_go pod
-  WasActive : lets_go ≡ true → is_active pod ≡ true → Cause job records w log lets_go pod
-  WasCompleted : job.spec.mode ≡ Indexed → pod.phase ≡ phase.Succeeded
-      → PutBefore (λ put. is_completed put.status.completed pod ≡ true) job.uid w log → Cause job records w log lets_go pod
+pub data Cause (job : Job) (records : List Record) (w : ℕ) (log : List Entry) (lets_go : Bool)
+    (pod : Pod) : Type 0
+  where
+    WasJudged : (r : Record) → record_of pod.uid records ≡ Some r → r.at < w
+        → Cause job records w log lets_go pod
+    IsIgnored : outcome_of job.spec pod ≡ Ignored → Cause job records w log lets_go pod
+    WasActive : lets_go ≡ true → is_active pod ≡ true → Cause job records w log lets_go pod
+    WasCompleted : job.spec.mode ≡ Indexed → pod.phase ≡ phase.Succeeded
+        → PutBefore (λ put. is_completed put.status.completed pod ≡ true) job.uid w log
+        → Cause job records w log lets_go pod
 
 -- A sync may take the finalizer of the pod, and where the pod fails the Job a target stood before.
-pub record IsJustified (job : Job) (records : List Record) (w : ℕ) (log : List Entry) (lets_go : Bool) (pod : Pod) : Type 0 where
+pub record IsJustified (job : Job) (records : List Record) (w : ℕ) (log : List Entry) (lets_go : Bool)
+    (pod : Pod) : Type 0 where
   pub cause : Cause job records w log lets_go pod
-  pub target : fails_job job.spec pod ≡ true → PutBefore (λ put. has_target put.status.conditions ≡ true) job.uid w log
+  pub target : fails_job job.spec pod ≡ true
+      → PutBefore (λ put. has_target put.status.conditions ≡ true) job.uid w log
 
 -- If the deed took the finalizer of a pod of the Job, as it stood just before, it was justified.
 abbrev pub TakesJustly : Job → Deed → List Deed → List Entry → Type 0
@@ -110,19 +111,25 @@ AllJustified job (d ∷ past) log = TakesJustly job d past log × AllJustified j
 -- were judged as their list says; a judged pod that is not listed had lost its finalizer when the status
 -- was written, since the entry of the Job's version is the Job's own. Each finalizer was taken justly.
 pub record CountsOnce (deeds : List Deed) (log : List Entry) (job : Job) : Type 0 where
-  pub failed : job.status.failed + length job.status.uncounted_failed ≡ length (judged_as Failed (ledger_of job.uid deeds log).records)
+  pub failed : job.status.failed + length job.status.uncounted_failed
+      ≡ length (judged_as Failed (ledger_of job.uid deeds log).records)
   pub succeeded : job.spec.mode ≡ NonIndexed
-      → job.status.succeeded + length job.status.uncounted_succeeded ≡ length (judged_as Succeeded (ledger_of job.uid deeds log).records)
+      → job.status.succeeded + length job.status.uncounted_succeeded
+      ≡ length (judged_as Succeeded (ledger_of job.uid deeds log).records)
   pub distinct_failed : IsDistinct same_uid job.status.uncounted_failed
   pub distinct_succeeded : IsDistinct same_uid job.status.uncounted_succeeded
-  pub apart : (u : Uid) → (is_in u job.status.uncounted_succeeded && is_in u job.status.uncounted_failed) ≡ false
-  pub listed_failed : (u : Uid) → is_in u job.status.uncounted_failed ≡ true → IsJudged (ledger_of job.uid deeds log).records u Failed job.version.0
-  pub listed_succeeded : (u : Uid) → is_in u job.status.uncounted_succeeded ≡ true → IsJudged (ledger_of job.uid deeds log).records u Succeeded job.version.0
+  pub apart : (u : Uid)
+      → (is_in u job.status.uncounted_succeeded && is_in u job.status.uncounted_failed) ≡ false
+  pub listed_failed : (u : Uid) → is_in u job.status.uncounted_failed ≡ true
+      → IsJudged (ledger_of job.uid deeds log).records u Failed job.version.0
+  pub listed_succeeded : (u : Uid) → is_in u job.status.uncounted_succeeded ≡ true
+      → IsJudged (ledger_of job.uid deeds log).records u Succeeded job.version.0
   pub unlisted : (u : Uid) (r : Record) → record_of u (ledger_of job.uid deeds log).records ≡ Some r
       → is_listable job.spec.mode r.outcome ≡ true → is_listed job.status u ≡ false
       → is_lost (life u (upto job.version.0 log)) ≡ true
   pub taken : AllJustified job deeds log
-  pub completed : job.spec.mode ≡ Indexed → job.status.completed ≡ (ledger_of job.uid deeds log).done
+  pub completed : job.spec.mode ≡ Indexed
+      → job.status.completed ≡ (ledger_of job.uid deeds log).done
   pub size : job.spec.mode ≡ Indexed → job.status.succeeded ≡ length job.status.completed
   pub none : job.spec.mode ≡ Indexed → job.status.uncounted_succeeded ≡ []
   pub plain : job.spec.mode ≡ NonIndexed → job.status.completed ≡ []
@@ -130,3 +137,8 @@ pub record CountsOnce (deeds : List Deed) (log : List Entry) (job : Job) : Type 
 -- Each Job that is there counts each of its pods once.
 abbrev pub Once : List Deed → List Entry → Type 0
 Once deeds log = (k : Key) (job : Job) → job_in k log ≡ Some job → CountsOnce deeds log job
+
+-- So it was after each of the deeds, in the log as it was then. Before the first there was no Job.
+abbrev pub OnceAtEach : List Deed → List Entry → Type 0
+OnceAtEach [] log = Unit {0}
+OnceAtEach (d ∷ past) log = Once (d ∷ past) (upto d.length.0 log) × OnceAtEach past log

@@ -7,11 +7,13 @@
 --     step_sync d past     that of the sync whose step the deed is
 --     appends d past       the deed appended an entry to the log
 use Rattle.std.specs.Prelude.{ℕ, ◌==◌, nat_lt, Bool, false, ◌&&◌, List, [], ◌∷◌, find, if◌then◌else◌, Option, Some, None, is_some, option_and_then}
+use Rattle.jc_log.specs.Acts as does
 use Rattle.jc_types.specs.declared.objects.Key.{Key}
 use Rattle.jc_types.specs.declared.replies.Reply.{Reply}
 use Rattle.jc_types.specs.declared.replies.Reply.TheVariants as reply
 use Rattle.jc_types.specs.declared.replies.Request.{Request}
-use Rattle.jc_types.specs.Deeds.{Act, Begins, Steps, Deed}
+use Rattle.jc_log.specs.Acts.{Act}
+use Rattle.jc_log.specs.Deeds.{Deed}
 
 -- The length of the log after the deeds.
 abbrev pub reach : List Deed → ℕ
@@ -26,12 +28,13 @@ pub record Began : Type 0 where
 
 -- With what a sync began, if the reply says that one did.
 abbrev pub began_of : Reply → Option Began
-began_of (reply.Begun key jobs_at pods_at) = Some (record { key = key; jobs_at = jobs_at.0; pods_at = pods_at.0 })
+began_of (reply.Begun key jobs_at pods_at) =
+    Some (record { key = key; jobs_at = jobs_at.0; pods_at = pods_at.0 })
 began_of other = None
 
 -- It is a begin of the worker.
 abbrev pub is_begin : ℕ → ℕ → Act → Bool
-is_begin c w (Begins controller worker) = (controller == c) && (worker == w)
+is_begin c w (does.Begin controller worker) = (controller == c) && (worker == w)
 is_begin c w other = false
 
 -- With what the worker's sync began by the deed.
@@ -44,7 +47,7 @@ sync_of c w past = option_and_then (began_by c w) (find (λ d. is_some (began_by
 
 -- The controller and the worker of a step.
 abbrev pub stepper : Act → Option (ℕ × ℕ)
-stepper (Steps controller worker) = Some (controller, worker)
+stepper (does.Step controller worker) = Some (controller, worker)
 stepper other = None
 
 -- The request that a step made.

@@ -1,12 +1,17 @@
 -- What ties the ledger to the log, from event to event: the invariant of counting once. It speaks of a flat
 -- list of syncs under way, and of no controller, worker, queue or moment.
 --     made_as j log                  the Job of the UID as it was made, with what never changes of it
---     IsTidy job                     the two lists ascend and are apart, and fit the completion mode
+--     HasSoundLists job              the two lists ascend and are apart, and fit the completion mode
 --     IsSound made log r             a record is what the log says of its pod
 --     IsListing records v status     what the status of version v lists was judged by then
 --     IsCurrent ..                   what is known of the Job as it is now
 --     TiesJob made log ledger        all that ties the ledger of a Job
+--     TotalsWithin n job             each total with its list is at most n
+--     TotalsAreWithin deeds log      so it is of each version of a Job, with the number of its ledger's records
+--     HasIndexIn log pod             the pod has an index, if it was made for an Indexed Job
+--     PodsHaveIndexes log            so has each pod that lives
 --     TakesWell, AllWell             each finalizer that a sync took while the Job was there
+--     OnceBefore deeds log           before the last deed each pod was counted once, after each deed
 --     Tied deeds log flights         all that ties
 use Rattle.std.specs.Prelude.{◌≡◌, ℕ, ◌+◌, ◌<◌, ◌≤◌, true, false, ◌&&◌, List, [], ◌∷◌, length, if◌then◌else◌, Option, Some, None, is_some, IfSome}
 use Rattle.std.specs.List.{AllByRecursion as Each}
@@ -18,19 +23,19 @@ use Rattle.jc_types.specs.declared.objects.Job.{Job}
 use Rattle.jc_types.specs.declared.objects.Pod.{Pod}
 use Rattle.jc_types.specs.declared.specifications.Mode.TheVariants.{NonIndexed, Indexed}
 use Rattle.jc_types.specs.declared.statuses.JobStatus.{JobStatus}
-use Rattle.jc_types.specs.Deeds.{Deed}
+use Rattle.jc_log.specs.Deeds.{Deed}
 use Rattle.jc_types.specs.Keys.{same_uid}
-use Rattle.jc_types.specs.Log.{upto, entry_at, job_in, is_job_of, life, Live, is_lost}
-use Rattle.jc_types.specs.Uids.{Ascends, is_in}
-use Rattle.jc_types.specs.Writes.{Legal}
+use Rattle.jc_log.specs.Log.{upto, entry_at, job_in, is_job_of, life, Live, is_lost}
+use Rattle.jc_states.specs.UidLists.{Ascends, is_in}
+use Rattle.jc_log.specs.Writes.{Legal}
 use Rattle.jc_failpol.specs.declared.outcomes.Outcome.TheVariants.{Succeeded, Failed}
-use Rattle.jc_failpol.specs.Outcomes.{outcome_of}
-use Rattle.jc_failpol.specs.Steps.{WaitsForEnd}
+use Rattle.jc_failpol.specs.Outcomes.{is_verdict, outcome_of}
+use Rattle.jc_failpol.specs.Policies.{WaitsForEnd}
 use Rattle.jc_states.specs.Listed.{is_listed}
 use Rattle.jc_ledger.specs.declared.flights.Flight.{Flight}
 use Rattle.jc_ledger.specs.Flights.{Flies}
-use Rattle.jc_ledger.specs.Ledger.{Record, record_of, is_verdict, judged_as, Ledger, ledger_of}
-use Rattle.jc_ledger.specs.Once.{IsJudged, is_listable, taking_of, IsJustified}
+use Rattle.jc_ledger.specs.Ledger.{Record, record_of, judged_as, Ledger, ledger_of}
+use Rattle.jc_ledger.specs.Once.{IsJudged, is_listable, taking_of, IsJustified, OnceAtEach}
 use Rattle.jc_ledger.specs.Syncs.{reach, Began, began_of, request_of, appends}
 
 -- ---- what never changes of a Job
@@ -52,10 +57,11 @@ made_as j (PodGone pod ∷ older) = made_as j older
 
 -- The lists of the status ascend and are apart. An Indexed Job lists no success, and its total is the number
 -- of its completed indexes; another Job completes none.
-pub record IsTidy (job : Job) : Type 0 where
+pub record HasSoundLists (job : Job) : Type 0 where
   pub failed : Ascends job.status.uncounted_failed
   pub succeeded : Ascends job.status.uncounted_succeeded
-  pub apart : (u : Uid) → (is_in u job.status.uncounted_succeeded && is_in u job.status.uncounted_failed) ≡ false
+  pub apart : (u : Uid)
+      → (is_in u job.status.uncounted_succeeded && is_in u job.status.uncounted_failed) ≡ false
   pub none : job.spec.mode ≡ Indexed → job.status.uncounted_succeeded ≡ []
   pub size : job.spec.mode ≡ Indexed → job.status.succeeded ≡ length job.status.completed
   pub plain : job.spec.mode ≡ NonIndexed → job.status.completed ≡ []
@@ -73,17 +79,22 @@ pub record IsSound (made : Job) (log : List Entry) (r : Record) : Type 0 where
 
 -- What the status of version v lists was judged so, by then.
 pub record IsListing (records : List Record) (v : ℕ) (status : JobStatus) : Type 0 where
-  pub failed : (u : Uid) → is_in u status.uncounted_failed ≡ true → IsJudged records u Failed v
-  pub succeeded : (u : Uid) → is_in u status.uncounted_succeeded ≡ true → IsJudged records u Succeeded v
+  pub failed : (u : Uid) → is_in u status.uncounted_failed ≡ true
+      → IsJudged records u Failed v
+  pub succeeded : (u : Uid) → is_in u status.uncounted_succeeded ≡ true
+      → IsJudged records u Succeeded v
 
 -- What is known of the Job as it is now. A judged pod that is not listed has lost its finalizer; totals and
 -- lists are the ledger's counts, and each record was made by the Job's version.
 pub record IsCurrent (log : List Entry) (ledger : Ledger) (job : Job) : Type 0 where
-  pub lost : (u : Uid) (r : Record) → record_of u ledger.records ≡ Some r → is_listable job.spec.mode r.outcome ≡ true
-      → is_listed job.status u ≡ false → is_lost (life u (upto job.version.0 log)) ≡ true
-  pub failed : job.status.failed + length job.status.uncounted_failed ≡ length (judged_as Failed ledger.records)
+  pub lost : (u : Uid) (r : Record) → record_of u ledger.records ≡ Some r
+      → is_listable job.spec.mode r.outcome ≡ true → is_listed job.status u ≡ false
+      → is_lost (life u (upto job.version.0 log)) ≡ true
+  pub failed : job.status.failed + length job.status.uncounted_failed
+      ≡ length (judged_as Failed ledger.records)
   pub succeeded : job.spec.mode ≡ NonIndexed
-      → job.status.succeeded + length job.status.uncounted_succeeded ≡ length (judged_as Succeeded ledger.records)
+      → job.status.succeeded + length job.status.uncounted_succeeded
+      ≡ length (judged_as Succeeded ledger.records)
   pub completed : job.spec.mode ≡ Indexed → job.status.completed ≡ ledger.done
   pub seen : (u : Uid) (r : Record) → record_of u ledger.records ≡ Some r → r.at ≤ job.version.0
 
@@ -92,10 +103,14 @@ pub record IsCurrent (log : List Entry) (ledger : Ledger) (job : Job) : Type 0 w
 pub record TiesJob (made : Job) (log : List Entry) (ledger : Ledger) : Type 0 where
   pub waits : WaitsForEnd made.spec
   pub sound : (u : Uid) (r : Record) → record_of u ledger.records ≡ Some r → IsSound made log r
-  pub tidy : (v : ℕ) (job : Job) → entry_at v log ≡ Some (JobPut job) → job.uid ≡ made.uid → IsTidy job
-  pub listed : (v : ℕ) (job : Job) → entry_at v log ≡ Some (JobPut job) → job.uid ≡ made.uid → IsListing ledger.records v job.status
-  pub now : (job : Job) → job_in made.key log ≡ Some job → job.uid ≡ made.uid → IsCurrent log ledger job
-  pub indexes : made.spec.mode ≡ Indexed → (u : Uid) (r : Record) → record_of u ledger.records ≡ Some r → r.outcome ≡ Succeeded
+  pub tidy : (v : ℕ) (job : Job) → entry_at v log ≡ Some (JobPut job) → job.uid ≡ made.uid
+      → HasSoundLists job
+  pub listed : (v : ℕ) (job : Job) → entry_at v log ≡ Some (JobPut job) → job.uid ≡ made.uid
+      → IsListing ledger.records v job.status
+  pub now : (job : Job) → job_in made.key log ≡ Some job → job.uid ≡ made.uid
+      → IsCurrent log ledger job
+  pub indexes : made.spec.mode ≡ Indexed
+      → (u : Uid) (r : Record) → record_of u ledger.records ≡ Some r → r.outcome ≡ Succeeded
       → IfSome r.pod.index (λ index. has index ledger.done ≡ true)
 
 -- Of a Job that was not made, nothing was judged.
@@ -103,10 +118,24 @@ abbrev pub Ties : Option Job → List Entry → Ledger → Type 0
 Ties None log ledger = (ledger.records ≡ []) × (ledger.done ≡ [])
 Ties (Some made) log ledger = TiesJob made log ledger
 
--- Each pod that was made for an Indexed Job has an index.
-abbrev pub IsNumbered : List Entry → Type 0
-IsNumbered log = (u : Uid) (pod : Pod) → life u log ≡ Live pod
-    → IfSome (made_as pod.owner_uid log) (λ made. made.spec.mode ≡ Indexed → is_some pod.index ≡ true)
+-- The pod has an index, if it was made for an Indexed Job.
+abbrev pub HasIndexIn : List Entry → Pod → Type 0
+HasIndexIn log pod =
+    IfSome (made_as pod.owner_uid log) (λ made. made.spec.mode ≡ Indexed → is_some pod.index ≡ true)
+
+-- So has each pod that lives.
+abbrev pub PodsHaveIndexes : List Entry → Type 0
+PodsHaveIndexes log = (u : Uid) (pod : Pod) → life u log ≡ Live pod → HasIndexIn log pod
+
+-- Each total of the Job with its list is at most n.
+pub record TotalsWithin (n : ℕ) (job : Job) : Type 0 where
+  pub failed : job.status.failed + length job.status.uncounted_failed ≤ n
+  pub succeeded : job.status.succeeded + length job.status.uncounted_succeeded ≤ n
+
+-- Each is at most the number of the records of the Job's ledger, at every version of the Job.
+abbrev pub TotalsAreWithin : List Deed → List Entry → Type 0
+TotalsAreWithin deeds log = (v : ℕ) (job : Job) → entry_at v log ≡ Some (JobPut job)
+    → TotalsWithin (length (ledger_of job.uid deeds log).records) job
 
 -- ---- finalizers that syncs took
 
@@ -116,7 +145,8 @@ abbrev pub TakesWell : Deed → List Deed → List Entry → Type 0
 TakesWell d past log =
     IfSome (taking_of (request_of d.reply)) (λ taking. appends d past ≡ true
     → (pod : Pod) → life taking.pod (upto (reach past) log) ≡ Live pod
-    → (made : Job) → made_as pod.owner_uid log ≡ Some made → is_job_of made.uid (job_in made.key (upto (reach past) log)) ≡ true
+    → (made : Job) → made_as pod.owner_uid log ≡ Some made
+    → is_job_of made.uid (job_in made.key (upto (reach past) log)) ≡ true
     → IsJustified made (ledger_of made.uid past log).records d.length.0 log taking.lets_go pod)
 
 -- Each finalizer that a sync took.
@@ -135,12 +165,20 @@ abbrev pub IsReached : List Deed → ℕ → Type 0
 IsReached [] n = n ≡ 0
 IsReached (d ∷ past) n = (d.length.0 ≡ n) × ((reach past ≤ n) × IsReached past (reach past))
 
--- What ties a history of deeds, its log and the syncs under way.
+-- After each deed but the last each pod was counted once.
+abbrev pub OnceBefore : List Deed → List Entry → Type 0
+OnceBefore [] log = Unit {0}
+OnceBefore (d ∷ past) log = OnceAtEach past log
+
+-- What ties a history of deeds, its log and the syncs under way. A sync may be planned from an old version of
+-- the log, so what its plan asks of pods and totals is said of every version.
 pub record Tied (deeds : List Deed) (log : List Entry) (flights : List Flight) : Type 0 where
   pub legal : Legal log
   pub reached : IsReached deeds (length log)
   pub within : Each (λ d. IfSome (began_of d.reply) (IsWithin (length log))) deeds
   pub jobs : (j : Uid) → Ties (made_as j log) log (ledger_of j deeds log)
-  pub numbered : IsNumbered log
+  pub numbered : (v : ℕ) → PodsHaveIndexes (upto v log)
+  pub totals : TotalsAreWithin deeds log
   pub taken : AllWell deeds log
+  pub once : OnceBefore deeds log
   pub flying : Each (Flies log) flights

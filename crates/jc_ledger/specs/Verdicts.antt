@@ -5,16 +5,20 @@
 --     has_begun script c w past      the event began a sync of the worker
 --     sync_at d past                 the sync whose write of a status the deed is
 --     Row, row_of record             what a count keeps of a record
+--     has_row rows u                 one of the rows has the UID
 --     new_rows spec rows pods        the rows of the pods that a write judges
+--     fresh_rows job rows log seen   those that it judges of the Job's pods among the first entries
 --     IsCount rows done ledger       the rows and the indexes are those of the ledger
+--     ledger_after ..                the ledger after one more event
 --     HasSeen j log pods at          the pods are those of the Job among the first entries
 --     HasKeys j log keys             each key under which a Job of the UID was put is among the keys
-use Rattle.std.specs.Prelude.{◌≡◌, ℕ, ◌<◌, ◌≤◌, not, ◌&&◌, Bool, true, All, List, map, filter, reverse, take, length, if◌then◌else◌, Option, None, is_some}
+use Rattle.std.specs.Prelude.{◌≡◌, ℕ, ◌<◌, ◌≤◌, ◌&&◌, Bool, true, All, List, map, filter, reverse, take, length, if◌then◌else◌, Option, None, is_some}
 use Rattle.std.specs.List.{filter_map, list_any}
 use Rattle.jc_types.specs.declared.actions.Command.{Command}
 use Rattle.jc_types.specs.declared.actions.Script.{Script}
 use Rattle.jc_types.specs.declared.numbers.Uid.{Uid}
 use Rattle.jc_types.specs.declared.objects.Entry.{Entry}
+use Rattle.jc_types.specs.declared.objects.Job.{Job}
 use Rattle.jc_types.specs.declared.objects.Key.{Key}
 use Rattle.jc_types.specs.declared.objects.Pod.{Pod}
 use Rattle.jc_types.specs.declared.runs.Event.{Event}
@@ -22,17 +26,16 @@ use Rattle.jc_types.specs.declared.runs.Event.TheVariants as event
 use Rattle.jc_types.specs.declared.runs.History.{History}
 use Rattle.jc_types.specs.declared.runs.Past.{Past}
 use Rattle.jc_types.specs.declared.specifications.JobSpec.{JobSpec}
-use Rattle.jc_types.specs.Deeds.{Deed, deed}
+use Rattle.jc_log.specs.Deeds.{Deed, deed}
 use Rattle.jc_types.specs.Keys.{same_key, same_uid}
-use Rattle.jc_types.specs.Log.{has_job, pods_of}
-use Rattle.jc_types.specs.Pods.{is_tracked}
+use Rattle.jc_log.specs.Log.{has_job, pods_of}
 use Rattle.jc_failpol.specs.declared.outcomes.Outcome.TheVariants.{Succeeded, Failed}
-use Rattle.jc_failpol.specs.Outcomes.{outcome_of}
-use Rattle.jc_account.specs.Judged.{same_outcome}
+use Rattle.jc_failpol.specs.Outcomes.{outcome_of, same_outcome}
 use Rattle.jc_ledger.specs.declared.rows.Row.{Row}
 use Rattle.jc_ledger.specs.declared.counts.Verdicts.{Verdicts}
 use Rattle.jc_ledger.specs.Syncs.{Began, began_by, request_of, step_sync, appends}
-use Rattle.jc_ledger.specs.Ledger.{Record, Ledger, judged_as, is_verdict, is_status}
+use Rattle.jc_account.specs.Judged.{is_fresh}
+use Rattle.jc_ledger.specs.Ledger.{Record, Ledger, judged_as, is_status, judging_of, judged_by}
 
 -- The number of a command event is a place among the commands.
 abbrev pub IsPlace : List Command → Event → Type 0
@@ -41,7 +44,7 @@ IsPlace commands (event.System system) = Unit {0}
 
 -- Each command event's number is a place in the script.
 abbrev pub IsNumbered : Script → History → Type 0
-IsNumbered script history = All (λ (past : Past). IsPlace script.commands past.event) history.events
+IsNumbered script history = All (λ (past : Past). IsPlace script.commands past.event) history.events.items
 
 -- How many records have each outcome, and how many indexes there are.
 abbrev pub verdicts_of : Ledger → Verdicts
@@ -77,14 +80,17 @@ row_for spec pod = record { uid = pod.uid; outcome = outcome_of spec pod; index 
 abbrev pub is_row_of : Uid → Row → Bool
 is_row_of u row = same_uid row.uid u
 
--- The pod is still to be judged, where these are the rows.
-abbrev pub is_due : JobSpec → List Row → Pod → Bool
-is_due spec rows pod =
-    is_tracked pod && (is_verdict (outcome_of spec pod) && not (list_any (is_row_of pod.uid) rows))
+-- One of the rows has the UID.
+abbrev pub has_row : List Row → Uid → Bool
+has_row rows u = list_any (is_row_of u) rows
 
 -- The rows of the pods that a write judges.
 abbrev pub new_rows : JobSpec → List Row → List Pod → List Row
-new_rows spec rows pods = map (row_for spec) (filter (is_due spec rows) pods)
+new_rows spec rows pods = map (row_for spec) (filter (is_fresh spec (has_row rows)) pods)
+
+-- The rows of the Job's pods that a write judges whose sync saw the first entries.
+abbrev pub fresh_rows : Job → List Row → List Entry → ℕ → List Row
+fresh_rows job rows log seen = new_rows job.spec rows (pods_of job.uid (reverse (take seen log)))
 
 -- The index of a success.
 abbrev pub success_index : Row → Option ℕ
@@ -98,6 +104,12 @@ indexes_in rows = filter_map success_index rows
 pub record IsCount (rows : List Row) (done : List ℕ) (ledger : Ledger) : Type 0 where
   pub rows_are : rows ≡ map row_of ledger.records
   pub done_is : done ≡ ledger.done
+
+-- The ledger of the Job of the UID after one more event, where it was this one. The log stands oldest first.
+abbrev pub ledger_after : Script → List Past → Past → Uid → List Entry → Ledger → Ledger
+ledger_after script before past j log ledger =
+    judged_by j (reverse log) (judging_of (deed script past) (deeds_of script before) (reverse log))
+    ledger
 
 -- The pods are those of the Job among the first entries of the log.
 pub record HasSeen (j : Uid) (log : List Entry) (pods : List Pod) (at : ℕ) : Type 0 where

@@ -3,17 +3,17 @@
 ghost use Rattle.std.specs.Prelude.{◌≡◌, ◌<◌, ◌^◌, ◌++◌, [], All, IfOk, OnOk, length, reverse, take};
 ghost use Rattle.jc_ranges.specs.Sets.{IsIncreasing};
 ghost use Rattle.jc_types.specs.declared.runs.Past.{Past};
-ghost use Rattle.jc_types.specs.Deeds.{deed, deeds};
-ghost use Rattle.jc_types.specs.Log.{pods_of};
-ghost use Rattle.jc_types.specs.Uids.{join};
-ghost use Rattle.jc_ledger.specs.Ledger.{Ledger, judged_by, judging_of, ledger_of};
-ghost use Rattle.jc_ledger.specs.Verdicts.{HasKeys, HasSeen, IsCount, IsNumbered, IsPlace, deeds_of, indexes_in, new_rows, verdicts_of};
+ghost use Rattle.jc_log.specs.Deeds.{deeds};
+ghost use Rattle.jc_log.specs.Log.{pods_of};
+ghost use Rattle.jc_states.specs.UidLists.{join};
+ghost use Rattle.jc_ledger.specs.Ledger.{Ledger, ledger_of};
+ghost use Rattle.jc_ledger.specs.Verdicts.{HasKeys, HasSeen, IsCount, IsNumbered, IsPlace, deeds_of, fresh_rows, indexes_in, ledger_after, verdicts_of};
 
 use crate::counts::Verdicts;
+use crate::events::written_sync;
 use crate::laws::pods_are_judged_once;
-use crate::looking::{end_of, go_on, is_among, job_among, keys_of};
 use crate::rows::{Row, count, enter, new_rows};
-use crate::stepping::written_sync;
+use crate::seen::{end_of, go_on, is_among, job_among, keys_of};
 use jc_failpol::Outcome;
 use jc_table::PodTable;
 use jc_types::{Entries, Entry, History, Job, Key, Past, Reply, Script, Uid, Want};
@@ -53,8 +53,11 @@ fn look(book: &mut Book, owner: Uid, log: &[Entry], seen: u64) -> Result<(), Wan
 fn judge(alloc: Global, book: &mut Book, job: &Job, log: &[Entry], seen: u64) -> Result<(), Want>
     requires seen { HasSeen job.now.uid log.now book.old.pods book.old.at }
     requires order { IsIncreasing book.old.done.items }
-    ensures rows { OnOk result (book.new.rows.items ≡ book.old.rows.items ++ new_rows job.now.spec book.old.rows.items (pods_of job.now.uid (reverse (take seen log.now)))) }
-    ensures done { OnOk result (book.new.done.items ≡ join book.old.done.items (indexes_in (new_rows job.now.spec book.old.rows.items (pods_of job.now.uid (reverse (take seen log.now)))))) }
+    ensures rows { OnOk result (book.new.rows.items
+        ≡ book.old.rows.items ++ fresh_rows job.now book.old.rows.items log.now seen) }
+    ensures done { OnOk result (book.new.done.items
+        ≡ join book.old.done.items
+        (indexes_in (fresh_rows job.now book.old.rows.items log.now seen))) }
     ensures seen { OnOk result (HasSeen job.now.uid log.now book.new.pods book.new.at) }
 {
     look(book, job.uid, log, seen)?;
@@ -78,7 +81,10 @@ fn take_in(
     requires event { IsPlace script.now.commands past.now.event }
     requires seen { HasSeen owner log.now book.old.pods book.old.at }
     requires order { IsIncreasing book.old.done.items }
-    ensures counted { OnOk result ((ledger : Ledger) → IsCount book.old.rows.items book.old.done.items ledger → IsCount book.new.rows.items book.new.done.items (judged_by owner (reverse log.now) (judging_of (deed script.now past.now) (deeds_of script.now before.now) (reverse log.now)) ledger)) }
+    ensures counted { OnOk result ((ledger : Ledger)
+        → IsCount book.old.rows.items book.old.done.items ledger
+        → IsCount book.new.rows.items book.new.done.items
+        (ledger_after script.now before.now past.now owner log.now ledger)) }
     ensures seen { OnOk result (HasSeen owner log.now book.new.pods book.new.at) }
     ensures order { OnOk result (IsIncreasing book.new.done.items) }
 {
@@ -130,7 +136,8 @@ fn filled(
     owner: Uid,
 ) -> Result<Book, Want>
     requires { All (λ (past : Past). IsPlace script.now.commands past.event) events.now }
-    ensures { IfOk result (λ book. IsCount book.rows.items book.done.items (ledger_of owner (deeds_of script.now events.now) (reverse log.now))) }
+    ensures { IfOk result (λ book. IsCount book.rows.items book.done.items
+        (ledger_of owner (deeds_of script.now events.now) (reverse log.now))) }
 {
     let keys = keys_of(alloc, log, owner)?;
     let mut book = empty(alloc);
@@ -153,7 +160,8 @@ fn filled(
 fn totals(book: &Book) -> Verdicts
     requires rows { length book.now.rows.items < 2 ^ 32 }
     requires done { length book.now.done.items < 2 ^ 32 }
-    ensures { (ledger : Ledger) → IsCount book.now.rows.items book.now.done.items ledger → result ≡ verdicts_of ledger }
+    ensures { (ledger : Ledger)
+        → IsCount book.now.rows.items book.now.done.items ledger → result ≡ verdicts_of ledger }
 {
     let rows = book.rows.as_slice();
     let done = book.done.as_slice();
@@ -184,7 +192,8 @@ pub fn verdicts(
 ) -> Result<Verdicts, Want>
     requires few { length log.now < 2 ^ 32 }
     requires places { IsNumbered script.now history.now }
-    ensures counts { IfOk result (λ v. v ≡ verdicts_of (ledger_of job (deeds script.now history.now) (reverse log.now))) }
+    ensures counts { IfOk result (λ v.
+        v ≡ verdicts_of (ledger_of job (deeds script.now history.now) (reverse log.now))) }
 {
     let book = filled(
         alloc,

@@ -3,20 +3,16 @@
 
 mod counting;
 mod counts;
+mod events;
 mod flights;
 mod laws;
-mod looking;
 mod rows;
-mod stepping;
+mod seen;
 
 pub use counting::verdicts;
 pub use counts::Verdicts;
 pub use flights::Flight;
 pub use laws::{
-    each_pod_is_counted_once, finalizers_are_taken, first_status_is_written, jobs_are_written,
-    pods_are_judged_once, pods_are_written, quiet_events_change_nothing, second_status_is_written,
-    syncs_learn,
+    each_pod_is_counted_once, each_version_can_be_planned, pods_are_judged_once,
+    steps_keep_what_ties, the_start_is_tied,
 };
-
-#[cfg(test)]
-mod tests;

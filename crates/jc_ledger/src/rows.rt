@@ -1,16 +1,14 @@
 //! What is kept of the judged pods of a Job.
 
 ghost use Rattle.std.specs.Prelude.{◌≡◌, ◌<◌, ◌^◌, ◌++◌, ◌∷◌, [], IfOk, OnOk, filter, length};
-ghost use Rattle.std.specs.List.{list_any};
 ghost use Rattle.jc_ranges.specs.Sets.{IsIncreasing, with_member};
-ghost use Rattle.jc_types.specs.Uids.{join};
-ghost use Rattle.jc_failpol.specs.Outcomes.{outcome_of};
-ghost use Rattle.jc_account.specs.Judged.{same_outcome};
+ghost use Rattle.jc_states.specs.UidLists.{join};
+ghost use Rattle.jc_failpol.specs.Outcomes.{outcome_of, same_outcome};
 ghost use Rattle.jc_ledger.specs.declared.rows.Row.{Row};
-ghost use Rattle.jc_ledger.specs.Ledger.{is_verdict};
-ghost use Rattle.jc_ledger.specs.Verdicts.{indexes_in, is_due, is_row_of, new_rows, row_for, success_index};
+ghost use Rattle.jc_account.specs.Judged.{is_fresh};
+ghost use Rattle.jc_ledger.specs.Verdicts.{has_row, indexes_in, new_rows, row_for, success_index};
 
-use jc_failpol::{Outcome, outcome};
+use jc_failpol::{Outcome, is_verdict, outcome};
 use jc_table::PodTable;
 use jc_types::{JobSpec, Pod, Uid, Want};
 use std::alloc::Global;
@@ -25,21 +23,14 @@ pub struct Row {
 
 /// Whether a row has the UID.
 fn is_known(uid: Uid, rows: &[Row]) -> bool
-    ensures { result ≡ list_any (is_row_of uid) rows.now }
+    ensures { result ≡ has_row rows.now uid }
 {
     rows.iter().any(|row| row.uid.0 == uid.0)
 }
 
-/// Whether pods are judged so.
-fn is_verdict(outcome: Outcome) -> bool
-    ensures { result ≡ is_verdict outcome }
-{
-    outcome == Outcome::Succeeded || outcome == Outcome::Failed
-}
-
 /// Whether the pod is still to be judged.
-fn is_due(spec: &JobSpec, rows: &[Row], pod: &Pod) -> bool
-    ensures { result ≡ is_due spec.now rows.now pod.now }
+fn is_fresh(spec: &JobSpec, rows: &[Row], pod: &Pod) -> bool
+    ensures { result ≡ is_fresh spec.now (has_row rows.now) pod.now }
 {
     pod.tracked && is_verdict(outcome(spec, pod)) && !is_known(pod.uid, rows)
 }
@@ -66,7 +57,7 @@ pub fn new_rows(
 {
     let mut new = Vec::new(alloc);
     for pod in pods.values() {
-        if is_due(spec, rows, pod) {
+        if is_fresh(spec, rows, pod) {
             new.push(row_for(spec, pod))?;
         }
     }

@@ -1,8 +1,8 @@
 -- One more event: no Job was there, another one, or the Job.
 use Rattle.std.proofs.Common.{reverse, take, sym, ◌∙◌, eq-eqb, ne_eqb, subst, arith}
 use Rattle.jc_ranges.specs.Sets.{IsIncreasing}
-use Rattle.jc_types.specs.Deeds.{deed}
-use Rattle.jc_types.specs.Log.{pods_of}
+use Rattle.jc_log.specs.Deeds.{deed}
+use Rattle.jc_log.specs.Log.{pods_of}
 use Rattle.jc_ledger.specs.Verdicts.{deeds_of, indexes_in, new_rows}
 use Rattle.jc_ledger.proofs.DoneFacts.{increases_join}
 use Rattle.jc_ledger.proofs.VerdictEvents.{taken_none, taken_other, taken_own, taken_unknown}

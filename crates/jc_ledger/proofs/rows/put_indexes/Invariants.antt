@@ -1,6 +1,6 @@
 use Rattle.std.proofs.Common.{◌≡◌, drop}
 use Rattle.jc_ranges.specs.Sets.{IsIncreasing}
-use Rattle.jc_types.specs.Uids.{join}
+use Rattle.jc_states.specs.UidLists.{join}
 use Rattle.jc_ledger.specs.Verdicts.{indexes_in}
 use Rattle.jc_ledger.proofs.rows.put_indexes.Given as goal
 

@@ -3,7 +3,7 @@
 ghost use Rattle.std.specs.Prelude.{◌≡◌, All, find, reverse};
 ghost use Rattle.std.specs.Option.{option_copied, option_and_then};
 ghost use Rattle.jc_types.specs.declared.runs.Past.{Past};
-ghost use Rattle.jc_types.specs.Deeds.{act_of_action, act_of_event, act_of_system, deed};
+ghost use Rattle.jc_log.specs.Deeds.{act_of_action, act_of_event, act_of_system, deed};
 ghost use Rattle.jc_ledger.specs.Ledger.{is_status};
 ghost use Rattle.jc_ledger.specs.Syncs.{appends, began_of, is_begin, reach, request_of, stepper};
 ghost use Rattle.jc_ledger.specs.Verdicts.{IsPlace, deeds_of, has_begun, sync_at};
@@ -70,7 +70,8 @@ fn last_begin<'a>(
     events: &'a [Past],
 ) -> Option<&'a Past>
     requires { All (λ (past : Past). IsPlace script.now.commands past.event) events.now }
-    ensures { option_copied result ≡ find (has_begun script.now controller worker) (reverse events.now) }
+    ensures { option_copied result
+        ≡ find (has_begun script.now controller worker) (reverse events.now) }
 {
     for place in (0..events.len()).rev() {
         let past = &events[place];
@@ -130,7 +131,8 @@ fn reach(script: &Script, events: &[Past]) -> u64
 pub fn written_sync<'a>(script: &Script, before: &'a [Past], past: &Past) -> Option<&'a Past>
     requires before { All (λ (past : Past). IsPlace script.now.commands past.event) before.now }
     requires event { IsPlace script.now.commands past.now.event }
-    ensures { option_and_then (λ (p : Past). began_of p.reply) (option_copied result) ≡ sync_at (deed script.now past.now) (deeds_of script.now before.now) }
+    ensures { option_and_then (λ (p : Past). began_of p.reply) (option_copied result)
+        ≡ sync_at (deed script.now past.now) (deeds_of script.now before.now) }
 {
     if !is_status(&past.reply) {
         return None;

@@ -6,7 +6,7 @@ ghost use Rattle.std.specs.Option.{option_copied};
 ghost use Rattle.jc_types.specs.declared.objects.Entry.{Entry};
 ghost use Rattle.jc_types.specs.declared.objects.Entry.TheVariants.{JobPut};
 ghost use Rattle.jc_types.specs.Keys.{same_key};
-ghost use Rattle.jc_types.specs.Log.{job_in, pods_of};
+ghost use Rattle.jc_log.specs.Log.{job_in, pods_of};
 ghost use Rattle.jc_ledger.specs.Verdicts.{HasKeys};
 
 use jc_table::PodTable;
@@ -57,7 +57,9 @@ pub fn is_among(keys: &[Key], key: &Key) -> bool
 
 /// Adds the key of a Job that is put, where it has the UID and the key is new.
 fn take_key(keys: &mut Vec<Key>, owner: Uid, job: &Job) -> Result<(), Want>
-    ensures { OnOk result ((older : List Entry) → HasKeys owner older keys.old.items → HasKeys owner (JobPut job.now ∷ older) keys.new.items) }
+    ensures { OnOk result ((older : List Entry)
+        → HasKeys owner older keys.old.items
+        → HasKeys owner (JobPut job.now ∷ older) keys.new.items) }
 {
     if job.uid.0 != owner.0 {
         return Ok(());
@@ -84,7 +86,8 @@ pub fn keys_of(alloc: Global, log: &[Entry], owner: Uid) -> Result<Vec<Key>, Wan
 
 /// Takes one more entry into the pods of a Job. One about a pod of another Job takes its UID out.
 fn take_in(pods: &mut PodTable, owner: Uid, entry: &Entry) -> Result<(), Want>
-    ensures { OnOk result ((older : List Entry) → pods.old ≡ pods_of owner older → pods.new ≡ pods_of owner (entry.now ∷ older)) }
+    ensures { OnOk result ((older : List Entry)
+        → pods.old ≡ pods_of owner older → pods.new ≡ pods_of owner (entry.now ∷ older)) }
 {
     match entry {
         Entry::PodPut(pod) => {

@@ -1,6 +1,6 @@
 use Rattle.std.proofs.Common.{◌≡◌, reverse, take}
-use Rattle.jc_types.specs.Log.{job_in}
-use Rattle.jc_ledger.proofs.looking.job_among.Given as goal
+use Rattle.jc_log.specs.Log.{job_in}
+use Rattle.jc_ledger.proofs.seen.job_among.Given as goal
 
 -- No entry from the place on is about the Job of the key.
 abbrev pub invariant-loop-place : goal.invariant-loop-place

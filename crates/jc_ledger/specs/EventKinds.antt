@@ -1,5 +1,7 @@
 -- What a law on an event asks of it: facts on the deed, on the entry that it appended, and on the sync whose
 -- step it is. `flight` is that sync, as it was before the event.
+--     StatusWrite                 a sync writes a status: what goes with it
+--     FinalizerWrite              a sync takes the finalizer of a pod: what goes with it
 --     IsQuiet d log               the deed appended nothing, and what began is within the log
 --     IsWritten d log             the deed appended one entry, and nothing began
 --     IsPlain d                   the deed is no write of a status and takes no finalizer
@@ -12,7 +14,7 @@
 --     CountsOut before u status   the status counts out the released pods
 --     WritesFirst, WritesSecond   the two writes of a status
 --     Releases, Orphans, LetsGo   the finalizer of a pod is taken
-use Rattle.std.specs.Prelude.{◌≡◌, ◌+◌, ◌≤◌, true, false, ◌&&◌, List, [], ◌∷◌, ◌++◌, length, find, Option, Some, None, is_some, IfSome}
+use Rattle.std.specs.Prelude.{◌≡◌, ◌+◌, ◌≤◌, true, false, List, [], ◌∷◌, ◌++◌, length, find, Option, Some, None, IfSome}
 use Rattle.jc_types.specs.declared.numbers.Uid.{Uid}
 use Rattle.jc_types.specs.declared.objects.Entry.{Entry}
 use Rattle.jc_types.specs.declared.objects.Entry.TheVariants.{JobPut, JobGone, PodPut, PodGone}
@@ -22,28 +24,26 @@ use Rattle.jc_types.specs.declared.replies.Answer.{Answer}
 use Rattle.jc_types.specs.declared.replies.Reply.TheVariants.{Stepped}
 use Rattle.jc_types.specs.declared.replies.Request.{Request}
 use Rattle.jc_types.specs.declared.replies.Request.TheVariants as request
-use Rattle.jc_types.specs.declared.specifications.Mode.TheVariants.{Indexed}
 use Rattle.jc_types.specs.declared.statuses.JobStatus.{JobStatus}
 use Rattle.jc_types.specs.declared.syncs.Basis.{Basis}
 use Rattle.jc_types.specs.declared.syncs.CountIn.{CountIn}
-use Rattle.jc_types.specs.Bases.{is_own}
-use Rattle.jc_types.specs.Conditions.{has_target}
-use Rattle.jc_types.specs.Deeds.{Deed}
+use Rattle.jc_states.specs.Owners.{is_foreign}
+use Rattle.jc_states.specs.Conditions.{has_target}
+use Rattle.jc_log.specs.Deeds.{Deed}
 use Rattle.jc_types.specs.Keys.{same_uid}
-use Rattle.jc_types.specs.Log.{job_in, life, Live, Never, is_lost}
-use Rattle.jc_types.specs.Pods.{is_active}
-use Rattle.jc_types.specs.Uids.{is_in}
-use Rattle.jc_types.specs.Writes.{Allowed}
-use Rattle.jc_failpol.specs.Steps.{WaitsForEnd}
+use Rattle.jc_log.specs.Log.{job_in, life, Live, Never, is_lost}
+use Rattle.jc_states.specs.Pods.{is_active}
+use Rattle.jc_states.specs.UidLists.{is_in}
+use Rattle.jc_log.specs.Writes.{Allowed}
+use Rattle.jc_failpol.specs.Policies.{WaitsForEnd}
 use Rattle.jc_failpol.specs.FailJob.{fails_job}
 use Rattle.jc_account.specs.Accounts.{counted_in, counted_out}
-use Rattle.jc_account.specs.Judged.{is_to_release}
 use Rattle.jc_ledger.specs.declared.flights.Flight.{Flight}
 use Rattle.jc_ledger.specs.Flights.{known, IsBasisOf}
 use Rattle.jc_ledger.specs.Ledger.{is_status}
 use Rattle.jc_ledger.specs.Once.{taking_of}
 use Rattle.jc_ledger.specs.Syncs.{Began, began_of, request_of, step_sync}
-use Rattle.jc_ledger.specs.Tied.{made_as, IsWithin}
+use Rattle.jc_ledger.specs.Tied.{HasIndexIn, IsWithin}
 
 -- ---- deeds
 
@@ -106,7 +106,7 @@ pub record WritesPod (d : Deed) (log : List Entry) (e : Entry) (pod : Pod) : Typ
   pub written : IsWritten d log e
   pub plain : IsPlain d
   pub is_pod : pod_of e ≡ Some pod
-  pub numbered : life pod.uid log ≡ Never → IfSome (made_as pod.owner_uid log) (λ made. made.spec.mode ≡ Indexed → is_some pod.index ≡ true)
+  pub numbered : life pod.uid log ≡ Never → HasIndexIn log pod
 
 -- ---- syncs
 
@@ -146,76 +146,93 @@ CountsIn job pods status = Counts (counted_in job pods) status
 
 -- The status counts out the released pods.
 pub record CountsOut (before : JobStatus) (released : List Uid) (status : JobStatus) : Type 0 where
-  pub uncounted_succeeded : status.uncounted_succeeded ≡ (counted_out before released).uncounted_succeeded
+  pub uncounted_succeeded : status.uncounted_succeeded
+      ≡ (counted_out before released).uncounted_succeeded
   pub uncounted_failed : status.uncounted_failed ≡ (counted_out before released).uncounted_failed
   pub succeeded : status.succeeded ≡ (counted_out before released).succeeded
   pub failed : status.failed ≡ (counted_out before released).failed
   pub completed : status.completed ≡ before.completed
 
+-- ---- statuses that syncs write
+
+-- A sync writes the status of a Job: the sync, the Job as the sync saw it, as it is there and as it is put, and
+-- the answer.
+pub record StatusWrite : Type 0 where
+  pub flight : Flight
+  pub job : Job
+  pub current : Job
+  pub new : Job
+  pub answer : Answer
+
 -- A write of the status by the sync was accepted: the Job `current` is there with the UID that the sync saw
--- and at the version that it sends, and the entry puts it with another status.
-pub record IsAccepted (d : Deed) (past : List Deed) (log : List Entry) (flight : Flight) (job current new : Job) (answer : Answer) : Type 0 where
-  pub written : IsWritten d log (JobPut new)
-  pub reply : d.reply ≡ Stepped request.Status answer
-  pub sync : step_sync d past ≡ Some (began flight.basis)
-  pub seen : flight.basis.job ≡ Some job
-  pub there : job_in flight.basis.key log ≡ Some current
-  pub uid : current.uid ≡ job.uid
-  pub version : current.version ≡ flight.sends
-  pub key : new.key ≡ current.key
+-- and at the version that it sends, and the entry puts it with another status, `new`.
+pub record IsAccepted (d : Deed) (past : List Deed) (log : List Entry) (s : StatusWrite) : Type 0 where
+  pub written : IsWritten d log (JobPut s.new)
+  pub reply : d.reply ≡ Stepped request.Status s.answer
+  pub sync : step_sync d past ≡ Some (began s.flight.basis)
+  pub seen : s.flight.basis.job ≡ Some s.job
+  pub there : job_in s.flight.basis.key log ≡ Some s.current
+  pub uid : s.current.uid ≡ s.job.uid
+  pub version : s.current.version ≡ s.flight.sends
+  pub key : s.new.key ≡ s.current.key
 
 -- The first status is written: it counts in what the sync saw.
-pub record WritesFirst (d : Deed) (past : List Deed) (log : List Entry) (flight : Flight) (job current new : Job) (answer : Answer) : Type 0 where
-  pub accepted : IsAccepted d past log flight job current new answer
-  pub unwritten : flight.written ≡ None
-  pub counts : CountsIn job flight.basis.pods new.status
+pub record WritesFirst (d : Deed) (past : List Deed) (log : List Entry) (s : StatusWrite) : Type 0 where
+  pub accepted : IsAccepted d past log s
+  pub unwritten : s.flight.written ≡ None
+  pub counts : CountsIn s.job s.flight.basis.pods s.new.status
 
 -- The sync once its first status is written.
-abbrev pub with_first : Flight → Job → Flight
-with_first flight new = record flight { written = Some new.status; sends = new.version }
+abbrev pub with_written : Flight → Job → Flight
+with_written flight new = record flight { written = Some new.status; sends = new.version }
 
 -- The second status is written. The status that the sync knows counts in what it saw, whether it was written
 -- or not; the new one counts out all that were to be released, and each of them was.
-pub record WritesSecond (d : Deed) (past : List Deed) (log : List Entry) (flight : Flight) (job current new : Job) (answer : Answer) : Type 0 where
-  pub accepted : IsAccepted d past log flight job current new answer
-  pub counted : CountsIn job flight.basis.pods (known flight job)
-  pub counts : CountsOut (known flight job) (counted_in job flight.basis.pods).releases new.status
-  pub released : (u : Uid) → is_in u (counted_in job flight.basis.pods).releases ≡ true → is_in u flight.released ≡ true
+pub record WritesSecond (d : Deed) (past : List Deed) (log : List Entry) (s : StatusWrite) : Type 0 where
+  pub accepted : IsAccepted d past log s
+  pub counted : CountsIn s.job s.flight.basis.pods (known s.flight s.job)
+  pub counts : CountsOut (known s.flight s.job) (counted_in s.job s.flight.basis.pods).releases s.new.status
+  pub released : (u : Uid)
+      → is_in u (counted_in s.job s.flight.basis.pods).releases ≡ true → is_in u s.flight.released ≡ true
 
--- ---- finalizers
+-- ---- finalizers that syncs take
+
+-- A sync takes the finalizer of a pod: the sync, the entry that it appends, the pod as the sync saw it and as it
+-- is put, and the answer.
+pub record FinalizerWrite : Type 0 where
+  pub flight : Flight
+  pub entry : Entry
+  pub seen : Pod
+  pub pod : Pod
+  pub answer : Answer
 
 -- A step of the sync took the finalizer of the pod: `seen` is the pod as the sync saw it, `pod` as it is now.
-pub record IsTaken (d : Deed) (log : List Entry) (flight : Flight) (asked : Request) (e : Entry) (seen pod : Pod) (answer : Answer) : Type 0 where
-  pub written : IsWritten d log e
-  pub reply : d.reply ≡ Stepped asked answer
-  pub is_seen : find (λ (p : Pod). same_uid p.uid seen.uid) flight.basis.pods ≡ Some seen
-  pub is_pod : pod_of e ≡ Some pod
-  pub uid : pod.uid ≡ seen.uid
-  pub untracked : pod.tracked ≡ false
+pub record TakesFinalizer (d : Deed) (log : List Entry) (asked : Request) (f : FinalizerWrite) : Type 0 where
+  pub written : IsWritten d log f.entry
+  pub reply : d.reply ≡ Stepped asked f.answer
+  pub is_seen : find (λ (p : Pod). same_uid p.uid f.seen.uid) f.flight.basis.pods ≡ Some f.seen
+  pub is_pod : pod_of f.entry ≡ Some f.pod
+  pub uid : f.pod.uid ≡ f.seen.uid
+  pub untracked : f.pod.tracked ≡ false
 
--- A pod is released that the Job's sync had to release. The status that the sync knows counts in what it saw,
--- and where the pod fails the Job a target stands in it.
-pub record Releases (d : Deed) (log : List Entry) (flight : Flight) (job : Job) (e : Entry) (seen pod : Pod) (answer : Answer) : Type 0 where
-  pub taken : IsTaken d log flight (request.Release seen.uid) e seen pod answer
-  pub saw : flight.basis.job ≡ Some job
-  pub due : (is_own job seen && is_to_release job seen) ≡ true
-  pub counted : CountsIn job flight.basis.pods (known flight job)
-  pub target : fails_job job.spec seen ≡ true → has_target (known flight job).conditions ≡ true
-
--- The pod was made for another Job than the one that the sync saw, or it saw none.
-abbrev pub IsForeign : Option Job → Pod → Type 0
-IsForeign None pod = Unit {0}
-IsForeign (Some job) pod = is_own job pod ≡ false
+-- A pod is released that is among those that the Job's sync has to release. The status that the sync knows
+-- counts in what it saw, and where the pod fails the Job a target stands in it.
+pub record Releases (d : Deed) (log : List Entry) (job : Job) (f : FinalizerWrite) : Type 0 where
+  pub taken : TakesFinalizer d log (request.Release f.seen.uid) f
+  pub saw : f.flight.basis.job ≡ Some job
+  pub due : is_in f.seen.uid (counted_in job f.flight.basis.pods).releases ≡ true
+  pub counted : CountsIn job f.flight.basis.pods (known f.flight job)
+  pub target : fails_job job.spec f.seen ≡ true → has_target (known f.flight job).conditions ≡ true
 
 -- An orphan is released: the pod is foreign, and the Job cache was not older than it.
-pub record Orphans (d : Deed) (log : List Entry) (flight : Flight) (e : Entry) (seen pod : Pod) (answer : Answer) : Type 0 where
-  pub taken : IsTaken d log flight (request.Release seen.uid) e seen pod answer
-  pub foreign : IsForeign flight.basis.job seen
-  pub version : seen.version.0 ≤ flight.basis.jobs_at.0
+pub record Orphans (d : Deed) (log : List Entry) (f : FinalizerWrite) : Type 0 where
+  pub taken : TakesFinalizer d log (request.Release f.seen.uid) f
+  pub foreign : is_foreign f.flight.basis.job f.seen ≡ true
+  pub version : f.seen.version.0 ≤ f.flight.basis.jobs_at.0
 
 -- A pod is let go: it was active, and is as the sync saw it.
-pub record LetsGo (d : Deed) (log : List Entry) (flight : Flight) (e : Entry) (seen old pod : Pod) (answer : Answer) : Type 0 where
-  pub taken : IsTaken d log flight (request.LetGo seen.uid) e seen pod answer
-  pub active : is_active seen ≡ true
-  pub there : life seen.uid log ≡ Live old
-  pub version : old.version ≡ seen.version
+pub record LetsGo (d : Deed) (log : List Entry) (old : Pod) (f : FinalizerWrite) : Type 0 where
+  pub taken : TakesFinalizer d log (request.LetGo f.seen.uid) f
+  pub active : is_active f.seen ≡ true
+  pub there : life f.seen.uid log ≡ Live old
+  pub version : old.version ≡ f.seen.version

@@ -1,6 +1,6 @@
 use Rattle.std.proofs.Common.{eq-eqb, ne_eqb}
 use Rattle.jc_ledger.proofs.VerdictPods.{seen_put, seen_other, seen_gone}
-use Rattle.jc_ledger.proofs.looking.take_in.Goals as goal
+use Rattle.jc_ledger.proofs.seen.take_in.Goals as goal
 
 -- A pod of the Job is put.
 pub returns-in_ok-put-in-PodPut : goal.returns-in_ok-put-in-PodPut

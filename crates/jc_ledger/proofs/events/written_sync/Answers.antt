@@ -1,8 +1,8 @@
 use Rattle.std.proofs.Common.{sym, ap, ◌∙◌, lt-ltb, arith}
-use Rattle.jc_types.specs.Deeds.{act_of_event}
+use Rattle.jc_log.specs.Deeds.{act_of_event}
 use Rattle.jc_ledger.specs.Syncs.{stepper}
 use Rattle.jc_ledger.proofs.VerdictSteps.{sync_at-found}
-use Rattle.jc_ledger.proofs.stepping.written_sync.Goals as goal
+use Rattle.jc_ledger.proofs.events.written_sync.Goals as goal
 
 -- The sync of the write began at the last begin of its worker.
 pub returns : goal.returns

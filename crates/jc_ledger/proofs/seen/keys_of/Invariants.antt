@@ -1,6 +1,6 @@
 use Rattle.std.proofs.Common.{reverse, take}
 use Rattle.jc_ledger.specs.Verdicts.{HasKeys}
-use Rattle.jc_ledger.proofs.looking.keys_of.Given as goal
+use Rattle.jc_ledger.proofs.seen.keys_of.Given as goal
 
 -- The keys so far are those of the entries before the place.
 abbrev pub invariant-loop-entry : goal.invariant-loop-entry
