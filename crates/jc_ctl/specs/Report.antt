@@ -1,7 +1,7 @@
 -- The report of a play: what the Job's status and the ledger have counted, where the Job is there.
 use Rattle.std.specs.Prelude.{ℕ, List, [], ◌++◌, codes, decimal, Option, Some, None}
 use Rattle.jc_types.specs.declared.objects.Job.{Job}
-use Rattle.jc_types.specs.Log.{job_in}
+use Rattle.jc_log.specs.Log.{job_in}
 use Rattle.jc_play.specs.Deeds.{Deed, log_of}
 use Rattle.jc_play.specs.Ledger.{judged_succeeded, judged_failed}
 use Rattle.jc_play.specs.Play.{pi}

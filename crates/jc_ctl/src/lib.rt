@@ -6,8 +6,6 @@ mod lines;
 mod report;
 mod run;
 mod script;
-#[cfg(test)]
-mod tests;
 
 pub use run::{Status, run_program};
 pub use script::{Cause, ScriptFault, read_script};

@@ -1,5 +1,5 @@
 -- Whether a value is written as a text, by the text that it was written as.
-use Rattle.std.proofs.Common.{◌≡◌, sym, ◌∙◌, ap, ℕ, List, Bool, true, false, cond, not, ◌&&◌, Option, Some, true≢false, bytes_eq, refl}
+use Rattle.std.proofs.Common.{◌≡◌, sym, ◌∙◌, ap, ℕ, List, Bool, true, false, not, ◌&&◌, Some, true≢false, bytes_eq, refl}
 use Rattle.serde_json.specs.Data.{Data}
 use Rattle.serde_json.specs.Read.{read}
 use Rattle.serde_json.specs.Written.{compact_text, has_float}

@@ -1,1 +1,12 @@
-mod Valid
+pub mod AcceptedFacts
+pub mod CountFacts
+pub mod IndexFacts
+pub mod IndexSetFacts
+pub mod Lists
+pub mod NameFacts
+pub mod NamedFacts
+pub mod NoFloats
+pub mod PolicyFacts
+pub mod Puts
+pub mod RowFacts
+pub mod Valid

@@ -6,8 +6,8 @@ use Rattle.jc_types.specs.declared.replies.Field.TheVariants.{Completions, Paral
 use Rattle.jc_types.specs.declared.replies.Reply.{Reply}
 use Rattle.jc_types.specs.declared.replies.Reply.TheVariants.{Immutable, Invalid}
 use Rattle.jc_types.specs.declared.specifications.JobSpec.{JobSpec}
-use Rattle.jc_types.specs.Api.{changed_spec, given_or, is_above, is_given_else, update_refusal}
-use Rattle.jc_types.specs.Specs.{IsValidSpec}
+use Rattle.jc_log.specs.Requests.{changed_spec, given_or, is_above, is_given_else, update_refusal}
+use Rattle.jc_states.specs.ValidSpecs.{IsValidSpec}
 
 none_some : {A : Type 0} (x : A) → Some x ≡ None → ⊥
 none_some x e = true≢false (ap is_some e)

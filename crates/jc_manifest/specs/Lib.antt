@@ -1,1 +1,14 @@
+pub mod Counts
+pub mod FailurePolicies
 pub mod Faults
+pub mod IndexSets
+pub mod Limits
+pub mod Manifests
+pub mod Members
+pub mod Metadata
+pub mod PrintedSpecs
+pub mod PrintedStatuses
+pub mod Rows
+pub mod SuccessPolicies
+pub mod Templates
+pub mod Words

@@ -1,16 +1,10 @@
 //! What an update of a Job may change.
 
 ghost use Rattle.std.specs.Prelude.{◌≡◌, option_map};
-ghost use Rattle.jc_types.specs.Api.{is_above, is_given_else, update_refusal};
+ghost use Rattle.jc_log.specs.Requests.{is_above, is_given_else, update_refusal};
 ghost use Rattle.jc_manifest.specs.Faults.{reply_to};
 
-use jc_types::{Field, JobSpec, SpecChange};
-
-// The greatest parallelism.
-const MAX_PARALLELISM: u32 = 5_000;
-
-// The greatest backoff limit, and the greatest deadline in seconds.
-const MAX_NUMBER: u32 = 2_147_483_647;
+use jc_types::{Field, GREATEST_LIMIT, GREATEST_PARALLELISM, JobSpec, SpecChange};
 
 /// Why an update is refused.
 #[derive(Clone, Copy, PartialEq, Eq, Debug)]
@@ -23,9 +17,9 @@ pub enum UpdateFault {
 
 /// Why the change may not be made to a specification; `None` where it may.
 ///
-/// `completions` can't be changed (batch/v1), so it is refused where it is given and differs. Then a
-/// parallelism above 5,000 is refused, and then a backoff limit or a deadline, in seconds, above
-/// 2,147,483,647; the first in this order is named.
+/// `completions` can't be changed (batch/v1), so it is refused where it is given and differs. Then
+/// a parallelism above `GREATEST_PARALLELISM` is refused, and then a backoff limit or a deadline, in
+/// seconds, above `GREATEST_LIMIT`; the first in this order is named.
 pub fn check_update(old: &JobSpec, change: &SpecChange) -> Option<UpdateFault>
     ensures { option_map reply_to result ≡ update_refusal old.now change.now }
 {
@@ -34,17 +28,17 @@ pub fn check_update(old: &JobSpec, change: &SpecChange) -> Option<UpdateFault>
             field: Field::Completions,
         });
     }
-    if is_above(MAX_PARALLELISM, change.parallelism) {
+    if is_above(GREATEST_PARALLELISM, change.parallelism) {
         return Some(UpdateFault::Invalid {
             field: Field::Parallelism,
         });
     }
-    if is_above(MAX_NUMBER, change.backoff_limit) {
+    if is_above(GREATEST_LIMIT, change.backoff_limit) {
         return Some(UpdateFault::Invalid {
             field: Field::BackoffLimit,
         });
     }
-    if is_above(MAX_NUMBER, change.deadline) {
+    if is_above(GREATEST_LIMIT, change.deadline) {
         return Some(UpdateFault::Invalid {
             field: Field::Deadline,
         });

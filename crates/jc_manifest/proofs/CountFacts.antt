@@ -1,0 +1,28 @@
+-- The numbers of pods.
+use Rattle.std.proofs.Common.{◌≡◌, ℕ, List, Bool, Option, codes}
+use Rattle.std.specs.Prelude.{unwrap_or}
+use Rattle.serde_json.specs.Data.{Data}
+use Rattle.jc_types.specs.declared.limits.TheConstants.{GREATEST_COMPLETIONS, GREATEST_LIMIT, GREATEST_PARALLELISM}
+use Rattle.jc_manifest.specs.declared.counts.Numbers.{Numbers}
+use Rattle.jc_manifest.specs.declared.limits.Limits.{Limits}
+use Rattle.jc_manifest.specs.Counts.{completions_or, parallelism_in, completions_in, numbers_in}
+use Rattle.jc_manifest.specs.Limits.{suspend_in, limits_in}
+use Rattle.jc_manifest.specs.Rows.{number_in}
+
+-- both numbers, with their defaults
+pub numbers_said : (path : List ℕ) (spec : Data) (parallelism completions : Option ℕ) (running : ℕ) (wanted : Option ℕ)
+    → running ≡ unwrap_or parallelism 1 → wanted ≡ completions_or parallelism completions
+    → parallelism ≡ number_in path spec (codes "parallelism") GREATEST_PARALLELISM
+    → completions ≡ number_in path spec (codes "completions") GREATEST_COMPLETIONS
+    → (let numbers : Numbers = record { parallelism = running; completions = wanted } in numbers ≡ numbers_in path spec)
+unfolding numbers_in parallelism_in completions_in
+numbers_said path spec parallelism completions running wanted p w ps cs = cc
+
+-- the limits, with their defaults
+pub limits_said : (path : List ℕ) (spec : Data) (suspend : Bool) (limit deadline : Option ℕ) (backoff_limit : ℕ)
+    → backoff_limit ≡ unwrap_or limit 6 → suspend ≡ suspend_in path spec
+    → limit ≡ number_in path spec (codes "backoffLimit") GREATEST_LIMIT
+    → deadline ≡ number_in path spec (codes "activeDeadlineSeconds") GREATEST_LIMIT
+    → (let limits : Limits = record { suspend = suspend; backoff_limit = backoff_limit; deadline = deadline } in limits ≡ limits_in path spec)
+unfolding limits_in
+limits_said path spec suspend limit deadline backoff_limit b s ls ds = cc
