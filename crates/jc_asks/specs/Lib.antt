@@ -1,0 +1,4 @@
+pub mod Asks
+pub mod Readings
+pub mod Steps
+pub mod Sends
