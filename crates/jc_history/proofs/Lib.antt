@@ -1,0 +1,16 @@
+pub mod KeyFacts
+pub mod AddFacts
+pub mod LineFacts
+pub mod QueueSteps
+pub mod DueOrder
+pub mod DelayFacts
+pub mod HeldSteps
+pub mod BeginSteps
+pub mod DiaryFacts
+pub mod RegisterFacts
+pub mod LegalFacts
+pub mod DeedSteps
+pub mod RequestFacts
+pub mod ActFacts
+pub mod FollowFacts
+pub mod SamplePlays

@@ -1,0 +1,6 @@
+use Rattle.jc_history.proofs.ActFacts.{register-sync}
+use Rattle.jc_history.proofs.RequestFacts.{made-steps}
+use Rattle.jc_history.proofs.laws.registers_are_the_ledgers_syncs.Goals as goal
+
+pub returns : goal.returns
+returns c = record { sync = register-sync; made = made-steps }
