@@ -13,8 +13,6 @@ mod all;
 mod memory;
 mod plan;
 mod standard;
-#[cfg(test)]
-mod tests;
 
 pub use all::{ReadEnd, WriteFault, read_all, write_all};
 pub use memory::{MemSink, MemSource};
