@@ -1,0 +1,4 @@
+pub mod FirstLine
+pub mod Fronts
+pub mod Reading
+pub mod Rows

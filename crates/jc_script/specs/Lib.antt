@@ -1,0 +1,11 @@
+pub mod Causes
+pub mod Commands
+pub mod Ends
+pub mod Items
+pub mod Lines
+pub mod Members
+pub mod Named
+pub mod Phases
+pub mod Scripts
+pub mod Updates
+pub mod Verbs
