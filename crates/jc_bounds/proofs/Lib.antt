@@ -1,0 +1,15 @@
+pub mod RequestFacts
+pub mod WorkFacts
+pub mod Turns
+pub mod NoteFacts
+pub mod AskEntries
+pub mod BoundFacts
+pub mod FitFacts
+pub mod OrderFacts
+pub mod EntryFacts
+pub mod Appends
+pub mod ClosedFacts
+pub mod EndFacts
+pub mod KeepFacts
+pub mod LegalLogs
+pub mod Whole

@@ -1,0 +1,7 @@
+pub mod Requests
+pub mod Work
+pub mod Bounded
+pub mod Fitting
+pub mod Order
+pub mod Final
+pub mod Kept

@@ -1,0 +1,8 @@
+-- The lemmas on keys that find no rest.
+use Rattle.jc_order.proofs.ForgetFacts.{both, no-rest}
+use Rattle.jc_order.proofs.HonestFacts as honesty
+use Rattle.jc_order.proofs.RestlessFacts as restless
+use Rattle.jc_order.proofs.laws.no_ended_pod_is_forgotten.Goals as goal
+
+pub returns : goal.returns
+returns c = record { since = both; busy = restless.busy; honest = honesty.honest; rest = no-rest }

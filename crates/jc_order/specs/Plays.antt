@@ -1,0 +1,31 @@
+-- Plays that are histories.
+--     IsProper script shape        each command names a controller and a worker of the shape
+--     IsPlayed script shape start p    the play is a legal history of the script, after the start
+use Rattle.std.specs.Prelude.{◌≡◌, ◌≤◌, true, List, length}
+use Rattle.std.specs.List.{AllByRecursion as Each}
+use Rattle.jc_types.specs.declared.actions.Command.{Command}
+use Rattle.jc_types.specs.declared.actions.Script.{Script}
+use Rattle.jc_types.specs.declared.runs.Shape.{Shape}
+use Rattle.jc_log.specs.Deeds.{Deed, act_of_action}
+use Rattle.jc_history.specs.Available.{IsOrderly}
+use Rattle.jc_history.specs.Legal.{InLanes, IsLegal, IsOfShape}
+use Rattle.jc_history.specs.Play.{Playing, deeds_played}
+use Rattle.jc_history.specs.Replies.{log_given}
+
+-- The commands name controllers and workers of the shape.
+abbrev pub AreWithin : Shape → List Command → Type 0
+AreWithin shape commands =
+    Each (λ (command : Command). IsOfShape shape (act_of_action command.action)) commands
+
+abbrev pub IsProper : Script → Shape → Type 0
+IsProper script shape = AreWithin shape script.commands
+
+-- The play is a legal history of the script and the shape, orderly where the deeds were from which
+-- it went on. It is full only where it has all its events.
+pub record IsPlayed (script : Script) (shape : Shape) (start : List Deed) (p : Playing) : Type 0 where
+  pub log_is : p.log ≡ log_given shape (deeds_played script p)
+  pub few : length p.pasts ≤ shape.events
+  pub filled : p.full ≡ true → length p.pasts ≡ shape.events
+  pub lanes : InLanes script.commands p.pasts
+  pub legal : IsLegal shape (deeds_played script p)
+  pub orderly : IsOrderly shape start → IsOrderly shape (deeds_played script p)
