@@ -1,0 +1,6 @@
+-- What a run counts.
+use Rattle.jc_runs.proofs.CountedFacts.{counted, justified}
+use Rattle.jc_runs.proofs.laws.runs_count_once.Goals as goal
+
+pub returns : goal.returns
+returns c = record { at_each = counted; justified = justified }

@@ -1,0 +1,67 @@
+-- What a cluster has is what its history says.
+--     AreWorkers notes rs fs         the workers have the syncs and the faults that the notes tell
+--     IsTeam shape deeds log c team  a controller with its workers has what the history says of it
+--     IsMachine shape deeds log ..   all have, with the log, the fates of pods and the moment
+--     AllAskValid deeds              each Job that a deed creates has a valid specification
+use Rattle.std.specs.Prelude.{◌≡◌, ℕ, ◌≤◌, List, length, slice_get, Option, Some}
+use Rattle.std.specs.List.{AllByRecursion as Each}
+use Rattle.std.specs.Option.{option_map}
+use Rattle.jc_control.specs.Schedules.{MirrorsLog}
+use Rattle.jc_history.specs.Agrees.{IsHeld}
+use Rattle.jc_history.specs.Diaries.{moment, notes}
+use Rattle.jc_history.specs.Legal.{IsLegal}
+use Rattle.jc_history.specs.Notes.{Note}
+use Rattle.jc_history.specs.Registers.{pending, register}
+use Rattle.jc_history.specs.Replies.{log_given}
+use Rattle.jc_sync.specs.Plannable.{IsPlannable}
+use Rattle.jc_sync.specs.Registers.{HasSyncs}
+use Rattle.jc_asks.specs.Steps.{Sync}
+use Rattle.jc_types.specs.declared.actions.Fault.{Fault}
+use Rattle.jc_types.specs.declared.objects.Entry.{Entry}
+use Rattle.jc_types.specs.declared.runs.Shape.{Shape}
+use Rattle.jc_states.specs.ValidSpecs.{IsValidSpec}
+use Rattle.jc_log.specs.Acts as does
+use Rattle.jc_log.specs.Acts.{Act}
+use Rattle.jc_log.specs.Deeds.{Deed}
+use Rattle.jc_runs.specs.Fates.{AreFated, Fates}
+use Rattle.jc_runs.specs.Teams.{Team, registers_of}
+
+-- The workers have the syncs and the faults that the notes tell.
+pub record AreWorkers (notes : List Note) (rs : List (Option Sync)) (fs : List (Option Fault))
+    : Type 0 where
+  pub syncs : (w : ℕ) (sync : Option Sync) → slice_get rs w ≡ Some sync
+      → register w notes ≡ option_map (λ s. s.flight.basis) sync
+  pub faults : (w : ℕ) (fault : Option Fault) → slice_get fs w ≡ Some fault
+      → pending w notes ≡ fault
+
+-- What a controller with its workers has is what its notes say.
+pub record IsTeam (shape : Shape) (deeds : List Deed) (log : List Entry) (c : ℕ) (team : Team)
+    : Type 0 where
+  pub schedule : IsHeld (notes shape c deeds log) team.con.schedule
+  pub holds : MirrorsLog log team.con
+  pub workers : AreWorkers (notes shape c deeds log) team.registers team.faults
+  pub count : length team.registers ≡ shape.workers
+  pub faults : length team.faults ≡ shape.workers
+
+-- What a machine has after so many deeds: a legal history says it all, what ties it is kept, and
+-- each sync can be planned.
+pub record IsMachine (shape : Shape) (deeds : List Deed) (log : List Entry) (teams : List Team)
+    (fates : Fates) (now : ℕ) : Type 0 where
+  pub legal : IsLegal shape deeds
+  pub log_is : log ≡ log_given shape deeds
+  pub now_is : now ≡ moment shape deeds
+  pub fated : AreFated deeds fates
+  pub count : length teams ≡ shape.controllers
+  pub each : (c : ℕ) (team : Team) → slice_get teams c ≡ Some team → IsTeam shape deeds log c team
+  pub syncs : HasSyncs deeds log (registers_of teams)
+  pub plannable : IsPlannable log
+  pub short : length log ≤ length deeds
+
+-- A Job that the act creates has a valid specification.
+abbrev pub AsksValid : Act → Type 0
+AsksValid (does.Create key spec) = IsValidSpec spec
+AsksValid other = Unit {0}
+
+-- So has each that a deed creates.
+abbrev pub AllAskValid : List Deed → Type 0
+AllAskValid deeds = Each (λ (d : Deed). AsksValid d.act) deeds
