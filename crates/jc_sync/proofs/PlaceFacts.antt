@@ -77,7 +77,7 @@ place_of flight left (After made rest are is knows released) = AtLast made rest 
 -- Where a request is left the second status is not written.
 pub asks_under : (flight : Flight) (ask : Ask) (left : List Ask) → IsAt flight (ask ∷ left) → IsUnder flight (ask ∷ left)
 asks_under flight ask left (Under under) = under
-asks_under flight ask left (Over is) = absurd (true≢false (ap is_asked is))
+asks_under flight ask left (Over is released) = absurd (true≢false (ap is_asked is))
 
 -- ---- by the next request
 

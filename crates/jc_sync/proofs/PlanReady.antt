@@ -9,7 +9,7 @@ use Rattle.jc_types.specs.declared.objects.Entry.TheVariants.{JobPut, PodPut}
 use Rattle.jc_types.specs.declared.objects.Job.{Job}
 use Rattle.jc_types.specs.declared.objects.Pod.{Pod}
 use Rattle.jc_types.specs.declared.specifications.Mode.TheVariants.{Indexed}
-use Rattle.jc_types.specs.declared.syncs.Basis.{Basis}
+use Rattle.jc_states.specs.declared.bases.Basis.{Basis}
 use Rattle.jc_states.specs.Bases.{CanPlan, IsTidy, TotalsFit, own_pods}
 use Rattle.jc_log.specs.Deeds.{Deed}
 use Rattle.jc_types.specs.Keys.{same_key}

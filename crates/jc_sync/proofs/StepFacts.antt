@@ -118,7 +118,7 @@ module _ (log : List Entry) (now : ℕ) (flight : Flight) (stored : Stored log) 
       by None is = absurd (true≢false (ap is_some (sym ask.first ∙ plan-no_first flight.basis is)))
       by (Some job) is = first_at left job is ask (status_gives log flight ask.status (Some job)) (status_cases log flight.basis.key job.uid flight.sends ask.status)
   asked_next (ReleasePod u) left at = λ goes. Under (pod_next log now flight (ReleasePod u) left (as_answer (answered_to log now flight (ReleasePod u)).reply) refl at)
-  asked_next WriteSecond left at = λ goes. Over (at_second flight left at).is
+  asked_next WriteSecond left at = λ goes. let ask = at_second flight left at in Over ask.is ask.released
 
   -- The sync goes on to its next place.
   pub stepped_next : (pending : Option Fault) (left : List Ask) → IsAt flight left → IfGoesOn (stepped_at now pending log flight left).next (λ s. IsAt s.flight s.left)

@@ -11,7 +11,7 @@ use Rattle.std.specs.List.{AllByRecursion as Each}
 use Rattle.jc_types.specs.declared.numbers.Uid.{Uid}
 use Rattle.jc_types.specs.declared.numbers.Version.{Version}
 use Rattle.jc_types.specs.declared.objects.Pod.{Pod}
-use Rattle.jc_types.specs.declared.syncs.Basis.{Basis}
+use Rattle.jc_states.specs.declared.bases.Basis.{Basis}
 use Rattle.jc_types.specs.Keys.{same_uid}
 use Rattle.jc_states.specs.Pods.{is_active}
 use Rattle.jc_states.specs.UidLists.{is_in}
@@ -61,10 +61,10 @@ pub data IsUnder (flight : Flight) (left : List Ask) : Type 0 where
       → left ≡ last_asks rest (planned flight.basis).second
       → KnowsFirst flight → AreReleased flight made → IsUnder flight left
 
--- So it stands, or its second status is written and nothing is left to ask.
+-- So it stands, or its second status is written and nothing is left to ask: each release was answered.
 pub data IsAt (flight : Flight) (left : List Ask) : Type 0 where
   Under : IsUnder flight left → IsAt flight left
-  Over : left ≡ [] → IsAt flight left
+  Over : left ≡ [] → AreReleased flight (planned flight.basis).releases → IsAt flight left
 
 -- It holds of the sync, where that goes on.
 abbrev pub IfGoesOn : Next → (Sync → Type 0) → Type 0

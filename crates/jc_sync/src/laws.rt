@@ -12,7 +12,7 @@ ghost use Rattle.jc_types.specs.declared.objects.Job.{Job};
 ghost use Rattle.jc_types.specs.declared.objects.Key.{Key};
 ghost use Rattle.jc_types.specs.declared.replies.Answer.{Answer};
 ghost use Rattle.jc_types.specs.declared.specifications.JobSpec.{JobSpec};
-ghost use Rattle.jc_types.specs.declared.syncs.Basis.{Basis};
+ghost use Rattle.jc_states.specs.declared.bases.Basis.{Basis};
 ghost use Rattle.jc_states.specs.Bases.{CanPlan};
 ghost use Rattle.jc_states.specs.PodLists.{IsRising};
 ghost use Rattle.jc_states.specs.ValidSpecs.{IsValidSpec};

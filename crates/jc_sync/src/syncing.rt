@@ -14,8 +14,9 @@ use jc_asks::{Ask, Asks};
 use jc_control::SyncEnd;
 use jc_moment::Moment;
 use jc_plan::Plan;
+use jc_states::Basis;
 use jc_store::Store;
-use jc_types::{Answer, Backoff, Basis, Fault, JobStatus, Reply, Request, Version, Want};
+use jc_types::{Answer, Backoff, Fault, JobStatus, Reply, Request, Version, Want};
 use std::alloc::Global;
 use std::marker::Model;
 

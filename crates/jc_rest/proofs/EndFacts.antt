@@ -1,0 +1,234 @@
+-- A sync that saw a Job and its ended pod, while both stand, neither ends well nor finds its Job gone.
+use Rattle.std.proofs.Common.{◌≡◌, ℕ, ◌≤◌, Bool, true, false, cond, not, ◌&&◌, ◌||◌, List, [], ◌∷◌, filter, find, length, Option, Some, None, IfSome, refl, sym, ap, ◌∙◌, subst, arith, true≢false}
+use Rattle.std.specs.Option.{option_map_or}
+use Rattle.std.proofs.lemmas.Bool.{and_from, and_parts, not_from_false, or_left}
+use Rattle.std.proofs.lemmas.List.{append-nil}
+use Rattle.jc_failpol.specs.declared.outcomes.Outcome.{Outcome}
+use Rattle.jc_failpol.specs.declared.outcomes.Outcome.TheVariants.{Alive, Succeeded, Failed, Ignored}
+use Rattle.jc_failpol.specs.Outcomes.{counts_marked, failure_of, is_failed, is_ignore, is_succeeded, outcome_of, same_outcome}
+use Rattle.jc_failpol.specs.Rules.{action_of}
+use Rattle.jc_types.specs.declared.actions.Fault.{Fault}
+use Rattle.jc_types.specs.declared.actions.Fault.TheVariants.{Drop, Lose}
+use Rattle.jc_types.specs.declared.numbers.Uid.{Uid}
+use Rattle.jc_types.specs.declared.objects.Entry.{Entry}
+use Rattle.jc_types.specs.declared.objects.Job.{Job}
+use Rattle.jc_types.specs.declared.objects.Key.{Key}
+use Rattle.jc_types.specs.declared.objects.Phase.{Phase}
+use Rattle.jc_types.specs.declared.objects.Phase.TheVariants as phase
+use Rattle.jc_types.specs.declared.objects.Pod.{Pod}
+use Rattle.jc_types.specs.declared.policies.FailurePolicy.{FailurePolicy}
+use Rattle.jc_types.specs.declared.replies.Answer.{Answer}
+use Rattle.jc_types.specs.declared.replies.Answer.TheVariants as answer
+use Rattle.jc_types.specs.declared.replies.Reply.TheVariants as reply
+use Rattle.jc_types.specs.declared.specifications.JobSpec.{JobSpec}
+use Rattle.jc_types.specs.declared.statuses.JobStatus.{JobStatus}
+use Rattle.jc_types.specs.Keys.{same_key, same_uid}
+use Rattle.jc_types.proofs.KeyFacts.{same_uid-eq}
+use Rattle.jc_states.specs.Bases.{is_own}
+use Rattle.jc_states.specs.Listed.{is_listed}
+use Rattle.jc_states.specs.Pods.{is_final, is_marked, is_tracked}
+use Rattle.jc_states.specs.UidLists.{is_in}
+use Rattle.jc_log.specs.Log.{Live, is_job_of, is_lost, job_in, life, living, pod_in, pods_in, upto}
+use Rattle.jc_log.specs.Requests.{Answered}
+use Rattle.jc_log.proofs.LogFacts.{upto-all}
+use Rattle.jc_log.proofs.PodFacts.{living-live, pods_in-among}
+use Rattle.jc_log.proofs.WriteFacts.{life-uid}
+use Rattle.jc_plan.specs.Plans.{planned}
+use Rattle.jc_plan.proofs.OrderFacts.{due-released}
+use Rattle.jc_ledger.specs.declared.flights.Flight.{Flight}
+use Rattle.jc_ledger.specs.Flights.{Flies}
+use Rattle.jc_ledger.proofs.DuePods.{due_in}
+use Rattle.jc_asks.specs.declared.asks.Ask.{Ask}
+use Rattle.jc_asks.specs.declared.asks.Ask.TheVariants.{MakePod, MarkPod, LetPodGo, WriteFirst, ReleasePod, WriteSecond}
+use Rattle.jc_asks.specs.Asks.{as_request}
+use Rattle.jc_asks.specs.Steps.{as_answer, answered_to, status_gives, stepped_at, written_gives}
+use Rattle.jc_sync.specs.Places.{AreReleased, IsAt, Over, Under}
+use Rattle.jc_sync.proofs.ApiFacts.{Absent, Accepted, Conflicts, Same, StatusCases, status_cases}
+use Rattle.jc_sync.proofs.PlaceFacts.{AtEarly, AtFirst, AtLast, Place, at_first, at_second, is_asked, place_of}
+use Rattle.jc_history.specs.Delays.{is_retried}
+use Rattle.jc_history.specs.Diaries.{end_by}
+use Rattle.jc_history.specs.Registers.{asks_status}
+use Rattle.jc_order.specs.Restless.{has_forgotten, is_forgotten}
+use Rattle.jc_rest.specs.Both.{AreThere, FailsAfter, has_job_as}
+
+-- ---- the two
+
+-- The Job of the UID.
+record TheJob (k : Key) (j : Uid) (log : List Entry) : Type 0 where
+  job : Job
+  is : job_in k log ≡ Some job
+  uid : job.uid ≡ j
+
+the-job : (k : Key) (j : Uid) (log : List Entry) → has_job_as k j log ≡ true → TheJob k j log
+the-job k j log h = by (job_in k log) refl h
+  where
+    by : (o : Option Job) → job_in k log ≡ o → is_job_of j o ≡ true → TheJob k j log
+    by None e h = absurd (true≢false (sym h))
+    by (Some job) e h = record { job = job; is = e; uid = same_uid-eq job.uid j h }
+
+-- The pod of the UID.
+record ThePod (k : Key) (j u : Uid) (log : List Entry) : Type 0 where
+  pod : Pod
+  is : life u log ≡ Live pod
+  owner : same_key pod.owner k ≡ true
+  own : same_uid pod.owner_uid j ≡ true
+  tracked : pod.tracked ≡ true
+  final : is_final pod.phase ≡ true
+
+the-pod : (k : Key) (j u : Uid) (log : List Entry) → has_forgotten k j u log ≡ true → ThePod k j u log
+the-pod k j u log h = by (pod_in u log) refl h
+  where
+    by : (o : Option Pod) → pod_in u log ≡ o → option_map_or (is_forgotten k j) o false ≡ true → ThePod k j u log
+    by None e h = absurd (true≢false (sym h))
+    by (Some pod) e h =
+        let one = and_parts (same_key pod.owner k) (same_uid pod.owner_uid j && (pod.tracked && is_final pod.phase)) h in
+        let two = and_parts (same_uid pod.owner_uid j) (pod.tracked && is_final pod.phase) one.1 in
+        let three = and_parts pod.tracked (is_final pod.phase) two.1 in
+        record { pod = pod; is = living-live (life u log) pod e; owner = one.0; own = two.0; tracked = three.0; final = three.1 }
+
+-- ---- what has ended is not alive
+
+failure-out : (failure : Option FailurePolicy) (pod : Pod) → same_outcome (failure_of failure pod) Alive ≡ false
+failure-out None pod = refl
+failure-out (Some policy) pod = by (is_ignore (action_of policy pod))
+  where
+    by : (b : Bool) → same_outcome (cond b Ignored Failed) Alive ≡ false
+    by true = refl
+    by false = refl
+
+ended-out : (spec : JobSpec) (pod : Pod) → is_final pod.phase ≡ true → same_outcome (outcome_of spec pod) Alive ≡ false
+ended-out spec pod h = by pod.phase (counts_marked spec.replacement && is_marked pod) (failure_of spec.failure pod) (failure-out spec.failure pod) h
+  where
+    by : (p : Phase) (x : Bool) (o : Outcome) → same_outcome o Alive ≡ false → is_final p ≡ true → same_outcome (cond (is_succeeded p) Succeeded (cond (is_failed p || x) o Alive)) Alive ≡ false
+    by phase.Pending x o n h = absurd (true≢false (sym h))
+    by phase.Running x o n h = absurd (true≢false (sym h))
+    by phase.Succeeded x o n h = refl
+    by phase.Failed x o n h = n
+
+-- ---- what is found stays found
+
+found-kept : (test keep : Pod → Bool) (pods : List Pod) (pod : Pod) → keep pod ≡ true → find test pods ≡ Some pod → find test (filter keep pods) ≡ Some pod
+found-kept test keep [] pod k e = e
+found-kept test keep (p ∷ pods) pod k e = by (test p) refl (keep p) refl e (found-kept test keep pods pod k)
+  where
+    by : (t : Bool) → test p ≡ t → (b : Bool) → keep p ≡ b → cond t (Some p) (find test pods) ≡ Some pod → (find test pods ≡ Some pod → find test (filter keep pods) ≡ Some pod)
+        → find test (cond b (p ∷ filter keep pods) (filter keep pods)) ≡ Some pod
+    by true s true q e ih = ap (λ t. cond t (Some p) (find test (filter keep pods))) s ∙ e
+    by true s false q e ih = absurd (true≢false (sym k ∙ ap (λ (o : Option Pod). elim o [ None ↦ true | Some x ↦ keep x ]) (sym e) ∙ q))
+    by false s true q e ih = ap (λ t. cond t (Some p) (find test (filter keep pods))) s ∙ ih e
+    by false s false q e ih = ih e
+
+-- ---- the answers
+
+-- A request that writes no status ends its sync only where the answer was lost.
+other-fails : (given : Answer) → IfSome (end_by false given) (λ end. is_retried end ≡ true)
+other-fails answer.Unavailable = refl
+other-fails other = tt
+
+lost-fails : (b : Bool) → IfSome (end_by b answer.Unavailable) (λ end. is_retried end ≡ true)
+lost-fails true = refl
+lost-fails false = refl
+
+-- Where nothing is left to ask, all releases were answered.
+all-released : (flight : Flight) → IsAt flight [] → AreReleased flight (planned flight.basis).releases
+all-released flight (Over is released) = released
+all-released flight (Under under) = by (place_of flight [] under)
+  where
+    by : Place flight [] → AreReleased flight (planned flight.basis).releases
+    by (AtEarly ask front is early others unwritten) = absurd (true≢false (sym (ap is_asked is)))
+    by (AtFirst status first is unwritten) = absurd (true≢false (sym (ap is_asked is)))
+    by (AtLast made (u ∷ rest) are is knows released) = absurd (true≢false (sym (ap is_asked is)))
+    by (AtLast made [] are is knows released) = λ u h. released u (sym (ap (is_in u) (are ∙ append-nil made)) ∙ h)
+
+module _ (k : Key) (j u : Uid) (a b : ℕ) (log : List Entry) (there : AreThere k j u a b log) (now : ℕ) (flight : Flight) (flies : Flies log flight)
+    (named : flight.basis.key ≡ k) (jobs : a ≤ flight.basis.jobs_at.0) (pods : b ≤ flight.basis.pods_at.0) where
+  whole : upto (length log) log ≡ log
+  whole = upto-all (length log) log (omega arith)
+
+  seen-log : List Entry
+  seen-log = upto flight.basis.pods_at.0 log
+
+  -- As the sync saw them, and as they are now.
+  old-job : TheJob k j (upto flight.basis.jobs_at.0 log)
+  old-job = the-job k j (upto flight.basis.jobs_at.0 log) (there.job flight.basis.jobs_at.0 jobs flies.basis.jobs_at)
+
+  new-job : TheJob k j log
+  new-job =
+      the-job k j log
+      (ap (has_job_as k j) (sym whole)
+      ∙ there.job (length log) (let le = flies.basis.jobs_at in omega (arith, jobs, le)) (omega arith))
+
+  old-pod : ThePod k j u (upto flight.basis.pods_at.0 log)
+  old-pod = the-pod k j u (upto flight.basis.pods_at.0 log) (there.pod flight.basis.pods_at.0 pods flies.basis.pods_at)
+
+  new-pod : ThePod k j u log
+  new-pod =
+      the-pod k j u log
+      (ap (has_forgotten k j u) (sym whole)
+      ∙ there.pod (length log) (let le = flies.basis.pods_at in omega (arith, pods, le)) (omega arith))
+
+  saw-it : flight.basis.job ≡ Some old-job.job
+  saw-it = flies.basis.job ∙ ap (λ q. job_in q (upto flight.basis.jobs_at.0 log)) named ∙ old-job.is
+
+  -- ---- it does not end well
+
+  pod-uid : old-pod.pod.uid ≡ u
+  pod-uid = life-uid u (upto flight.basis.pods_at.0 log) old-pod.pod old-pod.is
+
+  found : find (λ (p : Pod). same_uid p.uid old-pod.pod.uid) flight.basis.pods ≡ Some old-pod.pod
+  found =
+      ap (find (λ (p : Pod). same_uid p.uid old-pod.pod.uid)) flies.basis.pods
+      ∙ found-kept (λ p. same_uid p.uid old-pod.pod.uid) (λ p. same_key p.owner flight.basis.key) (pods_in (upto flight.basis.pods_at.0 log)) old-pod.pod
+      (ap (same_key old-pod.pod.owner) named ∙ old-pod.owner)
+      (ap (λ v. find (λ (p : Pod). same_uid p.uid v) (pods_in (upto flight.basis.pods_at.0 log))) pod-uid
+      ∙ pods_in-among u (upto flight.basis.pods_at.0 log) ∙ ap living old-pod.is)
+
+  own : is_own old-job.job old-pod.pod ≡ true
+  own = ap (same_uid old-pod.pod.owner_uid) old-job.uid ∙ old-pod.own
+
+  due : is_in old-pod.pod.uid (planned flight.basis).releases ≡ true
+  due =
+      due-released old-pod.pod.uid old-job.job flight.basis saw-it
+      (due_in old-job.job flight.basis.pods old-pod.pod found own
+      (and_from (is_tracked old-pod.pod) (not (same_outcome (outcome_of old-job.job.spec old-pod.pod) Alive) || is_listed old-job.job.status old-pod.pod.uid) old-pod.tracked
+      (or_left (not (same_outcome (outcome_of old-job.job.spec old-pod.pod) Alive)) (is_listed old-job.job.status old-pod.pod.uid)
+      (not_from_false (same_outcome (outcome_of old-job.job.spec old-pod.pod) Alive) (ended-out old-job.job.spec old-pod.pod old-pod.final)))))
+
+  held : is_lost (life u log) ≡ false
+  held = ap is_lost new-pod.is ∙ ap not new-pod.tracked
+
+  never-ends : IsAt flight [] → ⊥
+  never-ends at =
+      true≢false
+      (sym (flies.released old-pod.pod.uid (all-released flight at old-pod.pod.uid due))
+      ∙ ap (λ v. is_lost (life v log)) pod-uid ∙ held)
+
+  -- ---- nor is its Job gone
+
+  status-fails : (status : JobStatus) (given : Answered) → StatusCases log flight.basis.key old-job.job.uid flight.sends status given → IfSome (end_by true (as_answer given.reply)) (λ end. is_retried end ≡ true)
+  status-fails status given (Accepted current is its at differs e) = subst (λ (x : Answered). IfSome (end_by true (as_answer x.reply)) (λ end. is_retried end ≡ true)) (sym e) tt
+  status-fails status given (Same current is its at same e) = subst (λ (x : Answered). IfSome (end_by true (as_answer x.reply)) (λ end. is_retried end ≡ true)) (sym e) tt
+  status-fails status given (Conflicts current is its other e) = subst (λ (x : Answered). IfSome (end_by true (as_answer x.reply)) (λ end. is_retried end ≡ true)) (sym e) refl
+  status-fails status given (Absent gone e) = absurd (gone new-job.job (ap (λ q. job_in q log) named ∙ new-job.is) (new-job.uid ∙ sym old-job.uid))
+
+  written-fails : (status : JobStatus) (o : Option JobStatus) → o ≡ Some status → IfSome (end_by true (as_answer (written_gives log flight o).reply)) (λ end. is_retried end ≡ true)
+  written-fails status o is =
+      status-fails status (written_gives log flight o)
+      (subst (λ p. StatusCases log flight.basis.key old-job.job.uid flight.sends status (written_gives log flight p)) (sym is)
+      (subst (λ p. StatusCases log flight.basis.key old-job.job.uid flight.sends status (status_gives log flight status p)) (sym saw-it)
+      (status_cases log flight.basis.key old-job.job.uid flight.sends status)))
+
+  asked-fails : (ask : Ask) (left : List Ask) → IsAt flight (ask ∷ left) → FailsAfter (reply.Stepped (as_request ask) (as_answer (answered_to log now flight ask).reply))
+  asked-fails (MakePod index) left at = other-fails (as_answer (answered_to log now flight (MakePod index)).reply)
+  asked-fails (MarkPod v) left at = other-fails (as_answer (answered_to log now flight (MarkPod v)).reply)
+  asked-fails (LetPodGo v version) left at = other-fails (as_answer (answered_to log now flight (LetPodGo v version)).reply)
+  asked-fails WriteFirst left at = let ask = at_first flight left at in written-fails ask.status (planned flight.basis).first ask.first
+  asked-fails (ReleasePod v) left at = other-fails (as_answer (answered_to log now flight (ReleasePod v)).reply)
+  asked-fails WriteSecond left at = let ask = at_second flight left at in written-fails ask.status (planned flight.basis).second ask.second
+
+  -- So no step ends it but as one that failed.
+  pub step-fails : (pending : Option Fault) (left : List Ask) → IsAt flight left → FailsAfter (stepped_at now pending log flight left).reply
+  step-fails pending [] at = never-ends at
+  step-fails None (ask ∷ left) at = asked-fails ask left at
+  step-fails (Some Drop) (ask ∷ left) at = lost-fails (asks_status (as_request ask))
+  step-fails (Some Lose) (ask ∷ left) at = lost-fails (asks_status (as_request ask))

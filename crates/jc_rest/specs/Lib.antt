@@ -1,0 +1,3 @@
+pub mod LetGo
+pub mod Both
+pub mod Lost
