@@ -1,0 +1,4 @@
+mod ChangeFacts
+mod FateFacts
+mod NextFacts
+mod LawFacts

@@ -1,0 +1,93 @@
+//! How the pods of each key are to end.
+
+ghost use Rattle.std.specs.Prelude.{◌≡◌, ◌≢◌, [], IfSome, OnErr, OnOk, Some, if◌then◌else◌, option_copied};
+ghost use Rattle.jc_types.specs.declared.objects.Key.{Key};
+ghost use Rattle.jc_types.specs.Keys.{same_key};
+ghost use Rattle.jc_log.specs.Tables.{puts};
+ghost use Rattle.jc_history.specs.Nodes.{end_at, last_end, pod_end};
+ghost use Rattle.jc_node.specs.Fated.{ends_in};
+
+use jc_table::Table;
+use jc_types::{Copied, End, Ends, Key, Pod, Want};
+use std::alloc::Global;
+use std::marker::Model;
+
+/// How the pods of each key are to end, where that is decided: a list that is not empty, of which
+/// a pod has the end at its serial, or the last where its serial is greater.
+#[derive(Drop)]
+pub struct Fates {
+    rows: Table<Key, Ends>,
+}
+
+impl Model for Fates {
+    ghost use Rattle.std.specs.Prelude.{List};
+    ghost use Rattle.jc_types.specs.declared.actions.End.{End};
+    ghost use Rattle.jc_types.specs.declared.objects.Key.{Key};
+    ghost use Rattle.jc_node.specs.Fated.{HaveEnds};
+
+    ghost Value = { List (Key × List End) };
+
+    ghost view = { λ f. f.rows };
+
+    ghost invariant = { λ f. HaveEnds f.rows };
+}
+
+impl Fates {
+    /// No fates. It takes no memory.
+    pub fn new(alloc: Global) -> Fates
+        ensures { result ≡ [] }
+    {
+        Fates {
+            rows: Table::new(alloc),
+        }
+    }
+
+    /// Decides how the pods of a key are to end, in place of what was decided before. There is at
+    /// least one end.
+    ///
+    /// # Errors
+    /// `Want` where there is no memory for it; the fates are then as before.
+    pub fn set(&mut self, key: &Key, ends: Ends) -> Result<(), Want>
+        requires some { ends ≢ [] }
+        ensures rows { OnOk result (self.new ≡ puts same_key self.old key.now ends) }
+        ensures fates { OnOk result ((other : Key) → ends_in self.new other
+            ≡ (if same_key key.now other then Some ends else ends_in self.old other)) }
+        ensures kept { OnErr result (self.new ≡ self.old) }
+    {
+        self.rows.put(key.copy()?, ends)
+    }
+
+    /// How the pods of the key are to end; `None` exactly where that is not decided. There is at
+    /// least one end.
+    pub fn get(&self, key: &Key) -> Option<&Ends>
+        ensures ends { option_copied result ≡ ends_in self.now key.now }
+        ensures some { IfSome (ends_in self.now key.now) (λ ends. ends ≢ []) }
+    {
+        self.rows.get(key)
+    }
+
+    // How the pod is to end.
+    pub(super) fn end_of(&self, pod: &Pod) -> Option<&End>
+        ensures { option_copied result ≡ pod_end (ends_in self.now) pod.now }
+    {
+        let ends = self.get(&pod.owner)?;
+        end_at(ends.as_slice(), pod.serial)
+    }
+}
+
+// The end at the serial, or the last.
+fn end_at(ends: &[End], serial: u32) -> Option<&End>
+    ensures { option_copied result ≡ end_at serial ends.now }
+{
+    match ends.get(serial as usize) {
+        Some(end) => Some(end),
+        None => last_end(ends),
+    }
+}
+
+// The last of the ends.
+fn last_end(ends: &[End]) -> Option<&End>
+    ensures { option_copied result ≡ last_end ends.now }
+{
+    ends.last()
+}
