@@ -1,0 +1,17 @@
+use Rattle.std.proofs.Common.{reverse}
+use Rattle.jc_runs.specs.Seen.{deeds_in}
+use Rattle.jc_core.specs.Kept.{fates_in}
+use Rattle.jc_core.proofs.Starts.{history_is, justified_seen, once_seen}
+use Rattle.jc_core.proofs.cluster.Cluster.history.Goals as goal
+
+pub returns-clause-once : goal.returns-clause-once
+returns-clause-once c =
+    once_seen c.self.inside.script c.self.inside.shape c.self.inside.history.events.items c.self.inside.store c.self.inside.members.items (fates_in c.self.inside.fates) c.self.inside.clock c.args.self.now c.self.invariant.cluster.run c.self.view_is
+    (c.runs_count_once.ensures.at_each c.self.inside.shape (deeds_in c.self.inside.script (reverse c.self.inside.history.events.items)) c.self.inside.store c.self.inside.members.items (fates_in c.self.inside.fates) c.self.inside.clock c.self.invariant.cluster.run)
+
+pub returns-clause-justified : goal.returns-clause-justified
+returns-clause-justified c = justified_seen c.self.inside.script c.self.inside.shape c.self.inside.history.events.items c.self.inside.store c.self.inside.members.items (fates_in c.self.inside.fates) c.self.inside.clock c.args.self.now c.self.invariant.cluster.run c.self.view_is (c.runs_count_once.ensures.justified c.self.inside.shape (deeds_in c.self.inside.script (reverse c.self.inside.history.events.items)) c.self.inside.store c.self.inside.members.items (fates_in c.self.inside.fates) c.self.inside.clock c.self.invariant.cluster.run)
+
+pub returns-clause-follows : goal.returns-clause-follows
+returns-clause-follows c =
+    history_is c.self.inside.script c.self.inside.shape c.self.inside.history c.self.inside.store c.self.inside.members.items (fates_in c.self.inside.fates) c.self.inside.clock c.args.self.now c.self.invariant.cluster c.self.view_is

@@ -1,0 +1,7 @@
+pub mod Places
+pub mod Kept
+pub mod Finishes
+pub mod Fits
+pub mod Diaries
+pub mod Idle
+pub mod Syncs

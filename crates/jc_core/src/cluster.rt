@@ -1,0 +1,151 @@
+//! The type of the cluster, and what can be read of it.
+
+ghost use Rattle.std.specs.Prelude.{◌≡◌, ◌<◌, ◌≤◌, ◌^◌, [], IfOk, Some, length, reverse};
+ghost use Rattle.std.specs.List.{AllByRecursion as Each};
+ghost use Rattle.jc_types.specs.declared.actions.Command.{Command};
+ghost use Rattle.jc_types.specs.declared.objects.Job.{Job};
+ghost use Rattle.jc_types.specs.declared.objects.Key.{Key};
+ghost use Rattle.jc_log.specs.Log.{job_in};
+ghost use Rattle.jc_ledger.specs.Once.{AllJustified, OnceAtEach};
+ghost use Rattle.jc_history.specs.Diaries.{moment};
+ghost use Rattle.jc_history.specs.Legal.{InLanes, IsHistory, IsLegal};
+ghost use Rattle.jc_runs.specs.Seen.{IsFine, deeds_seen, log_seen};
+ghost use Rattle.jc_runs.specs.Teams.{KnowsNothing};
+
+use crate::lanes::Lanes;
+use crate::member::Member;
+use jc_moment::Moment;
+use jc_node::Fates;
+use jc_runs::{runs_count_once, runs_start};
+use jc_store::Store;
+use jc_types::{History, Pasts, Script, Shape, Want};
+use std::alloc::Global;
+use std::marker::Model;
+
+/// A cluster: the store, the controllers with their workers, the moment, and the history of all
+/// that happened. It is what the history says of the script and the shape, and the history is legal:
+/// so the type keeps it.
+///
+/// A contract sees the script, the shape, and what happened, the newest first.
+#[derive(Drop)]
+pub struct Cluster {
+    pub(crate) alloc: Global,
+    pub(crate) script: Script,
+    pub(crate) shape: Shape,
+    pub(crate) store: Store,
+    pub(crate) members: Vec<Member>,
+    // How the pods of keys are to end, by key.
+    pub(crate) fates: Fates,
+    pub(crate) clock: Moment,
+    pub(crate) history: History,
+    pub(crate) lanes: Lanes,
+}
+
+impl Model for Cluster {
+    ghost use Rattle.std.specs.Prelude.{reverse};
+    ghost use Rattle.jc_runs.specs.Seen.{Seen};
+    ghost use Rattle.jc_core.specs.Kept.{IsKept};
+
+    ghost Value = { Seen };
+
+    ghost view = { λ c. record {
+      script = c.script;
+      shape = c.shape;
+      pasts = reverse c.history.events.items;
+    } };
+
+    ghost invariant = { λ c.
+        IsKept c.script c.shape (reverse c.history.events.items) c.lanes c.store c.members.items
+        c.fates c.clock };
+}
+
+// Controllers that know nothing, with workers that have no syncs.
+//
+// `Want` where there is no memory for them.
+fn fresh_members(alloc: Global, controllers: usize, workers: usize) -> Result<Vec<Member>, Want>
+    ensures count { IfOk result (λ members. length members.items ≡ controllers) }
+    ensures fresh { IfOk result (λ members. Each (KnowsNothing workers) members.items) }
+{
+    let mut members = Vec::new(alloc);
+    for _ in 0..controllers {
+        members.push(Member::new(alloc, workers)?)?;
+    }
+    Ok(members)
+}
+
+impl Cluster {
+    /// A cluster of the shape in which nothing has happened, for the commands of the script.
+    ///
+    /// # Errors
+    /// `Want` where there is no memory for it.
+    pub fn new(alloc: Global, script: Script, shape: Shape) -> Result<Cluster, Want>
+        requires fine { Each (λ (command : Command). IsFine command.action) script.commands }
+        requires fits { length script.commands < 2 ^ 32 }
+        requires bound { shape.events ≤ 200000 }
+        ensures { IfOk result (λ c. c ≡ record { script = script; shape = shape; pasts = [] }) }
+    {
+        runs_start();
+        let members = fresh_members(alloc, shape.controllers as usize, shape.workers as usize)?;
+        let lanes = Lanes::new(alloc, script.commands.as_slice())?;
+        let history = History {
+            events: Pasts::new(alloc),
+        };
+        Ok(Cluster {
+            alloc,
+            script,
+            shape,
+            store: Store::new(alloc),
+            members,
+            fates: Fates::new(alloc),
+            clock: shape.start,
+            history,
+            lanes,
+        })
+    }
+
+    /// The script.
+    pub fn script(&self) -> &Script
+        ensures { result.now ≡ self.now.script }
+    {
+        &self.script
+    }
+
+    /// The shape.
+    pub fn shape(&self) -> &Shape
+        ensures { result.now ≡ self.now.shape }
+    {
+        &self.shape
+    }
+
+    /// What happened, in order. The history is legal, its commands came in the order of their lanes,
+    /// and after each of its events each pod was counted once (KEP-2307). A sync took a finalizer of a
+    /// pod of a Job that is there only where the pod was judged before, or is ignored, was active, or
+    /// its index was complete: so no ended pod lost it uncounted, but by a command.
+    pub fn history(&self) -> &History
+        ensures events { reverse result.now.events.items ≡ self.now.pasts }
+        ensures follows { IsHistory self.now.script self.now.shape result.now }
+        ensures legal { IsLegal self.now.shape (deeds_seen self.now) }
+        ensures lanes { InLanes self.now.script.commands self.now.pasts }
+        ensures few { length self.now.pasts ≤ self.now.shape.events }
+        ensures once { OnceAtEach (deeds_seen self.now) (log_seen self.now) }
+        ensures justified { (k : Key) (job : Job) → job_in k (log_seen self.now) ≡ Some job
+            → AllJustified job (deeds_seen self.now) (log_seen self.now) }
+    {
+        runs_count_once();
+        &self.history
+    }
+
+    /// The store. Its log is what the history says.
+    pub fn store(&self) -> &Store
+        ensures { result.now ≡ log_seen self.now }
+    {
+        &self.store
+    }
+
+    /// The moment.
+    pub fn moment(&self) -> Moment
+        ensures { result ≡ moment self.now.shape (deeds_seen self.now) }
+    {
+        self.clock
+    }
+}

@@ -1,0 +1,102 @@
+//! Whether anything of the system is left to do.
+
+ghost use Rattle.std.specs.Prelude.{◌≡◌, ◌<◌, ◌↔◌, ◌&&◌, IsTrue, nat_lt};
+ghost use Rattle.jc_history.specs.Available.{is_quiescent};
+ghost use Rattle.jc_history.specs.Fresh.{may_begin};
+ghost use Rattle.jc_history.specs.Numbers.{number};
+ghost use Rattle.jc_runs.specs.Seen.{deeds_seen, log_seen};
+ghost use Rattle.jc_core.specs.Diaries.{diary_seen};
+ghost use Rattle.jc_core.specs.Idle.{AreFree, AreIdle, IsIdle, has_seen};
+
+use crate::cluster::Cluster;
+use jc_types::Kind;
+
+impl Cluster {
+    // Whether the controller's cache of the kind has seen the whole log.
+    fn has_seen(&self, controller: u32, kind: Kind) -> bool
+        requires { controller < self.now.shape.controllers }
+        ensures { result
+            ≡ has_seen (log_seen self.now) (number kind (diary_seen self.now controller)) }
+    {
+        let end = self.store().log_len();
+        match self.cache_at(controller, kind) {
+            None => false,
+            Some(version) => version.0 >= end.0,
+        }
+    }
+
+    // Whether no worker of the controller has a sync.
+    fn are_free(&self, controller: u32) -> bool
+        requires { controller < self.now.shape.controllers }
+        ensures { IsTrue result
+            ↔ AreFree (diary_seen self.now controller) self.now.shape.workers }
+    {
+        let workers = self.shape().workers;
+        for worker in 0..workers {
+            if !self.is_free(controller, worker) {
+                return false;
+            }
+        }
+        true
+    }
+
+    // Whether a free worker of the controller could begin a sync.
+    fn can_begin(&self, controller: u32) -> bool
+        requires { controller < self.now.shape.controllers }
+        ensures { result ≡ (nat_lt 0 self.now.shape.workers
+            && may_begin (diary_seen self.now controller) (log_seen self.now)) }
+    {
+        let begins = self.may_begin(controller);
+        let workers = self.shape().workers;
+        workers > 0 && begins
+    }
+
+    // Whether the controller has nothing to do.
+    fn is_idle(&self, controller: u32) -> bool
+        requires { controller < self.now.shape.controllers }
+        ensures { IsTrue result ↔ IsIdle (diary_seen self.now controller) (log_seen self.now)
+            self.now.shape.workers }
+    {
+        let jobs = self.has_seen(controller, Kind::Jobs);
+        if !jobs {
+            return false;
+        }
+        let pods = self.has_seen(controller, Kind::Pods);
+        if !pods {
+            return false;
+        }
+        let free = self.are_free(controller);
+        if !free {
+            return false;
+        }
+        let begins = self.can_begin(controller);
+        if begins {
+            return false;
+        }
+        let delayed = self.next_delay(controller);
+        delayed.is_none()
+    }
+
+    // Whether no controller has anything to do.
+    fn are_idle(&self) -> bool
+        ensures { IsTrue result ↔ AreIdle self.now }
+    {
+        let controllers = self.shape().controllers;
+        for controller in 0..controllers {
+            if !self.is_idle(controller) {
+                return false;
+            }
+        }
+        true
+    }
+
+    /// Whether the cluster is quiescent: nothing of the system is available.
+    pub fn is_quiescent(&self) -> bool
+        ensures { result
+            ≡ is_quiescent self.now.shape (deeds_seen self.now) (log_seen self.now) }
+    {
+        let idle = self.are_idle();
+        let acts = self.node_has_step();
+        idle && !acts
+    }
+}
