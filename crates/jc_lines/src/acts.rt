@@ -1,0 +1,204 @@
+//! The texts of acts: what the command of a script does, and what an event of the system does.
+
+ghost use Rattle.std.specs.Prelude.{◌≡◌, ◌++◌, OnOk, codes, decimal, string_bytes};
+ghost use Rattle.jc_log.specs.Acts as does;
+ghost use Rattle.jc_log.specs.Deeds.{act_of_action, act_of_system};
+ghost use Rattle.jc_lines.specs.Acts.{act_text, wanted_text, worker_text};
+ghost use Rattle.jc_lines.specs.Words.{key_text, kind_word};
+
+use crate::changes::{print_ends, print_phase_change};
+use crate::keys::print_key;
+use crate::words::{fault_word, kind_word};
+use jc_manifest::{print_change, print_spec};
+use jc_types::{
+    Action1, Ends, Fault, JobSpec, Key, Kind, PhaseChange, SpecChange, Sys, Uid, Version, Want,
+};
+use std::alloc::Global;
+
+fn print_create(out: &mut String, alloc: Global, key: &Key, spec: &JobSpec) -> Result<(), Want>
+    ensures { OnOk result (string_bytes out.new
+        ≡ string_bytes out.old ++ act_text (does.Create key.now spec.now)) }
+{
+    let text = print_spec(alloc, spec)?;
+    out.push_str("create ")?;
+    print_key(out, key)?;
+    out.push_str(" ")?;
+    out.push_str(text.as_str())?;
+    Ok(())
+}
+
+// The version that an update needs, between blanks.
+fn print_wanted(out: &mut String, version: Option<Version>) -> Result<(), Want>
+    ensures { OnOk result (string_bytes out.new
+        ≡ string_bytes out.old ++ (codes " " ++ (wanted_text version ++ codes " "))) }
+{
+    match version {
+        None => out.push_str(" any "),
+        Some(version) => {
+            let at = version.0;
+            write!(out, " v{at} ")
+        }
+    }
+}
+
+fn print_update(
+    out: &mut String,
+    alloc: Global,
+    key: &Key,
+    version: Option<Version>,
+    change: &SpecChange,
+) -> Result<(), Want>
+    ensures { OnOk result (string_bytes out.new
+        ≡ string_bytes out.old ++ act_text (does.Update key.now version change.now)) }
+{
+    let text = print_change(alloc, change)?;
+    out.push_str("update ")?;
+    print_key(out, key)?;
+    print_wanted(out, version)?;
+    out.push_str(text.as_str())?;
+    Ok(())
+}
+
+fn print_delete(out: &mut String, key: &Key) -> Result<(), Want>
+    ensures { OnOk result (string_bytes out.new
+        ≡ string_bytes out.old ++ act_text (does.Delete key.now)) }
+{
+    out.push_str("delete ")?;
+    print_key(out, key)?;
+    Ok(())
+}
+
+// What befalls a pod, in a word.
+fn print_pod(out: &mut String, word: &str, pod: Uid) -> Result<(), Want>
+    ensures { OnOk result (string_bytes out.new
+        ≡ string_bytes out.old ++ (word.now ++ (codes " " ++ decimal pod.0))) }
+{
+    let uid = pod.0;
+    write!(out, "{word} {uid}")
+}
+
+fn print_finish(out: &mut String, pod: Uid, exit: i32) -> Result<(), Want>
+    ensures { OnOk result (string_bytes out.new
+        ≡ string_bytes out.old ++ act_text (does.Finish pod exit)) }
+{
+    let uid = pod.0;
+    write!(out, "finish {uid} {exit}")
+}
+
+fn print_report(out: &mut String, alloc: Global, pod: Uid, change: &PhaseChange) -> Result<(), Want>
+    ensures { OnOk result (string_bytes out.new
+        ≡ string_bytes out.old ++ act_text (does.Report pod change.now)) }
+{
+    let uid = pod.0;
+    write!(out, "report {uid} ")?;
+    print_phase_change(out, alloc, change)?;
+    Ok(())
+}
+
+fn print_fate(out: &mut String, alloc: Global, key: &Key, ends: &Ends) -> Result<(), Want>
+    ensures { OnOk result (string_bytes out.new
+        ≡ string_bytes out.old ++ act_text (does.Fate key.now ends.now)) }
+{
+    out.push_str("fate ")?;
+    print_key(out, key)?;
+    out.push_str(" ")?;
+    print_ends(out, alloc, ends.as_slice())?;
+    Ok(())
+}
+
+fn print_clock(out: &mut String, add: u64) -> Result<(), Want>
+    ensures { OnOk result (string_bytes out.new
+        ≡ string_bytes out.old ++ act_text (does.Clock add)) }
+{
+    write!(out, "clock {add}")
+}
+
+// What befalls a controller's cache of a kind, in a word.
+fn print_cache(out: &mut String, word: &str, controller: u32, kind: Kind) -> Result<(), Want>
+    ensures { OnOk result (string_bytes out.new ≡ string_bytes out.old
+        ++ (word.now ++ (codes " " ++ (decimal controller ++ (codes " " ++ kind_word kind))))) }
+{
+    let kind = kind_word(kind);
+    write!(out, "{word} {controller} {kind}")
+}
+
+// What a controller's worker does, in a word.
+fn print_worker(out: &mut String, word: &str, controller: u32, worker: u32) -> Result<(), Want>
+    ensures { OnOk result (string_bytes out.new ≡ string_bytes out.old
+        ++ (word.now ++ (codes " " ++ worker_text controller worker))) }
+{
+    write!(out, "{word} {controller} {worker}")
+}
+
+fn print_restart(out: &mut String, controller: u32) -> Result<(), Want>
+    ensures { OnOk result (string_bytes out.new
+        ≡ string_bytes out.old ++ act_text (does.Restart controller)) }
+{
+    write!(out, "restart {controller}")
+}
+
+fn print_fault(out: &mut String, controller: u32, worker: u32, fault: Fault) -> Result<(), Want>
+    ensures { OnOk result (string_bytes out.new
+        ≡ string_bytes out.old ++ act_text (does.PutFault controller worker fault)) }
+{
+    let fault = fault_word(fault);
+    write!(out, "fault {controller} {worker} {fault}")
+}
+
+/// Puts what a command does behind the text. A sync is printed as the begin that is its own event.
+///
+/// # Errors
+///
+/// Want of memory.
+pub fn print_action(out: &mut String, alloc: Global, action: &Action1) -> Result<(), Want>
+    ensures { OnOk result (string_bytes out.new
+        ≡ string_bytes out.old ++ act_text (act_of_action action.now)) }
+{
+    match action {
+        Action1::Create { key, spec } => print_create(out, alloc, key, &**spec),
+        Action1::Update {
+            key,
+            version,
+            change,
+        } => { print_update(out, alloc, key, *version, change) }
+        Action1::Delete { key } => print_delete(out, key),
+        Action1::Mark { pod } => print_pod(out, "mark", *pod),
+        Action1::Strip { pod } => print_pod(out, "strip", *pod),
+        Action1::Finish { pod, exit } => print_finish(out, *pod, *exit),
+        Action1::Report { pod, change } => print_report(out, alloc, *pod, change),
+        Action1::Fate { key, ends } => print_fate(out, alloc, key, ends),
+        Action1::Clock { add } => print_clock(out, *add),
+        Action1::List { controller, kind } => print_cache(out, "list", *controller, *kind),
+        Action1::Deliver { controller, kind } => print_cache(out, "deliver", *controller, *kind),
+        Action1::Begin { controller, worker } => print_worker(out, "begin", *controller, *worker),
+        Action1::Sync { controller, worker } => print_worker(out, "begin", *controller, *worker),
+        Action1::Step { controller, worker } => print_worker(out, "step", *controller, *worker),
+        Action1::Node => out.push_str("node"),
+        Action1::Restart { controller } => print_restart(out, *controller),
+        Action1::PutFault {
+            controller,
+            worker,
+            fault,
+        } => { print_fault(out, *controller, *worker, *fault) }
+        Action1::Settle => out.push_str("settled"),
+    }
+}
+
+/// Puts what an event of the system does behind the text.
+///
+/// # Errors
+///
+/// Want of memory.
+pub fn print_system(out: &mut String, system: &Sys) -> Result<(), Want>
+    ensures { OnOk result (string_bytes out.new
+        ≡ string_bytes out.old ++ act_text (act_of_system system.now)) }
+{
+    match system {
+        Sys::List { controller, kind } => print_cache(out, "list", *controller, *kind),
+        Sys::Deliver { controller, kind } => print_cache(out, "deliver", *controller, *kind),
+        Sys::Begin { controller, worker } => print_worker(out, "begin", *controller, *worker),
+        Sys::Step { controller, worker } => print_worker(out, "step", *controller, *worker),
+        Sys::Node => out.push_str("node"),
+        Sys::Clock { add } => print_clock(out, *add),
+    }
+}

@@ -1,0 +1,95 @@
+//! The lines of events.
+
+ghost use Rattle.std.specs.Prelude.{◌≡◌, ◌++◌, ◌<◌, OnErr, OnOk, Some, codes, length, slice_get, string_bytes};
+ghost use Rattle.jc_log.specs.Deeds.{act_of_command, act_of_event, deed, lane_of};
+ghost use Rattle.jc_lines.specs.Acts.{act_text};
+ghost use Rattle.jc_lines.specs.Events.{HasPlace, event_line, tag_text};
+
+use crate::acts::{print_action, print_system};
+use crate::replies::print_reply;
+use jc_types::{Command, Event, Past, Script, Want};
+use std::alloc::Global;
+
+// The command at a place of the script.
+fn command_at<'s>(script: &'s Script, number: u32) -> &'s Command
+    requires { number < length script.now.commands }
+    ensures { slice_get script.now.commands number ≡ Some result.now }
+{
+    &script.commands.as_slice()[number as usize]
+}
+
+// The lane of a command, and what it does.
+fn print_command(
+    out: &mut String,
+    alloc: Global,
+    script: &Script,
+    lane: u8,
+    number: u32,
+) -> Result<(), Want>
+    requires { number < length script.now.commands }
+    ensures { OnOk result (string_bytes out.new ≡ string_bytes out.old ++ (tag_text (Some lane)
+        ++ (codes " " ++ act_text (act_of_command (slice_get script.now.commands number))))) }
+{
+    let command = command_at(script, number);
+    write!(out, "@{lane} ")?;
+    print_action(out, alloc, &command.action)?;
+    Ok(())
+}
+
+// Whose event it is, and what it does.
+fn print_deed(out: &mut String, alloc: Global, script: &Script, event: &Event) -> Result<(), Want>
+    requires { HasPlace script.now event.now }
+    ensures { OnOk result (string_bytes out.new ≡ string_bytes out.old
+        ++ (tag_text (lane_of event.now)
+        ++ (codes " " ++ act_text (act_of_event script.now.commands event.now)))) }
+{
+    match event {
+        Event::Command { lane, number } => print_command(out, alloc, script, *lane, *number),
+        Event::System(system) => {
+            out.push_str("- ")?;
+            print_system(out, system)
+        }
+    }
+}
+
+// The whole line.
+fn put_event(
+    out: &mut String,
+    alloc: Global,
+    script: &Script,
+    number: u64,
+    past: &Past,
+) -> Result<(), Want>
+    requires { HasPlace script.now past.now.event }
+    ensures { OnOk result (string_bytes out.new
+        ≡ string_bytes out.old ++ event_line number (deed script.now past.now)) }
+{
+    write!(out, "{number} ")?;
+    print_deed(out, alloc, script, &past.event)?;
+    out.push_str(" -> ")?;
+    print_reply(out, alloc, &past.reply)?;
+    out.push_str("\n")?;
+    Ok(())
+}
+
+/// Puts the line of an event behind the text, with its number in the history, counted from 1.
+///
+/// # Errors
+///
+/// Want of memory; the text is then as before.
+pub fn print_event(
+    out: &mut String,
+    alloc: Global,
+    script: &Script,
+    number: u64,
+    past: &Past,
+) -> Result<(), Want>
+    requires { HasPlace script.now past.now.event }
+    ensures line { OnOk result (string_bytes out.new
+        ≡ string_bytes out.old ++ event_line number (deed script.now past.now)) }
+    ensures kept { OnErr result (string_bytes out.new ≡ string_bytes out.old) }
+{
+    let mut line = String::new(alloc);
+    put_event(&mut line, alloc, script, number, past)?;
+    out.push_str(line.as_str())
+}

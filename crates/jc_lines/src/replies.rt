@@ -1,0 +1,231 @@
+//! The texts of requests, of answers and of replies.
+
+ghost use Rattle.std.specs.Prelude.{◌≡◌, ◌++◌, OnOk, codes, decimal, string_bytes};
+ghost use Rattle.jc_types.specs.declared.replies.Answer.TheVariants as answer;
+ghost use Rattle.jc_types.specs.declared.replies.Reply.TheVariants as reply;
+ghost use Rattle.jc_types.specs.declared.replies.Request.TheVariants as request;
+ghost use Rattle.jc_lines.specs.Replies.{answer_text, reply_text, request_text};
+ghost use Rattle.jc_lines.specs.Words.{version_text};
+
+use crate::keys::print_key;
+use crate::words::{field_word, kind_word, phase_word};
+use jc_moment::Moment;
+use jc_types::{Answer, Key, Kind, Name, Phase, Reply, Request, Uid, Version, Want};
+use std::alloc::Global;
+
+// A word.
+fn print_word(out: &mut String, word: &str) -> Result<(), Want>
+    ensures { OnOk result (string_bytes out.new ≡ string_bytes out.old ++ word.now) }
+{
+    out.push_str(word)
+}
+
+// A word and a version.
+fn print_version(out: &mut String, word: &str, version: Version) -> Result<(), Want>
+    ensures { OnOk result (string_bytes out.new
+        ≡ string_bytes out.old ++ (word.now ++ (codes " " ++ version_text version))) }
+{
+    let at = version.0;
+    write!(out, "{word} v{at}")
+}
+
+// A word and what it is said of.
+fn print_pair(out: &mut String, word: &str, of: &str) -> Result<(), Want>
+    ensures { OnOk result (string_bytes out.new
+        ≡ string_bytes out.old ++ (word.now ++ (codes " " ++ of.now))) }
+{
+    write!(out, "{word} {of}")
+}
+
+// A word and the pod that it is said of.
+fn print_pod(out: &mut String, word: &str, pod: Uid) -> Result<(), Want>
+    ensures { OnOk result (string_bytes out.new
+        ≡ string_bytes out.old ++ (word.now ++ (codes " " ++ decimal pod.0))) }
+{
+    let uid = pod.0;
+    write!(out, "{word} {uid}")
+}
+
+fn print_created(out: &mut String, uid: Uid, version: Version) -> Result<(), Want>
+    ensures { OnOk result (string_bytes out.new
+        ≡ string_bytes out.old ++ answer_text (answer.Created uid version)) }
+{
+    let uid = uid.0;
+    let at = version.0;
+    write!(out, "created {uid} v{at}")
+}
+
+fn print_bad_step(out: &mut String, from: Phase, to: Phase) -> Result<(), Want>
+    ensures { OnOk result (string_bytes out.new
+        ≡ string_bytes out.old ++ answer_text (answer.BadStep from to)) }
+{
+    let from = phase_word(from);
+    let to = phase_word(to);
+    write!(out, "bad-step {from} {to}")
+}
+
+fn print_no_container(out: &mut String, name: &Name) -> Result<(), Want>
+    ensures { OnOk result (string_bytes out.new
+        ≡ string_bytes out.old ++ answer_text (answer.NoContainer name.now)) }
+{
+    print_pair(out, "no-container", name.as_str())
+}
+
+fn print_moment(out: &mut String, alloc: Global, moment: Moment) -> Result<(), Want>
+    ensures { OnOk result (string_bytes out.new
+        ≡ string_bytes out.old ++ reply_text (reply.Now moment)) }
+{
+    let text = moment.text(alloc)?;
+    out.push_str("now ")?;
+    out.push_str(text.as_str())?;
+    Ok(())
+}
+
+fn print_begun(out: &mut String, key: &Key, jobs_at: Version, pods_at: Version) -> Result<(), Want>
+    ensures { OnOk result (string_bytes out.new
+        ≡ string_bytes out.old ++ reply_text (reply.Begun key.now jobs_at pods_at)) }
+{
+    let jobs_at = jobs_at.0;
+    let pods_at = pods_at.0;
+    out.push_str("begun ")?;
+    print_key(out, key)?;
+    write!(out, " jobs v{jobs_at} pods v{pods_at}")
+}
+
+fn print_behind(out: &mut String, kind: Kind, need: Version, have: Version) -> Result<(), Want>
+    ensures { OnOk result (string_bytes out.new
+        ≡ string_bytes out.old ++ reply_text (reply.Behind kind need have)) }
+{
+    let kind = kind_word(kind);
+    let need = need.0;
+    let have = have.0;
+    write!(out, "behind {kind} need v{need} have v{have}")
+}
+
+fn print_node(out: &mut String, pod: Uid, phase: Phase, version: Version) -> Result<(), Want>
+    ensures { OnOk result (string_bytes out.new
+        ≡ string_bytes out.old ++ reply_text (reply.NodeDone pod phase version)) }
+{
+    let pod = pod.0;
+    let phase = phase_word(phase);
+    let at = version.0;
+    write!(out, "pod {pod} {phase} written v{at}")
+}
+
+fn print_creation(out: &mut String, index: Option<u32>) -> Result<(), Want>
+    ensures { OnOk result (string_bytes out.new
+        ≡ string_bytes out.old ++ request_text (request.CreatePod index)) }
+{
+    match index {
+        None => out.push_str("create-pod -"),
+        Some(index) => write!(out, "create-pod {index}"),
+    }
+}
+
+/// Puts a request of a sync behind the text.
+///
+/// # Errors
+///
+/// Want of memory.
+pub fn print_request(out: &mut String, request: &Request) -> Result<(), Want>
+    ensures { OnOk result (string_bytes out.new
+        ≡ string_bytes out.old ++ request_text request.now) }
+{
+    match request {
+        Request::CreatePod { index } => print_creation(out, *index),
+        Request::MarkPod { pod } => print_pod(out, "mark", *pod),
+        Request::LetGo { pod } => print_pod(out, "let-go", *pod),
+        Request::Status => print_word(out, "status"),
+        Request::Release { pod } => print_pod(out, "release", *pod),
+    }
+}
+
+/// Puts the answer to a request behind the text.
+///
+/// # Errors
+///
+/// Want of memory.
+pub fn print_answer(out: &mut String, answer: &Answer) -> Result<(), Want>
+    ensures { OnOk result (string_bytes out.new
+        ≡ string_bytes out.old ++ answer_text answer.now) }
+{
+    match answer {
+        Answer::Created { uid, version } => print_created(out, *uid, *version),
+        Answer::Written { version } => print_version(out, "written", *version),
+        Answer::Unchanged { version } => print_version(out, "unchanged", *version),
+        Answer::Released { version } => print_version(out, "released", *version),
+        Answer::Removed { version } => print_version(out, "removed", *version),
+        Answer::Conflict { current } => print_version(out, "conflict", *current),
+        Answer::NotFound => print_word(out, "not-found"),
+        Answer::AlreadyExists => print_word(out, "exists"),
+        Answer::Immutable { field } => print_pair(out, "immutable", field_word(*field)),
+        Answer::Invalid { field } => print_pair(out, "invalid", field_word(*field)),
+        Answer::Final { phase } => print_pair(out, "final", phase_word(*phase)),
+        Answer::BadStep { from, to } => print_bad_step(out, *from, *to),
+        Answer::NoContainer { name } => print_no_container(out, name),
+        Answer::NotTracked => print_word(out, "not-tracked"),
+        Answer::Unavailable => print_word(out, "unavailable"),
+    }
+}
+
+// A request, and what it was answered.
+fn print_stepped(out: &mut String, request: &Request, answer: &Answer) -> Result<(), Want>
+    ensures { OnOk result (string_bytes out.new
+        ≡ string_bytes out.old ++ reply_text (reply.Stepped request.now answer.now)) }
+{
+    print_request(out, request)?;
+    out.push_str(" ")?;
+    print_answer(out, answer)?;
+    Ok(())
+}
+
+/// Puts the reply to an event behind the text.
+///
+/// # Errors
+///
+/// Want of memory.
+pub fn print_reply(out: &mut String, alloc: Global, reply: &Reply) -> Result<(), Want>
+    ensures { OnOk result (string_bytes out.new
+        ≡ string_bytes out.old ++ reply_text reply.now) }
+{
+    match reply {
+        Reply::Created { uid, version } => print_created(out, *uid, *version),
+        Reply::Written { version } => print_version(out, "written", *version),
+        Reply::Unchanged { version } => print_version(out, "unchanged", *version),
+        Reply::Released { version } => print_version(out, "released", *version),
+        Reply::Removed { version } => print_version(out, "removed", *version),
+        Reply::Conflict { current } => print_version(out, "conflict", *current),
+        Reply::NotFound => print_word(out, "not-found"),
+        Reply::AlreadyExists => print_word(out, "exists"),
+        Reply::Immutable { field } => print_pair(out, "immutable", field_word(*field)),
+        Reply::Invalid { field } => print_pair(out, "invalid", field_word(*field)),
+        Reply::Final { phase } => print_pair(out, "final", phase_word(*phase)),
+        Reply::BadStep { from, to } => print_bad_step(out, *from, *to),
+        Reply::NoContainer { name } => print_no_container(out, name),
+        Reply::NotTracked => print_word(out, "not-tracked"),
+        Reply::Now { moment } => print_moment(out, alloc, *moment),
+        Reply::ClockEnd => print_word(out, "clock-end"),
+        Reply::Listed { at } => print_version(out, "listed", *at),
+        Reply::Delivered { version } => print_version(out, "entry", *version),
+        Reply::UpToDate => print_word(out, "up-to-date"),
+        Reply::Expired { floor } => print_version(out, "expired", *floor),
+        Reply::NotSynced => print_word(out, "not-synced"),
+        Reply::Begun {
+            key,
+            jobs_at,
+            pods_at,
+        } => print_begun(out, key, *jobs_at, *pods_at),
+        Reply::NoKey => print_word(out, "no-key"),
+        Reply::Behind { kind, need, have } => print_behind(out, *kind, *need, *have),
+        Reply::WorkerBusy => print_word(out, "worker-busy"),
+        Reply::Stepped { request, answer } => print_stepped(out, request, answer),
+        Reply::Ended => print_word(out, "ended"),
+        Reply::Idle => print_word(out, "idle"),
+        Reply::NodeDone {
+            pod,
+            phase,
+            version,
+        } => print_node(out, *pod, *phase, *version),
+        Reply::Done => print_word(out, "done"),
+    }
+}
