@@ -1,5 +1,5 @@
 -- What each write leaves of what the store keeps, and what the tables say of the log.
-use Rattle.std.proofs.Common.{◌≡◌, ℕ, ◌+◌, ◌++◌, Bool, true, false, ◌&&◌, cond, List, [], ◌∷◌, reverse, Option, Some, None, IsSome, is_some, refl, ap, sym, ◌∙◌, subst}
+use Rattle.std.proofs.Common.{◌≡◌, ℕ, ◌+◌, ◌++◌, Bool, true, false, ◌&&◌, cond, List, [], ◌∷◌, reverse, Option, Some, None, IsSome, is_some, refl, ap, sym, ◌∙◌, subst, not, true≢false}
 use Rattle.std.specs.Prelude.{find, unwrap_or}
 use Rattle.jc_types.specs.declared.numbers.Uid.{Uid}
 use Rattle.jc_types.specs.declared.objects.Entry.{Entry}
@@ -9,14 +9,16 @@ use Rattle.jc_types.specs.declared.objects.Key.{Key}
 use Rattle.jc_types.specs.declared.objects.Pod.{Pod}
 use Rattle.jc_types.specs.Keys.{same_key, same_uid}
 use Rattle.jc_log.specs.Log.{Life, Never, Live, Gone, births, is_never, job_in, jobs_in, life, living, made_for, next_version, pod_in, pods_in}
+use Rattle.jc_states.specs.ObjectChanges.{PodStep}
 use Rattle.jc_states.specs.PodLists.{drop_pod, put_pod}
-use Rattle.jc_states.specs.Pods.{goes}
+use Rattle.jc_states.specs.Pods.{goes, is_final, is_open}
 use Rattle.jc_log.specs.Tables.{Sets, at, puts, takes}
 use Rattle.jc_log.specs.Writes.{CanEnd, CanGo, IsNewJob, IsNewPod, StepsFrom, Writes}
 use Rattle.jc_types.proofs.KeyFacts.{same_uid-eq, same_uid-itself}
 use Rattle.jc_log.proofs.LogFacts.{newest_first}
 use Rattle.jc_log.proofs.ObjectFacts.{jobs_in-at}
 use Rattle.jc_log.proofs.PodFacts.{pods_in-among}
+use Rattle.jc_table.specs.Open.{CanReplace}
 use Rattle.jc_store.specs.Kept.{IsKept, count_of}
 use Rattle.jc_log.proofs.AppendFacts.{end_job-writes, end_pod-writes, made_job-births, made_job-writes, made_pod-births, made_pod-writes, new_never, put_job-births, put_job-writes, step_made, write_pod-births, write_pod-writes}
 
@@ -39,14 +41,22 @@ job_row jobs items log job held is step =
     by None step = absurd step
     by (Some old) step = refl
 
--- A pod that is written over has a row.
-pub pod_row : (pods : List Pod) (items log : List Entry) (pod : Pod) → pods ≡ pods_in (reverse items) → reverse items ≡ log → CanGo (life pod.uid log) pod → IsSome (find (λ p. same_uid p.uid pod.uid) pods)
-pod_row pods items log pod held is step =
-    ap is_some (pod_there pods items log pod.uid held is) ∙ by (life pod.uid log) step
+-- A pod that has ended does not open again.
+not_again_open : (old pod : Pod) → PodStep old pod → is_open pod ≡ true → is_open old ≡ true
+not_again_open old pod step opens = by (is_final old.phase) refl
   where
-    by : (l : Life) → CanGo l pod → is_some (living l) ≡ true
+    by : (b : Bool) → is_final old.phase ≡ b → not (is_final old.phase) ≡ true
+    by true e = absurd (true≢false (sym opens ∙ ap (λ phase. not (is_final phase)) (step.phase e) ∙ ap not e))
+    by false e = ap not e
+
+-- A pod that is written over has a row, whose pod it may stand for.
+pub pod_stands : (pods : List Pod) (items log : List Entry) (pod : Pod) → pods ≡ pods_in (reverse items) → reverse items ≡ log → CanGo (life pod.uid log) pod → CanReplace pod (find (λ p. same_uid p.uid pod.uid) pods)
+pod_stands pods items log pod held is step =
+    subst (CanReplace pod) (sym (pod_there pods items log pod.uid held is)) (by (life pod.uid log) step)
+  where
+    by : (l : Life) → CanGo l pod → CanReplace pod (living l)
     by Never step = absurd step
-    by (Live old) step = refl
+    by (Live old) step = not_again_open old pod step
     by Gone step = absurd step
 
 -- ---- what a write leaves

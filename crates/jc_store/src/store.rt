@@ -1,19 +1,19 @@
 //! The store, what can be read of it, and how entries are appended.
-ghost use Rattle.std.specs.Prelude.{◌≡◌, ◌<◌, ◌+◌, ◌-◌, ◌^◌, ◌∷◌, ◌++◌, [], reverse, length, option_copied, find, nat_le, false, true, IfOk, IsSome, OnOk, OnErr, None};
+ghost use Rattle.std.specs.Prelude.{◌≡◌, ◌<◌, ◌+◌, ◌-◌, ◌^◌, ◌∷◌, ◌++◌, [], reverse, length, option_copied, find, nat_le, ◌&&◌, false, true, IfOk, IsSome, OnOk, OnErr, None};
 ghost use Rattle.jc_types.specs.declared.numbers.Uid.{Uid};
 ghost use Rattle.jc_types.specs.declared.objects.Entry.TheVariants.{JobGone, JobPut, PodGone, PodPut};
 ghost use Rattle.jc_log.specs.Requests.{pod_entry};
 ghost use Rattle.jc_types.specs.Keys.{same_key, same_uid};
 ghost use Rattle.jc_log.specs.Log.{RowsRise, births, entry_at, job_in, jobs_in, life, made_for, next_uid, next_version, pod_in, pods_in, pods_of};
 ghost use Rattle.jc_states.specs.PodLists.{put_pod};
-ghost use Rattle.jc_states.specs.Pods.{goes};
+ghost use Rattle.jc_states.specs.Pods.{goes, is_open};
 ghost use Rattle.jc_log.specs.Tables.{at, puts};
 ghost use Rattle.jc_log.specs.Writes.{CanEnd, CanGo, IsNewJob, IsNewPod, StepsFrom, Stored};
 ghost use Rattle.jc_store.specs.Kept.{count_of};
 
 use super::pod_table::owned;
 use jc_states::goes;
-use jc_table::{PodTable, Table};
+use jc_table::{PodTable, StoredPods, Table};
 use jc_types::{Copied, Entries, Entry, Job, Key, Pod, Uid, Version, Want};
 use std::alloc::Global;
 use std::marker::Model;
@@ -30,7 +30,7 @@ pub struct Store {
     // The Jobs that are there.
     jobs: Table<Key, Job>,
     // The pods that are there.
-    pods: PodTable,
+    pods: StoredPods,
     // How many pods were made for each owner that had one.
     made: Table<Uid, u32>,
 }
@@ -82,16 +82,17 @@ fn add_job(
     }
 }
 
-// Writes a new pod and its entry.
-fn add_pod(pods: &mut PodTable, log: &mut Entries, pod: Pod, entry: Entry) -> Result<(), Want>
-    requires { find (λ p. same_uid p.uid pod.uid) pods.old ≡ None }
+// Writes a new pod, which is open, and its entry.
+fn add_pod(pods: &mut StoredPods, log: &mut Entries, pod: Pod, entry: Entry) -> Result<(), Want>
+    requires absent { find (λ p. same_uid p.uid pod.uid) pods.old ≡ None }
+    requires begins_open { is_open pod ≡ true }
     ensures row { OnOk result (pods.new ≡ put_pod pod pods.old) }
     ensures entry { OnOk result (log.new ≡ log.old ++ entry ∷ []) }
     ensures row_kept { OnErr result (pods.new ≡ pods.old) }
     ensures entry_kept { OnErr result (log.new ≡ log.old) }
 {
     let uid = pod.uid;
-    pods.put(pod)?;
+    pods.add(pod)?;
     match log.push(entry) {
         Ok(()) => Ok(()),
         Err(want) => {
@@ -111,7 +112,7 @@ impl Store {
             log: Entries::new(alloc),
             born: 0,
             jobs: Table::new(alloc),
-            pods: PodTable::new(alloc),
+            pods: StoredPods::new(alloc),
             made: Table::new(alloc),
         }
     }
@@ -152,7 +153,7 @@ impl Store {
     pub fn pod(&self, pod: Uid) -> Option<&Pod>
         ensures { option_copied result ≡ pod_in pod self.now }
     {
-        self.pods.get(pod)
+        self.pods.all().get(pod)
     }
 
     /// The pod that is there with the least UID from this one on. There is none where all are below
@@ -160,7 +161,16 @@ impl Store {
     pub fn pod_at_or_after(&self, uid: Uid) -> Option<&Pod>
         ensures { option_copied result ≡ find (λ pod. nat_le uid.0 pod.uid.0) (pods_in self.now) }
     {
-        self.pods.at_or_after(uid)
+        self.pods.all().at_or_after(uid)
+    }
+
+    /// The open pod with the least UID from this one on. There is none where each that is there is
+    /// below it or has ended.
+    pub fn open_pod_from(&self, uid: Uid) -> Option<&Pod>
+        ensures { option_copied result
+            ≡ find (λ pod. nat_le uid.0 pod.uid.0 && is_open pod) (pods_in self.now) }
+    {
+        self.pods.open_from(uid)
     }
 
     /// The Jobs that are there, by key, in ascending UID.
@@ -175,7 +185,7 @@ impl Store {
     pub fn pods(&self) -> &PodTable
         ensures { result.now ≡ pods_in self.now }
     {
-        &self.pods
+        self.pods.all()
     }
 
     /// The pods of an owner that are there, in ascending UID.
@@ -185,7 +195,7 @@ impl Store {
     pub fn pods_of(&self, owner: Uid) -> Result<Vec<Pod>, Want>
         ensures { IfOk result (λ pods. pods.items ≡ pods_of owner self.now) }
     {
-        owned(self.alloc, &self.pods, owner)
+        owned(self.alloc, self.pods.all(), owner)
     }
 
     // Where the memory of new objects comes from.

@@ -3,7 +3,8 @@
 use jc_cases::{POD, PodRow, key, plain_job, pod_of};
 use jc_control::{Begin, Controller, SyncEnd};
 use jc_moment::Moment;
-use jc_types::{Backoff, Entry, Job, Jobs, Kind, Pod, Pods, Uid, Version};
+use jc_states::Pods;
+use jc_types::{Backoff, Entry, Job, Jobs, Kind, Pod, Uid, Version};
 use std::alloc::Global;
 use std::process::Abort;
 use std::test::Fail;

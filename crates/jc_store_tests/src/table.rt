@@ -144,8 +144,6 @@ fn check_pods(rt: &impl Abort, table: &PodTable, versions: &[u64]) {
     let mut place = 0;
     for pod in table.values() {
         assert_eq!(rt; versions.get(place), Some(&pod.version.0));
-        let at = table.place(place).map(|pod| pod.version.0);
-        assert_eq!(rt; at, Some(pod.version.0));
         place += 1;
     }
     assert_eq!(rt; place, versions.len());

@@ -1,2 +1,4 @@
+mod Numbers
+mod OpenPods
 mod PodRows
 pub mod ResultFacts

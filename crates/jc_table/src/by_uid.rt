@@ -1,24 +1,23 @@
 //! Pods by UID, in ascending UID.
 
-ghost use Rattle.std.specs.Prelude.{◌≡◌, ◌<◌, ◌^◌, ◌↔◌, [], IsSome, IsTrue, None, OnErr, OnOk, find, length, nat_le, slice_get};
+ghost use Rattle.std.specs.Prelude.{◌≡◌, ◌<◌, ◌^◌, ◌↔◌, [], IsSome, IsTrue, None, OnErr, OnOk, find, length, nat_le};
 ghost use Rattle.std.specs.Map.Iter.{ShowsInOrder, deref};
 ghost use Rattle.std.specs.Option.{option_copied};
 ghost use Rattle.jc_types.specs.declared.objects.Pod.{Pod};
 ghost use Rattle.jc_types.specs.Keys.{same_uid};
 ghost use Rattle.jc_states.specs.PodLists.{IsRising, drop_pod, put_pod};
-ghost use Rattle.jc_table.specs.Rows.{IsInOrder, place_from, pods_in_rows};
 
-use indexmap::IndexMap;
-use indexmap::map::Values;
 use jc_types::{Pod, Uid, Want};
 use std::alloc::Global;
+use std::collections::BTreeMap;
+use std::collections::btree_map::Values;
 use std::marker::Model;
 
 /// Pods in ascending UID, none twice.
 #[derive(Drop)]
 pub struct PodTable {
-    // Each pod in the row of its UID, in ascending UID.
-    rows: IndexMap<Uid, Pod>,
+    // Each pod in the row of its UID's number, in ascending UID.
+    rows: BTreeMap<u64, Pod>,
 }
 
 impl Model for PodTable {
@@ -33,21 +32,13 @@ impl Model for PodTable {
     ghost invariant = { λ t. IsInOrder t.rows.entries };
 }
 
-// The place of the first pod whose UID is at least this one, found by halving.
-fn place_from(rows: &IndexMap<Uid, Pod>, uid: Uid) -> usize
-    requires { IsInOrder rows.now.entries }
-    ensures { result ≡ place_from uid (pods_in_rows rows.now.entries) }
-{
-    rows.partition_point(|row_uid, _pod| row_uid.0 < uid.0)
-}
-
 impl PodTable {
     /// The empty table. It takes no memory.
     pub fn new(alloc: Global) -> Self
         ensures { result ≡ [] }
     {
         PodTable {
-            rows: IndexMap::new(alloc),
+            rows: BTreeMap::new(alloc),
         }
     }
 
@@ -70,26 +61,19 @@ impl PodTable {
     pub fn get(&self, uid: Uid) -> Option<&Pod>
         ensures { option_copied result ≡ find (λ pod. same_uid pod.uid uid) self.now }
     {
-        self.rows.get(&uid)
+        self.rows.get(&uid.0)
     }
 
     /// The pod with the least UID from this one on; `None` exactly where all are below it.
     pub fn at_or_after(&self, uid: Uid) -> Option<&Pod>
         ensures { option_copied result ≡ find (λ pod. nat_le uid.0 pod.uid.0) self.now }
     {
-        self.place(place_from(&self.rows, uid))
-    }
-
-    /// The pod of this place, counted from 0; `None` exactly from the number of pods on.
-    pub fn place(&self, place: usize) -> Option<&Pod>
-        ensures { option_copied result ≡ slice_get self.now place }
-    {
-        let (_uid, pod) = self.rows.get_index(place)?;
+        let (_uid, pod) = self.rows.range(uid.0..).next()?;
         Some(pod)
     }
 
     /// All pods, in ascending UID.
-    pub fn values(&self) -> Values<'_, Uid, Pod>
+    pub fn values(&self) -> Values<'_, u64, Pod>
         ensures pods { result ≡ self.now }
         ensures runs { ShowsInOrder (deref {X = Pod}) }
         ensures fits { length self.now < 2 ^ 63 }
@@ -106,13 +90,7 @@ impl PodTable {
         ensures kept { OnErr result (self.new ≡ self.old) }
         ensures new_uid { OnErr result (find (λ p. same_uid p.uid pod.uid) self.old ≡ None) }
     {
-        let uid = pod.uid;
-        if self.rows.contains_key(&uid) {
-            self.replace(pod);
-            return Ok(());
-        }
-        let place = place_from(&self.rows, uid);
-        self.rows.shift_insert(place, uid, pod)?;
+        self.rows.insert(pod.uid.0, pod)?;
         Ok(())
     }
 
@@ -121,8 +99,7 @@ impl PodTable {
         requires { IsSome (find (λ p. same_uid p.uid pod.uid) self.old) }
         ensures { self.new ≡ put_pod pod self.old }
     {
-        let uid = pod.uid;
-        let Some(place) = self.rows.get_mut(&uid) else {
+        let Some(place) = self.rows.get_mut(&pod.uid.0) else {
             unreachable!()
         };
         *place = pod;
@@ -133,7 +110,7 @@ impl PodTable {
         ensures taken { result ≡ find (λ pod. same_uid pod.uid uid) self.old }
         ensures drops { self.new ≡ drop_pod uid self.old }
     {
-        self.rows.shift_remove(&uid)
+        self.rows.remove(&uid.0)
     }
 
     /// Takes all pods out.

@@ -1,14 +1,17 @@
 //! Tables: rows by key in the order in which their keys came, and pods by UID in ascending UID.
 //!
 //! A contract sees a table as the list of its rows, and a table of pods as the list of its pods. A
-//! look-up goes by a hash of the key, and takes no memory.
+//! look-up takes no memory. It goes by a hash of the key, or down a tree of UIDs, so that a pod is
+//! found, put and taken in logarithmic time.
 #![tactic(auto)]
 
 mod by_key;
 mod by_uid;
 mod keys;
+mod stored_pods;
 
 pub use by_key::Table;
 pub use by_uid::PodTable;
 pub use indexmap::map::Values;
 pub use keys::has_key;
+pub use stored_pods::StoredPods;

@@ -5,4 +5,4 @@ pub invariant_of-self-2 : goal.invariant_of-self-2
 invariant_of-self-2 c =
     end_pod-keeps c.self.inside.born c.self.inside.jobs c.self.inside.pods c.take.new.self c.self.inside.made
     c.self.inside.log c.push.new.self c.args.self.now c.args.pod c.self.invariant c.self.view_is
-    c.in_ok-push.ensures.added c.take.ensures.drops c.requires.version c.requires.step c.requires.goes
+    c.in_ok-push.ensures.added c.take.ensures c.requires.version c.requires.step c.requires.goes

@@ -1,5 +1,6 @@
-use Rattle.std.proofs.Common.{◌+◌, ◌++◌, ◌∷◌, [], ap, sym, subst, ◌∙◌, arith}
+use Rattle.std.proofs.Common.{◌+◌, ◌++◌, ◌∷◌, [], ap, not, sym, subst, ◌∙◌, arith}
 use Rattle.jc_types.specs.declared.objects.Entry.TheVariants.{PodPut}
+use Rattle.jc_states.specs.Pods.{is_final}
 use Rattle.jc_log.specs.Log.{living, made_for}
 use Rattle.jc_log.specs.Writes.{Stored}
 use Rattle.jc_log.proofs.CountFacts.{made_within}
@@ -17,10 +18,13 @@ keep_count-requires c =
     ∙ ap (made_for c.args.pod.owner_uid) (sym c.self.view_is)
     ∙ sym (c.self.invariant.made_before c.args.pod.owner_uid)
 
-pub add_pod-requires : goal.add_pod-requires
-add_pod-requires c =
+pub add_pod-requires-clause-absent : goal.add_pod-requires-clause-absent
+add_pod-requires-clause-absent c =
     pod_there c.self.inside.pods c.self.inside.log c.args.self.now c.args.pod.uid c.self.invariant.pods_there c.self.view_is
     ∙ ap living (new_never c.args.self.now c.args.pod (subst Stored c.self.view_is c.self.invariant.stored) c.requires.new_pod)
+
+pub add_pod-requires-clause-begins_open : goal.add_pod-requires-clause-begins_open
+add_pod-requires-clause-begins_open c = ap (λ phase. not (is_final phase)) c.requires.new_pod.phase
 
 pub replace-requires : goal.replace-requires
 replace-requires c = c.in_ok-keep_count.ensures.row

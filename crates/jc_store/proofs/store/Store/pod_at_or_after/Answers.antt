@@ -7,4 +7,4 @@ use Rattle.jc_store.proofs.store.Store.pod_at_or_after.Goals as goal
 pub returns : goal.returns
 returns c =
     c.at_or_after.ensures
-    ∙ ap (find (λ (pod : Pod). nat_le c.args.uid.0 pod.uid.0)) (c.self.invariant.pods_there ∙ ap pods_in c.self.view_is)
+    ∙ ap (find (λ (pod : Pod). nat_le c.args.uid.0 pod.uid.0)) (c.all.ensures ∙ c.self.invariant.pods_there ∙ ap pods_in c.self.view_is)

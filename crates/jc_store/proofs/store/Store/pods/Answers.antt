@@ -3,4 +3,4 @@ use Rattle.jc_log.specs.Log.{pods_in}
 use Rattle.jc_store.proofs.store.Store.pods.Goals as goal
 
 pub returns : goal.returns
-returns c = c.self.invariant.pods_there ∙ ap pods_in c.self.view_is
+returns c = c.all.ensures ∙ c.self.invariant.pods_there ∙ ap pods_in c.self.view_is

@@ -1,11 +1,11 @@
 use Rattle.std.proofs.Common.{◌∷◌, ◌++◌, [], ap, ◌∙◌}
 use Rattle.jc_types.specs.declared.objects.Entry.TheVariants.{PodPut}
-use Rattle.jc_store.proofs.Keeps.{pod_row, write_pod-keeps}
+use Rattle.jc_store.proofs.Keeps.{pod_stands, write_pod-keeps}
 use Rattle.jc_store.proofs.store.Store.write_pod.Goals as goal
 
 pub replace-requires : goal.replace-requires
 replace-requires c =
-    pod_row c.self.inside.pods c.self.inside.log c.args.self.now c.args.pod c.self.invariant.pods_there c.self.view_is c.requires.step
+    pod_stands c.self.inside.pods c.self.inside.log c.args.self.now c.args.pod c.self.invariant.pods_there c.self.view_is c.requires.step
 
 pub invariant_of-self-2 : goal.invariant_of-self-2
 invariant_of-self-2 c =

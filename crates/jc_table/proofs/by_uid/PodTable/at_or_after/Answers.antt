@@ -1,9 +1,15 @@
-use Rattle.std.proofs.Common.{ap, sym, slice_get, ◌∙◌}
-use Rattle.jc_table.specs.Rows.{place_from}
-use Rattle.jc_table.proofs.PodRows.{find-place}
+use Rattle.std.proofs.Common.{ap, sym, option_copied, ◌∙◌}
+use Rattle.jc_table.proofs.PodRows.{first-none, first-some}
 use Rattle.jc_table.proofs.by_uid.PodTable.at_or_after.Goals as goal
 
+-- No row lies in the range.
+pub returns-in_err-_uid : goal.returns-in_err-_uid
+returns-in_err-_uid c =
+    ap option_copied c.from_residual.ensures
+    ∙ sym (first-none c.self.inside.rows.entries c.args.self.now c.self.invariant c.self.view_is c.args.uid c.range.result (c.range.ensures.between tt) c.in_err-_uid.ensures.steps.0)
+
+-- The range has a first row.
 pub returns : goal.returns
 returns c =
-    c.place.ensures ∙ ap (slice_get c.args.self.now) (c.place_from.ensures ∙ ap (place_from c.args.uid) c.self.view_is)
-    ∙ sym (find-place c.args.uid c.args.self.now)
+    first-some c.self.inside.rows.entries c.args.self.now c.self.invariant c.self.view_is c.args.uid c.range.result c.next.new.self
+    c.in_ok-_uid._uid.now c.in_ok-_uid.pod.now (c.range.ensures.between tt) c.in_ok-_uid.ensures.steps
