@@ -28,4 +28,4 @@ pub mod VerdictRows
 pub mod VerdictEvents
 pub mod VerdictBounds
 pub mod VerdictFacts
-pub mod VerdictKeys
+pub mod BookFacts

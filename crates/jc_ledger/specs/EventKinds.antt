@@ -25,7 +25,7 @@ use Rattle.jc_types.specs.declared.replies.Reply.TheVariants.{Stepped}
 use Rattle.jc_types.specs.declared.replies.Request.{Request}
 use Rattle.jc_types.specs.declared.replies.Request.TheVariants as request
 use Rattle.jc_types.specs.declared.statuses.JobStatus.{JobStatus}
-use Rattle.jc_types.specs.declared.syncs.Basis.{Basis}
+use Rattle.jc_states.specs.declared.bases.Basis.{Basis}
 use Rattle.jc_types.specs.declared.syncs.CountIn.{CountIn}
 use Rattle.jc_states.specs.Owners.{is_foreign}
 use Rattle.jc_states.specs.Conditions.{has_target}

@@ -10,7 +10,7 @@ use Rattle.jc_types.specs.declared.objects.Entry.{Entry}
 use Rattle.jc_types.specs.declared.objects.Entry.TheVariants.{JobPut}
 use Rattle.jc_types.specs.declared.objects.Job.{Job}
 use Rattle.jc_types.specs.declared.statuses.JobStatus.{JobStatus}
-use Rattle.jc_types.specs.declared.syncs.Basis.{Basis}
+use Rattle.jc_states.specs.declared.bases.Basis.{Basis}
 use Rattle.jc_log.specs.Log.{upto, entry_at, job_in, life, is_lost, pods_under}
 use Rattle.jc_states.specs.UidLists.{is_in}
 use Rattle.jc_ledger.specs.declared.flights.Flight.{Flight}

@@ -6,3 +6,5 @@ pub mod Tied
 pub mod EventKinds
 pub mod Runs
 pub mod Verdicts
+pub mod Starts
+pub mod Books

@@ -2,24 +2,23 @@
 --     IsNumbered script history      each command event's number is a place in the script
 --     verdicts_of ledger             how many records have each outcome, and how many indexes there are
 --     deeds_of script events         the deeds of events, newest first
---     has_begun script c w past      the event began a sync of the worker
 --     sync_at d past                 the sync whose write of a status the deed is
 --     Row, row_of record             what a count keeps of a record
 --     has_row rows u                 one of the rows has the UID
+--     rows_for spec known pods       the rows of the pods that are judged where these UIDs were
 --     new_rows spec rows pods        the rows of the pods that a write judges
 --     fresh_rows job rows log seen   those that it judges of the Job's pods among the first entries
 --     IsCount rows done ledger       the rows and the indexes are those of the ledger
+--     judging_as past job seen       the write of the event judges the pods of the Job so
 --     ledger_after ..                the ledger after one more event
 --     HasSeen j log pods at          the pods are those of the Job among the first entries
---     HasKeys j log keys             each key under which a Job of the UID was put is among the keys
-use Rattle.std.specs.Prelude.{◌≡◌, ℕ, ◌<◌, ◌≤◌, ◌&&◌, Bool, true, All, List, map, filter, reverse, take, length, if◌then◌else◌, Option, None, is_some}
+use Rattle.std.specs.Prelude.{◌≡◌, ℕ, ◌<◌, ◌≤◌, ◌&&◌, Bool, All, List, map, filter, reverse, take, length, if◌then◌else◌, Option, None}
 use Rattle.std.specs.List.{filter_map, list_any}
 use Rattle.jc_types.specs.declared.actions.Command.{Command}
 use Rattle.jc_types.specs.declared.actions.Script.{Script}
 use Rattle.jc_types.specs.declared.numbers.Uid.{Uid}
 use Rattle.jc_types.specs.declared.objects.Entry.{Entry}
 use Rattle.jc_types.specs.declared.objects.Job.{Job}
-use Rattle.jc_types.specs.declared.objects.Key.{Key}
 use Rattle.jc_types.specs.declared.objects.Pod.{Pod}
 use Rattle.jc_types.specs.declared.runs.Event.{Event}
 use Rattle.jc_types.specs.declared.runs.Event.TheVariants as event
@@ -27,15 +26,15 @@ use Rattle.jc_types.specs.declared.runs.History.{History}
 use Rattle.jc_types.specs.declared.runs.Past.{Past}
 use Rattle.jc_types.specs.declared.specifications.JobSpec.{JobSpec}
 use Rattle.jc_log.specs.Deeds.{Deed, deed}
-use Rattle.jc_types.specs.Keys.{same_key, same_uid}
-use Rattle.jc_log.specs.Log.{has_job, pods_of}
+use Rattle.jc_types.specs.Keys.{same_uid}
+use Rattle.jc_log.specs.Log.{pods_of}
 use Rattle.jc_failpol.specs.declared.outcomes.Outcome.TheVariants.{Succeeded, Failed}
 use Rattle.jc_failpol.specs.Outcomes.{outcome_of, same_outcome}
 use Rattle.jc_ledger.specs.declared.rows.Row.{Row}
 use Rattle.jc_ledger.specs.declared.counts.Verdicts.{Verdicts}
-use Rattle.jc_ledger.specs.Syncs.{Began, began_by, request_of, step_sync, appends}
+use Rattle.jc_ledger.specs.Syncs.{Began, request_of, step_sync, appends}
 use Rattle.jc_account.specs.Judged.{is_fresh}
-use Rattle.jc_ledger.specs.Ledger.{Record, Ledger, judged_as, is_status, judging_of, judged_by}
+use Rattle.jc_ledger.specs.Ledger.{Record, Ledger, Judging, judged_as, is_status, judging_of, judged_by}
 
 -- The number of a command event is a place among the commands.
 abbrev pub IsPlace : List Command → Event → Type 0
@@ -57,10 +56,6 @@ verdicts_of ledger = record {
 -- The deeds of events, newest first.
 abbrev pub deeds_of : Script → List Past → List Deed
 deeds_of script events = reverse (map (deed script) events)
-
--- The event began a sync of the worker.
-abbrev pub has_begun : Script → ℕ → ℕ → Past → Bool
-has_begun script c w past = is_some (began_by c w (deed script past))
 
 -- The sync whose accepted write of a status the deed is.
 abbrev pub sync_at : Deed → List Deed → Option Began
@@ -84,9 +79,13 @@ is_row_of u row = same_uid row.uid u
 abbrev pub has_row : List Row → Uid → Bool
 has_row rows u = list_any (is_row_of u) rows
 
+-- The rows of the pods that are judged where those of these UIDs were.
+abbrev pub rows_for : JobSpec → (Uid → Bool) → List Pod → List Row
+rows_for spec known pods = map (row_for spec) (filter (is_fresh spec known) pods)
+
 -- The rows of the pods that a write judges.
 abbrev pub new_rows : JobSpec → List Row → List Pod → List Row
-new_rows spec rows pods = map (row_for spec) (filter (is_fresh spec (has_row rows)) pods)
+new_rows spec rows pods = rows_for spec (has_row rows) pods
 
 -- The rows of the Job's pods that a write judges whose sync saw the first entries.
 abbrev pub fresh_rows : Job → List Row → List Entry → ℕ → List Row
@@ -105,6 +104,10 @@ pub record IsCount (rows : List Row) (done : List ℕ) (ledger : Ledger) : Type 
   pub rows_are : rows ≡ map row_of ledger.records
   pub done_is : done ≡ ledger.done
 
+-- The write of the event judges the pods of the Job among the first entries.
+abbrev pub judging_as : Past → Job → ℕ → Judging
+judging_as past job seen = record { job = job; seen = seen; at = past.length.0 }
+
 -- The ledger of the Job of the UID after one more event, where it was this one. The log stands oldest first.
 abbrev pub ledger_after : Script → List Past → Past → Uid → List Entry → Ledger → Ledger
 ledger_after script before past j log ledger =
@@ -115,8 +118,3 @@ ledger_after script before past j log ledger =
 pub record HasSeen (j : Uid) (log : List Entry) (pods : List Pod) (at : ℕ) : Type 0 where
   pub within : at ≤ length log
   pub pods_are : pods ≡ pods_of j (reverse (take at log))
-
--- Each key under which a Job of the UID was put is among the keys. The log stands newest first.
-abbrev pub HasKeys : Uid → List Entry → List Key → Type 0
-HasKeys j log keys =
-    (k : Key) → has_job j k log ≡ true → list_any (λ other. same_key other k) keys ≡ true

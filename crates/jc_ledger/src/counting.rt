@@ -1,185 +1,168 @@
-//! What the ledger of a Job has counted.
+//! What the ledgers of all Jobs have counted.
 
-ghost use Rattle.std.specs.Prelude.{◌≡◌, ◌<◌, ◌^◌, ◌++◌, [], All, IfOk, OnOk, length, reverse, take};
-ghost use Rattle.jc_ranges.specs.Sets.{IsIncreasing};
+ghost use Rattle.std.specs.Prelude.{◌≡◌, ◌<◌, ◌^◌, All, IfOk, OnOk, length, reverse};
+ghost use Rattle.std.specs.Option.{option_map};
+ghost use Rattle.jc_types.specs.declared.numbers.Uid.{Uid};
 ghost use Rattle.jc_types.specs.declared.runs.Past.{Past};
-ghost use Rattle.jc_log.specs.Deeds.{deeds};
-ghost use Rattle.jc_log.specs.Log.{pods_of};
-ghost use Rattle.jc_states.specs.UidLists.{join};
-ghost use Rattle.jc_ledger.specs.Ledger.{Ledger, ledger_of};
-ghost use Rattle.jc_ledger.specs.Verdicts.{HasKeys, HasSeen, IsCount, IsNumbered, IsPlace, deeds_of, fresh_rows, indexes_in, ledger_after, verdicts_of};
+ghost use Rattle.jc_types.specs.Keys.{same_uid};
+ghost use Rattle.jc_log.specs.Deeds.{deed, deeds};
+ghost use Rattle.jc_log.specs.Tables.{at};
+ghost use Rattle.jc_ledger.specs.Books.{AreCounts, AreFew, AreSound, totals_of, verdicts_at};
+ghost use Rattle.jc_ledger.specs.Ledger.{Ledger, judging_of, ledger_of};
+ghost use Rattle.jc_ledger.specs.Starts.{HasStarts};
+ghost use Rattle.jc_ledger.specs.Verdicts.{IsNumbered, IsPlace, deeds_of, judging_as, ledger_after};
+ghost use Rattle.jc_ledger.specs.Verdicts.{verdicts_of};
 
+use crate::books::{Book, judge_in};
 use crate::counts::Verdicts;
 use crate::events::written_sync;
 use crate::laws::pods_are_judged_once;
-use crate::rows::{Row, count, enter, new_rows};
-use crate::seen::{end_of, go_on, is_among, job_among, keys_of};
+use crate::rows::count;
+use crate::seen::{end_of, job_among};
+use crate::starts::{Start, Worker, note_begin};
+use indexmap::IndexMap;
 use jc_failpol::Outcome;
-use jc_table::PodTable;
-use jc_types::{Entries, Entry, History, Job, Key, Past, Reply, Script, Uid, Want};
+use jc_table::Table;
+use jc_types::{Entries, Entry, History, Job, Past, Script, Uid, Want};
 use std::alloc::Global;
 
-/// What is known after the first events: the judged pods, the indexes of the successes, and the pods of
-/// the Job among the first entries of the log.
-#[derive(Drop)]
-struct Book {
-    rows: Vec<Row>,
-    done: Vec<u32>,
-    pods: PodTable,
-    /// How many entries the pods were taken from.
-    at: usize,
-}
-
-/// Moves the pods on to the first entries that a sync saw. Where it saw fewer than an earlier one, the
-/// pods are taken from the first entry on again.
-fn look(book: &mut Book, owner: Uid, log: &[Entry], seen: u64) -> Result<(), Want>
-    requires { HasSeen owner log.now book.old.pods book.old.at }
-    ensures pods { OnOk result (book.new.pods ≡ pods_of owner (reverse (take seen log.now))) }
-    ensures seen { OnOk result (HasSeen owner log.now book.new.pods book.new.at) }
-    ensures rows { OnOk result (book.new.rows.items ≡ book.old.rows.items) }
-    ensures done { OnOk result (book.new.done.items ≡ book.old.done.items) }
+/// The Job whose pods an event judges, and among how many entries it judges them.
+fn judging<'a>(
+    script: &Script,
+    starts: &Table<Worker, Start>,
+    before: &[Past],
+    past: &Past,
+    log: &'a [Entry],
+) -> Option<(&'a Job, u64)>
+    requires starts { HasStarts (deeds_of script.now before.now) starts.now }
+    requires event { IsPlace script.now.commands past.now.event }
+    ensures { option_map (λ found. judging_as past.now found.0.now found.1) result
+        ≡ judging_of (deed script.now past.now) (deeds_of script.now before.now) (reverse log.now) }
 {
-    let end = end_of(log, seen);
-    if end < book.at {
-        book.pods.clear();
-        book.at = 0;
-    }
-    go_on(&mut book.pods, owner, log, book.at, end)?;
-    book.at = end;
-    Ok(())
+    let Some(start) = written_sync(script, starts, before, past) else {
+        return None;
+    };
+    let Some(job) = job_among(log, end_of(log, start.jobs_at.0), &start.key) else {
+        return None;
+    };
+    Some((job, start.pods_at.0))
 }
 
-/// Judges the pods of a Job, as they stood among the first entries that the sync saw.
-fn judge(alloc: Global, book: &mut Book, job: &Job, log: &[Entry], seen: u64) -> Result<(), Want>
-    requires seen { HasSeen job.now.uid log.now book.old.pods book.old.at }
-    requires order { IsIncreasing book.old.done.items }
-    ensures rows { OnOk result (book.new.rows.items
-        ≡ book.old.rows.items ++ fresh_rows job.now book.old.rows.items log.now seen) }
-    ensures done { OnOk result (book.new.done.items
-        ≡ join book.old.done.items
-        (indexes_in (fresh_rows job.now book.old.rows.items log.now seen))) }
-    ensures seen { OnOk result (HasSeen job.now.uid log.now book.new.pods book.new.at) }
-{
-    look(book, job.uid, log, seen)?;
-    let new = new_rows(alloc, &job.spec, book.rows.as_slice(), &book.pods)?;
-    enter(&mut book.rows, &mut book.done, new.as_slice())
-}
-
-/// Takes one more event in.
+/// Takes one more event into the books.
 fn take_in(
     alloc: Global,
-    book: &mut Book,
+    books: &mut IndexMap<Uid, Book>,
     script: &Script,
+    starts: &Table<Worker, Start>,
     before: &[Past],
     past: &Past,
     log: &[Entry],
-    keys: &[Key],
-    owner: Uid,
 ) -> Result<(), Want>
-    requires keys { HasKeys owner (reverse log.now) keys.now }
-    requires before { All (λ (past : Past). IsPlace script.now.commands past.event) before.now }
+    requires starts { HasStarts (deeds_of script.now before.now) starts.now }
     requires event { IsPlace script.now.commands past.now.event }
-    requires seen { HasSeen owner log.now book.old.pods book.old.at }
-    requires order { IsIncreasing book.old.done.items }
-    ensures counted { OnOk result ((ledger : Ledger)
-        → IsCount book.old.rows.items book.old.done.items ledger
-        → IsCount book.new.rows.items book.new.done.items
-        (ledger_after script.now before.now past.now owner log.now ledger)) }
-    ensures seen { OnOk result (HasSeen owner log.now book.new.pods book.new.at) }
-    ensures order { OnOk result (IsIncreasing book.new.done.items) }
+    requires sound { AreSound log.now books.old.entries }
+    ensures sound { OnOk result (AreSound log.now books.new.entries) }
+    ensures counts { OnOk result ((ledgers : Uid → Ledger)
+        → AreCounts ledgers books.old.entries
+        → AreCounts (λ j. ledger_after script.now before.now past.now j log.now (ledgers j))
+        books.new.entries) }
 {
-    let Some(begin) = written_sync(script, before, past) else {
-        return Ok(());
-    };
-    let Reply::Begun {
-        key,
-        jobs_at,
-        pods_at,
-    } = &begin.reply
-    else {
-        return Ok(());
-    };
-    if !is_among(keys, key) {
-        return Ok(());
-    }
-    let Some(job) = job_among(log, end_of(log, jobs_at.0), key) else {
-        return Ok(());
-    };
-    if job.uid.0 != owner.0 {
-        return Ok(());
-    }
-    judge(alloc, book, job, log, pods_at.0)?;
-    Ok(())
-}
-
-/// The book before the first event.
-fn empty(alloc: Global) -> Book
-    ensures rows { result.rows.items ≡ [] }
-    ensures done { result.done.items ≡ [] }
-    ensures pods { result.pods ≡ [] }
-    ensures at { result.at ≡ 0 }
-{
-    Book {
-        rows: Vec::new(alloc),
-        done: Vec::new(alloc),
-        pods: PodTable::new(alloc),
-        at: 0,
+    match judging(script, starts, before, past, log) {
+        None => Ok(()),
+        Some((job, seen)) => judge_in(alloc, books, job, log, seen),
     }
 }
 
-/// The book after all events.
+/// The books after all events.
 fn filled(
     alloc: Global,
     script: &Script,
     events: &[Past],
     log: &[Entry],
-    owner: Uid,
-) -> Result<Book, Want>
+) -> Result<IndexMap<Uid, Book>, Want>
     requires { All (λ (past : Past). IsPlace script.now.commands past.event) events.now }
-    ensures { IfOk result (λ book. IsCount book.rows.items book.done.items
-        (ledger_of owner (deeds_of script.now events.now) (reverse log.now))) }
+    ensures { IfOk result (λ books. AreCounts
+        (λ j. ledger_of j (deeds_of script.now events.now) (reverse log.now)) books.entries) }
 {
-    let keys = keys_of(alloc, log, owner)?;
-    let mut book = empty(alloc);
+    let mut starts = Table::new(alloc);
+    let mut books = IndexMap::new(alloc);
     for place in 0..events.len() {
+        let past = &events[place];
         take_in(
             alloc,
-            &mut book,
+            &mut books,
             script,
+            &starts,
             &events[..place],
-            &events[place],
+            past,
             log,
-            keys.as_slice(),
-            owner,
         )?;
+        note_begin(&mut starts, script, past)?;
     }
-    Ok(book)
+    Ok(books)
 }
 
 /// The totals of a book.
 fn totals(book: &Book) -> Verdicts
     requires rows { length book.now.rows.items < 2 ^ 32 }
     requires done { length book.now.done.items < 2 ^ 32 }
-    ensures { (ledger : Ledger)
-        → IsCount book.now.rows.items book.now.done.items ledger → result ≡ verdicts_of ledger }
+    ensures { result ≡ totals_of book.now }
 {
     let rows = book.rows.as_slice();
-    let done = book.done.as_slice();
     Verdicts {
         succeeded: count(rows, Outcome::Succeeded),
         failed: count(rows, Outcome::Failed),
-        indexes: done.len() as u32,
+        indexes: book.done.len() as u32,
     }
 }
 
-/// What the ledger of a Job has counted (KEP-2307): on how many distinct pods of the Job the accepted
-/// writes of its status have given a verdict, and how many indexes the successes among them have.
+/// The totals of each book, under its UID.
+fn tallied(alloc: Global, books: &IndexMap<Uid, Book>) -> Result<Table<Uid, Verdicts>, Want>
+    requires { AreFew books.now.entries }
+    ensures { IfOk result (λ rows. (j : Uid)
+        → at same_uid rows j ≡ option_map totals_of (at same_uid books.now.entries j)) }
+{
+    let mut rows = Table::new(alloc);
+    for place in (0..books.len()).rev() {
+        let Some((uid, book)) = books.get_index(place) else {
+            unreachable!()
+        };
+        rows.put(*uid, totals(book))?;
+    }
+    Ok(rows)
+}
+
+/// What the ledgers of all Jobs have counted (KEP-2307): on how many distinct pods of a Job the
+/// accepted writes of its status have given a verdict, and how many indexes the successes among
+/// them have. A Job without a row has none.
 ///
-/// The ledger knows no uncounted lists and no totals: it is one pass over the events. At each write of a
-/// status that appended an entry, also where the reply was lost, it takes the pods of the Job as the
-/// sync that wrote saw them, and judges those that are tracked, have succeeded or failed, and were not
-/// judged before. It is exact on every history and every log, whether a run can have them or not. The
-/// log stands oldest first, as `Store::log` hands it out.
+/// A ledger knows no uncounted lists and no totals: it is one pass over the events. At each write of
+/// a status that appended an entry, also where the reply was lost, it takes the pods of the Job as
+/// the sync that wrote saw them, and judges those that are tracked, have succeeded or failed, and
+/// were not judged before. It is exact on every history and every log, whether a run can have them
+/// or not. The log stands oldest first, as `Store::log` hands it out.
+///
+/// # Errors
+/// `Want` where there is no memory for what it keeps.
+pub fn all_verdicts(
+    alloc: Global,
+    script: &Script,
+    history: &History,
+    log: &Entries,
+) -> Result<Table<Uid, Verdicts>, Want>
+    requires few { length log.now < 2 ^ 32 }
+    requires places { IsNumbered script.now history.now }
+    ensures counts { IfOk result (λ rows. (job : Uid) → verdicts_at job rows
+        ≡ verdicts_of (ledger_of job (deeds script.now history.now) (reverse log.now))) }
+{
+    let books = filled(alloc, script, history.events.as_slice(), log.as_slice())?;
+    pods_are_judged_once();
+    let rows = tallied(alloc, &books)?;
+    Ok(rows)
+}
+
+/// What the ledger of one Job has counted, as `all_verdicts` says of each. It takes as long as that
+/// of all: for more than one Job, call that.
 ///
 /// # Errors
 /// `Want` where there is no memory for what it keeps.
@@ -195,13 +178,20 @@ pub fn verdicts(
     ensures counts { IfOk result (λ v.
         v ≡ verdicts_of (ledger_of job (deeds script.now history.now) (reverse log.now))) }
 {
-    let book = filled(
-        alloc,
-        script,
-        history.events.as_slice(),
-        log.as_slice(),
-        job,
-    )?;
-    pods_are_judged_once();
-    Ok(totals(&book))
+    let rows = all_verdicts(alloc, script, history, log)?;
+    Ok(row_or_none(&rows, job))
+}
+
+/// The verdicts in the row of a Job; none where it has no row.
+fn row_or_none(rows: &Table<Uid, Verdicts>, job: Uid) -> Verdicts
+    ensures { result ≡ verdicts_at job rows.now }
+{
+    match rows.get(&job) {
+        Some(found) => *found,
+        None => Verdicts {
+            succeeded: 0,
+            failed: 0,
+            indexes: 0,
+        },
+    }
 }

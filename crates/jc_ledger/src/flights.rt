@@ -1,6 +1,7 @@
 //! A sync under way, as the ledger sees it.
 
-use jc_types::{Arc, Basis, JobStatus, Uids, Version};
+use jc_states::Basis;
+use jc_types::{Arc, JobStatus, Uids, Version};
 
 /// A sync under way: from its begin to its end.
 #[derive(Drop)]

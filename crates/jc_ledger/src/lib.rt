@@ -1,6 +1,7 @@
 //! The ledger of judged pods, and the laws by which each pod is counted once (KEP-2307).
 #![tactic(auto)]
 
+mod books;
 mod counting;
 mod counts;
 mod events;
@@ -8,8 +9,9 @@ mod flights;
 mod laws;
 mod rows;
 mod seen;
+mod starts;
 
-pub use counting::verdicts;
+pub use counting::{all_verdicts, verdicts};
 pub use counts::Verdicts;
 pub use flights::Flight;
 pub use laws::{

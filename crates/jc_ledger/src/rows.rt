@@ -1,13 +1,17 @@
 //! What is kept of the judged pods of a Job.
 
-ghost use Rattle.std.specs.Prelude.{◌≡◌, ◌<◌, ◌^◌, ◌++◌, ◌∷◌, [], IfOk, OnOk, filter, length};
+ghost use Rattle.std.specs.Prelude.{◌≡◌, ◌<◌, ◌^◌, ◌++◌, ◌∷◌, ◌||◌, [], IfOk, OnOk, filter, length};
+ghost use Rattle.std.specs.HashSet.{contains};
 ghost use Rattle.jc_ranges.specs.Sets.{IsIncreasing, with_member};
+ghost use Rattle.jc_types.specs.declared.numbers.Uid.{Uid};
+ghost use Rattle.jc_types.specs.Keys.{same_uid};
 ghost use Rattle.jc_states.specs.UidLists.{join};
 ghost use Rattle.jc_failpol.specs.Outcomes.{outcome_of, same_outcome};
 ghost use Rattle.jc_ledger.specs.declared.rows.Row.{Row};
 ghost use Rattle.jc_account.specs.Judged.{is_fresh};
-ghost use Rattle.jc_ledger.specs.Verdicts.{has_row, indexes_in, new_rows, row_for, success_index};
+ghost use Rattle.jc_ledger.specs.Verdicts.{has_row, indexes_in, row_for, rows_for, success_index};
 
+use indexmap::IndexSet;
 use jc_failpol::{Outcome, is_verdict, outcome};
 use jc_table::PodTable;
 use jc_types::{JobSpec, Pod, Uid, Want};
@@ -21,18 +25,11 @@ pub struct Row {
     pub index: Option<u32>,
 }
 
-/// Whether a row has the UID.
-fn is_known(uid: Uid, rows: &[Row]) -> bool
-    ensures { result ≡ has_row rows.now uid }
-{
-    rows.iter().any(|row| row.uid.0 == uid.0)
-}
-
 /// Whether the pod is still to be judged.
-fn is_fresh(spec: &JobSpec, rows: &[Row], pod: &Pod) -> bool
-    ensures { result ≡ is_fresh spec.now (has_row rows.now) pod.now }
+fn is_fresh(spec: &JobSpec, known: &IndexSet<Uid>, pod: &Pod) -> bool
+    ensures { result ≡ is_fresh spec.now (contains same_uid known.now) pod.now }
 {
-    pod.tracked && is_verdict(outcome(spec, pod)) && !is_known(pod.uid, rows)
+    pod.tracked && is_verdict(outcome(spec, pod)) && !known.contains(&pod.uid)
 }
 
 /// The row of a pod that is judged.
@@ -46,22 +43,34 @@ fn row_for(spec: &JobSpec, pod: &Pod) -> Row
     }
 }
 
-/// The rows of the pods that are still to be judged.
+/// The rows of the pods that are still to be judged: their UIDs are not known yet.
 pub fn new_rows(
     alloc: Global,
     spec: &JobSpec,
-    rows: &[Row],
+    known: &IndexSet<Uid>,
     pods: &PodTable,
 ) -> Result<Vec<Row>, Want>
-    ensures { IfOk result (λ new. new.items ≡ new_rows spec.now rows.now pods.now) }
+    ensures { IfOk result (λ new. new.items
+        ≡ rows_for spec.now (contains same_uid known.now) pods.now) }
 {
     let mut new = Vec::new(alloc);
     for pod in pods.values() {
-        if is_fresh(spec, rows, pod) {
+        if is_fresh(spec, known, pod) {
             new.push(row_for(spec, pod))?;
         }
     }
     Ok(new)
+}
+
+/// Notes the UIDs of new rows.
+pub fn note_uids(known: &mut IndexSet<Uid>, rows: &[Row]) -> Result<(), Want>
+    ensures { OnOk result ((u : Uid) → contains same_uid known.new u
+        ≡ (contains same_uid known.old u || has_row rows.now u)) }
+{
+    for row in rows {
+        known.insert(row.uid)?;
+    }
+    Ok(())
 }
 
 /// The index of a success.

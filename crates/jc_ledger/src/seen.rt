@@ -1,17 +1,12 @@
 //! What a sync saw: the Job and its pods, as the first entries of the log have them.
 
-ghost use Rattle.std.specs.Prelude.{◌≡◌, ◌≤◌, ◌∷◌, IfOk, List, OnOk, length, reverse, take};
-ghost use Rattle.std.specs.List.{list_any};
+ghost use Rattle.std.specs.Prelude.{◌≡◌, ◌≤◌, ◌∷◌, List, OnOk, length, reverse, take};
 ghost use Rattle.std.specs.Option.{option_copied};
 ghost use Rattle.jc_types.specs.declared.objects.Entry.{Entry};
-ghost use Rattle.jc_types.specs.declared.objects.Entry.TheVariants.{JobPut};
-ghost use Rattle.jc_types.specs.Keys.{same_key};
 ghost use Rattle.jc_log.specs.Log.{job_in, pods_of};
-ghost use Rattle.jc_ledger.specs.Verdicts.{HasKeys};
 
 use jc_table::PodTable;
 use jc_types::{Copied, Entry, Job, Key, Uid, Want};
-use std::alloc::Global;
 
 /// How many of the first n entries there are.
 pub fn end_of(log: &[Entry], n: u64) -> usize
@@ -46,42 +41,6 @@ pub fn job_among<'a>(log: &'a [Entry], end: usize, key: &Key) -> Option<&'a Job>
         }
     }
     None
-}
-
-/// Whether the key is among the keys.
-pub fn is_among(keys: &[Key], key: &Key) -> bool
-    ensures { result ≡ list_any (λ other. same_key other key.now) keys.now }
-{
-    keys.iter().any(|other| *other == *key)
-}
-
-/// Adds the key of a Job that is put, where it has the UID and the key is new.
-fn take_key(keys: &mut Vec<Key>, owner: Uid, job: &Job) -> Result<(), Want>
-    ensures { OnOk result ((older : List Entry)
-        → HasKeys owner older keys.old.items
-        → HasKeys owner (JobPut job.now ∷ older) keys.new.items) }
-{
-    if job.uid.0 != owner.0 {
-        return Ok(());
-    }
-    if is_among(keys.as_slice(), &job.key) {
-        return Ok(());
-    }
-    keys.push(job.key.copy()?)?;
-    Ok(())
-}
-
-/// The keys under which a Job of the UID was put: one, where the log is one of a store.
-pub fn keys_of(alloc: Global, log: &[Entry], owner: Uid) -> Result<Vec<Key>, Want>
-    ensures { IfOk result (λ keys. HasKeys owner (reverse log.now) keys.items) }
-{
-    let mut keys = Vec::new(alloc);
-    for entry in log {
-        if let Entry::JobPut(job) = entry {
-            take_key(&mut keys, owner, job)?;
-        }
-    }
-    Ok(keys)
 }
 
 /// Takes one more entry into the pods of a Job. One about a pod of another Job takes its UID out.

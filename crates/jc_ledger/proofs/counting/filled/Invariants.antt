@@ -1,13 +1,14 @@
 use Rattle.std.proofs.Common.{reverse, take}
-use Rattle.jc_ranges.specs.Sets.{IsIncreasing}
+use Rattle.jc_ledger.specs.Books.{AreCounts, AreSound}
 use Rattle.jc_ledger.specs.Ledger.{ledger_of}
-use Rattle.jc_ledger.specs.Verdicts.{HasSeen, IsCount, deeds_of}
+use Rattle.jc_ledger.specs.Starts.{HasStarts}
+use Rattle.jc_ledger.specs.Verdicts.{deeds_of}
 use Rattle.jc_ledger.proofs.counting.filled.Given as goal
 
--- The book so far is that of the events before the place.
+-- The books so far, and the last begins, are those of the events before the place.
 abbrev pub invariant-loop-place : goal.invariant-loop-place
 invariant-loop-place l = record {
-  counted : IsCount l.book.rows.items l.book.done.items (ledger_of l.owner (deeds_of l.script (take l.place l.events)) (reverse l.log));
-  seen : HasSeen l.owner l.log l.book.pods l.book.at;
-  order : IsIncreasing l.book.done.items;
+  counts : AreCounts (λ j. ledger_of j (deeds_of l.script (take l.place l.events)) (reverse l.log)) l.books.entries;
+  starts : HasStarts (deeds_of l.script (take l.place l.events)) l.starts;
+  sound : AreSound l.log l.books.entries;
 }
