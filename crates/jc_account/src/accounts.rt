@@ -16,7 +16,8 @@ use crate::listed::stayed;
 use crate::releases::releases;
 use crate::uids::{merged, unreleased};
 use jc_ranges::Ranges;
-use jc_types::{Basis, Copied, CountIn, Job, JobStatus, Mode, Pod, Uids, Want};
+use jc_states::Basis;
+use jc_types::{Copied, CountIn, Job, JobStatus, Mode, Pod, Uids, Want};
 use std::alloc::Global;
 
 // A total with those that left its list.

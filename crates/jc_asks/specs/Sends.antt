@@ -7,7 +7,7 @@ use Rattle.jc_types.specs.declared.numbers.Version.{Version}
 use Rattle.jc_types.specs.declared.objects.Job.{Job}
 use Rattle.jc_types.specs.declared.replies.Answer.{Answer}
 use Rattle.jc_types.specs.declared.replies.Request.{Request}
-use Rattle.jc_types.specs.declared.syncs.Basis.{Basis}
+use Rattle.jc_states.specs.declared.bases.Basis.{Basis}
 use Rattle.jc_plan.specs.Plans.{planned}
 use Rattle.jc_asks.specs.Asks.{asks_of, first_written}
 use Rattle.jc_asks.specs.Readings.{next_ask}

@@ -6,8 +6,9 @@ ghost use Rattle.jc_states.specs.PodLists.{IsRising};
 ghost use Rattle.jc_cache.specs.Caches.{HoldsByOwner, IsNext, TakesIn, pods_at};
 
 use indexmap::IndexMap;
+use jc_states::Pods;
 use jc_table::PodTable;
-use jc_types::{Copied, Entry, Key, Pod, Pods, Version, Want};
+use jc_types::{Copied, Entry, Key, Pod, Version, Want};
 use std::alloc::Global;
 use std::marker::Model;
 

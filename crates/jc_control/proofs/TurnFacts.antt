@@ -16,7 +16,7 @@ use Rattle.jc_queue.specs.Queued.{IsQueue, Queued, added, finished, got, got_fir
 use Rattle.std.proofs.lemmas.Bool.{or_right}
 use Rattle.jc_types.specs.declared.numbers.Version.{Version}
 use Rattle.jc_types.specs.declared.objects.Key.{Key}
-use Rattle.jc_types.specs.declared.syncs.Basis.{Basis}
+use Rattle.jc_states.specs.declared.bases.Basis.{Basis}
 use Rattle.jc_types.specs.Keys.{same_key}
 use Rattle.jc_log.specs.Tables.{Sets, at}
 use Rattle.jc_types.proofs.KeyFacts.{same_key-eq, same_key-itself}

@@ -36,7 +36,7 @@ use Rattle.jc_types.specs.declared.objects.Kind.{Kind}
 use Rattle.jc_types.specs.declared.objects.Kind.TheVariants.{Jobs, Pods}
 use Rattle.jc_types.specs.declared.objects.Pod.{Pod}
 use Rattle.jc_types.specs.declared.syncs.Backoff.{Backoff}
-use Rattle.jc_types.specs.declared.syncs.Basis.{Basis}
+use Rattle.jc_states.specs.declared.bases.Basis.{Basis}
 use Rattle.jc_types.specs.Keys.{same_key}
 use Rattle.jc_log.specs.Log.{jobs_after}
 use Rattle.jc_log.specs.Tables.{at, puts}

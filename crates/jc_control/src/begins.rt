@@ -3,7 +3,8 @@
 ghost use Rattle.std.specs.Prelude.{◌≡◌};
 ghost use Rattle.jc_control.specs.ControllerCalls.{behind, later};
 
-use jc_types::{Arc, Basis, Kind, Version};
+use jc_states::Basis;
+use jc_types::{Arc, Kind, Version};
 
 /// The answer of a begin.
 #[derive(Drop)]

@@ -17,8 +17,9 @@ use crate::queues::{move_due, told, with_jobs, with_owners};
 use jc_cache::{JobCache, PodCache};
 use jc_moment::Moment;
 use jc_queue::{Delays, Queue, Supply};
+use jc_states::{Basis, Pods};
 use jc_table::Table;
-use jc_types::{Arc, Backoff, Basis, Copied, Entry, Jobs, Key, Kind, Pods, Version, Want};
+use jc_types::{Arc, Backoff, Copied, Entry, Jobs, Key, Kind, Version, Want};
 use std::alloc::Global;
 use std::marker::Model;
 

@@ -16,7 +16,7 @@ ghost use Rattle.jc_types.specs.declared.objects.Key.{Key};
 ghost use Rattle.jc_types.specs.declared.objects.Kind.{Kind};
 ghost use Rattle.jc_types.specs.declared.objects.Pod.{Pod};
 ghost use Rattle.jc_types.specs.declared.syncs.Backoff.{Backoff};
-ghost use Rattle.jc_types.specs.declared.syncs.Basis.{Basis};
+ghost use Rattle.jc_states.specs.declared.bases.Basis.{Basis};
 ghost use Rattle.jc_types.specs.Keys.{same_key};
 ghost use Rattle.jc_log.specs.Log.{entry_at, jobs_after, jobs_in, pods_under};
 ghost use Rattle.jc_log.specs.Writes.{Stored};

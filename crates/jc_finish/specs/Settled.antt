@@ -12,7 +12,7 @@ use Rattle.jc_types.specs.declared.statuses.CondKind.TheVariants.{Suspended, Fai
 use Rattle.jc_types.specs.declared.statuses.Condition.{Condition}
 use Rattle.jc_types.specs.declared.statuses.Reason.{Reason}
 use Rattle.jc_types.specs.declared.statuses.Reason.TheVariants.{JobSuspended, JobResumed}
-use Rattle.jc_types.specs.declared.syncs.Basis.{Basis}
+use Rattle.jc_states.specs.declared.bases.Basis.{Basis}
 use Rattle.jc_states.specs.Conditions.{stands, has_target, has_end}
 use Rattle.jc_types.specs.Equality.{same_bool, same_kind}
 

@@ -9,7 +9,7 @@ use Rattle.jc_types.specs.declared.specifications.JobSpec.{JobSpec}
 use Rattle.jc_types.specs.declared.statuses.CondKind.TheVariants.{Suspended}
 use Rattle.jc_types.specs.declared.statuses.Condition.{Condition}
 use Rattle.jc_types.specs.declared.statuses.JobStatus.{JobStatus}
-use Rattle.jc_types.specs.declared.syncs.Basis.{Basis}
+use Rattle.jc_states.specs.declared.bases.Basis.{Basis}
 use Rattle.jc_states.specs.Conditions.{stands, has_target, has_end}
 
 -- The Job is not suspended, how it will end is not settled, it has not ended, and either it never started

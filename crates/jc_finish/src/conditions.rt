@@ -8,8 +8,8 @@ ghost use Rattle.jc_types.specs.Equality.{same_kind};
 ghost use Rattle.jc_finish.specs.Settled.{end_kind, end_of, in_place, is_suspension, is_target, is_target_kind, settled_of, settled_suspended, suspension, true_since, with_end, with_suspension, with_target};
 
 use jc_moment::Moment;
-use jc_states::{has_end, has_target, stands};
-use jc_types::{Basis, CondKind, Condition, Conditions, Copied, Reason, Want};
+use jc_states::{Basis, has_end, has_target, stands};
+use jc_types::{CondKind, Condition, Conditions, Copied, Reason, Want};
 use std::alloc::Global;
 
 // A condition of the kind, true since then.

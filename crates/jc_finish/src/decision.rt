@@ -12,10 +12,10 @@ use crate::start::start_of;
 use jc_failpol::fails_job;
 use jc_moment::Moment;
 use jc_ranges::Ranges;
-use jc_states::{has_target, is_active, is_own};
+use jc_states::{Basis, has_target, is_active, is_own};
 use jc_succpol::is_met;
 use jc_types::{
-    Basis, CondKind, CountIn, Job, JobSpec, JobStatus, Pod, Reason, Restart, SuccessPolicy, counts,
+    CondKind, CountIn, Job, JobSpec, JobStatus, Pod, Reason, Restart, SuccessPolicy, counts,
 };
 
 // Whether a tracked pod has failed, and the failure policy then fails the Job.

@@ -5,8 +5,8 @@ ghost use Rattle.jc_moment.specs.Range.{as_moment};
 ghost use Rattle.jc_finish.specs.Starts.{begins, deadline_of, deadline_of_basis, end_after, start_of, start_of_basis};
 
 use jc_moment::Moment;
-use jc_states::{has_end, has_target, stands};
-use jc_types::{Basis, CondKind, JobSpec, JobStatus};
+use jc_states::{Basis, has_end, has_target, stands};
+use jc_types::{CondKind, JobSpec, JobStatus};
 
 // Whether the Job starts now: for the first time, or since it is resumed.
 fn begins_now(suspend: bool, status: &JobStatus) -> bool

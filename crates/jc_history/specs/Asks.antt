@@ -10,7 +10,7 @@ use Rattle.jc_asks.specs.Sends.{sends_of}
 use Rattle.jc_asks.specs.Steps.{Sync}
 use Rattle.jc_types.specs.declared.replies.Answer.{Answer}
 use Rattle.jc_types.specs.declared.replies.Request.{Request}
-use Rattle.jc_types.specs.declared.syncs.Basis.{Basis}
+use Rattle.jc_states.specs.declared.bases.Basis.{Basis}
 
 -- The next request writes the first status.
 abbrev pub is_write_first : Option Ask → Bool

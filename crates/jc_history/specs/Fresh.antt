@@ -12,7 +12,7 @@ use Rattle.jc_types.specs.declared.numbers.Version.{Version}
 use Rattle.jc_types.specs.declared.objects.Entry.{Entry}
 use Rattle.jc_types.specs.declared.objects.Key.{Key}
 use Rattle.jc_types.specs.declared.objects.Kind.TheVariants.{Jobs, Pods}
-use Rattle.jc_types.specs.declared.syncs.Basis.{Basis}
+use Rattle.jc_states.specs.declared.bases.Basis.{Basis}
 use Rattle.jc_log.specs.Log.{job_in, pods_under, upto}
 use Rattle.jc_history.specs.Lines.{line}
 use Rattle.jc_history.specs.Notes.{Note}

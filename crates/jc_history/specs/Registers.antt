@@ -17,7 +17,7 @@ use Rattle.jc_types.specs.declared.replies.Answer.TheVariants as answer
 use Rattle.jc_types.specs.declared.replies.Request.{Request}
 use Rattle.jc_types.specs.declared.replies.Request.TheVariants as request
 use Rattle.jc_types.specs.declared.syncs.Backoff.{Backoff}
-use Rattle.jc_types.specs.declared.syncs.Basis.{Basis}
+use Rattle.jc_states.specs.declared.bases.Basis.{Basis}
 use Rattle.jc_types.specs.Keys.{same_key}
 use Rattle.jc_history.specs.Asks.{is_write_first}
 use Rattle.jc_asks.specs.Readings.{next_ask, with_step}

@@ -10,7 +10,8 @@ use crate::creations::creatable;
 use crate::let_goes::{let_goes, marks};
 use crate::results::Wants;
 use jc_moment::Moment;
-use jc_types::{Basis, CountIn, Indexes, Job, Want};
+use jc_states::Basis;
+use jc_types::{CountIn, Indexes, Job, Want};
 use std::alloc::Global;
 
 // Of what would be made at once, nothing before the opening.

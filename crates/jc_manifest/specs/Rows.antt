@@ -35,7 +35,7 @@ each row place (d ∷ ds) = option_or (row place d) (each row (place + 1) ds)
 
 -- ---- one row
 
--- the rule rule_row, or is broken at that path
+-- the rule holds, or is broken at that path
 abbrev pub rule_row : List ℕ → ℕ → Bool → Row
 rule_row path rule kept = if kept then None else Some (invalid path rule)
 

@@ -1,4 +1,4 @@
-//! What the rules ensure. Each function is empty: what it ensures rule_row always, and its callers may
+//! What the rules ensure. Each function is empty: what it ensures holds always, and its callers may
 //! cite it.
 
 ghost use Rattle.std.specs.Prelude.{◌≡◌, ℕ, List, None};

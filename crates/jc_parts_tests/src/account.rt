@@ -6,10 +6,11 @@ ghost use Rattle.jc_states.specs.Bases.{IsTidy, TotalsFit};
 use jc_account::{count_in, count_out};
 use jc_moment::Moment;
 use jc_ranges::Ranges;
+use jc_states::{Basis, Pods};
 use jc_types::{
-    Action, Arc, Backoff, Basis, Conditions, Containers, CountIn, FailurePolicy, FailureRule,
+    Action, Arc, Backoff, Conditions, Containers, CountIn, FailurePolicy, FailureRule,
     FailureRules, Job, JobSpec, JobStatus, Key, Mode, Name, Names, Pattern, Patterns, Phase, Pod,
-    Pods, Replacement, Requirement, Restart, Template, Text, Truth, Uid, Uids, Version,
+    Replacement, Requirement, Restart, Template, Text, Truth, Uid, Uids, Version,
 };
 use std::alloc::Global;
 use std::process::Abort;

@@ -6,10 +6,10 @@ ghost use Rattle.jc_types.specs.Counts.{counts as counts_of};
 use jc_manage::{Wants, wants};
 use jc_moment::Moment;
 use jc_ranges::Ranges;
+use jc_states::{Basis, Pods};
 use jc_types::{
-    Arc, Backoff, Basis, Conditions, Containers, CountIn, Job, JobSpec, JobStatus, Key, Mode, Name,
-    Names, Patterns, Phase, Pod, PodVersions, Pods, Replacement, Restart, Template, Uid, Uids,
-    Version,
+    Arc, Backoff, Conditions, Containers, CountIn, Job, JobSpec, JobStatus, Key, Mode, Name, Names,
+    Patterns, Phase, Pod, PodVersions, Replacement, Restart, Template, Uid, Uids, Version,
 };
 use std::alloc::Global;
 use std::process::Abort;

@@ -3,6 +3,7 @@
 use jc_cases::{POD, SPEC, job_of, key, main_container, no_status, pod_of, spec_of};
 use jc_moment::Moment;
 use jc_ranges::Ranges;
+use jc_states::{Basis, Pods};
 use jc_types::*;
 use std::alloc::Global;
 use std::process::Abort;

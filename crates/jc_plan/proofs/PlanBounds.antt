@@ -14,7 +14,7 @@ use Rattle.jc_types.specs.declared.statuses.CondKind.TheVariants.{Suspended, Com
 use Rattle.jc_types.specs.declared.statuses.Condition.{Condition}
 use Rattle.jc_types.specs.declared.statuses.JobStatus.{JobStatus}
 use Rattle.jc_types.specs.declared.statuses.Reason.{Reason}
-use Rattle.jc_types.specs.declared.syncs.Basis.{Basis}
+use Rattle.jc_states.specs.declared.bases.Basis.{Basis}
 use Rattle.jc_types.specs.declared.syncs.CountIn.{CountIn}
 use Rattle.jc_states.specs.Bases.{own_pods}
 use Rattle.jc_states.specs.Conditions.{has_end, has_target, stands}

@@ -4,7 +4,7 @@ use Rattle.jc_types.specs.declared.objects.Job.{Job}
 use Rattle.jc_types.specs.declared.objects.Pod.{Pod}
 use Rattle.jc_types.specs.declared.statuses.CondKind.{CondKind}
 use Rattle.jc_types.specs.declared.statuses.Reason.{Reason}
-use Rattle.jc_types.specs.declared.syncs.Basis.{Basis}
+use Rattle.jc_states.specs.declared.bases.Basis.{Basis}
 use Rattle.jc_types.specs.declared.syncs.CountIn.{CountIn}
 use Rattle.jc_states.specs.Bases.{own_pods}
 use Rattle.jc_finish.specs.Decisions.{decided, decision_of}

@@ -4,7 +4,7 @@
 --     stopping_of job basis    how many own pods are marked and still open
 use Rattle.std.specs.Prelude.{ℕ, length}
 use Rattle.jc_types.specs.declared.objects.Job.{Job}
-use Rattle.jc_types.specs.declared.syncs.Basis.{Basis}
+use Rattle.jc_states.specs.declared.bases.Basis.{Basis}
 use Rattle.jc_states.specs.Bases.{own_pods}
 use Rattle.jc_states.specs.Pods.{ending_pods, tracked_active_pods}
 use Rattle.jc_plan.specs.Statuses.{wants_in}

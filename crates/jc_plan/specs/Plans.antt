@@ -10,7 +10,7 @@ use Rattle.std.specs.Prelude.{◌≡◌, ℕ, ◌<◌, nat_le, [], Option, Some,
 use Rattle.jc_types.specs.declared.objects.Job.{Job}
 use Rattle.jc_types.specs.declared.statuses.JobStatus.{JobStatus}
 use Rattle.jc_types.specs.declared.syncs.Backoff.{Backoff}
-use Rattle.jc_types.specs.declared.syncs.Basis.{Basis}
+use Rattle.jc_states.specs.declared.bases.Basis.{Basis}
 use Rattle.jc_types.specs.Equality.{same_status}
 use Rattle.jc_finish.specs.Starts.{deadline_of}
 use Rattle.jc_plan.specs.declared.plans.Planned.{Planned}

@@ -9,7 +9,7 @@ use Rattle.std.specs.Prelude.{◌≡◌, ◌⊎◌, IsSomeAnd, find, nat_le, Boo
 use Rattle.jc_types.specs.declared.numbers.Uid.{Uid}
 use Rattle.jc_types.specs.declared.objects.Job.{Job}
 use Rattle.jc_types.specs.declared.objects.Pod.{Pod}
-use Rattle.jc_types.specs.declared.syncs.Basis.{Basis}
+use Rattle.jc_states.specs.declared.bases.Basis.{Basis}
 use Rattle.jc_types.specs.Keys.{same_uid}
 use Rattle.jc_states.specs.Bases.{is_own}
 use Rattle.jc_states.specs.Owners.{is_foreign}

@@ -12,7 +12,7 @@ ghost use Rattle.jc_types.specs.declared.policies.FailurePolicy.{FailurePolicy};
 ghost use Rattle.jc_types.specs.declared.specifications.Replacement.TheVariants.{FailedOnly};
 ghost use Rattle.jc_types.specs.declared.statuses.CondKind.{CondKind};
 ghost use Rattle.jc_types.specs.declared.statuses.CondKind.TheVariants.{Suspended};
-ghost use Rattle.jc_types.specs.declared.syncs.Basis.{Basis};
+ghost use Rattle.jc_states.specs.declared.bases.Basis.{Basis};
 ghost use Rattle.jc_types.specs.Keys.{same_uid};
 ghost use Rattle.jc_states.specs.Bases.{own_pods};
 ghost use Rattle.jc_states.specs.Conditions.{has_target, stands};

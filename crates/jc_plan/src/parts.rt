@@ -19,9 +19,9 @@ use jc_account::count_in;
 use jc_finish::{decide, next_deadline};
 use jc_manage::{Wants, wants};
 use jc_moment::Moment;
+use jc_states::Basis;
 use jc_types::{
-    Arc, Basis, CondKind, Copied, CountIn, Indexes, Job, JobStatus, PodVersions, Reason, Same,
-    Uids, Want,
+    Arc, CondKind, Copied, CountIn, Indexes, Job, JobStatus, PodVersions, Reason, Same, Uids, Want,
 };
 use std::alloc::Global;
 

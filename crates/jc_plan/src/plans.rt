@@ -5,7 +5,8 @@ ghost use Rattle.std.specs.Option.{option_copied};
 ghost use Rattle.jc_plan.specs.Plans.{planned};
 
 use jc_moment::Moment;
-use jc_types::{Arc, Backoff, Basis, Indexes, JobStatus, PodVersions, Uids};
+use jc_states::Basis;
+use jc_types::{Arc, Backoff, Indexes, JobStatus, PodVersions, Uids};
 use std::marker::Model;
 
 /// What a sync does, in the order in which it does it, and what it leaves behind.

@@ -3,8 +3,8 @@
 ghost use Rattle.std.specs.Prelude.{◌≡◌, IfOk};
 ghost use Rattle.jc_plan.specs.Releases.{due_uids, is_owed, is_orphan, is_released, releases_of};
 
-use jc_states::{is_among, is_foreign};
-use jc_types::{Basis, Pod, Uid, Uids, Want};
+use jc_states::{Basis, is_among, is_foreign};
+use jc_types::{Pod, Uid, Uids, Want};
 use std::alloc::Global;
 
 // Whether the pod is an orphan.

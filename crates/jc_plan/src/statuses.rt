@@ -17,10 +17,8 @@ use jc_account::count_out;
 use jc_finish::{settle_conditions, start_in_force};
 use jc_manage::Wants;
 use jc_moment::Moment;
-use jc_states::{has_end, has_target, is_open, is_own, stands};
-use jc_types::{
-    Basis, CondKind, Conditions, Copied, CountIn, Job, JobStatus, Pod, Reason, Uids, Want,
-};
+use jc_states::{Basis, has_end, has_target, is_open, is_own, stands};
+use jc_types::{CondKind, Conditions, Copied, CountIn, Job, JobStatus, Pod, Reason, Uids, Want};
 use std::alloc::Global;
 
 /// Whether how the Job ends is settled, before the sync or by it.

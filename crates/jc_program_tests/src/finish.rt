@@ -15,11 +15,11 @@ use jc_cases::{POD, PodRow, failing_at, job_of, key, main_container, no_status, 
 use jc_finish::{decide, next_deadline, settle_conditions, start_in_force};
 use jc_moment::Moment;
 use jc_ranges::Ranges;
-use jc_states::has_target;
+use jc_states::{Basis, Pods, has_target};
 use jc_types::{
-    Backoff, Basis, CondKind, Condition, Conditions, Container, CountIn, Job, JobSpec, Mode, Names,
-    Phase, Pod, Pods, Reason, Replacement, Restart, SuccessPolicy, SuccessRule, SuccessRules,
-    Template, Uid, Uids, Version,
+    Backoff, CondKind, Condition, Conditions, Container, CountIn, Job, JobSpec, Mode, Names, Phase,
+    Pod, Reason, Replacement, Restart, SuccessPolicy, SuccessRule, SuccessRules, Template, Uid,
+    Uids, Version,
 };
 use std::alloc::Global;
 use std::process::Abort;

@@ -13,9 +13,10 @@ use jc_cases::{
 };
 use jc_moment::Moment;
 use jc_plan::{Plan, plan};
+use jc_states::{Basis, Pods};
 use jc_types::{
-    Arc, Backoff, Basis, CondKind, Conditions, Indexes, Job, JobSpec, JobStatus, Mode, Phase, Pod,
-    PodVersions, Pods, Reason, Replacement, Restart, Uid, Uids, Version,
+    Arc, Backoff, CondKind, Conditions, Indexes, Job, JobSpec, JobStatus, Mode, Phase, Pod,
+    PodVersions, Reason, Replacement, Restart, Uid, Uids, Version,
 };
 use std::alloc::Global;
 use std::process::Abort;

@@ -1,3 +1,4 @@
 pub mod ObjectChangeFacts
 pub mod PodListFacts
 pub mod UidListFacts
+pub mod BasisFacts

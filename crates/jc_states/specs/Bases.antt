@@ -4,12 +4,15 @@
 --     IsTidy job pods       of an Indexed Job no success is listed, and each pod has an index
 --     TotalsFit job pods    the totals with what is listed, and with the pods, are below 2 ^ 64
 --     CanPlan basis         there is a valid Job, and all numbers are small enough
-use Rattle.std.specs.Prelude.{◌≡◌, ◌≢◌, ◌+◌, ◌<◌, ◌^◌, Bool, List, [], length, filter, All, AllPairs, IsSome, IfSome}
+--     same_basis            all members of two bases agree
+use Rattle.std.specs.Cmp.Lexicographic.{pointwise}
+use Rattle.std.specs.Prelude.{◌≡◌, ◌≢◌, ◌+◌, ◌<◌, ◌^◌, ◌&&◌, ◌==◌, Bool, List, [], length, filter, All, AllPairs, IsSome, IfSome}
 use Rattle.jc_types.specs.declared.objects.Job.{Job}
 use Rattle.jc_types.specs.declared.objects.Pod.{Pod}
 use Rattle.jc_types.specs.declared.specifications.Mode.TheVariants.{Indexed}
-use Rattle.jc_types.specs.declared.syncs.Basis.{Basis}
-use Rattle.jc_types.specs.Keys.{same_uid}
+use Rattle.jc_states.specs.declared.bases.Basis.{Basis}
+use Rattle.jc_types.specs.Equality.{same_backoff, same_job, same_option, same_pod}
+use Rattle.jc_types.specs.Keys.{same_key, same_uid}
 use Rattle.jc_states.specs.Indexes.{HasSmallIndex}
 use Rattle.jc_states.specs.ValidSpecs.{IsValidSpec}
 
@@ -44,3 +47,10 @@ pub record CanPlan (basis : Basis) : Type 0 where
   pub few : length basis.pods < 2 ^ 31
   pub failures : basis.backoff.failures + length basis.pods < 2 ^ 64
   pub last : 0 < basis.backoff.failures → IsSome basis.backoff.last
+
+-- All members of two bases agree.
+abbrev pub same_basis : Basis → Basis → Bool
+same_basis a b =
+    same_key a.key b.key && (same_option same_job a.job b.job && (pointwise same_pod a.pods b.pods
+    && ((a.jobs_at.0 == b.jobs_at.0) && ((a.pods_at.0 == b.pods_at.0) && ((a.now == b.now)
+    && same_backoff a.backoff b.backoff)))))

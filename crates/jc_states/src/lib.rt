@@ -1,8 +1,9 @@
 //! What state a pod or a Job is in (batch/v1, core/v1): whether a pod is open, active, ending or ready,
 //! which index it has, how many pods of a Job are in a state, whether a UID is listed as uncounted, and
-//! which conditions of a Job stand.
+//! which conditions of a Job stand. And what a sync sees of a Job and its pods.
 #![tactic(auto)]
 
+mod bases;
 mod conditions;
 mod counts;
 mod indexes;
@@ -12,10 +13,11 @@ mod phases;
 mod pods;
 mod uids;
 
+pub use bases::{Basis, Pods};
 pub use conditions::{has_end, has_target, stands};
 pub use counts::{count_active, count_ending, count_tracked_active};
 pub use indexes::{has_index, is_completed};
-pub use laws::lists_merge;
+pub use laws::{bases_are_compared, lists_merge};
 pub use owners::is_foreign;
 pub use phases::{is_final, is_pending, is_same_phase};
 pub use pods::{

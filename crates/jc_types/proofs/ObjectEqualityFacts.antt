@@ -1,4 +1,4 @@
--- The tests of equality of specifications, Jobs, pods and bases are exact.
+-- The tests of equality of specifications, Jobs and pods are exact.
 use Rattle.std.proofs.Common.{◌≡◌, ℕ, true, cond, eqb, nat_eq, refl, ap, sym, ◌∙◌, true≢false}
 use Rattle.std.specs.Ordering.{int_eq}
 use Rattle.std.specs.Cmp.Lexicographic.{pointwise, pointwise_decides}
@@ -26,9 +26,8 @@ use Rattle.jc_types.specs.declared.specifications.Restart.{Restart}
 use Rattle.jc_types.specs.declared.specifications.Restart.TheVariants.{Never, OnFailure}
 use Rattle.jc_types.specs.declared.specifications.Template.{Template}
 use Rattle.jc_types.specs.declared.syncs.Backoff.{Backoff}
-use Rattle.jc_types.specs.declared.syncs.Basis.{Basis}
 use Rattle.jc_types.specs.Keys.{same_key, same_uid}
-use Rattle.jc_types.specs.Equality.{same_bool, same_option, same_text, same_pattern, same_container, operator_place, action_place, mode_place, replacement_place, restart_place, phase_place, same_requirement, same_failure_rule, same_failure, same_success_rule, same_success, same_template, same_limits, same_kinds, same_spec, same_job, same_origin, same_pod, same_backoff, same_basis}
+use Rattle.jc_types.specs.Equality.{same_bool, same_option, same_text, same_pattern, same_container, operator_place, action_place, mode_place, replacement_place, restart_place, phase_place, same_requirement, same_failure_rule, same_failure, same_success_rule, same_success, same_template, same_limits, same_kinds, same_spec, same_job, same_origin, same_pod, same_backoff}
 use Rattle.jc_types.proofs.KeyFacts.{same_key-eq, same_key-itself}
 use Rattle.jc_types.proofs.EqualityFacts.{IsExact, bool-exact, containers-exact, exact_from, int-exact, nat-exact, numbers-exact, option-exact, patterns-exact, status-exact, uid-exact}
 
@@ -331,7 +330,7 @@ same_pod-itself a =
 pub pod-exact : IsExact same_pod
 pod-exact = exact_from same_pod same_pod-equal same_pod-itself
 
-backoff-exact : IsExact same_backoff
+pub backoff-exact : IsExact same_backoff
 backoff-exact = exact_from same_backoff equal itself
   where
     equal : (a b : Backoff) → same_backoff a b ≡ true → a ≡ b
@@ -344,40 +343,3 @@ backoff-exact = exact_from same_backoff equal itself
 
     itself : (a : Backoff) → same_backoff a a ≡ true
     itself a = and_from (eqb a.failures a.failures) _ (same_number a.failures) ((numbers-exact a.last a.last).1 refl)
-
-pub basis-exact : IsExact same_basis
-basis-exact = exact_from same_basis equal itself
-  where
-    jobs : IsExact (same_option same_job)
-    jobs = option-exact same_job job-exact
-
-    pods : IsExact (pointwise same_pod)
-    pods = pointwise_decides pod-exact
-
-    equal : (a b : Basis) → same_basis a b ≡ true → a ≡ b
-    equal a b e =
-        let p1 = and_parts (same_key a.key b.key) _ e in
-        let p2 = and_parts (same_option same_job a.job b.job) _ p1.1 in
-        let p3 = and_parts (pointwise same_pod a.pods b.pods) _ p2.1 in
-        let p4 = and_parts (eqb a.jobs_at.0 b.jobs_at.0) _ p3.1 in
-        let p5 = and_parts (eqb a.pods_at.0 b.pods_at.0) _ p4.1 in
-        let p6 = and_parts (eqb a.now b.now) _ p5.1 in
-        λ i. record {
-          key = (key-exact a.key b.key).0 p1.0 i;
-          job = (jobs a.job b.job).0 p2.0 i;
-          pods = (pods a.pods b.pods).0 p3.0 i;
-          jobs_at = record { 0 = eqb-true a.jobs_at.0 b.jobs_at.0 p4.0 i };
-          pods_at = record { 0 = eqb-true a.pods_at.0 b.pods_at.0 p5.0 i };
-          now = eqb-true a.now b.now p6.0 i;
-          backoff = (backoff-exact a.backoff b.backoff).0 p6.1 i;
-        }
-
-    itself : (a : Basis) → same_basis a a ≡ true
-    itself a =
-        and_from (same_key a.key a.key) _ ((key-exact a.key a.key).1 refl)
-        (and_from (same_option same_job a.job a.job) _ ((jobs a.job a.job).1 refl)
-        (and_from (pointwise same_pod a.pods a.pods) _ ((pods a.pods a.pods).1 refl)
-        (and_from (eqb a.jobs_at.0 a.jobs_at.0) _ (same_number a.jobs_at.0)
-        (and_from (eqb a.pods_at.0 a.pods_at.0) _ (same_number a.pods_at.0)
-        (and_from (eqb a.now a.now) _ (same_number a.now)
-        ((backoff-exact a.backoff a.backoff).1 refl))))))

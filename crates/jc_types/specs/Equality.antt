@@ -9,7 +9,6 @@
 --     same_pattern         kind and truth agree
 --     same_spec            all members of two specifications agree
 --     same_job, same_pod   all members of two Jobs, or pods, agree
---     same_basis           all members of two bases agree
 use Rattle.std.specs.Prelude.{◌≡◌, ℕ, Bool, true, false, not, ◌&&◌, ◌==◌, nat_eq, List, Option, Some, None}
 use Rattle.std.specs.Ordering.{int_eq}
 use Rattle.std.specs.Cmp.Lexicographic.{pointwise}
@@ -40,7 +39,6 @@ use Rattle.jc_types.specs.declared.specifications.Restart.{Restart}
 use Rattle.jc_types.specs.declared.specifications.Restart.TheVariants.{Never, OnFailure}
 use Rattle.jc_types.specs.declared.specifications.Template.{Template}
 use Rattle.jc_types.specs.declared.syncs.Backoff.{Backoff}
-use Rattle.jc_types.specs.declared.syncs.Basis.{Basis}
 use Rattle.jc_types.specs.declared.policies.Truth.TheVariants as truth
 use Rattle.jc_types.specs.declared.statuses.CondKind.{CondKind}
 use Rattle.jc_types.specs.declared.statuses.CondKind.TheVariants.{Suspended, FailureTarget, SuccessCriteriaMet, Failed, Complete}
@@ -264,10 +262,3 @@ same_pod a b = same_origin a b && same_state a b
 -- The number of failures and the last moment agree.
 abbrev pub same_backoff : Backoff → Backoff → Bool
 same_backoff a b = (a.failures == b.failures) && same_option nat_eq a.last b.last
-
--- All members of two bases agree.
-abbrev pub same_basis : Basis → Basis → Bool
-same_basis a b =
-    same_key a.key b.key && (same_option same_job a.job b.job && (pointwise same_pod a.pods b.pods
-    && ((a.jobs_at.0 == b.jobs_at.0) && ((a.pods_at.0 == b.pods_at.0) && ((a.now == b.now)
-    && same_backoff a.backoff b.backoff)))))

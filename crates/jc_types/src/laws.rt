@@ -1,7 +1,7 @@
 //! Laws on plain data. Each function is empty: what it ensures holds of all values, and its callers
 //! may cite it.
 
-ghost use Rattle.jc_types.specs.Equality.{IsExact, same_basis, same_job, same_pod, same_spec, same_status};
+ghost use Rattle.jc_types.specs.Equality.{IsExact, same_backoff, same_job, same_pod, same_spec, same_status};
 
 /// The tests of equality that compute are true just of equal values.
 pub fn tests_are_exact()
@@ -9,5 +9,5 @@ pub fn tests_are_exact()
     ensures spec { IsExact same_spec }
     ensures job { IsExact same_job }
     ensures pod { IsExact same_pod }
-    ensures basis { IsExact same_basis }
+    ensures backoff { IsExact same_backoff }
 {}

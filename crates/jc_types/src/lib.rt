@@ -32,7 +32,7 @@ pub use laws::tests_are_exact;
 pub use limits::{GREATEST_COMPLETIONS, GREATEST_LIMIT, GREATEST_PARALLELISM, MOST_CONTAINERS};
 pub use lists::ListOf;
 pub use numbers::{Uid, Uids, Version};
-pub use objects::{Container, Containers, Entries, Entry, Job, Jobs, Key, Kind, Phase, Pod, Pods};
+pub use objects::{Container, Containers, Entries, Entry, Job, Jobs, Key, Kind, Phase, Pod};
 pub use pasts::Pasts;
 pub use policies::{
     Action, Codes, FailurePolicy, FailureRule, FailureRules, Operator, Pattern, Patterns,
@@ -43,6 +43,6 @@ pub use runs::{Event, History, Past, Shape, Sys};
 pub use shared::Arc;
 pub use specifications::{JobSpec, Mode, Replacement, Restart, Template};
 pub use statuses::{CondKind, Condition, Conditions, JobStatus, Reason};
-pub use syncs::{Backoff, Basis, CountIn, Indexes, PodVersions, counts};
+pub use syncs::{Backoff, CountIn, Indexes, PodVersions, counts};
 pub use texts::{Name, Names, Text};
 pub use uid_words::uid_text;

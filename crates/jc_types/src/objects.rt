@@ -99,9 +99,6 @@ pub struct Pod {
     pub created: Moment,
 }
 
-/// Pods in ascending order of their UIDs.
-pub type Pods = ListOf<Pod>;
-
 /// The two kinds of objects.
 #[derive(Clone, Copy, PartialEq, Eq, Debug)]
 pub enum Kind {

@@ -1,4 +1,4 @@
-//! What a sync of the Job controller starts from, and what it counts.
+//! What a sync of the Job controller counts, and the parts of what it starts from.
 
 ghost use Rattle.std.specs.Prelude.{◌≡◌, ◌<◌, ◌^◌};
 ghost use Rattle.jc_types.specs.Counts.{counts as counts_of};
@@ -6,7 +6,6 @@ ghost use Rattle.jc_types.specs.Counts.{counts as counts_of};
 use crate::copies::{Copied, Same, Want};
 use crate::lists::ListOf;
 use crate::numbers::{Uid, Uids, Version};
-use crate::objects::{Job, Key, Pods};
 use jc_moment::Moment;
 use jc_ranges::Ranges;
 
@@ -23,25 +22,6 @@ pub struct Backoff {
     pub failures: u64,
     /// When the last of them was seen.
     pub last: Option<Moment>,
-}
-
-/// What one sync sees: the Job and the pods of its key in the caches of a controller.
-#[derive(Drop)]
-pub struct Basis {
-    /// The key that is synced.
-    pub key: Key,
-    /// The Job of the key, if there is one.
-    pub job: Option<Job>,
-    /// The pods that were made for Jobs of the key.
-    pub pods: Pods,
-    /// The version of the Job cache.
-    pub jobs_at: Version,
-    /// The version of the pod cache.
-    pub pods_at: Version,
-    /// When the sync begins.
-    pub now: Moment,
-    /// The failures of the key.
-    pub backoff: Backoff,
 }
 
 /// The counts of a sync over its basis (KEP-2307).
@@ -90,20 +70,6 @@ impl Copied for Backoff {
     }
 }
 
-impl Copied for Basis {
-    fn copy(&self) -> Result<Self, Want> {
-        Ok(Basis {
-            key: self.key.copy()?,
-            job: self.job.copy()?,
-            pods: self.pods.copy()?,
-            jobs_at: self.jobs_at,
-            pods_at: self.pods_at,
-            now: self.now,
-            backoff: self.backoff.copy()?,
-        })
-    }
-}
-
 impl Copied for CountIn {
     fn copy(&self) -> Result<Self, Want> {
         Ok(CountIn {
@@ -122,18 +88,6 @@ impl Copied for CountIn {
 impl Same for Backoff {
     fn is_same(&self, other: &Self) -> bool {
         self.failures == other.failures && self.last.is_same(&other.last)
-    }
-}
-
-impl Same for Basis {
-    fn is_same(&self, other: &Self) -> bool {
-        self.key.is_same(&other.key)
-            && self.job.is_same(&other.job)
-            && self.pods.is_same(&other.pods)
-            && self.jobs_at == other.jobs_at
-            && self.pods_at == other.pods_at
-            && self.now == other.now
-            && self.backoff.is_same(&other.backoff)
     }
 }
 

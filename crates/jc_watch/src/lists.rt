@@ -4,8 +4,9 @@ ghost use Rattle.std.specs.Prelude.{◌≡◌, IfOk, length, map};
 ghost use Rattle.jc_states.specs.PodLists.{IsRising};
 ghost use Rattle.jc_log.specs.Log.{RowsRise, jobs_in, pods_in};
 
+use jc_states::Pods;
 use jc_store::Store;
-use jc_types::{Copied, Jobs, Pods, Version, Want};
+use jc_types::{Copied, Jobs, Version, Want};
 use std::alloc::Global;
 
 /// The Jobs that are there, in ascending UID, and the log's length.

@@ -1,5 +1,5 @@
 use Rattle.jc_types.proofs.EqualityFacts.{status-exact}
-use Rattle.jc_types.proofs.ObjectEqualityFacts.{spec-exact, job-exact, pod-exact, basis-exact}
+use Rattle.jc_types.proofs.ObjectEqualityFacts.{spec-exact, job-exact, pod-exact, backoff-exact}
 use Rattle.jc_types.proofs.laws.tests_are_exact.Goals as goal
 
 pub returns-clause-status : goal.returns-clause-status
@@ -14,5 +14,5 @@ returns-clause-job c = job-exact
 pub returns-clause-pod : goal.returns-clause-pod
 returns-clause-pod c = pod-exact
 
-pub returns-clause-basis : goal.returns-clause-basis
-returns-clause-basis c = basis-exact
+pub returns-clause-backoff : goal.returns-clause-backoff
+returns-clause-backoff c = backoff-exact
