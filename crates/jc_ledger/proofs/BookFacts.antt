@@ -18,7 +18,7 @@ use Rattle.jc_states.specs.UidLists.{join}
 use Rattle.jc_ledger.specs.declared.books.Book.{Book}
 use Rattle.jc_ledger.specs.declared.counts.Verdicts.{Verdicts}
 use Rattle.jc_ledger.specs.declared.rows.Row.{Row}
-use Rattle.jc_ledger.specs.Books.{AreCounts, AreFew, AreSound, IsSound, done_at, rows_at, totals_of, verdicts_at}
+use Rattle.jc_ledger.specs.Books.{AreCounts, AreFew, AreSound, IsSoundBook, done_at, rows_at, totals_of, verdicts_at}
 use Rattle.jc_ledger.specs.Ledger.{Ledger, Record, entered, judged_by, ledger_of}
 use Rattle.jc_ledger.specs.Verdicts.{IsCount, fresh_rows, has_row, indexes_in, new_rows, verdicts_of}
 use Rattle.jc_ledger.proofs.VerdictFacts.{few_rows, few_kept, verdicts_are}
@@ -35,13 +35,13 @@ module _ (u : Uid) (old mid new : List (Uid × Book)) (book : Book)
     (others : (j : Uid) → same_uid u j ≡ false → at same_uid mid j ≡ at same_uid old j)
     (sets : Sets same_uid mid new u (Some book)) where
   -- Each book is sound where one was changed that is.
-  pub books-sound : (log : List Entry) → AreSound log old → IsSound u log book → AreSound log new
+  pub books-sound : (log : List Entry) → AreSound log old → IsSoundBook u log book → AreSound log new
   books-sound log all is j =
-      subst (λ o. IfSome o (λ b. IsSound j log b)) (sym (sets j)) (by (same_uid u j) refl)
+      subst (λ o. IfSome o (λ b. IsSoundBook j log b)) (sym (sets j)) (by (same_uid u j) refl)
     where
-      by : (b : Bool) → same_uid u j ≡ b → IfSome (cond b (Some book) (at same_uid mid j)) (λ x. IsSound j log x)
-      by true s = subst (λ x. IsSound x log book) (same_uid-eq u j s) is
-      by false s = subst (λ o. IfSome o (λ b. IsSound j log b)) (sym (others j s)) (all j)
+      by : (b : Bool) → same_uid u j ≡ b → IfSome (cond b (Some book) (at same_uid mid j)) (λ x. IsSoundBook j log x)
+      by true s = subst (λ x. IsSoundBook x log book) (same_uid-eq u j s) is
+      by false s = subst (λ o. IfSome o (λ b. IsSoundBook j log b)) (sym (others j s)) (all j)
 
 -- Each book counts as its ledger after a write of the Job.
 pub books-counted : (job : Job) (log : List Entry) (seen version : ℕ) (ledgers : Uid → Ledger) (old mid new : List (Uid × Book)) (book : Book)

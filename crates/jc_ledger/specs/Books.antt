@@ -1,6 +1,6 @@
 -- The books of all Jobs, as a pass over a history keeps them, and what they come to.
 --     HasUids known rows       the UIDs are those of the rows
---     IsSound j log book       the book has the pods of the Job of the UID, and is in order
+--     IsSoundBook j log book       the book has the pods of the Job of the UID, and is in order
 --     AreSound log books       so it is of each book
 --     rows_at j books          the rows of the Job's book; none where it has no book
 --     done_at j books          the indexes of the Job's book; none where it has no book
@@ -30,14 +30,14 @@ HasUids known rows = (u : Uid) → contains same_uid known u ≡ has_row rows u
 
 -- The book of the Job of the UID has the Job's pods among the first entries; its indexes rise, and its UIDs
 -- are those of its rows.
-pub record IsSound (j : Uid) (log : List Entry) (book : Book) : Type 0 where
+pub record IsSoundBook (j : Uid) (log : List Entry) (book : Book) : Type 0 where
   pub seen : HasSeen j log book.pods book.at
   pub order : IsIncreasing book.done.items
   pub uids : HasUids book.known book.rows.items
 
 -- So it is of each book.
 abbrev pub AreSound : List Entry → List (Uid × Book) → Type 0
-AreSound log books = (j : Uid) → IfSome (at same_uid books j) (λ book. IsSound j log book)
+AreSound log books = (j : Uid) → IfSome (at same_uid books j) (λ book. IsSoundBook j log book)
 
 -- The rows of the Job's book; none where it has no book.
 abbrev pub rows_at : Uid → List (Uid × Book) → List Row

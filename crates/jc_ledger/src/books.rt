@@ -7,7 +7,7 @@ ghost use Rattle.jc_types.specs.Keys.{same_uid};
 ghost use Rattle.jc_log.specs.Log.{pods_of};
 ghost use Rattle.jc_log.specs.Tables.{at};
 ghost use Rattle.jc_states.specs.UidLists.{join};
-ghost use Rattle.jc_ledger.specs.Books.{AreCounts, AreSound, IsSound, done_at, rows_at};
+ghost use Rattle.jc_ledger.specs.Books.{AreCounts, AreSound, IsSoundBook, done_at, rows_at};
 ghost use Rattle.jc_ledger.specs.Ledger.{Ledger, judged_by};
 ghost use Rattle.jc_ledger.specs.Verdicts.{HasSeen, fresh_rows, indexes_in};
 
@@ -70,13 +70,13 @@ fn look(book: &mut Book, owner: Uid, log: &[Entry], seen: u64) -> Result<(), Wan
 
 /// Judges the pods of a Job, as they stood among the first entries that the sync saw.
 fn judge(alloc: Global, book: &mut Book, job: &Job, log: &[Entry], seen: u64) -> Result<(), Want>
-    requires { IsSound job.now.uid log.now book.old }
+    requires { IsSoundBook job.now.uid log.now book.old }
     ensures rows { OnOk result (book.new.rows.items
         ≡ book.old.rows.items ++ fresh_rows job.now book.old.rows.items log.now seen) }
     ensures done { OnOk result (book.new.done.items
         ≡ join book.old.done.items
         (indexes_in (fresh_rows job.now book.old.rows.items log.now seen))) }
-    ensures sound { OnOk result (IsSound job.now.uid log.now book.new) }
+    ensures sound { OnOk result (IsSoundBook job.now.uid log.now book.new) }
 {
     look(book, job.uid, log, seen)?;
     let new = new_rows(alloc, &job.spec, &book.known, &book.pods)?;
@@ -90,7 +90,7 @@ fn judge(alloc: Global, book: &mut Book, job: &Job, log: &[Entry], seen: u64) ->
 fn taken(alloc: Global, books: &mut IndexMap<Uid, Book>, uid: Uid) -> Book
     ensures rows { result.rows.items ≡ rows_at uid books.old.entries }
     ensures done { result.done.items ≡ done_at uid books.old.entries }
-    ensures sound { (log : List Entry) → AreSound log books.old.entries → IsSound uid log result }
+    ensures sound { (log : List Entry) → AreSound log books.old.entries → IsSoundBook uid log result }
     ensures others { (j : Uid) → same_uid uid j ≡ false
         → at same_uid books.new.entries j ≡ at same_uid books.old.entries j }
 {

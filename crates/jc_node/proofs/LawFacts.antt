@@ -16,8 +16,8 @@ use Rattle.jc_log.proofs.PodFacts.{pods_in-live}
 use Rattle.jc_history.specs.Nodes.{NodeAct as Act, act_on, act_with, fate, fate_told, is_again, node_step, pod_end}
 use Rattle.jc_history.specs.Nodes as does
 use Rattle.jc_history.specs.Notes.{newest}
-use Rattle.jc_node.specs.Fated.{ends_in}
-use Rattle.jc_node.specs.Steps.{act_of, kind_of}
+use Rattle.jc_node.specs.Fated.{ends_at_key}
+use Rattle.jc_node.specs.Steps.{act_of, act_kind}
 use Rattle.jc_node.proofs.NextFacts.{tells}
 
 -- ---- the node's next step
@@ -57,30 +57,30 @@ same_act : (some act : Act) → Some some ≡ Some act → some ≡ act
 same_act some act h = ap (λ found. option_map_or (λ a. a) found some) h
 
 -- An act that its kind and the end give, where it is the one that befalls.
-given : (end : Option End) (some act : Act) → act_of (kind_of some) end ≡ Some some → Some some ≡ Some act → act_of (kind_of act) end ≡ Some act
-given end some act own h = subst (λ a. act_of (kind_of a) end ≡ Some a) (same_act some act h) own
+given : (end : Option End) (some act : Act) → act_of (act_kind some) end ≡ Some some → Some some ≡ Some act → act_of (act_kind act) end ≡ Some act
+given end some act own h = subst (λ a. act_of (act_kind a) end ≡ Some a) (same_act some act h) own
 
 -- The kind of what befalls an open pod that is not marked gives it again, with the pod's end.
-with-again : (pod : Pod) (end : Option End) (act : Act) → act_with pod end ≡ Some act → act_of (kind_of act) end ≡ Some act
+with-again : (pod : Pod) (end : Option End) (act : Act) → act_with pod end ≡ Some act → act_of (act_kind act) end ≡ Some act
 with-again pod None act h = absurd (true≢false (sym (ap is_some h)))
 with-again pod (Some end) act h = by (is_pending pod.phase) (is_again pod end) h
   where
-    by : (pending again : Bool) → (if pending then Some does.Start else if again then Some does.Again else Some (does.Finish end)) ≡ Some act → act_of (kind_of act) (Some end) ≡ Some act
+    by : (pending again : Bool) → (if pending then Some does.Start else if again then Some does.Again else Some (does.Finish end)) ≡ Some act → act_of (act_kind act) (Some end) ≡ Some act
     by true again h = given (Some end) does.Start act refl h
     by false true h = given (Some end) does.Again act refl h
     by false false h = given (Some end) (does.Finish end) act refl h
 
 -- The kind of what befalls a pod gives it again, with the pod's end.
-act-again : (fates : Key → Option (List End)) (pod : Pod) (act : Act) → act_on fates pod ≡ Some act → act_of (kind_of act) (pod_end fates pod) ≡ Some act
+act-again : (fates : Key → Option (List End)) (pod : Pod) (act : Act) → act_on fates pod ≡ Some act → act_of (act_kind act) (pod_end fates pod) ≡ Some act
 act-again fates pod act h = by (not (is_open pod)) (is_marked pod) h
   where
-    by : (ended marked : Bool) → (if ended then None else if marked then Some does.Stop else act_with pod (pod_end fates pod)) ≡ Some act → act_of (kind_of act) (pod_end fates pod) ≡ Some act
+    by : (ended marked : Bool) → (if ended then None else if marked then Some does.Stop else act_with pod (pod_end fates pod)) ≡ Some act → act_of (act_kind act) (pod_end fates pod) ≡ Some act
     by true marked h = absurd (true≢false (sym (ap is_some h)))
     by false true h = given (pod_end fates pod) does.Stop act refl h
     by false false h = with-again pod (pod_end fates pod) act h
 
 -- The same of the node's next step.
-pub step-again : (log : List Entry) (fates : Key → Option (List End)) (pod : Pod) (act : Act) → node_step log fates ≡ Some (pod, act) → act_of (kind_of act) (pod_end fates pod) ≡ Some act
+pub step-again : (log : List Entry) (fates : Key → Option (List End)) (pod : Pod) (act : Act) → node_step log fates ≡ Some (pod, act) → act_of (act_kind act) (pod_end fates pod) ≡ Some act
 step-again log fates pod act steps = act-again fates pod act (step-befalls log fates pod act steps)
 
 -- ---- fates and deeds
@@ -90,20 +90,20 @@ told-fate : (deed : Deed) (key k : Key) (ends : List End) → deed.act ≡ told.
 told-fate deed key k ends is = ap (λ (act : Done). fate_told k (record deed { act = act })) is
 
 -- Fates after a deed that decides one.
-pub fates-decided : (older : List Deed) (deed : Deed) (key : Key) (ends : List End) (old new : List (Key × List End)) → deed.act ≡ told.Fate key ends → ends_in old ≡ fate older
-    → ((other : Key) → ends_in new other ≡ (if same_key key other then Some ends else ends_in old other)) → ends_in new ≡ fate (deed ∷ older)
+pub fates-decided : (older : List Deed) (deed : Deed) (key : Key) (ends : List End) (old new : List (Key × List End)) → deed.act ≡ told.Fate key ends → ends_at_key old ≡ fate older
+    → ((other : Key) → ends_at_key new other ≡ (if same_key key other then Some ends else ends_at_key old other)) → ends_at_key new ≡ fate (deed ∷ older)
 fates-decided older deed key ends old new is same sets = λ i k. at k i
   where
-    by : (k : Key) (b : Bool) → (if b then Some ends else ends_in old k) ≡ option_or (if b then Some ends else None) (fate older k)
+    by : (k : Key) (b : Bool) → (if b then Some ends else ends_at_key old k) ≡ option_or (if b then Some ends else None) (fate older k)
     by k true = refl
     by k false = ap (λ fates. fates k) same
 
-    at : (k : Key) → ends_in new k ≡ fate (deed ∷ older) k
+    at : (k : Key) → ends_at_key new k ≡ fate (deed ∷ older) k
     at k = sets k ∙ by k (same_key key k) ∙ sym (ap (λ found. option_or found (fate older k)) (told-fate deed key k ends is))
 
 -- Fates after any other deed.
-pub fates-left : (older : List Deed) (deed : Deed) (rows : List (Key × List End)) → ((key : Key) → fate_told key deed ≡ None) → ends_in rows ≡ fate older → ends_in rows ≡ fate (deed ∷ older)
+pub fates-left : (older : List Deed) (deed : Deed) (rows : List (Key × List End)) → ((key : Key) → fate_told key deed ≡ None) → ends_at_key rows ≡ fate older → ends_at_key rows ≡ fate (deed ∷ older)
 fates-left older deed rows none same = λ i k. at k i
   where
-    at : (k : Key) → ends_in rows k ≡ fate (deed ∷ older) k
+    at : (k : Key) → ends_at_key rows k ≡ fate (deed ∷ older) k
     at k = ap (λ fates. fates k) same ∙ sym (ap (λ found. option_or found (fate older k)) (none k))

@@ -19,7 +19,7 @@ use Rattle.jc_history.specs.Nodes.{NodeAct as Act, act_on, act_with, pod_end}
 use Rattle.jc_history.specs.Nodes as does
 use Rattle.jc_history.specs.Notes.{newest}
 use Rattle.jc_node.specs.declared.acts.NodeAct.{NodeAct}
-use Rattle.jc_node.specs.Steps.{kind_of, step_of}
+use Rattle.jc_node.specs.Steps.{act_kind, step_of}
 
 -- No UID of a pod is above the number of entries.
 pub pods-within : (log : List Entry) → Stored log → Each (λ pod. pod.uid.0 ≤ length log) (pods_in log)
@@ -94,21 +94,21 @@ module _ (fates : Key → Option (List End)) where
       by ih false t h = ap (λ act. option_or (option_map (λ act. (q, act)) act) (newest tells pods)) (passed from q below.0 t) ∙ ih h
 
   -- The same by its kind.
-  pub first-step : (from : ℕ) (pods : List Pod) (pod : Pod) (kind : NodeAct) → NothingBelow from pods → find (λ pod. nat_le from pod.uid.0 && is_open pod) pods ≡ Some pod → Some kind ≡ option_map kind_of (act_on fates pod)
+  pub first-step : (from : ℕ) (pods : List Pod) (pod : Pod) (kind : NodeAct) → NothingBelow from pods → find (λ pod. nat_le from pod.uid.0 && is_open pod) pods ≡ Some pod → Some kind ≡ option_map act_kind (act_on fates pod)
       → Some (record { pod = pod.uid; act = kind }) ≡ option_map step_of (newest tells pods)
   first-step from pods pod kind below h acts = by (act_on fates pod) refl acts
     where
-      by : (act : Option Act) → act_on fates pod ≡ act → Some kind ≡ option_map kind_of act → Some (record { pod = pod.uid; act = kind }) ≡ option_map step_of (newest tells pods)
+      by : (act : Option Act) → act_on fates pod ≡ act → Some kind ≡ option_map act_kind act → Some (record { pod = pod.uid; act = kind }) ≡ option_map step_of (newest tells pods)
       by None t acts = absurd (true≢false (ap is_some acts))
       by (Some act) t acts =
           ap (λ found. option_map (λ kind. record { pod = pod.uid; act = kind }) found) acts
           ∙ sym (ap (λ found. option_map step_of found) (first-some from pods pod act below h t))
 
   -- Nothing befalls a pod of which no kind is told.
-  pub untold : (pod : Pod) → None ≡ option_map kind_of (act_on fates pod) → act_on fates pod ≡ None
+  pub untold : (pod : Pod) → None ≡ option_map act_kind (act_on fates pod) → act_on fates pod ≡ None
   untold pod h = by (act_on fates pod) h
     where
-      by : (act : Option Act) → None ≡ option_map kind_of act → act ≡ None
+      by : (act : Option Act) → None ≡ option_map act_kind act → act ≡ None
       by None h = refl
       by (Some act) h = absurd (true≢false (sym (ap is_some h)))
 

@@ -1,5 +1,5 @@
 -- How the pods of each key are to end, as rows.
---     ends_in rows k     the ends of the key's pods, where they are decided
+--     ends_at_key rows k     the ends of the key's pods, where they are decided
 --     HaveEnds rows      no list of ends is empty
 use Rattle.std.specs.Prelude.{◌≢◌, List, [], Option, IfSome}
 use Rattle.jc_types.specs.declared.actions.End.{End}
@@ -8,9 +8,9 @@ use Rattle.jc_types.specs.Keys.{same_key}
 use Rattle.jc_log.specs.Tables.{at}
 
 -- The ends of the key's pods.
-abbrev pub ends_in : List (Key × List End) → Key → Option (List End)
-ends_in rows k = at same_key rows k
+abbrev pub ends_at_key : List (Key × List End) → Key → Option (List End)
+ends_at_key rows k = at same_key rows k
 
 -- No list of ends is empty.
 abbrev pub HaveEnds : List (Key × List End) → Type 0
-HaveEnds rows = (k : Key) → IfSome (ends_in rows k) (λ ends. ends ≢ [])
+HaveEnds rows = (k : Key) → IfSome (ends_at_key rows k) (λ ends. ends ≢ [])

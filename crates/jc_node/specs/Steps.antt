@@ -1,5 +1,5 @@
 -- What the node tells of its next step, and how that is read again.
---     kind_of act          the act without the end that it brings
+--     act_kind act          the act without the end that it brings
 --     step_of step         the step by its pod's UID
 --     act_of kind end      the act of the kind, which brings this end where it finishes the pod
 --     code_for init code   the code of a container, where this one is left for the next that is no
@@ -15,15 +15,15 @@ use Rattle.jc_node.specs.declared.acts.NodeAct.TheVariants.{Stop, Start, Again, 
 use Rattle.jc_node.specs.declared.acts.NodeStep.{NodeStep}
 
 -- The act without the end that it brings.
-abbrev pub kind_of : Act → NodeAct
-kind_of does.Stop = Stop
-kind_of does.Start = Start
-kind_of does.Again = Again
-kind_of (does.Finish end) = Finish
+abbrev pub act_kind : Act → NodeAct
+act_kind does.Stop = Stop
+act_kind does.Start = Start
+act_kind does.Again = Again
+act_kind (does.Finish end) = Finish
 
 -- The step by its pod's UID.
 abbrev pub step_of : Pod × Act → NodeStep
-step_of step = record { pod = step.0.uid; act = kind_of step.1 }
+step_of step = record { pod = step.0.uid; act = act_kind step.1 }
 
 -- The act of the kind, which brings this end where it finishes the pod.
 abbrev pub act_of : NodeAct → Option End → Option Act

@@ -4,8 +4,8 @@ ghost use Rattle.std.specs.Prelude.{◌≡◌, false, nat_lt, option_copied, opt
 ghost use Rattle.std.specs.Option.{option_map_or};
 ghost use Rattle.jc_finish.specs.Decisions.{restarts_on_failure};
 ghost use Rattle.jc_history.specs.Nodes.{act_on, act_with, first_container, is_again};
-ghost use Rattle.jc_node.specs.Fated.{ends_in};
-ghost use Rattle.jc_node.specs.Steps.{kind_of};
+ghost use Rattle.jc_node.specs.Fated.{ends_at_key};
+ghost use Rattle.jc_node.specs.Steps.{act_kind};
 
 use crate::fates::Fates;
 use jc_states::{is_marked, is_open, is_pending};
@@ -64,7 +64,7 @@ fn is_again(pod: &Pod, end: &End) -> bool
 
 // What befalls an open pod that is not marked and is to end so.
 fn act_with(pod: &Pod, end: Option<&End>) -> Option<NodeAct>
-    ensures { result ≡ option_map kind_of (act_with pod.now (option_copied end.entry)) }
+    ensures { result ≡ option_map act_kind (act_with pod.now (option_copied end.entry)) }
 {
     let end = end?;
     if is_pending(pod.phase) {
@@ -78,7 +78,7 @@ fn act_with(pod: &Pod, end: Option<&End>) -> Option<NodeAct>
 
 // What befalls the pod.
 pub(crate) fn act_on(fates: &Fates, pod: &Pod) -> Option<NodeAct>
-    ensures { result ≡ option_map kind_of (act_on (ends_in fates.now) pod.now) }
+    ensures { result ≡ option_map act_kind (act_on (ends_at_key fates.now) pod.now) }
 {
     if !is_open(pod) {
         return None;

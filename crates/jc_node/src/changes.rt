@@ -4,7 +4,7 @@ ghost use Rattle.std.specs.Prelude.{◌≡◌, ◌++◌, IfOk, IsSome, OnOk, Som
 ghost use Rattle.std.specs.Ordering.{int_eq};
 ghost use Rattle.jc_types.specs.declared.objects.Phase.TheVariants.{Failed, Succeeded};
 ghost use Rattle.jc_history.specs.Nodes.{again_change, change_by, exits, finish_change, finishes, first_container, killed, once_more, pod_end, start_change, stop_change, true_pattern, with_exit};
-ghost use Rattle.jc_node.specs.Fated.{ends_in};
+ghost use Rattle.jc_node.specs.Fated.{ends_at_key};
 ghost use Rattle.jc_node.specs.Steps.{act_of, code_after, code_for};
 
 use crate::acts::{NodeAct, NodeStep};
@@ -198,9 +198,9 @@ fn again_change(alloc: Global, pod: &Pod) -> Result<PhaseChange, Want>
 
 // The pod finishes as its fate says.
 fn fated_change(alloc: Global, pod: &Pod, fates: &Fates) -> Result<PhaseChange, Want>
-    requires { IsSome (pod_end (ends_in fates.now) pod.now) }
+    requires { IsSome (pod_end (ends_at_key fates.now) pod.now) }
     ensures { IfOk result (λ change. option_map (λ end. finishes pod.now end.exit end.condition)
-        (pod_end (ends_in fates.now) pod.now) ≡ Some change) }
+        (pod_end (ends_at_key fates.now) pod.now) ≡ Some change) }
 {
     let Some(end) = fates.end_of(pod) else {
         unreachable!()
@@ -215,9 +215,9 @@ fn fated_change(alloc: Global, pod: &Pod, fates: &Fates) -> Result<PhaseChange, 
 /// `Want` where there is no memory for it.
 pub fn change(alloc: Global, step: &NodeStep, pod: &Pod, fates: &Fates) -> Result<PhaseChange, Want>
     requires pod { step.now.pod ≡ pod.now.uid }
-    requires fate { IsSome (act_of step.now.act (pod_end (ends_in fates.now) pod.now)) }
+    requires fate { IsSome (act_of step.now.act (pod_end (ends_at_key fates.now) pod.now)) }
     ensures { IfOk result (λ change. option_map (change_by pod.now)
-        (act_of step.now.act (pod_end (ends_in fates.now) pod.now)) ≡ Some change) }
+        (act_of step.now.act (pod_end (ends_at_key fates.now) pod.now)) ≡ Some change) }
 {
     match step.act {
         NodeAct::Stop => stop_change(alloc, pod),

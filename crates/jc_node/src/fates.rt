@@ -5,7 +5,7 @@ ghost use Rattle.jc_types.specs.declared.objects.Key.{Key};
 ghost use Rattle.jc_types.specs.Keys.{same_key};
 ghost use Rattle.jc_log.specs.Tables.{puts};
 ghost use Rattle.jc_history.specs.Nodes.{end_at, last_end, pod_end};
-ghost use Rattle.jc_node.specs.Fated.{ends_in};
+ghost use Rattle.jc_node.specs.Fated.{ends_at_key};
 
 use jc_table::Table;
 use jc_types::{Copied, End, Ends, Key, Pod, Want};
@@ -50,8 +50,8 @@ impl Fates {
     pub fn set(&mut self, key: &Key, ends: Ends) -> Result<(), Want>
         requires some { ends ≢ [] }
         ensures rows { OnOk result (self.new ≡ puts same_key self.old key.now ends) }
-        ensures fates { OnOk result ((other : Key) → ends_in self.new other
-            ≡ (if same_key key.now other then Some ends else ends_in self.old other)) }
+        ensures fates { OnOk result ((other : Key) → ends_at_key self.new other
+            ≡ (if same_key key.now other then Some ends else ends_at_key self.old other)) }
         ensures kept { OnErr result (self.new ≡ self.old) }
     {
         self.rows.put(key.copy()?, ends)
@@ -60,15 +60,15 @@ impl Fates {
     /// How the pods of the key are to end; `None` exactly where that is not decided. There is at
     /// least one end.
     pub fn get(&self, key: &Key) -> Option<&Ends>
-        ensures ends { option_copied result ≡ ends_in self.now key.now }
-        ensures some { IfSome (ends_in self.now key.now) (λ ends. ends ≢ []) }
+        ensures ends { option_copied result ≡ ends_at_key self.now key.now }
+        ensures some { IfSome (ends_at_key self.now key.now) (λ ends. ends ≢ []) }
     {
         self.rows.get(key)
     }
 
     // How the pod is to end.
     pub(super) fn end_of(&self, pod: &Pod) -> Option<&End>
-        ensures { option_copied result ≡ pod_end (ends_in self.now) pod.now }
+        ensures { option_copied result ≡ pod_end (ends_at_key self.now) pod.now }
     {
         let ends = self.get(&pod.owner)?;
         end_at(ends.as_slice(), pod.serial)

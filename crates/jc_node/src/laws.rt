@@ -11,8 +11,8 @@ ghost use Rattle.jc_log.specs.Acts as does;
 ghost use Rattle.jc_log.specs.Deeds.{Deed};
 ghost use Rattle.jc_log.specs.Log.{pod_in};
 ghost use Rattle.jc_history.specs.Nodes.{NodeAct as Act, act_on, fate, fate_told, node_step, pod_end};
-ghost use Rattle.jc_node.specs.Fated.{ends_in};
-ghost use Rattle.jc_node.specs.Steps.{act_of, kind_of};
+ghost use Rattle.jc_node.specs.Fated.{ends_at_key};
+ghost use Rattle.jc_node.specs.Steps.{act_of, act_kind};
 
 /// The pod of the node's next step is there, the act is what befalls it, and what is told of the
 /// act and the pod's fate give the act again: the change of each step can be asked for.
@@ -23,20 +23,20 @@ pub fn steps_can_be_made()
         → node_step log fates ≡ Some (pod, act) → act_on fates pod ≡ Some act }
     ensures again { (log : List Entry) (fates : Key → Option (List End)) (pod : Pod) (act : Act)
         → node_step log fates ≡ Some (pod, act)
-        → act_of (kind_of act) (pod_end fates pod) ≡ Some act }
+        → act_of (act_kind act) (pod_end fates pod) ≡ Some act }
 {}
 
 /// Fates stay those of a history: at first there are none, a deed that decides how the pods of a
 /// key are to end sets that, and every other deed leaves them.
 pub fn fates_follow_the_deeds()
-    ensures none { ends_in [] ≡ fate [] }
+    ensures none { ends_at_key [] ≡ fate [] }
     ensures decided { (older : List Deed) (deed : Deed) (key : Key) (ends : List End)
         (old new : List (Key × List End)) → deed.act ≡ does.Fate key ends
-        → ends_in old ≡ fate older
-        → ((other : Key) → ends_in new other
-        ≡ (if same_key key other then Some ends else ends_in old other))
-        → ends_in new ≡ fate (deed ∷ older) }
+        → ends_at_key old ≡ fate older
+        → ((other : Key) → ends_at_key new other
+        ≡ (if same_key key other then Some ends else ends_at_key old other))
+        → ends_at_key new ≡ fate (deed ∷ older) }
     ensures left { (older : List Deed) (deed : Deed) (rows : List (Key × List End))
-        → ((key : Key) → fate_told key deed ≡ None) → ends_in rows ≡ fate older
-        → ends_in rows ≡ fate (deed ∷ older) }
+        → ((key : Key) → fate_told key deed ≡ None) → ends_at_key rows ≡ fate older
+        → ends_at_key rows ≡ fate (deed ∷ older) }
 {}

@@ -4,7 +4,7 @@ ghost use Rattle.std.specs.Prelude.{◌≡◌, ◌+◌, ◌<◌, ◌≤◌, ◌^
 ghost use Rattle.std.specs.List.{AllByRecursion as Each};
 ghost use Rattle.jc_history.specs.Nodes.{node_step};
 ghost use Rattle.jc_log.specs.Log.{pods_in};
-ghost use Rattle.jc_node.specs.Fated.{ends_in};
+ghost use Rattle.jc_node.specs.Fated.{ends_at_key};
 ghost use Rattle.jc_node.specs.Steps.{step_of};
 
 use crate::acts::{NodeStep, act_on};
@@ -24,7 +24,7 @@ fn can_count_on(store: &Store)
 /// The next step of the node: what befalls the open pod with the least UID that something befalls;
 /// `None` exactly where nothing befalls any pod. It looks at open pods alone.
 pub fn node_step(store: &Store, fates: &Fates) -> Option<NodeStep>
-    ensures { result ≡ option_map step_of (node_step store.now (ends_in fates.now)) }
+    ensures { result ≡ option_map step_of (node_step store.now (ends_at_key fates.now)) }
 {
     can_count_on(store);
     let mut from = 0;

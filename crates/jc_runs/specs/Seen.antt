@@ -4,15 +4,13 @@
 --     IsDoable act                     the machine does it
 --     Admits seen event                the event may come next
 --     happened seen event              once it has
-use Rattle.std.specs.Prelude.{◌≢◌, ℕ, ◌≤◌, List, [], ◌∷◌, length, map}
+use Rattle.std.specs.Prelude.{ℕ, ◌≤◌, List, [], ◌∷◌, length, map}
 use Rattle.std.specs.List.{AllByRecursion as Each}
 use Rattle.jc_log.specs.Acts as does
 use Rattle.jc_history.specs.Available.{is_quiescent}
 use Rattle.jc_history.specs.Legal.{ComesNext, InLanes, IsOfShape, MaySettle}
 use Rattle.jc_control.specs.Schedules.{log_end}
 use Rattle.jc_history.specs.Replies.{log_after, log_given, reply_given}
-use Rattle.jc_types.specs.declared.actions.Action1.{Action1}
-use Rattle.jc_types.specs.declared.actions.Action1.TheVariants as action
 use Rattle.jc_types.specs.declared.actions.Command.{Command}
 use Rattle.jc_types.specs.declared.actions.Script.{Script}
 use Rattle.jc_types.specs.declared.objects.Entry.{Entry}
@@ -22,7 +20,7 @@ use Rattle.jc_types.specs.declared.runs.Past.{Past}
 use Rattle.jc_types.specs.declared.runs.Shape.{Shape}
 use Rattle.jc_log.specs.Acts.{Act}
 use Rattle.jc_log.specs.Deeds.{Deed, act_of_event, deed}
-use Rattle.jc_states.specs.ValidSpecs.{IsValidSpec}
+use Rattle.jc_states.specs.ValidActions.{IsValidAction}
 use Rattle.jc_runs.specs.Fates.{Fates}
 use Rattle.jc_runs.specs.Runs.{IsMachine}
 use Rattle.jc_runs.specs.Teams.{Team}
@@ -44,12 +42,6 @@ deeds_seen seen = deeds_in seen.script seen.pasts
 abbrev pub log_seen : Seen → List Entry
 log_seen seen = log_given seen.shape (deeds_seen seen)
 
--- A Job is created with a valid specification, and a fate has at least one end.
-abbrev pub IsFine : Action1 → Type 0
-IsFine (action.Create key spec) = IsValidSpec spec
-IsFine (action.Fate key ends) = ends ≢ []
-IsFine other = Unit {0}
-
 -- What a cluster keeps: its machine is what the history says, and the script can be played to its
 -- end.
 pub record IsCluster (script : Script) (shape : Shape) (pasts : List Past) (log : List Entry)
@@ -57,7 +49,7 @@ pub record IsCluster (script : Script) (shape : Shape) (pasts : List Past) (log 
   pub run : IsMachine shape (deeds_in script pasts) log teams fates now
   pub lanes : InLanes script.commands pasts
   pub few : length pasts ≤ shape.events
-  pub fine : Each (λ (command : Command). IsFine command.action) script.commands
+  pub fine : Each (λ (command : Command). IsValidAction command.action) script.commands
   pub bound : shape.events ≤ 200000
 
 -- What the event does.

@@ -32,7 +32,8 @@ ghost use Rattle.jc_sync.specs.StepEffects.{IsLaterThan};
 ghost use Rattle.jc_runs.specs.Fates.{Fates};
 ghost use Rattle.jc_runs.specs.QuietRuns.{IsAtNext, IsQuietSync, WritesNoStatus};
 ghost use Rattle.jc_runs.specs.Runs.{AllAskValid, IsMachine};
-ghost use Rattle.jc_runs.specs.Seen.{IsFine, deeds_in};
+ghost use Rattle.jc_states.specs.ValidActions.{IsValidAction};
+ghost use Rattle.jc_runs.specs.Seen.{deeds_in};
 ghost use Rattle.jc_runs.specs.Teams.{KnowsNothing, Team};
 
 use jc_manifest::allowed_updates_stay_valid;
@@ -97,7 +98,7 @@ pub fn conflicts_tell_later_versions()
 /// creates.
 pub fn valid_scripts_ask_valid()
     ensures { (script : Script) (pasts : List Past)
-        → Each (λ (command : Command). IsFine command.action) script.commands
+        → Each (λ (command : Command). IsValidAction command.action) script.commands
         → AllAskValid (deeds_in script pasts) }
 {}
 

@@ -5,6 +5,7 @@ pub mod ObjectChanges
 pub mod Conditions
 pub mod UidLists
 pub mod Listed
+pub mod ValidActions
 pub mod ValidSpecs
 pub mod Bases
 pub mod Owners

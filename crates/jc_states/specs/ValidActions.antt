@@ -1,0 +1,12 @@
+-- When a command of a script is valid: a Job is created with a valid specification, and a fate has
+-- at least one end.
+--     IsValidAction action     the command is valid
+use Rattle.std.specs.Prelude.{◌≢◌, []}
+use Rattle.jc_types.specs.declared.actions.Action1.{Action1}
+use Rattle.jc_types.specs.declared.actions.Action1.TheVariants as action
+use Rattle.jc_states.specs.ValidSpecs.{IsValidSpec}
+
+abbrev pub IsValidAction : Action1 → Type 0
+IsValidAction (action.Create key spec) = IsValidSpec spec
+IsValidAction (action.Fate key ends) = ends ≢ []
+IsValidAction other = Unit {0}
