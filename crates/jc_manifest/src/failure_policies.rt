@@ -47,7 +47,8 @@ fn operator_of(text: &str) -> Option<Operator>
     None
 }
 
-fn truth_of(text: &str) -> Option<Truth>
+/// The status of a condition by its word; `None` where it is no such word (core/v1, `ConditionStatus`).
+pub fn truth_of(text: &str) -> Option<Truth>
     ensures { result ≡ truth_of text.now }
 {
     if text == "True" {
@@ -233,8 +234,8 @@ fn read_exit_codes(
     })
 }
 
-// Whether a condition's type has 1 to 316 bytes.
-fn is_type(text: &str) -> bool
+/// Whether the type of a pod's condition has 1 to 316 bytes.
+pub fn is_type(text: &str) -> bool
     ensures { result ≡ is_type text.now }
 {
     0 < text.len() && text.len() <= 316

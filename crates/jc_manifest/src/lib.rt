@@ -16,9 +16,11 @@ mod templates;
 mod updates;
 mod words;
 
+pub use failure_policies::{is_type, truth_of};
 pub use laws::{accepted_manifests_are_valid, allowed_updates_stay_valid};
 pub use manifests::read_job;
 pub use printed_specs::{print_change, print_spec};
 pub use printed_statuses::print_status;
 pub use refusals::ManifestFault;
 pub use updates::{UpdateFault, check_update};
+pub use words::{is_label, is_subdomain};

@@ -52,7 +52,7 @@ fn has_length_of_name(text: &[u8]) -> bool
     0 < text.len() && text.len() <= MOST_BYTES
 }
 
-// Whether a text is one part of 1 to 63 bytes.
+/// Whether a text is one part of 1 to 63 bytes: small letters, digits and dashes, no dash at an end.
 pub fn is_label(text: &[u8]) -> bool
     ensures tested { result ≡ is_label text.now }
     ensures some { OnTrue result (0 < length text.now) }
@@ -68,7 +68,7 @@ fn are_parts(text: &[u8]) -> bool
     text.split(|byte| *byte == 46).all(|part| is_part(part))
 }
 
-// Whether a text is made of parts that are joined by points, with 1 to 63 bytes together.
+/// Whether a text is made of parts that are joined by points, with 1 to 63 bytes together.
 pub fn is_subdomain(text: &[u8]) -> bool
     ensures tested { result ≡ is_subdomain text.now }
     ensures some { OnTrue result (0 < length text.now) }

@@ -1,4 +1,5 @@
 pub mod FirstLine
+pub mod FitFacts
 pub mod Fronts
 pub mod Reading
 pub mod Rows

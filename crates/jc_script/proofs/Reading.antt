@@ -1,13 +1,19 @@
 -- Reading a script line by line.
 use Rattle.std.proofs.Common.{◌≡◌, refl, sym, ◌∙◌, ap, ℕ, ◌+◌, ◌≤◌, List, [], ◌∷◌, ◌++◌, length, nat_le, true, false, cond, Option, Some, None, Result, Ok, Err, append_assoc, arith}
-use Rattle.std.proofs.lemmas.List.{append-nil}
+use Rattle.std.specs.Option.{option_map_or}
+use Rattle.std.proofs.lemmas.Bool.{leb-true}
+use Rattle.std.proofs.lemmas.List.{append-nil, length-append, length-replicate}
 use Rattle.jc_types.specs.declared.actions.Command.{Command}
 use Rattle.jc_types.specs.declared.runs.Shape.{Shape}
 use Rattle.jc_script.specs.declared.causes.Cause.{Cause}
 use Rattle.jc_script.specs.declared.causes.Cause.TheVariants.{TooMany}
+use Rattle.jc_script.specs.declared.commands.Said.{Said}
+use Rattle.jc_script.specs.declared.scripts.ScriptFault.{ScriptFault}
+use Rattle.jc_script.specs.declared.scripts.ScriptFault.TheVariants as fault
+use Rattle.jc_script.specs.Commands.{commands_of}
 use Rattle.jc_script.specs.Items.{with_front}
 use Rattle.jc_script.specs.Lines.{lines_of, lines_left}
-use Rattle.jc_script.specs.Scripts.{BadLine, joined, line_says, lines_say, script_of, most_commands}
+use Rattle.jc_script.specs.Scripts.{BadLine, line_before, line_says, lines_say, script_of, most_commands}
 
 -- how much is left to read
 abbrev pub left_len : Option (List ℕ) → ℕ
@@ -34,7 +40,7 @@ front_twice front more (Err fault) = refl
 -- ---- one line
 
 -- a line's commands go behind those before it
-pub taken : (shape : Shape) (number : ℕ) (before said : List Command) (line : List ℕ) (more : List (List ℕ)) (count : ℕ)
+taken : (shape : Shape) (number : ℕ) (before said : List Command) (line : List ℕ) (more : List (List ℕ)) (count : ℕ)
     → line_says shape line ≡ Ok said → nat_le (length before + length said) most_commands ≡ true
     → count ≡ length before + length said
     → with_front (before ++ said) (lines_say shape (number + 1) count more)
@@ -44,23 +50,56 @@ taken shape number before said line more count says few counted =
     ∙ ap (λ n. with_front before (with_front said (lines_say shape (number + 1) n more))) counted
     ∙ ap (λ b. with_front before (cond b (with_front said (lines_say shape (number + 1) (length before + length said) more))
     (Err (record { number = number; cause = TooMany })))) (sym few)
-    ∙ ap (λ r. with_front before (joined number (length before) r (λ n. lines_say shape (number + 1) n more))) (sym says)
+    ∙ ap (λ r. with_front before (line_before number (length before) r (λ n. lines_say shape (number + 1) n more))) (sym says)
 
--- a bad line is the first one
-pub refused : (shape : Shape) (number before : ℕ) (line : List ℕ) (more : List (List ℕ)) (cause : Cause)
-    → line_says shape line ≡ Err cause
-    → lines_say shape number before (line ∷ more) ≡ Err (record { number = number; cause = cause })
-refused shape number before line more cause says =
-    ap (λ r. joined number before r (λ n. lines_say shape (number + 1) n more)) says
-
--- so is a line with too many commands
-pub too_many : (shape : Shape) (number before : ℕ) (said : List Command) (line : List ℕ) (more : List (List ℕ))
+-- a line with too many commands is the first bad one
+too_many : (shape : Shape) (number before : ℕ) (said : List Command) (line : List ℕ) (more : List (List ℕ))
     → line_says shape line ≡ Ok said → nat_le (before + length said) most_commands ≡ false
     → lines_say shape number before (line ∷ more) ≡ Err (record { number = number; cause = TooMany })
 too_many shape number before said line more says many =
-    ap (λ r. joined number before r (λ n. lines_say shape (number + 1) n more)) says
+    ap (λ r. line_before number before r (λ n. lines_say shape (number + 1) n more)) says
     ∙ ap (λ b. cond b (with_front said (lines_say shape (number + 1) (before + length said) more))
     (Err (record { number = number; cause = TooMany }))) many
+
+-- a command that is given some times goes behind those before it
+pub taken_times : (shape : Shape) (number : ℕ) (before after : List Command) (given : Option Said) (said : Said)
+    (line : List ℕ) → line_says shape line ≡ Ok (option_map_or commands_of given []) → given ≡ Some said
+    → nat_le (length before + said.times) most_commands ≡ true → after ≡ before ++ commands_of said
+    → (more : List (List ℕ))
+    → with_front after (lines_say shape (number + 1) (length after) more)
+    ≡ with_front before (lines_say shape number (length before) (line ∷ more))
+taken_times shape number before after given said line says is few added more =
+    ap (λ cs. with_front cs (lines_say shape (number + 1) (length cs) more)) added
+    ∙ taken shape number before (commands_of said) line more (length (before ++ commands_of said))
+    (says ∙ ap (λ o. Ok (option_map_or commands_of o [])) is)
+    (ap (λ n. nat_le (length before + n) most_commands) (length-replicate said.times said.command) ∙ few)
+    (length-append before (commands_of said))
+
+-- so it does not where there are then too many
+pub many_times : (shape : Shape) (number before : ℕ) (given : Option Said) (said : Said) (line : List ℕ)
+    → line_says shape line ≡ Ok (option_map_or commands_of given []) → given ≡ Some said
+    → nat_le (before + said.times) most_commands ≡ false → (more : List (List ℕ))
+    → lines_say shape number before (line ∷ more) ≡ Err (record { number = number; cause = TooMany })
+many_times shape number before given said line says is many more =
+    too_many shape number before (commands_of said) line more
+    (says ∙ ap (λ o. Ok (option_map_or commands_of o [])) is)
+    (ap (λ n. nat_le (before + n) most_commands) (length-replicate said.times said.command) ∙ many)
+
+-- and there are not too many
+pub few_times : (before after : List Command) (said : Said) → nat_le (length before + said.times) most_commands ≡ true
+    → after ≡ before ++ commands_of said → length after ≤ most_commands
+few_times before after said few added =
+    let longer = ap length added in
+    let both = length-append before (commands_of said) in
+    let times = length-replicate said.times said.command in
+    let small = leb-true (length before + said.times) most_commands few in
+    omega (arith, longer, both, times, small)
+
+-- the bad line of an answer
+abbrev pub bad_line : {A : Type 0} → Result A ScriptFault → Result (List Command) BadLine
+bad_line (Ok a) = Ok []
+bad_line (Err (fault.BadLine number cause)) = Err (record { number = number; cause = cause })
+bad_line (Err fault.Want) = Ok []
 
 -- ---- all lines
 

@@ -6,8 +6,8 @@ use Rattle.jc_json.specs.Place.{path_to}
 use Rattle.jc_types.specs.declared.runs.Shape.{Shape}
 use Rattle.jc_script.specs.declared.causes.Cause.TheVariants.{Missing, WrongType, OutOfRange, Invalid}
 use Rattle.jc_script.specs.Commands.{value_says, object_says, command_in, lane_in, create_in, mark_in}
-use Rattle.jc_script.specs.Members.{only_known, unknown_in, word_in, number_in, given_number_in}
-use Rattle.jc_script.specs.Named.{pod_in}
+use Rattle.jc_script.specs.Members.{only_known, unknown_in, word_in, whole_number_in, given_number_in}
+use Rattle.jc_script.specs.Named.{pod_named}
 use Rattle.jc_script.specs.Verbs.{verb_in}
 
 -- `[]`
@@ -27,7 +27,7 @@ no_times shape = refl
 
 -- `{"do":"mark","pod":0}`
 no_pod : (shape : Shape) → value_says shape (object (member (codes "do") (string (codes "mark")) (member (codes "pod") (number (unsigned 0)) no_members))) ≡ Err (OutOfRange (codes "pod"))
-unfolding value_says object_says verb_in word_in needed_text member_of path_to only_known unknown_in command_in lane_in given_number_in optional_number mark_in pod_in number_in needed_number
+unfolding value_says object_says verb_in word_in needed_text member_of path_to only_known unknown_in command_in lane_in given_number_in optional_number mark_in pod_named whole_number_in needed_number
 no_pod shape = refl
 
 -- `{"do":"create"}`

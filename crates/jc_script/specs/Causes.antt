@@ -25,11 +25,11 @@ read_as (Ok a) = Ok a
 read_as (Err refusal) = Err (cause_of refusal)
 
 -- the fault of a member that was not read
-abbrev pub of_field : FieldFault → LineFault
-of_field (field.Missing path) = Bad (Missing path)
-of_field (field.WrongType path) = Bad (WrongType path)
-of_field (field.OutOfRange path) = Bad (OutOfRange path)
-of_field field.Want = Want
+abbrev pub fault_of_field : FieldFault → LineFault
+fault_of_field (field.Missing path) = Bad (Missing path)
+fault_of_field (field.WrongType path) = Bad (WrongType path)
+fault_of_field (field.OutOfRange path) = Bad (OutOfRange path)
+fault_of_field field.Want = Want
 
 -- the fault of a manifest that is refused
 abbrev pub of_manifest : ManifestFault → LineFault

@@ -1,5 +1,5 @@
 -- What a line's members say: a command, and how often it is given.
---     action_in shape verb d     what the command does
+--     action_said shape verb d     what the command does
 --     commands_in shape d        the commands of a line's value, or the cause that it is bad
 use Rattle.std.specs.Prelude.{ℕ, List, [], bytes_eq, codes, replicate, Option, Some, None, Result, Ok, Err, pos, unwrap_or, if◌then◌else◌}
 use Rattle.serde_json.specs.Data.{Data}
@@ -23,17 +23,17 @@ use Rattle.jc_script.specs.declared.commands.Said.{Said}
 use Rattle.jc_script.specs.declared.verbs.Verb.{Verb}
 use Rattle.jc_script.specs.declared.verbs.Verb.TheVariants as verb
 use Rattle.jc_script.specs.Causes.{read_as, cause_of}
-use Rattle.jc_script.specs.Ends.{ends_in}
-use Rattle.jc_script.specs.Members.{number_in, given_number_in, word_in}
-use Rattle.jc_script.specs.Named.{key_in, pod_in, controller_in, seat_in, times_in}
+use Rattle.jc_script.specs.Ends.{ends_said}
+use Rattle.jc_script.specs.Members.{whole_number_in, given_number_in, word_in}
+use Rattle.jc_script.specs.Named.{job_key_in, pod_named, controller_in, seat_in, times_in}
 use Rattle.jc_script.specs.Phases.{report_in}
-use Rattle.jc_script.specs.Updates.{version_in, change_in}
+use Rattle.jc_script.specs.Updates.{version_said, change_in}
 use Rattle.jc_script.specs.Verbs.{verb_in}
 
 -- ---- words
 
-abbrev pub kind_of : List ℕ → Option Kind
-kind_of s =
+abbrev pub kind_named : List ℕ → Option Kind
+kind_named s =
     if bytes_eq s (codes "jobs") then Some Jobs
     else if bytes_eq s (codes "pods") then Some Pods
     else None
@@ -45,7 +45,7 @@ fault_of s =
     else None
 
 unfoldable pub kind_in : Data → Result Kind Cause
-kind_in d = word_in [] (codes "kind") kind_of d
+kind_in d = word_in [] (codes "kind") kind_named d
 
 unfoldable pub fault_kind_in : Data → Result Fault Cause
 fault_kind_in d = word_in [] (codes "kind") fault_of d
@@ -69,43 +69,43 @@ create_in d = do
 
 unfoldable pub update_in : Data → Result Action1 Cause
 update_in d = do
-  key ← key_in d
-  version ← version_in d
+  key ← job_key_in d
+  version ← version_said d
   change ← change_in d
   Ok (act.Update key version change)
 
 unfoldable pub delete_in : Data → Result Action1 Cause
 delete_in d = do
-  key ← key_in d
+  key ← job_key_in d
   Ok (act.Delete key)
 
 unfoldable pub fate_in : Data → Result Action1 Cause
 fate_in d = do
-  key ← key_in d
-  ends ← ends_in d
+  key ← job_key_in d
+  ends ← ends_said d
   Ok (act.Fate key ends)
 
 -- ---- pods
 
 unfoldable pub mark_in : Data → Result Action1 Cause
 mark_in d = do
-  pod ← pod_in d
+  pod ← pod_named d
   Ok (act.Mark pod)
 
 unfoldable pub strip_in : Data → Result Action1 Cause
 strip_in d = do
-  pod ← pod_in d
+  pod ← pod_named d
   Ok (act.Strip pod)
 
 unfoldable pub finish_in : Data → Result Action1 Cause
 finish_in d = do
-  pod ← pod_in d
+  pod ← pod_named d
   exit ← read_as (needed_number [] (codes "exit") (pos 0) (pos 255) d)
   Ok (act.Finish pod exit)
 
 unfoldable pub phase_in : Data → Result Action1 Cause
 phase_in d = do
-  pod ← pod_in d
+  pod ← pod_named d
   change ← report_in d
   Ok (act.Report pod change)
 
@@ -113,13 +113,13 @@ phase_in d = do
 
 unfoldable pub clock_in : Data → Result Action1 Cause
 clock_in d = do
-  add ← number_in [] (codes "add") 0 4294967295 d
+  add ← whole_number_in [] (codes "add") 0 4294967295 d
   Ok (act.Clock add)
 
 -- ---- controllers and workers
 
-unfoldable pub list_in : Shape → Data → Result Action1 Cause
-list_in shape d = do
+unfoldable pub list_command_in : Shape → Data → Result Action1 Cause
+list_command_in shape d = do
   controller ← controller_in shape d
   kind ← kind_in d
   Ok (act.List controller kind)
@@ -145,8 +145,8 @@ step_in shape d = do
   seat ← seat_in shape d
   Ok (act.Step seat.controller seat.worker)
 
-unfoldable pub restart_in : Shape → Data → Result Action1 Cause
-restart_in shape d = do
+unfoldable pub restart_command_in : Shape → Data → Result Action1 Cause
+restart_command_in shape d = do
   controller ← controller_in shape d
   Ok (act.Restart controller)
 
@@ -158,25 +158,25 @@ fault_in shape d = do
 
 -- ---- all commands
 
-abbrev pub action_in : Shape → Verb → Data → Result Action1 Cause
-action_in shape verb.Create d = create_in d
-action_in shape verb.Update d = update_in d
-action_in shape verb.Delete d = delete_in d
-action_in shape verb.Mark d = mark_in d
-action_in shape verb.Strip d = strip_in d
-action_in shape verb.Finish d = finish_in d
-action_in shape verb.Phase d = phase_in d
-action_in shape verb.Fate d = fate_in d
-action_in shape verb.Clock d = clock_in d
-action_in shape verb.List d = list_in shape d
-action_in shape verb.Deliver d = deliver_in shape d
-action_in shape verb.Begin d = begin_in shape d
-action_in shape verb.Sync d = sync_in shape d
-action_in shape verb.Step d = step_in shape d
-action_in shape verb.Node d = Ok act.Node
-action_in shape verb.Restart d = restart_in shape d
-action_in shape verb.Fault d = fault_in shape d
-action_in shape verb.Settle d = Ok act.Settle
+abbrev pub action_said : Shape → Verb → Data → Result Action1 Cause
+action_said shape verb.Create d = create_in d
+action_said shape verb.Update d = update_in d
+action_said shape verb.Delete d = delete_in d
+action_said shape verb.Mark d = mark_in d
+action_said shape verb.Strip d = strip_in d
+action_said shape verb.Finish d = finish_in d
+action_said shape verb.Phase d = phase_in d
+action_said shape verb.Fate d = fate_in d
+action_said shape verb.Clock d = clock_in d
+action_said shape verb.List d = list_command_in shape d
+action_said shape verb.Deliver d = deliver_in shape d
+action_said shape verb.Begin d = begin_in shape d
+action_said shape verb.Sync d = sync_in shape d
+action_said shape verb.Step d = step_in shape d
+action_said shape verb.Node d = Ok act.Node
+action_said shape verb.Restart d = restart_command_in shape d
+action_said shape verb.Fault d = fault_in shape d
+action_said shape verb.Settle d = Ok act.Settle
 
 -- the lane is 0 where none is given
 unfoldable pub lane_in : Data → Result ℕ Cause
@@ -188,7 +188,7 @@ lane_in d = do
 unfoldable pub command_in : Shape → Verb → Data → Result Command Cause
 command_in shape verb d = do
   lane ← lane_in d
-  action ← action_in shape verb d
+  action ← action_said shape verb d
   Ok (record { lane = lane; action = action })
 
 -- the command is given that many times

@@ -1,6 +1,7 @@
 pub mod Causes
 pub mod Commands
 pub mod Ends
+pub mod Fits
 pub mod Items
 pub mod Lines
 pub mod Members

@@ -1,23 +1,20 @@
 -- What the members of a line say, each by its form and its rule, or the cause that it is refused.
 --     only_known path known d        no member but the known ones
---     number_in, given_number_in ..  whole numbers from 0
+--     whole_number_in, given_number_in ..  whole numbers from 0
 --     text_in, given_text_in         texts that pass a test
 --     word_in                        a text of a fixed set
-use Rattle.std.specs.Prelude.{ℕ, List, Bool, not, ◌&&◌, bytes_eq, Option, Some, None, Result, Ok, Err, ⊤, pos, nat_abs, is_some, ok_or, option_map, if◌then◌else◌}
-use Rattle.std.specs.List.{list_any}
+use Rattle.std.specs.Prelude.{ℕ, List, Bool, not, ◌&&◌, Option, Some, None, Result, Ok, Err, ⊤, pos, nat_abs, is_some, ok_or, option_map, if◌then◌else◌}
 use Rattle.std.specs.Option.{option_map_or}
 use Rattle.serde_json.specs.Data.{Data, Members, no_members, member}
 use Rattle.serde_json.specs.Find.{as_object}
 use Rattle.jc_json.specs.Field.{◌>>=◌, unless_null, needed_text, needed_number, optional_text, optional_number}
 use Rattle.jc_json.specs.Place.{path_to}
+use Rattle.jc_manifest.specs.Templates.{is_among}
 use Rattle.jc_script.specs.declared.causes.Cause.{Cause}
 use Rattle.jc_script.specs.declared.causes.Cause.TheVariants.{Invalid}
 use Rattle.jc_script.specs.Causes.{read_as}
 
 -- ---- known members
-
-abbrev pub is_among : List (List ℕ) → List ℕ → Bool
-is_among names s = list_any (λ name. bytes_eq name s) names
 
 -- a member that is given and not known; a null counts as absent
 abbrev pub is_unknown : List (List ℕ) → List ℕ → Data → Bool
@@ -43,8 +40,8 @@ only_known path known d = refuses_unknown path (unknown_in known d)
 -- ---- numbers
 
 -- a whole number from `least` to `greatest`
-unfoldable pub number_in : List ℕ → List ℕ → ℕ → ℕ → Data → Result ℕ Cause
-number_in path name least greatest d = do
+unfoldable pub whole_number_in : List ℕ → List ℕ → ℕ → ℕ → Data → Result ℕ Cause
+whole_number_in path name least greatest d = do
   n ← read_as (needed_number path name (pos least) (pos greatest) d)
   Ok (nat_abs n)
 

@@ -1,6 +1,6 @@
 -- What a line names: Jobs, pods, controllers and workers.
---     key_in d              the key of a Job
---     pod_in d              a pod by its number
+--     job_key_in d              the key of a Job
+--     pod_named d              a pod by its number
 --     controller_in, seat_in, times_in   controllers and workers of a shape, and how often
 use Rattle.std.specs.Prelude.{ℕ, ◌-◌, List, [], codes, Result, Ok, unwrap_or}
 use Rattle.serde_json.specs.Data.{Data}
@@ -11,31 +11,31 @@ use Rattle.jc_types.specs.declared.objects.Key.{Key}
 use Rattle.jc_types.specs.declared.runs.Shape.{Shape}
 use Rattle.jc_script.specs.declared.causes.Cause.{Cause}
 use Rattle.jc_script.specs.declared.names.Seat.{Seat}
-use Rattle.jc_script.specs.Members.{number_in, given_number_in, text_in, given_text_in}
+use Rattle.jc_script.specs.Members.{whole_number_in, given_number_in, text_in, given_text_in}
 
 -- ---- Jobs
 
 -- rule 3
-unfoldable pub name_in : Data → Result (List ℕ) Cause
-name_in d = text_in [] (codes "name") 3 is_subdomain d
+unfoldable pub job_name_in : Data → Result (List ℕ) Cause
+job_name_in d = text_in [] (codes "name") 3 is_subdomain d
 
 -- the namespace is `default` where none is given: rule 4
-unfoldable pub namespace_in : Data → Result (List ℕ) Cause
-namespace_in d = do
+unfoldable pub job_namespace_in : Data → Result (List ℕ) Cause
+job_namespace_in d = do
   o ← given_text_in [] (codes "namespace") 4 is_label d
   Ok (unwrap_or o (codes "default"))
 
-unfoldable pub key_in : Data → Result Key Cause
-key_in d = do
-  name ← name_in d
-  namespace ← namespace_in d
+unfoldable pub job_key_in : Data → Result Key Cause
+job_key_in d = do
+  name ← job_name_in d
+  namespace ← job_namespace_in d
   Ok (record { namespace = namespace; name = name })
 
 -- ---- pods
 
-unfoldable pub pod_in : Data → Result Uid Cause
-pod_in d = do
-  n ← number_in [] (codes "pod") 1 4294967295 d
+unfoldable pub pod_named : Data → Result Uid Cause
+pod_named d = do
+  n ← whole_number_in [] (codes "pod") 1 4294967295 d
   Ok (record { 0 = n })
 
 -- ---- controllers and workers, which are 0 where none is given

@@ -14,13 +14,13 @@ use Rattle.jc_types.specs.declared.objects.Phase.{Phase}
 use Rattle.jc_types.specs.declared.objects.Phase.TheVariants.{Pending, Running, Succeeded, Failed}
 use Rattle.jc_types.specs.declared.policies.Pattern.{Pattern}
 use Rattle.jc_types.specs.declared.policies.Truth.{Truth}
-use Rattle.jc_types.specs.declared.policies.Truth.TheVariants.{True, False, Unknown}
+use Rattle.jc_types.specs.declared.policies.Truth.TheVariants.{True}
 use Rattle.jc_script.specs.declared.causes.Cause.{Cause}
 use Rattle.jc_script.specs.declared.causes.Cause.TheVariants.{Invalid}
 use Rattle.jc_script.specs.Causes.{read_as}
-use Rattle.jc_script.specs.Ends.{is_type}
 use Rattle.jc_script.specs.Items.{each_said, all_said}
 use Rattle.jc_script.specs.Members.{only_known, text_in, tested, word_in}
+use Rattle.jc_manifest.specs.FailurePolicies.{is_type, truth_of}
 use Rattle.jc_manifest.specs.Words.{is_label}
 
 -- ---- words
@@ -33,13 +33,6 @@ phase_of s =
     else if bytes_eq s (codes "Failed") then Some Failed
     else None
 
-abbrev pub truth_of : List ℕ → Option Truth
-truth_of s =
-    if bytes_eq s (codes "True") then Some True
-    else if bytes_eq s (codes "False") then Some False
-    else if bytes_eq s (codes "Unknown") then Some Unknown
-    else None
-
 -- ---- conditions
 
 abbrev pub condition_members : List (List ℕ)
@@ -50,8 +43,8 @@ abbrev pub truth_said : List ℕ → Option (List ℕ) → Result Truth Cause
 truth_said path None = Ok True
 truth_said path (Some s) = ok_or (truth_of s) (Invalid path 29)
 
-unfoldable pub truth_in : List ℕ → Data → Result Truth Cause
-truth_in path d = do
+unfoldable pub condition_truth : List ℕ → Data → Result Truth Cause
+condition_truth path d = do
   o ← read_as (optional_text path (codes "status") d)
   truth_said (path_to path (codes "status")) o
 
@@ -59,7 +52,7 @@ truth_in path d = do
 unfoldable pub condition_of : List ℕ → Data → Result Pattern Cause
 condition_of path d = do
   kind ← text_in path (codes "type") 30 is_type d
-  truth ← truth_in path d
+  truth ← condition_truth path d
   Ok (record { kind = kind; truth = truth })
 
 -- one condition, at its place in the list
@@ -82,8 +75,8 @@ given_names no_members = []
 given_names (member name d rest) =
     if is_some (unless_null d) then name ∷ given_names rest else given_names rest
 
-unfoldable pub names_in : Data → List (List ℕ)
-names_in d = option_map_or given_names (as_object d) []
+unfoldable pub member_names : Data → List (List ℕ)
+member_names d = option_map_or given_names (as_object d) []
 
 -- the number that an object gives a container, where it gives one; the name comes before the
 -- number: rule 11
@@ -100,10 +93,10 @@ entries_fit path least greatest numbers (name ∷ names) = do
   entries_fit path least greatest numbers names
 
 -- an object of numbers, each of which is right; a null where none is given
-unfoldable pub numbers_in : List ℕ → ℤ → ℤ → Data → Result Data Cause
-numbers_in name least greatest d = do
+unfoldable pub container_numbers : List ℕ → ℤ → ℤ → Data → Result Data Cause
+container_numbers name least greatest d = do
   o ← read_as (optional_object [] name d)
-  fit ← entries_fit (path_to [] name) least greatest (unwrap_or o null) (names_in (unwrap_or o null))
+  fit ← entries_fit (path_to [] name) least greatest (unwrap_or o null) (member_names (unwrap_or o null))
   Ok (unwrap_or o null)
 
 abbrev pub put_names : List (List ℕ) → Members → Members
@@ -111,36 +104,36 @@ put_names [] ms = ms
 put_names (name ∷ names) ms = put_names names (put name (boolean true) ms)
 
 -- the names of both objects, each once, in byte order
-abbrev pub names_of_both : Data → Data → List (List ℕ)
-names_of_both exits restarts =
-    names_in (object (put_names (names_in restarts) (put_names (names_in exits) no_members)))
+abbrev pub names_in_either : Data → Data → List (List ℕ)
+names_in_either exits restarts =
+    member_names (object (put_names (member_names restarts) (put_names (member_names exits) no_members)))
 
 -- exit codes are whole numbers of 32 bits
 unfoldable pub exit_in : Data → List ℕ → Result (Option ℤ) Cause
 exit_in exits name =
     entry_in (path_to [] (codes "exitCodes")) (negsuc 2147483647) (pos 2147483647) exits name
 
-unfoldable pub restarts_in : Data → List ℕ → Result (Option ℤ) Cause
-restarts_in restarts name =
+unfoldable pub container_restarts : Data → List ℕ → Result (Option ℤ) Cause
+container_restarts restarts name =
     entry_in (path_to [] (codes "restartCounts")) (pos 0) (pos 2147483647) restarts name
 
-unfoldable pub count_in : Data → List ℕ → Result (Option ℕ) Cause
-count_in restarts name = do
-  count ← restarts_in restarts name
+unfoldable pub container_count : Data → List ℕ → Result (Option ℕ) Cause
+container_count restarts name = do
+  count ← container_restarts restarts name
   Ok (option_map nat_abs count)
 
-unfoldable pub change_of : Data → Data → List ℕ → Result ContainerChange Cause
-change_of exits restarts name = do
+unfoldable pub container_change : Data → Data → List ℕ → Result ContainerChange Cause
+container_change exits restarts name = do
   exit ← exit_in exits name
-  count ← count_in restarts name
+  count ← container_count restarts name
   Ok (record { name = name; exit = exit; restarts = count })
 
 -- one change for each container that either object names
 unfoldable pub containers_in : Data → Result (List ContainerChange) Cause
 containers_in d = do
-  exits ← numbers_in (codes "exitCodes") (negsuc 2147483647) (pos 2147483647) d
-  restarts ← numbers_in (codes "restartCounts") (pos 0) (pos 2147483647) d
-  all_said (change_of exits restarts) (names_of_both exits restarts)
+  exits ← container_numbers (codes "exitCodes") (negsuc 2147483647) (pos 2147483647) d
+  restarts ← container_numbers (codes "restartCounts") (pos 0) (pos 2147483647) d
+  all_said (container_change exits restarts) (names_in_either exits restarts)
 
 -- ---- all together
 

@@ -55,10 +55,10 @@ pub record BadLine : Type 0 where
   pub cause : Cause
 
 -- A line's commands before those of the rest, where with them there are not too many.
-abbrev pub joined : ℕ → ℕ → Result (List Command) Cause → (ℕ → Result (List Command) BadLine)
+abbrev pub line_before : ℕ → ℕ → Result (List Command) Cause → (ℕ → Result (List Command) BadLine)
     → Result (List Command) BadLine
-joined number before (Err cause) rest = Err (record { number = number; cause = cause })
-joined number before (Ok commands) rest =
+line_before number before (Err cause) rest = Err (record { number = number; cause = cause })
+line_before number before (Ok commands) rest =
     if nat_le (before + length commands) most_commands
     then with_front commands (rest (before + length commands))
     else Err (record { number = number; cause = TooMany })
@@ -67,7 +67,7 @@ joined number before (Ok commands) rest =
 abbrev pub lines_say : Shape → ℕ → ℕ → List (List ℕ) → Result (List Command) BadLine
 lines_say shape number before [] = Ok []
 lines_say shape number before (line ∷ lines) =
-    joined number before (line_says shape line) (λ count. lines_say shape (number + 1) count lines)
+    line_before number before (line_says shape line) (λ count. lines_say shape (number + 1) count lines)
 
 -- the commands of a text, or its first bad line
 unfoldable pub script_of : Shape → List ℕ → Result (List Command) BadLine

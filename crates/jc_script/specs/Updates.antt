@@ -1,5 +1,5 @@
 -- What an update says.
---     version_in d     the version at which alone it is made
+--     version_said d     the version at which alone it is made
 --     change_in d      the new members of the specification
 use Rattle.std.specs.Prelude.{ℕ, List, [], ◌∷◌, codes, Option, Result, Ok, option_map}
 use Rattle.serde_json.specs.Data.{Data}
@@ -14,13 +14,13 @@ use Rattle.jc_script.specs.declared.updates.NewLimits.{NewLimits}
 use Rattle.jc_script.specs.Causes.{read_as}
 use Rattle.jc_script.specs.Members.{only_known, given_number_in}
 
-abbrev pub version_of : ℕ → Version
-version_of n = record { 0 = n }
+abbrev pub as_version : ℕ → Version
+as_version n = record { 0 = n }
 
-unfoldable pub version_in : Data → Result (Option Version) Cause
-version_in d = do
+unfoldable pub version_said : Data → Result (Option Version) Cause
+version_said d = do
   o ← given_number_in [] (codes "version") 0 4294967295 d
-  Ok (option_map version_of o)
+  Ok (option_map as_version o)
 
 abbrev pub change_members : List (List ℕ)
 change_members =
@@ -40,8 +40,8 @@ limits_of path spec = do
   Ok (record { deadline = deadline; backoff_limit = backoff_limit })
 
 -- the members in their order
-unfoldable pub change_of : List ℕ → Data → Result SpecChange Cause
-change_of path spec = do
+unfoldable pub change_at : List ℕ → Data → Result SpecChange Cause
+change_at path spec = do
   counts ← counts_of path spec
   suspend ← read_as (optional_bool path (codes "suspend") spec)
   limits ← limits_of path spec
@@ -57,4 +57,4 @@ unfoldable pub change_in : Data → Result SpecChange Cause
 change_in d = do
   spec ← read_as (needed_object [] (codes "spec") d)
   known ← only_known (path_to [] (codes "spec")) change_members spec
-  change_of (path_to [] (codes "spec")) spec
+  change_at (path_to [] (codes "spec")) spec

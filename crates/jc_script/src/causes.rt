@@ -40,9 +40,9 @@ pub enum LineFault {
 
 impl From<FieldFault> for LineFault {
     ghost use Rattle.std.specs.Prelude.{◌≡◌};
-    ghost use Rattle.jc_script.specs.Causes.{of_field};
+    ghost use Rattle.jc_script.specs.Causes.{fault_of_field};
 
-    ghost from_gives = { λ field fault. fault ≡ of_field field };
+    ghost from_gives = { λ field fault. fault ≡ fault_of_field field };
 
     fn from(fault: FieldFault) -> LineFault {
         match fault {

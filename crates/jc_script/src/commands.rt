@@ -3,7 +3,7 @@
 ghost use Rattle.std.specs.Prelude.{◌≡◌};
 ghost use Rattle.serde_json.specs.View.{view};
 ghost use Rattle.jc_script.specs.Causes.{Says};
-ghost use Rattle.jc_script.specs.Commands.{kind_of, fault_of, kind_in, fault_kind_in, create_in, update_in, delete_in, fate_in, mark_in, strip_in, finish_in, phase_in, clock_in, list_in, deliver_in, begin_in, sync_in, step_in, restart_in, fault_in, action_in, lane_in, command_in, object_says, value_says};
+ghost use Rattle.jc_script.specs.Commands.{kind_named, fault_of, kind_in, fault_kind_in, create_in, update_in, delete_in, fate_in, mark_in, strip_in, finish_in, phase_in, clock_in, list_command_in, deliver_in, begin_in, sync_in, step_in, restart_command_in, fault_in, action_said, lane_in, command_in, object_says, value_says};
 
 use crate::causes::{Cause, LineFault, broken};
 use crate::ends::read_ends;
@@ -27,7 +27,7 @@ pub struct Said {
 
 // The kind of objects of that word.
 fn kind_of(text: &str) -> Option<Kind>
-    ensures { result ≡ kind_of text.now }
+    ensures { result ≡ kind_named text.now }
 {
     match text {
         "jobs" => Some(Kind::Jobs),
@@ -172,9 +172,9 @@ fn read_clock(alloc: Global, value: &Value) -> Result<Action1, LineFault>
 }
 
 // Lists the objects of a kind.
-#[tactic(auto, unfolding(crate::specs::Commands::list_in))]
+#[tactic(auto, unfolding(crate::specs::Commands::list_command_in))]
 fn read_list(alloc: Global, value: &Value, shape: &Shape) -> Result<Action1, LineFault>
-    ensures { Says (λ action. action) result (list_in shape.now (view value.now)) }
+    ensures { Says (λ action. action) result (list_command_in shape.now (view value.now)) }
 {
     let controller = read_controller(alloc, value, shape)?;
     let kind = read_kind(alloc, value)?;
@@ -228,9 +228,9 @@ fn read_step(alloc: Global, value: &Value, shape: &Shape) -> Result<Action1, Lin
 }
 
 // Makes a controller forget all that it has.
-#[tactic(auto, unfolding(crate::specs::Commands::restart_in))]
+#[tactic(auto, unfolding(crate::specs::Commands::restart_command_in))]
 fn read_restart(alloc: Global, value: &Value, shape: &Shape) -> Result<Action1, LineFault>
-    ensures { Says (λ action. action) result (restart_in shape.now (view value.now)) }
+    ensures { Says (λ action. action) result (restart_command_in shape.now (view value.now)) }
 {
     let controller = read_controller(alloc, value, shape)?;
     Ok(Action1::Restart { controller })
@@ -257,7 +257,7 @@ fn read_action(
     shape: &Shape,
     verb: Verb,
 ) -> Result<Action1, LineFault>
-    ensures { Says (λ action. action) result (action_in shape.now verb (view value.now)) }
+    ensures { Says (λ action. action) result (action_said shape.now verb (view value.now)) }
 {
     match verb {
         Verb::Create => read_create(alloc, value),

@@ -2,31 +2,19 @@
 
 ghost use Rattle.std.specs.Prelude.{◌≡◌, codes, map};
 ghost use Rattle.serde_json.specs.View.{view};
+ghost use Rattle.jc_manifest.specs.FailurePolicies.{is_type, truth_of};
 ghost use Rattle.jc_script.specs.Causes.{Says};
-ghost use Rattle.jc_script.specs.Ends.{is_type};
 ghost use Rattle.jc_script.specs.Items.{each_said};
 ghost use Rattle.jc_script.specs.Members.{only_known, text_in};
-ghost use Rattle.jc_script.specs.Phases.{condition_members, truth_of, truth_in, condition_of, condition_at, conditions_in};
+ghost use Rattle.jc_script.specs.Phases.{condition_members, condition_truth, condition_of, condition_at, conditions_in};
 
 use crate::causes::{LineFault, broken};
-use crate::ends::is_type;
 use crate::members::check_known;
 use jc_json::{Path, item_object, may_list, may_text, need_text};
+use jc_manifest::{is_type, truth_of};
 use jc_types::{PodCondition, PodConditions, Text, Truth};
 use serde_json::Value;
 use std::alloc::Global;
-
-// The status of that word.
-fn truth_of(text: &str) -> Option<Truth>
-    ensures { result ≡ truth_of text.now }
-{
-    match text {
-        "True" => Some(Truth::True),
-        "False" => Some(Truth::False),
-        "Unknown" => Some(Truth::Unknown),
-        _ => None,
-    }
-}
 
 // The type of a condition.
 #[tactic(auto, unfolding(crate::specs::Members::text_in))]
@@ -42,9 +30,9 @@ fn read_type(alloc: Global, condition: &Value, path: &Path) -> Result<Text, Line
 }
 
 // The status of a condition.
-#[tactic(auto, unfolding(crate::specs::Phases::truth_in))]
+#[tactic(auto, unfolding(crate::specs::Phases::condition_truth))]
 fn read_truth(alloc: Global, condition: &Value, path: &Path) -> Result<Truth, LineFault>
-    ensures { Says (λ truth. truth) result (truth_in path.now (view condition.now)) }
+    ensures { Says (λ truth. truth) result (condition_truth path.now (view condition.now)) }
 {
     let Some(text) = may_text(alloc, condition, path, "status")? else {
         return Ok(Truth::True);

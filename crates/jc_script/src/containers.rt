@@ -6,11 +6,11 @@ ghost use Rattle.serde_json.specs.View.{view, members_view};
 ghost use Rattle.jc_json.specs.Field.{unless_null};
 ghost use Rattle.jc_script.specs.Causes.{Says};
 ghost use Rattle.jc_script.specs.Items.{all_said};
-ghost use Rattle.jc_script.specs.Phases.{given_names, names_in, entry_in, entries_fit, numbers_in, put_names, names_of_both, exit_in, restarts_in, count_in, change_of, containers_in};
+ghost use Rattle.jc_script.specs.Phases.{given_names, member_names, entry_in, entries_fit, container_numbers, put_names, names_in_either, exit_in, container_restarts, container_count, container_change, containers_in};
 
 use crate::causes::{LineFault, broken};
-use crate::names::is_label;
 use jc_json::{Path, may_number, may_object};
+use jc_manifest::is_label;
 use jc_types::{ContainerChange, ContainerChanges, Name, Want};
 use serde_json::{Map, Value};
 use std::alloc::Global;
@@ -45,10 +45,10 @@ fn given_names<'v>(alloc: Global, members: &'v Map<String, Value>) -> Result<Vec
 }
 
 // The names of the members of an object that are given.
-#[tactic(auto, unfolding(crate::specs::Phases::names_in))]
+#[tactic(auto, unfolding(crate::specs::Phases::member_names))]
 fn names_in<'v>(alloc: Global, value: &'v Value) -> Result<Vec<&'v str>, Want>
     ensures { IfOk result (λ names. map (λ name. name.now) names.items
-        ≡ names_in (view value.now)) }
+        ≡ member_names (view value.now)) }
 {
     match value.as_object() {
         Some(members) => given_names(alloc, members),
@@ -98,7 +98,7 @@ fn check_entries(
 }
 
 // An object of numbers, each of which is right; `nothing` where none is given.
-#[tactic(auto, unfolding(crate::specs::Phases::numbers_in))]
+#[tactic(auto, unfolding(crate::specs::Phases::container_numbers))]
 fn read_numbers<'v>(
     alloc: Global,
     value: &'v Value,
@@ -109,7 +109,7 @@ fn read_numbers<'v>(
 ) -> Result<&'v Value, LineFault>
     requires { view nothing.now ≡ null }
     ensures { Says (λ numbers. view numbers.now) result
-        (numbers_in name.now least greatest (view value.now)) }
+        (container_numbers name.now least greatest (view value.now)) }
 {
     let path = Path::new(alloc);
     let numbers = match may_object(alloc, value, &path, name)? {
@@ -142,8 +142,8 @@ fn put_names(alloc: Global, members: &mut Map<String, Value>, names: &[&str]) ->
 // An object whose members are named as those of both.
 fn both_of(alloc: Global, exits: &Value, restarts: &Value) -> Result<Value, Want>
     ensures { IfOk result (λ both. view both ≡ object
-        (put_names (names_in (view restarts.now))
-        (put_names (names_in (view exits.now)) no_members))) }
+        (put_names (member_names (view restarts.now))
+        (put_names (member_names (view exits.now)) no_members))) }
 {
     let mut both = Map::new(alloc);
     put_names(alloc, &mut both, names_in(alloc, exits)?.as_slice())?;
@@ -166,9 +166,9 @@ fn read_exit(alloc: Global, exits: &Value, name: &str) -> Result<Option<i32>, Li
 }
 
 // How often a container was restarted, as a whole number, where that is given.
-#[tactic(auto, unfolding(crate::specs::Phases::restarts_in))]
+#[tactic(auto, unfolding(crate::specs::Phases::container_restarts))]
 fn read_restarts(alloc: Global, restarts: &Value, name: &str) -> Result<Option<i64>, LineFault>
-    ensures read { Says (λ count. count) result (restarts_in (view restarts.now) name.now) }
+    ensures read { Says (λ count. count) result (container_restarts (view restarts.now) name.now) }
     ensures fits { IfOk result (λ o. IfSome o (λ n. (pos 0 ≤ℤ n) × (n ≤ℤ pos 2147483647))) }
 {
     let path = Path::new(alloc).member("restartCounts")?;
@@ -176,9 +176,9 @@ fn read_restarts(alloc: Global, restarts: &Value, name: &str) -> Result<Option<i
 }
 
 // How often a container was restarted, where that is given.
-#[tactic(auto, unfolding(crate::specs::Phases::count_in))]
+#[tactic(auto, unfolding(crate::specs::Phases::container_count))]
 fn read_count(alloc: Global, restarts: &Value, name: &str) -> Result<Option<u32>, LineFault>
-    ensures { Says (λ count. count) result (count_in (view restarts.now) name.now) }
+    ensures { Says (λ count. count) result (container_count (view restarts.now) name.now) }
 {
     match read_restarts(alloc, restarts, name)? {
         None => Ok(None),
@@ -187,7 +187,7 @@ fn read_count(alloc: Global, restarts: &Value, name: &str) -> Result<Option<u32>
 }
 
 // What is said of one container.
-#[tactic(auto, unfolding(crate::specs::Phases::change_of))]
+#[tactic(auto, unfolding(crate::specs::Phases::container_change))]
 fn read_change(
     alloc: Global,
     exits: &Value,
@@ -195,7 +195,7 @@ fn read_change(
     name: &str,
 ) -> Result<ContainerChange, LineFault>
     ensures { Says (λ change. change) result
-        (change_of (view exits.now) (view restarts.now) name.now) }
+        (container_change (view exits.now) (view restarts.now) name.now) }
 {
     let exit = read_exit(alloc, exits, name)?;
     let restarts = read_count(alloc, restarts, name)?;
@@ -215,7 +215,7 @@ fn read_changes(
     names: &[&str],
 ) -> Result<ContainerChanges, LineFault>
     ensures { Says (λ changes. changes) result
-        (all_said (change_of (view exits.now) (view restarts.now))
+        (all_said (container_change (view exits.now) (view restarts.now))
         (map (λ name. name.now) names.now)) }
 {
     let mut changes = ContainerChanges::new(alloc);
@@ -229,8 +229,8 @@ fn read_changes(
 // What is said of each container that either object names.
 fn read_both(alloc: Global, exits: &Value, restarts: &Value) -> Result<ContainerChanges, LineFault>
     ensures { Says (λ changes. changes) result
-        (all_said (change_of (view exits.now) (view restarts.now))
-        (names_of_both (view exits.now) (view restarts.now))) }
+        (all_said (container_change (view exits.now) (view restarts.now))
+        (names_in_either (view exits.now) (view restarts.now))) }
 {
     let both = both_of(alloc, exits, restarts)?;
     let names = names_in(alloc, &both)?;

@@ -2,24 +2,19 @@
 
 ghost use Rattle.std.specs.Prelude.{◌≡◌, codes, map};
 ghost use Rattle.serde_json.specs.View.{view};
+ghost use Rattle.jc_manifest.specs.FailurePolicies.{is_type};
 ghost use Rattle.jc_script.specs.Causes.{Says};
-ghost use Rattle.jc_script.specs.Ends.{is_type, end_members, end_of, end_at, rightly_many, ends_in};
+ghost use Rattle.jc_script.specs.Ends.{end_members, end_said, end_said_at, rightly_many, ends_said};
 ghost use Rattle.jc_script.specs.Items.{each_said};
 ghost use Rattle.jc_script.specs.Members.{only_known, given_text_in};
 
 use crate::causes::{Cause, LineFault, broken};
 use crate::members::{check_known, read_given_number, read_list};
 use jc_json::{Path, item_object, may_text, need_number};
+use jc_manifest::is_type;
 use jc_types::{End, Ends, GREATEST_LIMIT, Text};
 use serde_json::Value;
 use std::alloc::Global;
-
-/// Whether the type of a condition has 1 to 316 bytes.
-pub fn is_type(text: &str) -> bool
-    ensures { result ≡ is_type text.now }
-{
-    0 < text.len() && text.len() <= 316
-}
 
 // The condition that a pod then has, where one is given.
 #[tactic(auto, unfolding(crate::specs::Members::given_text_in))]
@@ -37,9 +32,9 @@ fn read_condition(alloc: Global, end: &Value, path: &Path) -> Result<Option<Text
 }
 
 // The members of one end.
-#[tactic(auto, unfolding(crate::specs::Ends::end_of))]
+#[tactic(auto, unfolding(crate::specs::Ends::end_said))]
 fn read_members(alloc: Global, end: &Value, path: &Path) -> Result<End, LineFault>
-    ensures { Says (λ end. end) result (end_of path.now (view end.now)) }
+    ensures { Says (λ end. end) result (end_said path.now (view end.now)) }
 {
     let exit = need_number(alloc, end, path, "exitCode", 0, 255)?;
     let restarts = read_given_number(alloc, end, path, "restarts", 0, GREATEST_LIMIT)?;
@@ -59,9 +54,9 @@ fn check_members(end: &Value, path: &Path) -> Result<(), LineFault>
 }
 
 // One end, at its place in the list.
-#[tactic(auto, unfolding(crate::specs::Ends::end_at))]
+#[tactic(auto, unfolding(crate::specs::Ends::end_said_at))]
 fn read_end(alloc: Global, item: &Value, list: &Path, place: usize) -> Result<End, LineFault>
-    ensures { Says (λ end. end) result (end_at list.now place (view item.now)) }
+    ensures { Says (λ end. end) result (end_said_at list.now place (view item.now)) }
 {
     let end = item_object(item, list, place)?;
     let path = list.place(place)?;
@@ -88,7 +83,7 @@ fn check_many(items: &[Value], path: &Path) -> Result<(), LineFault>
 // The ends of a list.
 #[tactic(auto, using(crate::proofs::Fronts::one_more))]
 fn read_items(alloc: Global, items: &[Value], path: &Path) -> Result<Ends, LineFault>
-    ensures { Says (λ ends. ends) result (each_said (end_at path.now) 0 (map view items.now)) }
+    ensures { Says (λ ends. ends) result (each_said (end_said_at path.now) 0 (map view items.now)) }
 {
     let mut ends = Ends::new(alloc);
     for (place, item) in items.iter().enumerate() {
@@ -99,9 +94,9 @@ fn read_items(alloc: Global, items: &[Value], path: &Path) -> Result<Ends, LineF
 }
 
 /// How the pods of a Job are to end, by the member `ends`.
-#[tactic(auto, unfolding(crate::specs::Ends::ends_in))]
+#[tactic(auto, unfolding(crate::specs::Ends::ends_said))]
 pub fn read_ends(alloc: Global, value: &Value) -> Result<Ends, LineFault>
-    ensures { Says (λ ends. ends) result (ends_in (view value.now)) }
+    ensures { Says (λ ends. ends) result (ends_said (view value.now)) }
 {
     let path = Path::new(alloc);
     let items = read_list(alloc, value, &path, "ends")?;

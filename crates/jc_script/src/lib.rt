@@ -6,6 +6,7 @@ mod commands;
 mod conditions;
 mod containers;
 mod ends;
+mod laws;
 mod lines;
 mod members;
 mod names;
@@ -15,4 +16,5 @@ mod updates;
 mod verbs;
 
 pub use causes::Cause;
+pub use laws::scripts_fit_their_shape;
 pub use scripts::{ScriptFault, read_script};

@@ -4,8 +4,9 @@ ghost use Rattle.std.specs.Prelude.{◌≡◌, bytes_eq, map, option_map};
 ghost use Rattle.std.specs.List.{list_any};
 ghost use Rattle.serde_json.specs.View.{view, members_view};
 ghost use Rattle.jc_json.specs.Field.{needed_object, needed_list};
+ghost use Rattle.jc_manifest.specs.Templates.{is_among};
 ghost use Rattle.jc_script.specs.Causes.{Says, read_as};
-ghost use Rattle.jc_script.specs.Members.{is_among, is_unknown, unknown_among, unknown_in, only_known, number_in, given_number_in};
+ghost use Rattle.jc_script.specs.Members.{is_unknown, unknown_among, unknown_in, only_known, whole_number_in, given_number_in};
 
 use crate::causes::{LineFault, broken};
 use jc_json::{Path, may_number, need_list, need_number, need_object};
@@ -74,7 +75,7 @@ pub fn check_known(object: &Value, path: &Path, known: &[&str]) -> Result<(), Li
 }
 
 /// A whole number from `least` to `greatest`.
-#[tactic(auto, unfolding(crate::specs::Members::number_in))]
+#[tactic(auto, unfolding(crate::specs::Members::whole_number_in))]
 pub fn read_number(
     alloc: Global,
     object: &Value,
@@ -84,7 +85,7 @@ pub fn read_number(
     greatest: u32,
 ) -> Result<u32, LineFault>
     ensures { Says (λ n. n) result
-        (number_in path.now name.now least greatest (view object.now)) }
+        (whole_number_in path.now name.now least greatest (view object.now)) }
 {
     let number = need_number(
         alloc,

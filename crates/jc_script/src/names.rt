@@ -1,23 +1,16 @@
 //! What a line names: Jobs, pods, controllers and workers.
 
-ghost use Rattle.std.specs.Prelude.{◌≡◌, ◌<◌, ◌≤◌, ◌||◌, ◌==◌, false, length};
-ghost use Rattle.std.specs.Bool.{OnTrue};
-ghost use Rattle.std.specs.List.{list_all, slice_split};
-ghost use Rattle.std.specs.Option.{option_map_or};
 ghost use Rattle.serde_json.specs.View.{view};
-ghost use Rattle.jc_manifest.specs.Words.{is_plain, is_part, has_length_of_name, is_label, is_subdomain};
 ghost use Rattle.jc_script.specs.Causes.{Says};
-ghost use Rattle.jc_script.specs.Named.{name_in, namespace_in, key_in, pod_in, controller_in, worker_in, seat_in, times_in};
+ghost use Rattle.jc_script.specs.Named.{job_name_in, job_namespace_in, job_key_in, pod_named, controller_in, worker_in, seat_in, times_in};
 
 use crate::causes::{LineFault, broken};
 use crate::members::{read_given_number, read_number};
 use jc_json::{Path, may_text, need_text};
+use jc_manifest::{is_label, is_subdomain};
 use jc_types::{Key, Name, Shape, Uid};
 use serde_json::Value;
 use std::alloc::Global;
-
-// A name has at most this many bytes.
-const MOST_BYTES: usize = 63;
 
 /// A worker of a controller.
 #[derive(Clone, Copy)]
@@ -26,78 +19,10 @@ pub struct Seat {
     pub worker: u32,
 }
 
-// Whether a byte is a lower-case letter or a digit.
-fn is_plain(byte: u8) -> bool
-    ensures { result ≡ is_plain byte }
-{
-    (97 <= byte && byte <= 122) || (48 <= byte && byte <= 57)
-}
-
-// Whether all bytes are lower-case letters, digits and dashes.
-fn are_plain_or_dashes(text: &[u8]) -> bool
-    ensures { result ≡ list_all (λ b. is_plain b || b == 45) text.now }
-{
-    text.iter().all(|byte| is_plain(*byte) || *byte == 45)
-}
-
-// Whether there is a byte, and it is a lower-case letter or a digit.
-fn is_plain_end(end: Option<u8>) -> bool
-    ensures { result ≡ option_map_or is_plain end false }
-{
-    match end {
-        Some(byte) => is_plain(byte),
-        None => false,
-    }
-}
-
-// Whether a text is one part of a name.
-#[tactic(auto, unfolding(jc_manifest::specs::Words::is_part))]
-fn is_part(text: &[u8]) -> bool
-    ensures { result ≡ is_part text.now }
-{
-    are_plain_or_dashes(text)
-        && (is_plain_end(text.first().copied()) && is_plain_end(text.last().copied()))
-}
-
-// Whether a text has 1 to 63 bytes.
-#[tactic(auto, unfolding(jc_manifest::specs::Words::has_length_of_name))]
-fn has_length_of_name(text: &[u8]) -> bool
-    ensures tested { result ≡ has_length_of_name text.now }
-    ensures some { OnTrue result (0 < length text.now) }
-    ensures short { OnTrue result (length text.now ≤ 63) }
-{
-    0 < text.len() && text.len() <= MOST_BYTES
-}
-
-/// Whether a text is one part of 1 to 63 bytes.
-pub fn is_label(text: &[u8]) -> bool
-    ensures tested { result ≡ is_label text.now }
-    ensures some { OnTrue result (0 < length text.now) }
-    ensures short { OnTrue result (length text.now ≤ 63) }
-{
-    has_length_of_name(text) && is_part(text)
-}
-
-// Whether each piece between points is a part.
-fn are_parts(text: &[u8]) -> bool
-    ensures { result ≡ list_all is_part (slice_split (λ b. b == 46) text.now) }
-{
-    text.split(|byte| *byte == 46).all(|part| is_part(part))
-}
-
-// Whether a text is made of parts that are joined by points, with 1 to 63 bytes together.
-fn is_subdomain(text: &[u8]) -> bool
-    ensures tested { result ≡ is_subdomain text.now }
-    ensures some { OnTrue result (0 < length text.now) }
-    ensures short { OnTrue result (length text.now ≤ 63) }
-{
-    has_length_of_name(text) && are_parts(text)
-}
-
 // The name of a Job.
-#[tactic(auto, unfolding(crate::specs::Members::text_in, crate::specs::Named::name_in))]
+#[tactic(auto, unfolding(crate::specs::Members::text_in, crate::specs::Named::job_name_in))]
 fn read_name(alloc: Global, value: &Value) -> Result<Name, LineFault>
-    ensures { Says (λ name. name) result (name_in (view value.now)) }
+    ensures { Says (λ name. name) result (job_name_in (view value.now)) }
 {
     let path = Path::new(alloc);
     let text = need_text(alloc, value, &path, "name")?;
@@ -108,9 +33,9 @@ fn read_name(alloc: Global, value: &Value) -> Result<Name, LineFault>
 }
 
 // The namespace of a Job.
-#[tactic(auto, unfolding(crate::specs::Members::given_text_in, crate::specs::Named::namespace_in))]
+#[tactic(auto, unfolding(crate::specs::Members::given_text_in, crate::specs::Named::job_namespace_in))]
 fn read_namespace(alloc: Global, value: &Value) -> Result<Name, LineFault>
-    ensures { Says (λ name. name) result (namespace_in (view value.now)) }
+    ensures { Says (λ name. name) result (job_namespace_in (view value.now)) }
 {
     let path = Path::new(alloc);
     let Some(text) = may_text(alloc, value, &path, "namespace")? else {
@@ -123,9 +48,9 @@ fn read_namespace(alloc: Global, value: &Value) -> Result<Name, LineFault>
 }
 
 /// The key of a Job.
-#[tactic(auto, unfolding(crate::specs::Named::key_in))]
+#[tactic(auto, unfolding(crate::specs::Named::job_key_in))]
 pub fn read_key(alloc: Global, value: &Value) -> Result<Key, LineFault>
-    ensures { Says (λ key. key) result (key_in (view value.now)) }
+    ensures { Says (λ key. key) result (job_key_in (view value.now)) }
 {
     let name = read_name(alloc, value)?;
     let namespace = read_namespace(alloc, value)?;
@@ -133,9 +58,9 @@ pub fn read_key(alloc: Global, value: &Value) -> Result<Key, LineFault>
 }
 
 /// A pod by its number.
-#[tactic(auto, unfolding(crate::specs::Named::pod_in))]
+#[tactic(auto, unfolding(crate::specs::Named::pod_named))]
 pub fn read_pod(alloc: Global, value: &Value) -> Result<Uid, LineFault>
-    ensures { Says (λ pod. pod) result (pod_in (view value.now)) }
+    ensures { Says (λ pod. pod) result (pod_named (view value.now)) }
 {
     let number = read_number(alloc, value, &Path::new(alloc), "pod", 1, 4_294_967_295)?;
     Ok(Uid(u64::from(number)))

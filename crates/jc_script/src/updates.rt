@@ -2,7 +2,7 @@
 
 ghost use Rattle.serde_json.specs.View.{view};
 ghost use Rattle.jc_script.specs.Causes.{Says};
-ghost use Rattle.jc_script.specs.Updates.{version_in, change_members, counts_of, limits_of, change_of, change_in};
+ghost use Rattle.jc_script.specs.Updates.{version_said, change_members, counts_of, limits_of, change_at, change_in};
 ghost use Rattle.jc_script.specs.Members.{only_known};
 
 use crate::causes::LineFault;
@@ -27,9 +27,9 @@ struct NewLimits {
 }
 
 /// The version at which alone the update is made, where one is given.
-#[tactic(auto, unfolding(crate::specs::Updates::version_in))]
+#[tactic(auto, unfolding(crate::specs::Updates::version_said))]
 pub fn read_version(alloc: Global, value: &Value) -> Result<Option<Version>, LineFault>
-    ensures { Says (λ version. version) result (version_in (view value.now)) }
+    ensures { Says (λ version. version) result (version_said (view value.now)) }
 {
     match read_given_number(alloc, value, &Path::new(alloc), "version", 0, 4_294_967_295)? {
         None => Ok(None),
@@ -71,9 +71,9 @@ fn read_limits(alloc: Global, spec: &Value, path: &Path) -> Result<NewLimits, Li
 }
 
 // The new members, in their order.
-#[tactic(auto, unfolding(crate::specs::Updates::change_of))]
+#[tactic(auto, unfolding(crate::specs::Updates::change_at))]
 fn read_members(alloc: Global, spec: &Value, path: &Path) -> Result<SpecChange, LineFault>
-    ensures { Says (λ change. change) result (change_of path.now (view spec.now)) }
+    ensures { Says (λ change. change) result (change_at path.now (view spec.now)) }
 {
     let counts = read_counts(alloc, spec, path)?;
     let suspend = may_bool(alloc, spec, path, "suspend")?;

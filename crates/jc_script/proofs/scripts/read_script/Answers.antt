@@ -1,4 +1,4 @@
-use Rattle.std.proofs.Common.{◌∙◌, ap, sym, subst, List, Some, Err, option_copied}
+use Rattle.std.proofs.Common.{ap, sym, subst, List, Some, option_copied}
 use Rattle.std.proofs.lemmas.Result.{err_from_is_err_and}
 use Rattle.jc_types.specs.declared.actions.Command.{Command}
 use Rattle.jc_script.proofs.Reading.{IsReading, begins, ends_bad, ends_well}
