@@ -39,7 +39,7 @@ use Rattle.jc_log.proofs.WriteFacts.{is_born-more, job_in-born, job_in-key, lost
 use Rattle.jc_asks.specs.declared.asks.Ask.{Ask}
 use Rattle.jc_asks.specs.declared.asks.Ask.TheVariants.{WriteFirst, ReleasePod, WriteSecond}
 use Rattle.jc_asks.specs.Asks.{as_request}
-use Rattle.jc_bounds.specs.Requests.{is_let_go_of, next_by_kind, ask_gives}
+use Rattle.jc_bounds.specs.Requests.{lets_go_of, next_by_kind, ask_gives}
 use Rattle.jc_history.specs.Diaries.{moment, notes}
 use Rattle.jc_history.specs.Fresh.{basis, cache_lag}
 use Rattle.jc_history.specs.Legal.{IsLegal}
@@ -341,7 +341,7 @@ module _ (log : List Entry) (stored : Stored log) (neat : AreNeat log) (old : Li
             by : Where log (planned b) (made u old) ask → IsSilent (planned b) (more (made u old) (as_request ask) given)
             by (InEarly lt e) = absurd (true≢false (sym e ∙ ap is_early a))
             by (AtFirst f st i tail) =
-                silent-after (planned b) (made u old) ask next given (λ v. ap (λ x. is_let_go_of v (as_request x)) a) (planned b).releases
+                silent-after (planned b) (made u old) ask next given (λ v. ap (λ x. lets_go_of v (as_request x)) a) (planned b).releases
                 (tail ∙ ap (λ (o : Option JobStatus). map ReleasePod (planned b).releases ++ map (λ status. WriteSecond) (option_to_list o)) no-second ∙ append-nil (map ReleasePod (planned b).releases))
             by (AtRelease done x rest f split tail l) = absurd (true≢false (ap is_quiet (sym f ∙ a)))
             by (AtSecond f st s tail l) = absurd (true≢false (ap is_first (sym f ∙ a)))
@@ -361,7 +361,7 @@ module _ (log : List Entry) (stored : Stored log) (neat : AreNeat log) (old : Li
                 is_first WriteFirst = false
                 is_first other = true
             by (AtRelease done x rest f split tail l) = absurd (true≢false (ap is_quiet (sym f ∙ a)))
-            by (AtSecond f st s tail l) = silent-after (planned b) (made u old) ask next given (λ v. ap (λ x. is_let_go_of v (as_request x)) a) [] tail
+            by (AtSecond f st s tail l) = silent-after (planned b) (made u old) ask next given (λ v. ap (λ x. lets_go_of v (as_request x)) a) [] tail
 
         by : Appends log (planned b) b.job ask e → is_work b.key e log ≡ true → IsWinding (e ∷ log) (more (made u old) (as_request ask) given) b
         by (Idly q idle) work = absurd (true≢false (sym work ∙ idle b.key))

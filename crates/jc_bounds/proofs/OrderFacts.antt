@@ -20,7 +20,7 @@ use Rattle.jc_types.specs.declared.replies.Request.TheVariants as request
 use Rattle.jc_types.specs.Keys.{same_uid}
 use Rattle.jc_states.specs.UidLists.{is_in}
 use Rattle.jc_asks.specs.Readings.{gone_in, gone_of}
-use Rattle.jc_bounds.specs.Requests.{is_let_go_of, was_let_go, let_go_asks, asks, next_by_kind}
+use Rattle.jc_bounds.specs.Requests.{lets_go_of, was_let_go, let_go_asks, asks, next_by_kind}
 use Rattle.jc_bounds.specs.Order.{AreLost, Early, Idle, IsSilent, Late, AtEnd, Progress, Rests, early, late, asks_left, second_writes}
 
 -- ---- lists
@@ -63,10 +63,10 @@ longer : (made : List (Request × Answer)) (asked : Request) (given : Answer) �
 longer made asked given = refl
 
 -- A request that lets no pod of this UID go changes nothing of it, and what was let go stays so.
-was-same : (made : List (Request × Answer)) (asked : Request) (given : Answer) (u : Uid) → is_let_go_of u asked ≡ false → was_let_go u (more made asked given) ≡ was_let_go u made
+was-same : (made : List (Request × Answer)) (asked : Request) (given : Answer) (u : Uid) → lets_go_of u asked ≡ false → was_let_go u (more made asked given) ≡ was_let_go u made
 was-same made asked given u h = by asked (is_gone given) h
   where
-    by : (asked : Request) (t : Bool) → is_let_go_of u asked ≡ false → is_in u (cons_option (gone_of asked t) (gone_in made)) ≡ is_in u (gone_in made)
+    by : (asked : Request) (t : Bool) → lets_go_of u asked ≡ false → is_in u (cons_option (gone_of asked t) (gone_in made)) ≡ is_in u (gone_in made)
     by (request.LetGo pod) true h = ap (λ b. b || is_in u (gone_in made)) h
     by (request.LetGo pod) false h = refl
     by other t h = refl
@@ -83,7 +83,7 @@ was-kept made asked given u h = by asked (is_gone given)
     by (request.LetGo pod) false = h
     by other t = h
 
-lets-same : (made : List (Request × Answer)) (asked : Request) (given : Answer) → ((u : Uid) → is_let_go_of u asked ≡ false) → (rows : List (Uid × Version)) → flat_map (let_go_asks (more made asked given)) rows ≡ flat_map (let_go_asks made) rows
+lets-same : (made : List (Request × Answer)) (asked : Request) (given : Answer) → ((u : Uid) → lets_go_of u asked ≡ false) → (rows : List (Uid × Version)) → flat_map (let_go_asks (more made asked given)) rows ≡ flat_map (let_go_asks made) rows
 lets-same made asked given none [] = refl
 lets-same made asked given none (row ∷ rows) = λ i. (LetPodGo row.0 row.1 ∷ cond (same i) (MarkPod row.0 ∷ []) []) ++ lets-same made asked given none rows i
   where
@@ -95,10 +95,10 @@ module _ (plan : Planned) (made : List (Request × Answer)) where
   asks-are = sym (append_assoc (map MakePod plan.creates) (map MarkPod plan.marks ++ flat_map (let_go_asks made) plan.let_goes) (late plan) ∙ ap (λ rest. map MakePod plan.creates ++ rest) (append_assoc (map MarkPod plan.marks) (flat_map (let_go_asks made) plan.let_goes) (late plan)))
 
   module _ (asked : Request) (given : Answer) where
-    asks-same : ((u : Uid) → is_let_go_of u asked ≡ false) → asks plan (more made asked given) ≡ asks plan made
+    asks-same : ((u : Uid) → lets_go_of u asked ≡ false) → asks plan (more made asked given) ≡ asks plan made
     asks-same none = ap (λ some. map MakePod plan.creates ++ (map MarkPod plan.marks ++ (some ++ late plan))) (lets-same made asked given none plan.let_goes)
 
-    left-same : ((u : Uid) → is_let_go_of u asked ≡ false) → asks_left plan (more made asked given) ≡ drop (suc (length made)) (asks plan made)
+    left-same : ((u : Uid) → lets_go_of u asked ≡ false) → asks_left plan (more made asked given) ≡ drop (suc (length made)) (asks plan made)
     left-same none = λ i. drop (longer made asked given i) (asks-same none i)
 
     rows-longer : (rows : List (Uid × Version)) → length (flat_map (let_go_asks made) rows) ≤ length (flat_map (let_go_asks (more made asked given)) rows)
@@ -199,11 +199,11 @@ module _ (log : List Entry) (plan : Planned) (made : List (Request × Answer)) (
 
     pub progress-step : Where log plan made ask → ((u : Uid) → ask ≡ ReleasePod u → is_lost (life u log') ≡ true) → Progress log' plan (more made (as_request ask) given)
     progress-step (InEarly lt e) loses = Early (omega (arith, lt, early-longer plan made (as_request ask) given, longer made (as_request ask) given))
-    progress-step (AtFirst a status f tail) loses = Late [] plan.releases refl (left-same plan made (as_request ask) given (λ u. ap (λ x. is_let_go_of u (as_request x)) a) ∙ tail) tt
+    progress-step (AtFirst a status f tail) loses = Late [] plan.releases refl (left-same plan made (as_request ask) given (λ u. ap (λ x. lets_go_of u (as_request x)) a) ∙ tail) tt
     progress-step (AtRelease done u rest a split tail lost) loses =
-        Late (done ++ u ∷ []) rest (split ∙ sym (append_assoc done (u ∷ []) rest)) (left-same plan made (as_request ask) given (λ v. ap (λ x. is_let_go_of v (as_request x)) a) ∙ tail)
+        Late (done ++ u ∷ []) rest (split ∙ sym (append_assoc done (u ∷ []) rest)) (left-same plan made (as_request ask) given (λ v. ap (λ x. lets_go_of v (as_request x)) a) ∙ tail)
         (Each-append (λ v. is_lost (life v log') ≡ true) done (u ∷ []) (keep-all done lost) (loses u a, tt))
-    progress-step (AtSecond a status s tail lost) loses = AtEnd (left-same plan made (as_request ask) given (λ u. ap (λ x. is_let_go_of u (as_request x)) a) ∙ tail)
+    progress-step (AtSecond a status s tail lost) loses = AtEnd (left-same plan made (as_request ask) given (λ u. ap (λ x. lets_go_of u (as_request x)) a) ∙ tail)
 
 pub progress-more : (log log' : List Entry) (plan : Planned) (made : List (Request × Answer)) → ((u : Uid) → is_lost (life u log) ≡ true → is_lost (life u log') ≡ true) → Progress log plan made → Progress log' plan made
 progress-more log log' plan made keep (Early le) = Early le
@@ -265,8 +265,8 @@ module _ (plan : Planned) (made : List (Request × Answer)) (ask : Ask) (next : 
       by [] e = absurd (no-cons ask (drop (suc (length made)) (asks plan made)) e)
       by (u ∷ rest) e =
           let a = cons-head (ReleasePod u) ask (map ReleasePod rest) (drop (suc (length made)) (asks plan made)) e in
-          Rests rest (left-same plan made (as_request ask) given (λ v. ap (λ x. is_let_go_of v (as_request x)) (sym a)) ∙ sym (cons-tail (ReleasePod u) ask (map ReleasePod rest) (drop (suc (length made)) (asks plan made)) e))
+          Rests rest (left-same plan made (as_request ask) given (λ v. ap (λ x. lets_go_of v (as_request x)) (sym a)) ∙ sym (cons-tail (ReleasePod u) ask (map ReleasePod rest) (drop (suc (length made)) (asks plan made)) e))
 
   -- Once the last request but for releases was made, the sync is silent.
-  pub silent-after : (given : Answer) → ((u : Uid) → is_let_go_of u (as_request ask) ≡ false) → (rest : List Uid) → drop (suc (length made)) (asks plan made) ≡ map ReleasePod rest → IsSilent plan (more made (as_request ask) given)
+  pub silent-after : (given : Answer) → ((u : Uid) → lets_go_of u (as_request ask) ≡ false) → (rest : List Uid) → drop (suc (length made)) (asks plan made) ≡ map ReleasePod rest → IsSilent plan (more made (as_request ask) given)
   silent-after given none rest tail = Rests rest (left-same plan made (as_request ask) given none ∙ tail)

@@ -1,5 +1,5 @@
 -- The laws over legal histories alone.
-use Rattle.std.proofs.Common.{◌≡◌, true, List, ◌∷◌, Some}
+use Rattle.std.proofs.Common.{◌≡◌, true, List, [], ◌∷◌, ◌++◌, Some, subst}
 use Rattle.jc_types.specs.declared.objects.Entry.TheVariants.{PodPut}
 use Rattle.jc_types.specs.declared.objects.Job.{Job}
 use Rattle.jc_types.specs.declared.objects.Key.{Key}
@@ -15,6 +15,7 @@ use Rattle.jc_history.specs.Replies.{log_given}
 use Rattle.jc_bounds.specs.Bounded.{IsBounded}
 use Rattle.jc_bounds.specs.Final.{IsFinal}
 use Rattle.jc_bounds.specs.Fitting.{IsMade}
+use Rattle.jc_bounds.specs.Histories.{HoldsBounds, KeepsBounds}
 use Rattle.jc_bounds.specs.Kept.{IsLeftAlone, IsShut, StatusesStand}
 use Rattle.jc_bounds.proofs.BoundFacts.{legal-bounded}
 use Rattle.jc_bounds.proofs.EndFacts.{legal-final}
@@ -40,3 +41,19 @@ module _ (shape : Shape) where
 
   pub stands : (deeds : List Deed) → shape.controllers ≡ 1 → IsLegal shape deeds → StatusesStand (log_given shape deeds)
   stands deeds one h = legal-stands shape deeds one h (λ past g. legal-log shape past one g)
+
+  -- What came before is legal too.
+  legal-before : (later deeds : List Deed) → IsLegal shape (later ++ deeds) → IsLegal shape deeds
+  legal-before [] deeds h = h
+  legal-before (d ∷ later) deeds h = legal-before later deeds h.1
+
+  keeps-both : (past : List Deed) (d : Deed) → shape.controllers ≡ 1 → IsLegal shape (d ∷ past) → KeepsBounds shape past d
+  keeps-both past d one h = record {
+    fits = λ pod. fits past d pod one h;
+    left = keeps past d one h;
+    shut = shut (d ∷ past) one h;
+    stands = stands (d ∷ past) one h;
+  }
+
+  pub holds : (deeds : List Deed) → shape.controllers ≡ 1 → IsLegal shape deeds → HoldsBounds shape deeds
+  holds deeds one h = λ later past d parts. keeps-both past d one (legal-before later (d ∷ past) (subst (IsLegal shape) parts h))

@@ -5,3 +5,4 @@ pub mod Fitting
 pub mod Order
 pub mod Final
 pub mod Kept
+pub mod Histories

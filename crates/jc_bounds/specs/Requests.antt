@@ -1,5 +1,5 @@
 -- The requests of a sync kind by kind, and what the store answers the next one.
---     is_let_go_of u request         it lets the pod of the UID go
+--     lets_go_of u request         it lets the pod of the UID go
 --     was_let_go u made              the finalizer of the pod was taken by one of these requests
 --     let_go_asks made pod           a let-go, with the mark that follows where it was answered so
 --     asks plan made                 all requests of the plan, with those marks
@@ -26,9 +26,9 @@ use Rattle.jc_asks.specs.Steps.{answered_to}
 use Rattle.jc_history.specs.Asks.{so_far}
 
 -- The request lets the pod of the UID go.
-abbrev pub is_let_go_of : Uid → Request → Bool
-is_let_go_of u (request.LetGo pod) = same_uid pod u
-is_let_go_of u other = false
+abbrev pub lets_go_of : Uid → Request → Bool
+lets_go_of u (request.LetGo pod) = same_uid pod u
+lets_go_of u other = false
 
 -- One of the requests has taken the finalizer of the pod.
 abbrev pub was_let_go : Uid → List (Request × Answer) → Bool

@@ -19,6 +19,7 @@ ghost use Rattle.jc_history.specs.Replies.{diary, log_given};
 ghost use Rattle.jc_bounds.specs.Bounded.{IsBounded};
 ghost use Rattle.jc_bounds.specs.Final.{AreNeat, IsFinal};
 ghost use Rattle.jc_bounds.specs.Fitting.{IsMade};
+ghost use Rattle.jc_bounds.specs.Histories.{HoldsBounds};
 ghost use Rattle.jc_bounds.specs.Kept.{IsLeftAlone, IsShut, StatusesStand};
 ghost use Rattle.jc_bounds.specs.Work.{count, last_work, pods_made};
 
@@ -91,4 +92,11 @@ pub fn ended_jobs_stay()
         → IsLeftAlone (log_given shape past) (log_given shape (d ∷ past)) k job }
     ensures stands { (shape : Shape) (deeds : List Deed)
         → shape.controllers ≡ 1 → IsLegal shape deeds → StatusesStand (log_given shape deeds) }
+{}
+
+/// Both bounds, of a whole history: whenever a pod came into the log it fitted, and from the write
+/// that ended a Job on, while that Job was there, nothing was made for it and its status stood.
+pub fn one_controller_holds_the_bounds()
+    ensures { (shape : Shape) (deeds : List Deed)
+        → shape.controllers ≡ 1 → IsLegal shape deeds → HoldsBounds shape deeds }
 {}

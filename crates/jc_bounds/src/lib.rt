@@ -5,5 +5,5 @@ mod laws;
 
 pub use laws::{
     ended_jobs_stay, histories_are_bounded, histories_keep_ends, legal_histories_have_legal_logs,
-    logs_tell_of_work, pods_that_are_made_fit,
+    logs_tell_of_work, one_controller_holds_the_bounds, pods_that_are_made_fit,
 };
