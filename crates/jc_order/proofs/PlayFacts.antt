@@ -10,6 +10,8 @@ use Rattle.jc_types.specs.declared.actions.Script.{Script}
 use Rattle.jc_types.specs.declared.numbers.Version.{Version}
 use Rattle.jc_types.specs.declared.objects.Kind.{Kind}
 use Rattle.jc_types.specs.declared.objects.Kind.TheVariants.{Jobs, Pods}
+use Rattle.jc_types.specs.declared.objects.Entry.{Entry}
+use Rattle.jc_types.specs.declared.replies.Reply.TheVariants as reply
 use Rattle.jc_types.specs.declared.runs.Event.{Event}
 use Rattle.jc_types.specs.declared.runs.Event.TheVariants.{System, Command as Commands}
 use Rattle.jc_types.specs.declared.runs.History.{History}
@@ -17,16 +19,19 @@ use Rattle.jc_types.specs.declared.runs.Past.{Past}
 use Rattle.jc_types.specs.declared.runs.Shape.{Shape}
 use Rattle.jc_types.specs.declared.runs.Sys.{Sys}
 use Rattle.jc_types.specs.declared.runs.Sys.TheVariants as sys
+use Rattle.jc_log.specs.Acts as does
+use Rattle.jc_log.specs.Requests.{grown}
+use Rattle.jc_control.specs.Schedules.{log_end}
 use Rattle.jc_log.specs.Deeds.{Deed, act_of_action, act_of_event, act_of_system, act_of_command, deed, deeds, lane_of}
-use Rattle.jc_history.specs.Available.{IsOrderly, WasAvailable, available, is_empty, is_quiescent}
+use Rattle.jc_history.specs.Available.{IsOrderly, WasAvailable, available, but_clock, clock_events, is_empty, is_quiescent, least_of_all, or_clock}
 use Rattle.jc_order.specs.Ends.{IsAtMost}
-use Rattle.jc_history.specs.Diaries.{notes}
+use Rattle.jc_history.specs.Diaries.{moment, notes}
 use Rattle.jc_history.specs.Legal.{AreUsed, ComesNext, IsHistory, InLanes, IsLegal, IsOfShape, MaySettle, next_place, lane_count}
 use Rattle.jc_history.specs.Numbers.{number}
 use Rattle.jc_history.specs.Play.{Playing, has_just_begun, brings, brought_up, commanded, deeds_played, event_played, does_if, first_event, is_command, notes_in, nothing, on_and_on, play_of, rest_played, settled_down, stepped_through, stepped_if, next_step, with_answer, whole_play as all_played}
 use Rattle.jc_history.specs.Registers.{register}
 use Rattle.jc_history.specs.Replies.{gives, log_after, log_given, reply_given}
-use Rattle.jc_order.specs.Plays.{AreWithin, IsPlayed, IsProper}
+use Rattle.jc_order.specs.Plays.{AreWithin, IsPlayed, IsProper, ends_in_settle, is_settle_action}
 use Rattle.jc_order.proofs.AvailFacts.{Is, IsOf, all-within, any-here, delivery-in, list-in, step-in}
 use Rattle.jc_order.proofs.EndFacts.{numbers-within}
 use Rattle.jc_order.proofs.LaneFacts.{AllPlayed, all-used, comes-next}
@@ -250,6 +255,7 @@ module _ (script : Script) (shape : Shape) (start : List Deed) where
     plays : IsPlayed script shape start q
     done : (q.full ≡ true) ⊎ (list_any (is_command place) q.pasts ≡ true)
     kept : (n : ℕ) → list_any (is_command n) p.pasts ≡ true → list_any (is_command n) q.pasts ≡ true
+    others : (n : ℕ) → place < n → list_any (is_command n) q.pasts ≡ list_any (is_command n) p.pasts
 
   abbrev after-own : ℕ → ℕ → Playing → Bool → Playing
   after-own lane place q b = cond b (with_answer (Commands lane place) (gives shape (deeds_played script q) q.log (act_of_event script.commands (Commands lane place))) q) (record q { full = true })
@@ -260,8 +266,17 @@ module _ (script : Script) (shape : Shape) (start : List Deed) where
     plays = does-plays (Commands lane place) q h m;
     done = done (nat_lt (length q.pasts) shape.events);
     kept = λ n e. kept n (a.commands n ∙ e) (nat_lt (length q.pasts) shape.events);
+    others = λ n lt. others n lt (nat_lt (length q.pasts) shape.events) ∙ a.commands n;
   }
     where
+      apart : (n : ℕ) → place < n → (b : Bool) → (place == n) ≡ b → b ≡ false
+      apart n lt true s = let same = eqb-true place n s in absurd (omega (arith, lt, same))
+      apart n lt false s = refl
+
+      others : (n : ℕ) → place < n → (b : Bool) → list_any (is_command n) (after-own lane place q b).pasts ≡ list_any (is_command n) q.pasts
+      others n lt true = ap (λ b. b || list_any (is_command n) q.pasts) (apart n lt (place == n) refl)
+      others n lt false = refl
+
       or-true : (b c : Bool) → c ≡ true → (b || c) ≡ true
       or-true true c e = refl
       or-true false c e = e
@@ -279,7 +294,7 @@ module _ (script : Script) (shape : Shape) (start : List Deed) where
     where
       by : (b : Bool) → q.full ≡ b → Own place p r
       by true f = subst (λ r. Own place p r) (sym (same f)) o
-      by false f = record { plays = (more f).plays; done = done o.done; kept = λ n e. (more f).adds.commands n ∙ o.kept n e }
+      by false f = record { plays = (more f).plays; done = done o.done; kept = λ n e. (more f).adds.commands n ∙ o.kept n e; others = λ n lt. (more f).adds.commands n ∙ o.others n lt }
         where
           done : (q.full ≡ true) ⊎ (list_any (is_command place) q.pasts ≡ true) → (r.full ≡ true) ⊎ (list_any (is_command place) r.pasts ≡ true)
           done (inl t) = absurd (true≢false (sym t ∙ f))
@@ -335,6 +350,71 @@ module _ (script : Script) (shape : Shape) (start : List Deed) where
     commanded-plays (act.Create key spec) e = plain (subst (λ action. MaySettle (act_of_action action) (is_quiescent shape (deeds_played script p) p.log)) (sym e) tt)
     commanded-plays other e = plain (subst (λ action. MaySettle (act_of_action action) (is_quiescent shape (deeds_played script p) p.log)) (sym e) tt)
 
+  -- ---- one command in its turn
+
+  -- None of the commands from this place on was played.
+  abbrev pub NoneFrom : ℕ → List Past → Type 0
+  NoneFrom place pasts = (n : ℕ) → place ≤ n → list_any (is_command n) pasts ≡ false
+
+  -- The command at the place is played, if it was not yet.
+  abbrev in-turn : ℕ → Command → Playing → Playing
+  in-turn place command p = cond (p.full || list_any (is_command place) p.pasts) p (commanded script shape command.action (Commands command.lane place) p)
+
+  -- What that leaves.
+  record Turn (place : ℕ) (p q : Playing) : Type 0 where
+    plays : IsPlayed script shape start q
+    all : q.full ≡ false → AllPlayed (place + 1) q.pasts
+    none : (p.full ≡ false → NoneFrom place p.pasts) → q.full ≡ false → NoneFrom (place + 1) q.pasts
+
+  stands-at : (place : ℕ) (command : Command) (commands : List Command) → ((i : ℕ) → slice_get script.commands (place + i) ≡ slice_get (command ∷ commands) i) → slice_get script.commands place ≡ Some command
+  stands-at place command commands at = (let same : place ≡ place + 0 = omega arith in ap (slice_get script.commands) same) ∙ at 0
+
+  further : (place : ℕ) (command : Command) (commands : List Command) → ((i : ℕ) → slice_get script.commands (place + i) ≡ slice_get (command ∷ commands) i) → (i : ℕ) → slice_get script.commands (place + 1 + i) ≡ slice_get commands i
+  further place command commands at i = (let same : place + 1 + i ≡ place + suc i = omega arith in ap (slice_get script.commands) same) ∙ at (suc i)
+
+  one-command : (place : ℕ) (command : Command) (p : Playing) → slice_get script.commands place ≡ Some command → IsOfShape shape (act_of_action command.action) → IsPlayed script shape start p
+      → (p.full ≡ false → AllPlayed place p.pasts) → Turn place p (in-turn place command p)
+  one-command place command p stands within h before = here (p.full || list_any (is_command place) p.pasts) refl
+    where
+      full-not : (a b : Bool) → (a || b) ≡ false → a ≡ false
+      full-not true b e = absurd (true≢false e)
+      full-not false b e = refl
+
+      played-not : (a b : Bool) → (a || b) ≡ false → b ≡ false
+      played-not true b e = absurd (true≢false e)
+      played-not false b e = e
+
+      one-further : (pasts : List Past) → AllPlayed place pasts → list_any (is_command place) pasts ≡ true → AllPlayed (place + 1) pasts
+      one-further pasts all e n lt = at-place (n == place) refl
+        where
+          at-place : (b : Bool) → (n == place) ≡ b → list_any (is_command n) pasts ≡ true
+          at-place true s = ap (λ n. list_any (is_command n) pasts) (eqb-true n place s) ∙ e
+          at-place false s = let other = eqb-false n place s in all n (omega (arith, lt, other))
+
+      here : (b : Bool) → (p.full || list_any (is_command place) p.pasts) ≡ b → Turn place p (cond b p (commanded script shape command.action (Commands command.lane place) p))
+      here true s = record { plays = h; all = λ f. one-further p.pasts (before f) (sure p.full f s); none = λ none f n le. none f n (omega (arith, le)) }
+        where
+          sure : (a : Bool) → a ≡ false → (a || list_any (is_command place) p.pasts) ≡ true → list_any (is_command place) p.pasts ≡ true
+          sure true f s = absurd (true≢false f)
+          sure false f s = s
+      here false s = record {
+        plays = own.plays;
+        all = λ f. one-further (commanded script shape command.action (Commands command.lane place) p).pasts (λ n lt. own.kept n (before unfull n lt)) (sure f own.done);
+        none = λ none f n le. own.others n (omega (arith, le)) ∙ none unfull n (omega (arith, le));
+      }
+        where
+          unfull : p.full ≡ false
+          unfull = full-not p.full (list_any (is_command place) p.pasts) s
+
+          own : Own place p (commanded script shape command.action (Commands command.lane place) p)
+          own = commanded-plays command.lane place command stands within p h (comes-next script.commands p.pasts h.lanes place command stands (before unfull) (played-not p.full (list_any (is_command place) p.pasts) s)) command.action refl
+
+          sure : (commanded script shape command.action (Commands command.lane place) p).full ≡ false
+              → ((commanded script shape command.action (Commands command.lane place) p).full ≡ true) ⊎ (list_any (is_command place) (commanded script shape command.action (Commands command.lane place) p).pasts ≡ true)
+              → list_any (is_command place) (commanded script shape command.action (Commands command.lane place) p).pasts ≡ true
+          sure f (inl t) = absurd (true≢false (sym t ∙ f))
+          sure f (inr e) = e
+
   -- ---- all commands
 
   pub record Ends (p : Playing) : Type 0 where
@@ -356,47 +436,87 @@ module _ (script : Script) (shape : Shape) (start : List Deed) where
           nothing zero = refl
           nothing (suc i) = refl
   rest-plays place (command ∷ commands) p at within h before =
-      rest-plays (place + 1) commands _ (λ i. (let same : place + 1 + i ≡ place + suc i = omega arith in ap (slice_get script.commands) same) ∙ at (suc i)) within.1 (here (p.full || list_any (is_command place) p.pasts) refl).0 (here (p.full || list_any (is_command place) p.pasts) refl).1
+      rest-plays (place + 1) commands _ (further place command commands at) within.1 turn.plays turn.all
     where
-      zero-more : place ≡ place + 0
-      zero-more = omega arith
+      turn : Turn place p (in-turn place command p)
+      turn = one-command place command p (stands-at place command commands at) within.0 h before
 
-      stands : slice_get script.commands place ≡ Some command
-      stands = ap (slice_get script.commands) zero-more ∙ at 0
+  -- ---- a settle at the end
 
-      full-not : (a b : Bool) → (a || b) ≡ false → a ≡ false
-      full-not true b e = absurd (true≢false e)
-      full-not false b e = refl
+  abbrev pub Rests : Playing → Type 0
+  Rests p = is_quiescent shape (deeds_played script p) p.log ≡ true
 
-      played-not : (a b : Bool) → (a || b) ≡ false → b ≡ false
-      played-not true b e = absurd (true≢false e)
-      played-not false b e = e
+  -- A settle changes nothing of what is available.
+  settle-leaves : (past : List Deed) (log : List Entry) (lane : Option ℕ) (length : Version)
+      → is_quiescent shape (record { lane = lane; act = does.Settle; reply = reply.Done; length = length } ∷ past) log ≡ is_quiescent shape past log
+  unfolding available
+  settle-leaves past log lane length =
+      let same : moment shape past + 0 ≡ moment shape past = omega arith in
+      ap (λ now. is_empty (or_clock (but_clock shape past log) (clock_events now (least_of_all shape past log)))) same
 
-      one-further : (pasts : List Past) → AllPlayed place pasts → list_any (is_command place) pasts ≡ true → AllPlayed (place + 1) pasts
-      one-further pasts all e n lt = at-place (n == place) refl
-        where
-          at-place : (b : Bool) → (n == place) ≡ b → list_any (is_command n) pasts ≡ true
-          at-place true s = ap (λ n. list_any (is_command n) pasts) (eqb-true n place s) ∙ e
-          at-place false s = let other = eqb-false n place s in all n (omega (arith, lt, other))
+  settled-event : (lane place : ℕ) (command : Command) (q : Playing) → slice_get script.commands place ≡ Some command → command.action ≡ act.Settle → IsPlayed script shape start q
+      → (q.full ≡ true) ⊎ Rests q → (event_played script shape (Commands lane place) q).full ≡ false → Rests (event_played script shape (Commands lane place) q)
+  unfolding event_played gives
+  settled-event lane place command q stands is h rests = by (nat_lt (length q.pasts) shape.events) refl
+    where
+      act-is : act_of_event script.commands (Commands lane place) ≡ does.Settle
+      act-is = ap act_of_command stands ∙ ap act_of_action is
 
-      here : (b : Bool) → (p.full || list_any (is_command place) p.pasts) ≡ b
-          → IsPlayed script shape start (cond b p (commanded script shape command.action (Commands command.lane place) p))
-          × ((cond b p (commanded script shape command.action (Commands command.lane place) p)).full ≡ false → AllPlayed (place + 1) (cond b p (commanded script shape command.action (Commands command.lane place) p)).pasts)
-      here true s = (h, λ f. one-further p.pasts (before f) (sure p.full f s))
-        where
-          sure : (a : Bool) → a ≡ false → (a || list_any (is_command place) p.pasts) ≡ true → list_any (is_command place) p.pasts ≡ true
-          sure true f s = absurd (true≢false f)
-          sure false f s = s
-      here false s = (own.plays, λ f. one-further (commanded script shape command.action (Commands command.lane place) p).pasts (λ n lt. own.kept n (before (full-not p.full (list_any (is_command place) p.pasts) s) n lt)) (sure f own.done))
-        where
-          own : Own place p (commanded script shape command.action (Commands command.lane place) p)
-          own = commanded-plays command.lane place command stands within.0 p h (comes-next script.commands p.pasts h.lanes place command stands (before (full-not p.full (list_any (is_command place) p.pasts) s)) (played-not p.full (list_any (is_command place) p.pasts) s)) command.action refl
+      quiet : length q.pasts < shape.events → (q.full ≡ true) ⊎ Rests q → Rests q
+      quiet lt (inl f) = let w = h.filled f in absurd (omega (arith, w, lt))
+      quiet lt (inr e) = e
 
-          sure : (commanded script shape command.action (Commands command.lane place) p).full ≡ false
-              → ((commanded script shape command.action (Commands command.lane place) p).full ≡ true) ⊎ (list_any (is_command place) (commanded script shape command.action (Commands command.lane place) p).pasts ≡ true)
-              → list_any (is_command place) (commanded script shape command.action (Commands command.lane place) p).pasts ≡ true
-          sure f (inl t) = absurd (true≢false (sym t ∙ f))
-          sure f (inr e) = e
+      by : (b : Bool) → nat_lt (length q.pasts) shape.events ≡ b → (after-own lane place q b).full ≡ false → Rests (after-own lane place q b)
+      by false s f = absurd (true≢false f)
+      by true s f =
+          subst (λ act. is_quiescent shape (record { lane = Some lane; act = act; reply = (gives shape (deeds_played script q) q.log act).reply; length = log_end (grown q.log (gives shape (deeds_played script q) q.log act).entry) } ∷ deeds_played script q) (grown q.log (gives shape (deeds_played script q) q.log act).entry) ≡ true)
+          (sym act-is) (settle-leaves (deeds_played script q) q.log (Some lane) (log_end q.log) ∙ quiet (ltb-true (length q.pasts) shape.events s) rests)
+
+  settle-of : (action : Action1) → is_settle_action action ≡ true → action ≡ act.Settle
+  settle-of act.Settle e = refl
+  settle-of (act.Create key spec) e = absurd (true≢false (sym e))
+  settle-of (act.Update key version change) e = absurd (true≢false (sym e))
+  settle-of (act.Delete key) e = absurd (true≢false (sym e))
+  settle-of (act.Mark pod) e = absurd (true≢false (sym e))
+  settle-of (act.Strip pod) e = absurd (true≢false (sym e))
+  settle-of (act.Finish pod exit) e = absurd (true≢false (sym e))
+  settle-of (act.Report pod change) e = absurd (true≢false (sym e))
+  settle-of (act.Fate key ends) e = absurd (true≢false (sym e))
+  settle-of (act.Clock add) e = absurd (true≢false (sym e))
+  settle-of (act.List controller kind) e = absurd (true≢false (sym e))
+  settle-of (act.Deliver controller kind) e = absurd (true≢false (sym e))
+  settle-of (act.Begin controller worker) e = absurd (true≢false (sym e))
+  settle-of (act.Sync controller worker) e = absurd (true≢false (sym e))
+  settle-of (act.Step controller worker) e = absurd (true≢false (sym e))
+  settle-of act.Node e = absurd (true≢false (sym e))
+  settle-of (act.Restart controller) e = absurd (true≢false (sym e))
+  settle-of (act.PutFault controller worker fault) e = absurd (true≢false (sym e))
+
+  -- Where the last command is a settle, what is left is at rest.
+  pub settles-last : (place : ℕ) (commands : List Command) (p : Playing) → ((i : ℕ) → slice_get script.commands (place + i) ≡ slice_get commands i) → AreWithin shape commands → IsPlayed script shape start p
+      → (p.full ≡ false → AllPlayed place p.pasts) → (p.full ≡ false → NoneFrom place p.pasts) → ends_in_settle commands ≡ true
+      → (rest_played script shape place commands p).full ≡ false → Rests (rest_played script shape place commands p)
+  settles-last place [] p at within h before none e f = absurd (true≢false (sym e))
+  settles-last place (command ∷ []) p at within h before none e f = here (p.full || list_any (is_command place) p.pasts) refl f
+    where
+      is : command.action ≡ act.Settle
+      is = settle-of command.action e
+
+      nowhere : (a b : Bool) → a ≡ false → b ≡ false → (a || b) ≡ true → ⊥
+      nowhere true b x y s = true≢false x
+      nowhere false b x y s = true≢false (sym s ∙ y)
+
+      here : (b : Bool) → (p.full || list_any (is_command place) p.pasts) ≡ b → (cond b p (commanded script shape command.action (Commands command.lane place) p)).full ≡ false
+          → Rests (cond b p (commanded script shape command.action (Commands command.lane place) p))
+      here true s f = absurd (nowhere p.full (list_any (is_command place) p.pasts) f (none f place (omega arith)) s)
+      here false s f =
+          subst (λ action. (commanded script shape action (Commands command.lane place) p).full ≡ false → Rests (commanded script shape action (Commands command.lane place) p)) (sym is)
+          (settled-event command.lane place command (settled_down script shape p) (stands-at place command [] at) is (settled-on p h).plays (settled-rests p h)) f
+  settles-last place (command ∷ next ∷ more) p at within h before none e f =
+      settles-last (place + 1) (next ∷ more) (in-turn place command p) (further place command (next ∷ more) at) within.1 turn.plays turn.all (turn.none none) e f
+    where
+      turn : Turn place p (in-turn place command p)
+      turn = one-command place command p (stands-at place command (next ∷ more) at) within.0 h before
 
 -- ---- the play
 
@@ -456,6 +576,21 @@ play-full script shape proper f = length-reverse (all_played script shape).pasts
 
 pub play-used : (script : Script) (shape : Shape) → IsProper script shape → (all_played script shape).full ≡ false → AreUsed script.commands (reverse (play_of script shape))
 play-used script shape proper f = subst (AreUsed script.commands) (sym (reverse-reverse (all_played script shape).pasts)) (used-up script shape [] (all_played script shape) (plays-whole script shape proper) f)
+
+-- A script that ends in a settle is played to rest.
+pub play-rests : (script : Script) (shape : Shape) → IsProper script shape → (all_played script shape).full ≡ false → ends_in_settle script.commands ≡ true
+    → is_quiescent shape (deeds_played script (all_played script shape)) (all_played script shape).log ≡ true
+unfolding all_played log_given
+play-rests script shape proper f e =
+    settles-last script shape [] 0 script.commands nothing (λ i. let same : 0 + i ≡ i = omega arith in ap (slice_get script.commands) same) proper
+    (record { log_is = refl; few = omega arith; filled = λ f. absurd (true≢false (sym f)); lanes = tt; legal = tt; orderly = λ o. o })
+    (λ f n lt. absurd (omega (arith, lt))) (λ f n le. refl) e f
+
+pub history-rests : (script : Script) (shape : Shape) → IsProper script shape → (history : History) → history.events.items ≡ play_of script shape → (all_played script shape).full ≡ false → ends_in_settle script.commands ≡ true
+    → is_quiescent shape (deeds script history) (log_given shape (deeds script history)) ≡ true
+history-rests script shape proper history is f e =
+    subst (λ past. is_quiescent shape past (log_given shape past) ≡ true) (history-deeds script (all_played script shape).pasts history is)
+    (ap (is_quiescent shape (deeds_played script (all_played script shape))) (sym (plays-whole script shape proper).plays.log_is) ∙ play-rests script shape proper f e)
 
 -- ---- the rest of a script, and what is left to do
 

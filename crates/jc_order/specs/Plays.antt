@@ -1,8 +1,11 @@
 -- Plays that are histories.
 --     IsProper script shape        each command names a controller and a worker of the shape
 --     IsPlayed script shape start p    the play is a legal history of the script, after the start
-use Rattle.std.specs.Prelude.{◌≡◌, ◌≤◌, true, List, length}
+--     ends_in_settle commands          the last command is a settle
+use Rattle.std.specs.Prelude.{◌≡◌, ◌≤◌, Bool, true, false, List, [], ◌∷◌, length}
 use Rattle.std.specs.List.{AllByRecursion as Each}
+use Rattle.jc_types.specs.declared.actions.Action1.{Action1}
+use Rattle.jc_types.specs.declared.actions.Action1.TheVariants as action
 use Rattle.jc_types.specs.declared.actions.Command.{Command}
 use Rattle.jc_types.specs.declared.actions.Script.{Script}
 use Rattle.jc_types.specs.declared.runs.Shape.{Shape}
@@ -29,3 +32,14 @@ pub record IsPlayed (script : Script) (shape : Shape) (start : List Deed) (p : P
   pub lanes : InLanes script.commands p.pasts
   pub legal : IsLegal shape (deeds_played script p)
   pub orderly : IsOrderly shape start → IsOrderly shape (deeds_played script p)
+
+-- The command is a settle.
+abbrev pub is_settle_action : Action1 → Bool
+is_settle_action action.Settle = true
+is_settle_action other = false
+
+-- The last command is a settle.
+abbrev pub ends_in_settle : List Command → Bool
+ends_in_settle [] = false
+ends_in_settle (command ∷ []) = is_settle_action command.action
+ends_in_settle (command ∷ next ∷ more) = ends_in_settle (next ∷ more)

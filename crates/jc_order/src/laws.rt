@@ -26,7 +26,7 @@ ghost use Rattle.jc_history.specs.Play.{Playing, deeds_played, is_full, play_of,
 ghost use Rattle.jc_history.specs.Registers.{AllFit, floor};
 ghost use Rattle.jc_history.specs.Replies.{diary, log_given};
 ghost use Rattle.jc_order.specs.Ends.{IsAtMost, IsUpToDate, Placed};
-ghost use Rattle.jc_order.specs.Plays.{IsPlayed, IsProper};
+ghost use Rattle.jc_order.specs.Plays.{IsPlayed, IsProper, ends_in_settle};
 ghost use Rattle.jc_order.specs.Rest.{IsSystemAtRest};
 ghost use Rattle.jc_order.specs.Restless.{AreHonest, EndWell, FailsIf, HasCacheSeen, IsBusy, StandTogether, Stands, has_forgotten, has_job_of};
 
@@ -78,6 +78,15 @@ pub fn plays_are_orderly_histories()
     ensures used { (script : Script) (shape : Shape) → IsProper script shape
         → is_full script shape ≡ false
         → AreUsed script.commands (reverse (play_of script shape)) }
+{}
+
+/// The play of a script that ends in a settle ends at rest, where it is not full.
+pub fn settled_plays_are_at_rest()
+    ensures { (script : Script) (shape : Shape) → IsProper script shape
+        → (history : History) → history.events.items ≡ play_of script shape
+        → is_full script shape ≡ false → ends_in_settle script.commands ≡ true
+        → is_quiescent shape (deeds script history)
+        (log_given shape (deeds script history)) ≡ true }
 {}
 
 /// So is the play of the rest of a script after a history of it; where that was orderly, it is
