@@ -22,7 +22,7 @@ use Rattle.jc_history.specs.Legal.{ComesNext, IsOfShape, MaySettle}
 use Rattle.jc_runs.specs.Runs.{IsMachine, IsTeam}
 use Rattle.jc_runs.specs.Seen.{Admits, Seen, act_seen, deeds_in, happened, reply_seen}
 use Rattle.jc_runs.specs.Teams.{Team}
-use Rattle.jc_core.specs.Kept.{IsKept, fates_in}
+use Rattle.jc_core.specs.Kept.{IsClusterKept, fates_in}
 use Rattle.jc_core.specs.Places.{HasPlaces, MovesOn}
 use Rattle.jc_runs.proofs.ClusterFacts.{act_is, closed_by, few_deeds, few_entries, member_at, reply_is, seen_after, settled_is, within_is}
 
@@ -36,7 +36,7 @@ past_of event reply end = record { event = event; reply = reply; length = end }
 
 -- A cluster before an event that may come next, and what the event does.
 pub record Before (script : Script) (shape : Shape) (items : List Past) (places : List (Option ℕ)) (log : List Entry) (teams : List Team) (rows : List (Key × List End)) (now : ℕ) (seen : Seen) (event : Event) (act : Act) : Type 0 where
-  pub kept : IsKept script shape (reverse items) places log teams rows now
+  pub kept : IsClusterKept script shape (reverse items) places log teams rows now
   pub view : view_of script shape items ≡ seen
   pub admits : Admits seen event
   pub is : act_seen seen event ≡ act
@@ -44,11 +44,11 @@ pub record Before (script : Script) (shape : Shape) (items : List Past) (places 
 
 -- The cluster once the event has happened.
 pub record After (script : Script) (shape : Shape) (items : List Past) (places : List (Option ℕ)) (log : List Entry) (teams : List Team) (rows : List (Key × List End)) (now : ℕ) (seen : Seen) (event : Event) (reply : Reply) : Type 0 where
-  pub kept : IsKept script shape (reverse items) places log teams rows now
+  pub kept : IsClusterKept script shape (reverse items) places log teams rows now
   pub view : view_of script shape items ≡ happened seen event
   pub told : reply ≡ reply_seen seen event
 
-pub before : (script : Script) (shape : Shape) (items : List Past) (places : List (Option ℕ)) (log : List Entry) (teams : List Team) (rows : List (Key × List End)) (now : ℕ) (seen : Seen) (event : Event) (act : Act) → IsKept script shape (reverse items) places log teams rows now → view_of script shape items ≡ seen → Admits seen event
+pub before : (script : Script) (shape : Shape) (items : List Past) (places : List (Option ℕ)) (log : List Entry) (teams : List Team) (rows : List (Key × List End)) (now : ℕ) (seen : Seen) (event : Event) (act : Act) → IsClusterKept script shape (reverse items) places log teams rows now → view_of script shape items ≡ seen → Admits seen event
     → act_seen seen event ≡ act → length seen.pasts < seen.shape.events → Before script shape items places log teams rows now seen event act
 before script shape items places log teams rows now seen event act kept view admits is room = record { kept = kept; view = view; admits = admits; is = is; room = room }
 

@@ -22,7 +22,7 @@ use Rattle.jc_history.specs.Numbers.{number}
 use Rattle.jc_history.specs.Registers.{register}
 use Rattle.jc_runs.specs.Seen.{Seen, deeds_seen, log_seen}
 use Rattle.jc_core.specs.Diaries.{diary_seen}
-use Rattle.jc_core.specs.Idle.{AreFree, AreIdle, IsIdle, has_seen}
+use Rattle.jc_core.specs.Idle.{HaveNoSyncs, AreIdle, IsTeamIdle, has_seen}
 
 -- ---- lists that are empty
 
@@ -112,7 +112,7 @@ some-worker n = by (nat_lt 0 (suc n)) refl
     by false e = let least = ltb-false 0 (suc n) e in absurd (omega (arith, least))
 
 -- Where all workers are free, one begins where one can.
-begins-none : (notes : List Note) (log : List Entry) (workers c : ℕ) → AreFree notes workers → begin_events notes log workers c ≡ [] → (nat_lt 0 workers && may_begin notes log) ≡ false
+begins-none : (notes : List Note) (log : List Entry) (workers c : ℕ) → HaveNoSyncs notes workers → begin_events notes log workers c ≡ [] → (nat_lt 0 workers && may_begin notes log) ≡ false
 begins-none notes log zero c free e = refl
 begins-none notes log (suc n) c free e = ap (λ t. t && may_begin notes log) (some-worker n) ∙ by (may_begin notes log) e
   where
@@ -172,7 +172,7 @@ module _ (shape : Shape) (past : List Deed) (log : List Entry) where
 
   -- Each controller has nothing to do.
   abbrev pub EachIdle : Type 0
-  EachIdle = (c : ℕ) → c < shape.controllers → IsIdle (of c) log shape.workers
+  EachIdle = (c : ℕ) → c < shape.controllers → IsTeamIdle (of c) log shape.workers
 
   module _ (quiet : is_quiescent shape past log ≡ true) where
     nothing : or_clock (but_clock shape past log) (clock_events (moment shape past) (least_of_all shape past log)) ≡ []
@@ -225,10 +225,10 @@ module _ (shape : Shape) (past : List Deed) (log : List Entry) where
       of-begins : begin_events (of c) log shape.workers c ≡ []
       of-begins = flat-none (λ c. begin_events (of c) log shape.workers c) 0 shape.controllers c (nil-first _ _ but-steps) (omega arith) (omega arith)
 
-      free : AreFree (of c) shape.workers
+      free : HaveNoSyncs (of c) shape.workers
       free w less = step-none c w (register w (of c)) (flat-none (step_event (of c) c) 0 shape.workers w of-steps (omega arith) (omega arith))
 
-      pub quiet-idle : IsIdle (of c) log shape.workers
+      pub quiet-idle : IsTeamIdle (of c) log shape.workers
       quiet-idle = record {
         jobs = has-seen c Jobs log (number Jobs (of c)) (nil-first _ _ of-lists) (nil-first _ _ of-deliveries);
         pods = has-seen c Pods log (number Pods (of c)) (nil-rest (list_event c Jobs (number Jobs (of c))) _ of-lists) (nil-rest (delivery_event log c Jobs (number Jobs (of c))) _ of-deliveries);

@@ -7,7 +7,7 @@ use Rattle.jc_types.specs.declared.runs.Event.{Event}
 use Rattle.jc_types.specs.declared.runs.Event.TheVariants as event
 use Rattle.jc_types.specs.declared.runs.Past.{Past}
 use Rattle.jc_history.specs.Legal.{ComesNext, is_of_lane, lane_count, lane_places, next_place, places_from}
-use Rattle.jc_core.specs.Places.{AreNone, AreUsed, HasPlaces, most_lanes, next_from}
+use Rattle.jc_core.specs.Places.{AreNone, AreUsedUp, HasPlaces, most_lanes, next_from}
 
 -- Places from one on are not below it.
 above : (lane p : ℕ) (cs : List Command) (k n : ℕ) → slice_get (places_from lane p cs) k ≡ Some n → p ≤ n
@@ -82,8 +82,8 @@ advanced commands before old mine number next past count has comes is found lane
 
 -- Each place is none just where no lane has a command left.
 module _ (commands : List Command) (before : List Past) (next : List (Option ℕ)) (count : length next ≡ most_lanes) (has : HasPlaces commands before next) where
-  pub used_of : AreNone next → AreUsed commands before
+  pub used_of : AreNone next → AreUsedUp commands before
   used_of none lane inside = sym (ap (λ o. unwrap_or o None) (sym (none lane (subst (λ n. lane < n) (sym count) inside)) ∙ has lane inside))
 
-  pub none_of_used : AreUsed commands before → AreNone next
+  pub none_of_used : AreUsedUp commands before → AreNone next
   none_of_used used i inside = let within = subst (λ n. i < n) count inside in has i within ∙ ap (λ o. Some o) (used i within)

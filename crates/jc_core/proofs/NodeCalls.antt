@@ -21,7 +21,7 @@ use Rattle.jc_history.specs.Nodes as does
 use Rattle.jc_history.specs.Notes.{newest}
 use Rattle.jc_history.specs.Replies.{node_gives, version_in}
 use Rattle.jc_node.specs.declared.acts.NodeStep.{NodeStep}
-use Rattle.jc_node.specs.Steps.{act_of, kind_of, step_of}
+use Rattle.jc_node.specs.Steps.{act_of, act_kind, step_of}
 
 -- The value of an option that is some.
 of_some : {X : Type 0} (x y : X) → Some x ≡ Some y → x ≡ y
@@ -49,7 +49,7 @@ module _ (fates : Key → Option (List End)) where
       by rest (Some act) t e = subst (λ (s : Pod × Act). P s.0 × (act_on fates s.0 ≡ Some s.1)) (of_some (q, act) step e) (all.0, t)
 
   -- The act without its end tells it, with the pod's end.
-  again : (pod : Pod) (act : Act) → act_on fates pod ≡ Some act → act_of (kind_of act) (pod_end fates pod) ≡ Some act
+  again : (pod : Pod) (act : Act) → act_on fates pod ≡ Some act → act_of (act_kind act) (pod_end fates pod) ≡ Some act
   unfolding is_finish
   again pod does.Stop e = refl
   again pod does.Start e = refl

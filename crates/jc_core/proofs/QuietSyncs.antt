@@ -32,7 +32,7 @@ use Rattle.jc_runs.specs.QuietRuns.{AreSteps, BeginsCurrent, IsAtNext, IsQuietSy
 use Rattle.jc_runs.specs.Runs.{AllAskValid}
 use Rattle.jc_runs.specs.Seen.{Seen, deeds_in, deeds_seen, happened, log_seen, past_seen, reply_seen}
 use Rattle.jc_core.specs.Diaries.{diary_seen}
-use Rattle.jc_core.specs.Syncs.{IsCurrent, IsLast, StepsOn, StepsQuietly, begin_event, next_seen, tells_begin}
+use Rattle.jc_core.specs.Syncs.{StartsCurrent, IsLast, StepsOn, StepsQuietly, begin_event, next_seen, tells_begin}
 
 -- ---- what the laws of syncs on current caches say
 
@@ -80,7 +80,7 @@ began-busy c w b older =
 
 -- ---- the begin
 
-module _ (old : Seen) (c w : ℕ) (k : Key) (job : Job) (cur : IsCurrent old c w k job) where
+module _ (old : Seen) (c w : ℕ) (k : Key) (job : Job) (cur : StartsCurrent old c w k job) where
   abbrev past : List Deed
   past = deeds_seen old
 

@@ -33,7 +33,7 @@ use Rattle.jc_runs.specs.Runs.{IsTeam}
 use Rattle.jc_runs.specs.Seen.{Seen, deeds_in, log_seen}
 use Rattle.jc_runs.specs.Teams.{Team}
 use Rattle.jc_core.specs.Diaries.{diary_seen}
-use Rattle.jc_core.specs.Kept.{IsKept}
+use Rattle.jc_core.specs.Kept.{IsClusterKept}
 use Rattle.jc_core.proofs.Closing.{view_of}
 use Rattle.jc_runs.proofs.ClusterFacts.{member_at}
 
@@ -70,7 +70,7 @@ module _ (older : List Note) (team : Team) (held : IsHeld older team.con.schedul
 
 -- ---- of a cluster
 
-module _ (script : Script) (shape : Shape) (items : List Past) (places : List (Option ℕ)) (log : List Entry) (teams : List Team) (rows : List (Key × List End)) (now : ℕ) (seen : Seen) (kept : IsKept script shape (reverse items) places log teams rows now) (view : view_of script shape items ≡ seen) (c : ℕ) (team : Team) (inside : c < seen.shape.controllers) (value : team ≡ get_or teams c team) where
+module _ (script : Script) (shape : Shape) (items : List Past) (places : List (Option ℕ)) (log : List Entry) (teams : List Team) (rows : List (Key × List End)) (now : ℕ) (seen : Seen) (kept : IsClusterKept script shape (reverse items) places log teams rows now) (view : view_of script shape items ≡ seen) (c : ℕ) (team : Team) (inside : c < seen.shape.controllers) (value : team ≡ get_or teams c team) where
   -- What the controller has noted.
   abbrev noted : List Note
   noted = notes shape c (deeds_in script (reverse items)) log

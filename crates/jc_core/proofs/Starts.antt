@@ -20,9 +20,10 @@ use Rattle.jc_ledger.specs.Once.{AllJustified, OnceAtEach}
 use Rattle.jc_history.specs.Legal.{IsHistory, IsLegal}
 use Rattle.jc_runs.specs.Fates.{Fates, WithFate}
 use Rattle.jc_runs.specs.Runs.{IsMachine}
-use Rattle.jc_runs.specs.Seen.{IsCluster, IsFine, Seen, deeds_in, deeds_seen, log_seen}
+use Rattle.jc_states.specs.ValidActions.{IsValidAction}
+use Rattle.jc_runs.specs.Seen.{IsCluster, Seen, deeds_in, deeds_seen, log_seen}
 use Rattle.jc_runs.specs.Teams.{KnowsNothing, Team}
-use Rattle.jc_core.specs.Kept.{IsKept, fates_in}
+use Rattle.jc_core.specs.Kept.{IsClusterKept, fates_in}
 use Rattle.jc_core.specs.Places.{HasPlaces}
 use Rattle.jc_core.proofs.Closing.{view_of}
 
@@ -36,11 +37,11 @@ each_at P (y ∷ xs) (suc i) x all e = each_at P xs i x all.1 e
 -- At the start all is what a history without events says.
 pub starts : (script : Script) (shape : Shape) (items : List Past) (next : List (Option ℕ)) (log : List Entry) (teams : List Team) (rows : List (Key × List End)) → items ≡ [] → log ≡ [] → rows ≡ [] → length teams ≡ shape.controllers → Each (KnowsNothing shape.workers) teams
     → ((shape : Shape) (teams : List Team) → length teams ≡ shape.controllers → ((c : ℕ) (team : Team) → slice_get teams c ≡ Some team → KnowsNothing shape.workers team) → IsMachine shape [] [] teams (λ k. None) shape.start)
-    → HasPlaces script.commands [] next → length script.commands < 2 ^ 32 → Each (λ (command : Command). IsFine command.action) script.commands → shape.events ≤ 200000 → IsKept script shape (reverse items) next log teams rows shape.start
+    → HasPlaces script.commands [] next → length script.commands < 2 ^ 32 → Each (λ (command : Command). IsValidAction command.action) script.commands → shape.events ≤ 200000 → IsClusterKept script shape (reverse items) next log teams rows shape.start
 starts script shape items next log teams rows none empty unsaid count fresh start places fits fine bound =
-    subst (λ items. IsKept script shape (reverse items) next log teams rows shape.start) (sym none)
-    (subst (λ log. IsKept script shape [] next log teams rows shape.start) (sym empty)
-    (subst (λ rows. IsKept script shape [] next [] teams rows shape.start) (sym unsaid) (record {
+    subst (λ items. IsClusterKept script shape (reverse items) next log teams rows shape.start) (sym none)
+    (subst (λ log. IsClusterKept script shape [] next log teams rows shape.start) (sym empty)
+    (subst (λ rows. IsClusterKept script shape [] next [] teams rows shape.start) (sym unsaid) (record {
       cluster = record {
         run = start shape teams count (λ c team e. each_at (KnowsNothing shape.workers) teams c team fresh e);
         lanes = tt;
@@ -55,6 +56,10 @@ starts script shape items next log teams rows none empty unsaid count fresh star
 -- The ends of a key are decided, as a copy.
 pub fate_put : (old new : List (Key × List End)) (key : Key) (ends ends_again : List End) → ends_again ≡ ends → WithFate (fates_in old) (fates_in new) key ends_again → WithFate (fates_in old) (fates_in new) key ends
 fate_put old new key ends ends_again same sets = subst (λ e. WithFate (fates_in old) (fates_in new) key e) same sets
+
+-- The history is legal, as a contract sees it.
+pub legal_seen : (script : Script) (shape : Shape) (items : List Past) (log : List Entry) (teams : List Team) (fates : Fates) (now : ℕ) (seen : Seen) → IsMachine shape (deeds_in script (reverse items)) log teams fates now → view_of script shape items ≡ seen → IsLegal seen.shape (deeds_seen seen)
+legal_seen script shape items log teams fates now seen run view = subst (λ (s : Seen). IsLegal s.shape (deeds_seen s)) view run.legal
 
 -- Each pod was counted once, as a contract sees it.
 pub once_seen : (script : Script) (shape : Shape) (items : List Past) (log : List Entry) (teams : List Team) (fates : Fates) (now : ℕ) (seen : Seen) → IsMachine shape (deeds_in script (reverse items)) log teams fates now → view_of script shape items ≡ seen → OnceAtEach (deeds_in script (reverse items)) log

@@ -15,14 +15,14 @@ use Rattle.jc_history.specs.Replies.{diary}
 use Rattle.jc_runs.specs.QuietRuns.{AreSteps}
 use Rattle.jc_runs.specs.Seen.{Admits, Seen, deeds_in, deeds_seen, happened, past_seen, reply_seen}
 use Rattle.jc_core.specs.Diaries.{diary_seen}
-use Rattle.jc_core.specs.Syncs.{IsLast, IsSynced, Nothing, Began, StepsOn, begin_event, step_event}
+use Rattle.jc_core.specs.Syncs.{IsLast, IsSynced, Nothing, Began, StepsOn, begin_event, stepping_event}
 
 module _ (c w : ℕ) where
   -- A begin and a step may come next at any time.
   pub admits-begin : (seen : Seen) → c < seen.shape.controllers → w < seen.shape.workers → Admits seen (begin_event c w)
   admits-begin seen of_shape worker = record { next = tt; within = (of_shape, worker); settled = tt; doable = tt }
 
-  pub admits-step : (seen : Seen) → c < seen.shape.controllers → w < seen.shape.workers → Admits seen (step_event c w)
+  pub admits-step : (seen : Seen) → c < seen.shape.controllers → w < seen.shape.workers → Admits seen (stepping_event c w)
   admits-step seen of_shape worker = record { next = tt; within = (of_shape, worker); settled = tt; doable = tt }
 
   -- At first no step was made.
@@ -40,9 +40,9 @@ module _ (c w : ℕ) where
   noted-after : (old : Seen) (run : List Past) → diary_seen (after old run) c ≡ diary old.shape c (deeds_in old.script run ++ deeds_seen old)
   noted-after old run = ap (λ deeds. diary old.shape c deeds) (map-append (deed old.script) run old.pasts)
 
-  one-at : (old : Seen) (run : List Past) → Each (λ (past : Past). past.event ≡ step_event c w) run → AreSteps old.shape c w (deeds_in old.script run) (deeds_seen old) → is_none (register w (diary_seen (after old run) c)) ≡ false → StepsOn c w old (happened (after old run) (step_event c w))
+  one-at : (old : Seen) (run : List Past) → Each (λ (past : Past). past.event ≡ stepping_event c w) run → AreSteps old.shape c w (deeds_in old.script run) (deeds_seen old) → is_none (register w (diary_seen (after old run) c)) ≡ false → StepsOn c w old (happened (after old run) (stepping_event c w))
   one-at old run events steps busy = record {
-    run = past_seen (after old run) (step_event c w) ∷ run;
+    run = past_seen (after old run) (stepping_event c w) ∷ run;
     script = refl;
     shape = refl;
     pasts = refl;
@@ -51,9 +51,9 @@ module _ (c w : ℕ) where
   }
 
   -- One more step.
-  pub steps-one : (old mid new : Seen) → StepsOn c w old mid → is_none (register w (diary_seen mid c)) ≡ false → new ≡ happened mid (step_event c w) → StepsOn c w old new
+  pub steps-one : (old mid new : Seen) → StepsOn c w old mid → is_none (register w (diary_seen mid c)) ≡ false → new ≡ happened mid (stepping_event c w) → StepsOn c w old new
   steps-one old mid new on busy is =
-      subst (λ s. StepsOn c w old s) (sym (is ∙ ap (λ s. happened s (step_event c w)) same))
+      subst (λ s. StepsOn c w old s) (sym (is ∙ ap (λ s. happened s (stepping_event c w)) same))
       (one-at old on.run on.events on.steps (ap (λ s. is_none (register w (diary_seen s c))) (sym same) ∙ busy))
     where
       same : mid ≡ after old on.run

@@ -1,7 +1,7 @@
 -- When nothing of the system is left to do.
 --     has_seen log number          the cache of this number has seen the whole log
---     AreFree notes workers        no worker has a sync
---     IsIdle notes log workers     a controller has nothing to do
+--     HaveNoSyncs notes workers        no worker has a sync
+--     IsTeamIdle notes log workers     a controller has nothing to do
 --     AreIdle seen                 no controller has
 --     is_settle act                the act is a settle
 use Rattle.std.specs.Prelude.{◌≡◌, ℕ, ◌<◌, Bool, true, false, not, ◌&&◌, nat_lt, List, length, Option, Some, None, is_none}
@@ -24,15 +24,15 @@ has_seen log None = false
 has_seen log (Some version) = not (nat_lt version.0 (length log))
 
 -- No worker has a sync.
-abbrev pub AreFree : List Note → ℕ → Type 0
-AreFree notes workers = (w : ℕ) → w < workers → is_none (register w notes) ≡ true
+abbrev pub HaveNoSyncs : List Note → ℕ → Type 0
+HaveNoSyncs notes workers = (w : ℕ) → w < workers → is_none (register w notes) ≡ true
 
 -- Both caches have seen the whole log, no worker has a sync, none can begin one, and no key is
 -- delayed.
-pub record IsIdle (notes : List Note) (log : List Entry) (workers : ℕ) : Type 0 where
+pub record IsTeamIdle (notes : List Note) (log : List Entry) (workers : ℕ) : Type 0 where
   pub jobs : has_seen log (number Jobs notes) ≡ true
   pub pods : has_seen log (number Pods notes) ≡ true
-  pub free : AreFree notes workers
+  pub free : HaveNoSyncs notes workers
   pub line : (nat_lt 0 workers && may_begin notes log) ≡ false
   pub delays : is_none (least_delay notes) ≡ true
 
@@ -40,7 +40,7 @@ pub record IsIdle (notes : List Note) (log : List Entry) (workers : ℕ) : Type 
 abbrev pub AreIdle : Seen → Type 0
 AreIdle seen =
     (c : ℕ) → c < seen.shape.controllers
-    → IsIdle (diary_seen seen c) (log_seen seen) seen.shape.workers
+    → IsTeamIdle (diary_seen seen c) (log_seen seen) seen.shape.workers
 
 -- The act is a settle.
 abbrev pub is_settle : Act → Bool

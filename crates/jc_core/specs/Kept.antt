@@ -1,6 +1,6 @@
 -- What the type of a cluster keeps.
 --     fates_in rows        how the pods of keys are to end, as a table says
---     IsKept script ..     all parts are what the history says
+--     IsClusterKept script ..     all parts are what the history says
 use Rattle.std.specs.Prelude.{ℕ, ◌<◌, ◌^◌, List, length, Option}
 use Rattle.jc_types.specs.declared.actions.End.{End}
 use Rattle.jc_types.specs.declared.actions.Script.{Script}
@@ -21,7 +21,7 @@ fates_in rows = λ k. at same_key rows k
 
 -- All parts are what the history says, each lane's next command is known, and places fit their
 -- type.
-pub record IsKept (script : Script) (shape : Shape) (pasts : List Past) (next : List (Option ℕ))
+pub record IsClusterKept (script : Script) (shape : Shape) (pasts : List Past) (next : List (Option ℕ))
     (log : List Entry) (teams : List Team) (rows : List (Key × List End)) (now : ℕ) : Type 0 where
   pub cluster : IsCluster script shape pasts log teams (fates_in rows) now
   pub places : HasPlaces script.commands pasts next

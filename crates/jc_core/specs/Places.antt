@@ -3,7 +3,7 @@
 --     next_from lane place commands    the lane's first command from this place on
 --     HasPlaces commands before next   so it is for each lane; the events before are newest first
 --     AreNone next                     each place is none
---     AreUsed commands before          no lane has a command left
+--     AreUsedUp commands before          no lane has a command left
 --     MovesOn commands event old new   so it is again, once the event has come
 use Rattle.std.specs.Prelude.{◌≡◌, ℕ, ◌<◌, List, ◌∷◌, length, Option, None, Some, slice_get, drop}
 use Rattle.jc_types.specs.declared.actions.Command.{Command}
@@ -29,8 +29,8 @@ abbrev pub AreNone : List (Option ℕ) → Type 0
 AreNone next = (i : ℕ) → i < length next → slice_get next i ≡ Some None
 
 -- No lane has a command left.
-abbrev pub AreUsed : List Command → List Past → Type 0
-AreUsed commands before =
+abbrev pub AreUsedUp : List Command → List Past → Type 0
+AreUsedUp commands before =
     (lane : ℕ) → lane < most_lanes → next_place commands lane before ≡ None
 
 -- So it is again once the event has come, where it was its lane's next one.

@@ -1,10 +1,10 @@
 -- What a sync on one thread appends: a begin, and the steps of its worker until it has no sync.
---     begin_event c w, step_event c w     the events of the system
+--     begin_event c w, stepping_event c w     the events of the system
 --     StepsOn c w old new                 from the old to the new the worker made steps alone
 --     IsSynced c w old new                so it did after a begin, or nothing happened
 --     IsLast reply pasts                  the reply to the newest event
 --     tells_begin reply                   a sync began
---     IsCurrent seen c w k job            nothing keeps a sync of the worker from the key's next status
+--     StartsCurrent seen c w k job            nothing keeps a sync of the worker from the key's next status
 --     next_seen seen c k job              that status
 --     StepsQuietly c w old new            steps that wrote no status
 use Rattle.std.specs.Prelude.{◌≡◌, ℕ, Bool, true, false, List, ◌++◌, None, Some, map, slice_get}
@@ -35,8 +35,8 @@ use Rattle.jc_core.specs.Diaries.{diary_seen}
 abbrev pub begin_event : ℕ → ℕ → Event
 begin_event c w = event.System (sys.Begin c w)
 
-abbrev pub step_event : ℕ → ℕ → Event
-step_event c w = event.System (sys.Step c w)
+abbrev pub stepping_event : ℕ → ℕ → Event
+stepping_event c w = event.System (sys.Step c w)
 
 -- The new is the old and steps of the worker alone, each while it had a sync.
 pub record StepsOn (c w : ℕ) (old new : Seen) : Type 0 where
@@ -44,7 +44,7 @@ pub record StepsOn (c w : ℕ) (old new : Seen) : Type 0 where
   pub script : new.script ≡ old.script
   pub shape : new.shape ≡ old.shape
   pub pasts : new.pasts ≡ run ++ old.pasts
-  pub events : Each (λ (past : Past). past.event ≡ step_event c w) run
+  pub events : Each (λ (past : Past). past.event ≡ stepping_event c w) run
   pub steps : AreSteps old.shape c w (deeds_in old.script run) (deeds_seen old)
 
 -- Nothing happened, or the worker began, and then made steps alone.
@@ -63,7 +63,7 @@ tells_begin other = false
 
 -- The worker is free and meets no fault, both caches have seen the whole log, and the Job of the
 -- line's first key is there.
-pub record IsCurrent (seen : Seen) (c w : ℕ) (k : Key) (job : Job) : Type 0 where
+pub record StartsCurrent (seen : Seen) (c w : ℕ) (k : Key) (job : Job) : Type 0 where
   pub free : register w (diary_seen seen c) ≡ None
   pub no_fault : pending w (diary_seen seen c) ≡ None
   pub caches : (kind : Kind) → number kind (diary_seen seen c) ≡ Some (log_end (log_seen seen))

@@ -7,7 +7,7 @@ ghost use Rattle.jc_history.specs.Legal.{MaySettle};
 ghost use Rattle.jc_runs.specs.Seen.{Admits, act_seen, deeds_seen, log_seen};
 ghost use Rattle.jc_core.specs.Fits.{FitsShape, HasController, HasWorker};
 ghost use Rattle.jc_core.specs.Idle.{is_settle};
-ghost use Rattle.jc_core.specs.Places.{AreUsed};
+ghost use Rattle.jc_core.specs.Places.{AreUsedUp};
 
 use crate::cluster::Cluster;
 use jc_types::{Action1, Event, Same, Script, Shape, Sys};
@@ -121,9 +121,10 @@ impl Cluster {
     {
         self.script.is_same(script) && self.shape == *shape
     }
+
     /// Whether every lane of the script is used up.
     pub fn lanes_done(&self) -> bool
-        ensures { IsTrue result ↔ AreUsed self.now.script.commands self.now.pasts }
+        ensures { IsTrue result ↔ AreUsedUp self.now.script.commands self.now.pasts }
     {
         self.lanes.are_used()
     }

@@ -3,7 +3,8 @@
 ghost use Rattle.std.specs.Prelude.{◌≡◌, ◌<◌, ◌≤◌, Err, IfOk, OnErr, OnOk, length, slice_get};
 ghost use Rattle.jc_log.specs.Deeds.{act_of_action, act_of_command, act_of_system};
 ghost use Rattle.jc_core.specs.declared.apply.ApplyFault.TheVariants.{HistoryFull};
-ghost use Rattle.jc_runs.specs.Seen.{Admits, IsFine, act_seen, happened, reply_seen};
+ghost use Rattle.jc_states.specs.ValidActions.{IsValidAction};
+ghost use Rattle.jc_runs.specs.Seen.{Admits, act_seen, happened, reply_seen};
 
 use crate::cluster::Cluster;
 use jc_types::{Action1, Copied, Event, Reply, Sys, Want};
@@ -24,7 +25,7 @@ impl Cluster {
     fn act(&mut self, event: Event, action: Action1) -> Result<Reply, Want>
         requires admits { Admits self.old event }
         requires act { act_seen self.old event ≡ act_of_action action }
-        requires fine { IsFine action }
+        requires fine { IsValidAction action }
         requires room { length self.old.pasts < self.old.shape.events }
         ensures ok { OnOk result (self.new ≡ happened self.old event) }
         ensures reply { IfOk result (λ r. r ≡ reply_seen self.old event) }

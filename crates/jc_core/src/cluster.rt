@@ -7,13 +7,16 @@ ghost use Rattle.jc_types.specs.declared.objects.Job.{Job};
 ghost use Rattle.jc_types.specs.declared.objects.Key.{Key};
 ghost use Rattle.jc_log.specs.Log.{job_in};
 ghost use Rattle.jc_ledger.specs.Once.{AllJustified, OnceAtEach};
+ghost use Rattle.jc_bounds.specs.Histories.{HoldsBounds};
 ghost use Rattle.jc_history.specs.Diaries.{moment};
 ghost use Rattle.jc_history.specs.Legal.{InLanes, IsHistory, IsLegal};
-ghost use Rattle.jc_runs.specs.Seen.{IsFine, deeds_seen, log_seen};
+ghost use Rattle.jc_states.specs.ValidActions.{IsValidAction};
+ghost use Rattle.jc_runs.specs.Seen.{deeds_seen, log_seen};
 ghost use Rattle.jc_runs.specs.Teams.{KnowsNothing};
 
 use crate::lanes::Lanes;
 use crate::member::Member;
+use jc_bounds::one_controller_holds_the_bounds;
 use jc_moment::Moment;
 use jc_node::Fates;
 use jc_runs::{runs_count_once, runs_start};
@@ -44,7 +47,7 @@ pub struct Cluster {
 impl Model for Cluster {
     ghost use Rattle.std.specs.Prelude.{reverse};
     ghost use Rattle.jc_runs.specs.Seen.{Seen};
-    ghost use Rattle.jc_core.specs.Kept.{IsKept};
+    ghost use Rattle.jc_core.specs.Kept.{IsClusterKept};
 
     ghost Value = { Seen };
 
@@ -55,7 +58,7 @@ impl Model for Cluster {
     } };
 
     ghost invariant = { λ c.
-        IsKept c.script c.shape (reverse c.history.events.items) c.lanes c.store c.members.items
+        IsClusterKept c.script c.shape (reverse c.history.events.items) c.lanes c.store c.members.items
         c.fates c.clock };
 }
 
@@ -79,7 +82,7 @@ impl Cluster {
     /// # Errors
     /// `Want` where there is no memory for it.
     pub fn new(alloc: Global, script: Script, shape: Shape) -> Result<Cluster, Want>
-        requires fine { Each (λ (command : Command). IsFine command.action) script.commands }
+        requires fine { Each (λ (command : Command). IsValidAction command.action) script.commands }
         requires fits { length script.commands < 2 ^ 32 }
         requires bound { shape.events ≤ 200000 }
         ensures { IfOk result (λ c. c ≡ record { script = script; shape = shape; pasts = [] }) }
@@ -121,6 +124,12 @@ impl Cluster {
     /// and after each of its events each pod was counted once (KEP-2307). A sync took a finalizer of a
     /// pod of a Job that is there only where the pod was judged before, or is ignored, was active, or
     /// its index was complete: so no ended pod lost it uncounted, but by a command.
+    ///
+    /// Where the shape has a single controller: no more pods of a Job run at once than its parallelism
+    /// says (batch/v1), since each pod fitted when it was made, also one whose reply was lost. And a Job
+    /// that has finished stayed finished: from the write that set Complete or Failed on, while the Job
+    /// was there, its status did not change, none of its pods was open or had its finalizer, and none
+    /// was made.
     pub fn history(&self) -> &History
         ensures events { reverse result.now.events.items ≡ self.now.pasts }
         ensures follows { IsHistory self.now.script self.now.shape result.now }
@@ -130,8 +139,11 @@ impl Cluster {
         ensures once { OnceAtEach (deeds_seen self.now) (log_seen self.now) }
         ensures justified { (k : Key) (job : Job) → job_in k (log_seen self.now) ≡ Some job
             → AllJustified job (deeds_seen self.now) (log_seen self.now) }
+        ensures bounds { self.now.shape.controllers ≡ 1
+            → HoldsBounds self.now.shape (deeds_seen self.now) }
     {
         runs_count_once();
+        one_controller_holds_the_bounds();
         &self.history
     }
 

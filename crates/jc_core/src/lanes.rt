@@ -1,9 +1,10 @@
 //! How far each lane of a script is.
 
 ghost use Rattle.std.specs.Prelude.{◌≡◌, ◌<◌, ◌^◌, ◌↔◌, [], IfOk, IsTrue, List, length};
+ghost use Rattle.jc_types.specs.declared.actions.Command.{Command};
 ghost use Rattle.jc_types.specs.declared.runs.Past.{Past};
-ghost use Rattle.jc_history.specs.Legal.{ComesNext};
-ghost use Rattle.jc_core.specs.Places.{AreNone, AreUsed, HasPlaces, MovesOn, next_from};
+ghost use Rattle.jc_history.specs.Legal.{ComesNext, next_place};
+ghost use Rattle.jc_core.specs.Places.{AreNone, AreUsedUp, HasPlaces, MovesOn, next_from};
 
 use jc_types::{Command, Event, Want};
 use std::alloc::Global;
@@ -92,10 +93,19 @@ impl Lanes {
         let from = *number as usize + 1;
         self.next[*lane as usize] = next_from(commands, *lane, from);
     }
+
+    // The place of the lane's next command; none where the lane is used up.
+    pub(crate) fn next_of(&self, lane: u8) -> Option<u32>
+        ensures { (commands : List Command) (before : List Past)
+            → HasPlaces commands before self.now → result ≡ next_place commands lane before }
+    {
+        self.next[lane as usize]
+    }
+
     // Whether no lane has a command left.
     pub(crate) fn are_used(&self) -> bool
         ensures { (commands : List Command) (before : List Past)
-            → HasPlaces commands before self.now → IsTrue result ↔ AreUsed commands before }
+            → HasPlaces commands before self.now → IsTrue result ↔ AreUsedUp commands before }
     {
         are_none(self.next.as_slice())
     }

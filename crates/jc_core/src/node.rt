@@ -5,7 +5,7 @@ ghost use Rattle.jc_log.specs.Acts as does;
 ghost use Rattle.jc_log.specs.Requests.{grown};
 ghost use Rattle.jc_history.specs.Nodes.{node_step};
 ghost use Rattle.jc_history.specs.Replies.{node_gives, version_in};
-ghost use Rattle.jc_node.specs.Fated.{ends_in};
+ghost use Rattle.jc_node.specs.Fated.{ends_at_key};
 ghost use Rattle.jc_node.specs.Steps.{step_of};
 ghost use Rattle.jc_runs.specs.Seen.{Admits, act_seen, happened, reply_seen};
 ghost use Rattle.jc_runs.specs.Texts.{HasNoText};
@@ -36,11 +36,11 @@ fn report_step(
     fates: &Fates,
     step: &NodeStep,
 ) -> Result<Reply, Want>
-    requires { option_map step_of (node_step store.old (ends_in fates.now)) ≡ Some step.now }
+    requires { option_map step_of (node_step store.old (ends_at_key fates.now)) ≡ Some step.now }
     ensures reply { IfOk result (λ r. r
-        ≡ (node_gives store.old (node_step store.old (ends_in fates.now))).reply) }
+        ≡ (node_gives store.old (node_step store.old (ends_at_key fates.now))).reply) }
     ensures log { OnOk result (store.new
-        ≡ grown store.old (node_gives store.old (node_step store.old (ends_in fates.now))).entry) }
+        ≡ grown store.old (node_gives store.old (node_step store.old (ends_at_key fates.now))).entry) }
     ensures kept { OnErr result (store.new ≡ store.old) }
 {
     let Some(pod) = store.pod(step.pod) else {
@@ -62,9 +62,9 @@ fn report_step(
 // `Want` where there is no memory for it; the log is then as before.
 fn step_node(alloc: Global, store: &mut Store, fates: &Fates) -> Result<Reply, Want>
     ensures reply { IfOk result (λ r. r
-        ≡ (node_gives store.old (node_step store.old (ends_in fates.now))).reply) }
+        ≡ (node_gives store.old (node_step store.old (ends_at_key fates.now))).reply) }
     ensures log { OnOk result (store.new
-        ≡ grown store.old (node_gives store.old (node_step store.old (ends_in fates.now))).entry) }
+        ≡ grown store.old (node_gives store.old (node_step store.old (ends_at_key fates.now))).entry) }
     ensures no_text { IfOk result (λ r. HasNoText r) }
     ensures kept { OnErr result (store.new ≡ store.old) }
 {

@@ -6,7 +6,7 @@ ghost use Rattle.jc_history.specs.Fresh.{may_begin};
 ghost use Rattle.jc_history.specs.Numbers.{number};
 ghost use Rattle.jc_runs.specs.Seen.{deeds_seen, log_seen};
 ghost use Rattle.jc_core.specs.Diaries.{diary_seen};
-ghost use Rattle.jc_core.specs.Idle.{AreFree, AreIdle, IsIdle, has_seen};
+ghost use Rattle.jc_core.specs.Idle.{HaveNoSyncs, AreIdle, IsTeamIdle, has_seen};
 
 use crate::cluster::Cluster;
 use jc_types::Kind;
@@ -29,7 +29,7 @@ impl Cluster {
     fn are_free(&self, controller: u32) -> bool
         requires { controller < self.now.shape.controllers }
         ensures { IsTrue result
-            ↔ AreFree (diary_seen self.now controller) self.now.shape.workers }
+            ↔ HaveNoSyncs (diary_seen self.now controller) self.now.shape.workers }
     {
         let workers = self.shape().workers;
         for worker in 0..workers {
@@ -54,7 +54,7 @@ impl Cluster {
     // Whether the controller has nothing to do.
     fn is_idle(&self, controller: u32) -> bool
         requires { controller < self.now.shape.controllers }
-        ensures { IsTrue result ↔ IsIdle (diary_seen self.now controller) (log_seen self.now)
+        ensures { IsTrue result ↔ IsTeamIdle (diary_seen self.now controller) (log_seen self.now)
             self.now.shape.workers }
     {
         let jobs = self.has_seen(controller, Kind::Jobs);

@@ -3,6 +3,7 @@
 ghost use Rattle.std.specs.Prelude.{◌≡◌, ◌<◌, is_none, is_some};
 ghost use Rattle.jc_history.specs.Delays.{least_delay};
 ghost use Rattle.jc_history.specs.Fresh.{may_begin};
+ghost use Rattle.jc_history.specs.Legal.{next_place};
 ghost use Rattle.jc_history.specs.Nodes.{fate, node_step};
 ghost use Rattle.jc_history.specs.Numbers.{number};
 ghost use Rattle.jc_history.specs.Registers.{register};
@@ -48,6 +49,13 @@ impl Cluster {
         ensures { result ≡ least_delay (diary_seen self.now controller) }
     {
         self.members[controller as usize].next_delay()
+    }
+
+    /// The place in the script of the lane's next command; `None` exactly where the lane is used up.
+    pub fn next_command(&self, lane: u8) -> Option<u32>
+        ensures { result ≡ next_place self.now.script.commands lane self.now.pasts }
+    {
+        self.lanes.next_of(lane)
     }
 
     /// Whether the node has something to do.

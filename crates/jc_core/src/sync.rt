@@ -1,6 +1,6 @@
 //! A sync on one thread.
 
-ghost use Rattle.std.specs.Prelude.{◌≡◌, ◌<◌, ◌≤◌, Err, IfOk, OnErr, OnOk, false, is_none, length, true};
+ghost use Rattle.std.specs.Prelude.{◌≡◌, ◌⊎◌, ◌<◌, ◌≤◌, Err, IfOk, OnErr, OnOk, false, is_none, length, true};
 ghost use Rattle.jc_core.specs.declared.apply.ApplyFault.TheVariants.{HistoryFull};
 ghost use Rattle.jc_types.specs.declared.objects.Job.{Job};
 ghost use Rattle.jc_types.specs.declared.objects.Key.{Key};
@@ -12,7 +12,7 @@ ghost use Rattle.jc_runs.specs.QuietRuns.{IsAtNext};
 ghost use Rattle.jc_runs.specs.Runs.{AllAskValid};
 ghost use Rattle.jc_runs.specs.Seen.{deeds_seen, happened, log_seen, reply_seen};
 ghost use Rattle.jc_core.specs.Diaries.{diary_seen};
-ghost use Rattle.jc_core.specs.Syncs.{IsCurrent, IsLast, IsSynced, StepsOn, StepsQuietly, begin_event, next_seen, tells_begin};
+ghost use Rattle.jc_core.specs.Syncs.{StartsCurrent, IsLast, IsSynced, StepsOn, StepsQuietly, begin_event, next_seen, tells_begin};
 
 use crate::apply::ApplyFault;
 use crate::cluster::Cluster;
@@ -78,7 +78,8 @@ impl Cluster {
     ///
     /// # Errors
     /// `HistoryFull` exactly where the history has as many events as the shape allows, and one is to
-    /// come; `Want` where there is no memory. The events that happened are kept.
+    /// come: the begin, where nothing happened, else a step of the sync that the worker still has.
+    /// `Want` where there is no memory. The events that happened are kept.
     pub fn sync(&mut self, controller: u32, worker: u32) -> Result<Reply, ApplyFault>
         requires of_shape { controller < self.old.shape.controllers }
         requires worker { worker < self.old.shape.workers }
@@ -92,18 +93,20 @@ impl Cluster {
         ensures free { OnOk result
             (tells_begin (reply_seen self.old (begin_event controller worker)) ≡ true
             → is_none (register worker (diary_seen self.new controller)) ≡ true) }
+        ensures to_come { OnErr result ((self.new ≡ self.old)
+            ⊎ (is_none (register worker (diary_seen self.new controller)) ≡ false)) }
         ensures full { result ≡ Err HistoryFull → self.old.shape.events ≤ length self.new.pasts }
         ensures exactly { OnErr result
             (self.old.shape.events ≤ length self.new.pasts → result ≡ Err HistoryFull) }
         ensures ended { IfOk result (λ r. (k : Key) (job : Job)
-            → IsCurrent self.old controller worker k job → r ≡ Ended) }
+            → StartsCurrent self.old controller worker k job → r ≡ Ended) }
         ensures next { OnOk result ((k : Key) (job : Job)
-            → IsCurrent self.old controller worker k job
+            → StartsCurrent self.old controller worker k job
             → IsAtNext (log_seen self.new) (log_seen self.old)
             (moment self.old.shape (deeds_seen self.old))
             (backoff k (diary_seen self.old controller)) k job) }
         ensures silent { OnOk result ((k : Key) (job : Job)
-            → IsCurrent self.old controller worker k job
+            → StartsCurrent self.old controller worker k job
             → next_seen self.old controller k job ≡ job.status
             → StepsQuietly controller worker
             (happened self.old (begin_event controller worker)) self.new) }

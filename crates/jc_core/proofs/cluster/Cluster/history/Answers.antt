@@ -1,7 +1,7 @@
 use Rattle.std.proofs.Common.{reverse}
-use Rattle.jc_runs.specs.Seen.{deeds_in}
+use Rattle.jc_runs.specs.Seen.{deeds_in, deeds_seen}
 use Rattle.jc_core.specs.Kept.{fates_in}
-use Rattle.jc_core.proofs.Starts.{history_is, justified_seen, once_seen}
+use Rattle.jc_core.proofs.Starts.{history_is, justified_seen, legal_seen, once_seen}
 use Rattle.jc_core.proofs.cluster.Cluster.history.Goals as goal
 
 pub returns-clause-once : goal.returns-clause-once
@@ -15,3 +15,8 @@ returns-clause-justified c = justified_seen c.self.inside.script c.self.inside.s
 pub returns-clause-follows : goal.returns-clause-follows
 returns-clause-follows c =
     history_is c.self.inside.script c.self.inside.shape c.self.inside.history c.self.inside.store c.self.inside.members.items (fates_in c.self.inside.fates) c.self.inside.clock c.args.self.now c.self.invariant.cluster c.self.view_is
+
+pub returns-clause-bounds : goal.returns-clause-bounds
+returns-clause-bounds c =
+    λ one. c.one_controller_holds_the_bounds.ensures c.args.self.now.shape (deeds_seen c.args.self.now) one
+    (legal_seen c.self.inside.script c.self.inside.shape c.self.inside.history.events.items c.self.inside.store c.self.inside.members.items (fates_in c.self.inside.fates) c.self.inside.clock c.args.self.now c.self.invariant.cluster.run c.self.view_is)
