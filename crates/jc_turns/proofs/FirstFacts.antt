@@ -1,10 +1,9 @@
 -- The first event of lists that are joined.
-use Rattle.std.proofs.Common.{◌≡◌, ℕ, zero, suc, ◌+◌, ◌-◌, ◌<◌, ◌≤◌, ◌==◌, Bool, true, false, cond, List, [], ◌∷◌, ◌++◌, find, Option, Some, None, is_none, refl, sym, ap, ◌∙◌, subst, arith, eqb-true, true≢false}
+use Rattle.std.proofs.Common.{◌≡◌, ℕ, zero, suc, ◌+◌, ◌-◌, ◌<◌, ◌≤◌, ◌==◌, Bool, true, false, cond, List, [], ◌∷◌, ◌++◌, find, Option, Some, None, is_none, refl, sym, ap, ◌∙◌, arith, eqb-true}
 use Rattle.std.proofs.lemmas.Bool.{eqb-false}
 use Rattle.std.specs.List.{cons_option, filter_map, flat_map, range_with_len}
 use Rattle.std.specs.Option.{option_or}
 use Rattle.jc_types.specs.declared.runs.Event.{Event}
-use Rattle.jc_types.specs.declared.runs.Event.TheVariants.{System}
 use Rattle.jc_types.specs.declared.runs.Sys.{Sys}
 use Rattle.jc_history.specs.Available.{earliest, is_empty, or_clock}
 use Rattle.jc_history.specs.Play.{first_event}

@@ -18,7 +18,7 @@ pub either-first : (xs ys : List Sys) (one other all : Option Event) → one ≡
 either-first xs ys one other all e g h = h ∙ ap (λ o. option_or o other) e ∙ ap (option_or (first_event xs)) g ∙ sym (first-append xs ys)
 
 -- A register that is free, or in use.
-some-of : {A : Type 0} (o : Option A) (b : Bool) → is_none o ≡ b → (b ≡ true → is_some o ≡ false) × (b ≡ false → is_some o ≡ true)
+pub some-of : {A : Type 0} (o : Option A) (b : Bool) → is_none o ≡ b → (b ≡ true → is_some o ≡ false) × (b ≡ false → is_some o ≡ true)
 some-of None b e = (λ s. refl, λ s. absurd (true≢false (e ∙ s)))
 some-of (Some x) b e = (λ s. absurd (true≢false (sym (e ∙ s))), λ s. refl)
 

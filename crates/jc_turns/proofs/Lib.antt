@@ -4,3 +4,6 @@ pub mod OnFacts
 pub mod SystemFacts
 pub mod GoFacts
 pub mod PlayFacts
+pub mod WholeFacts
+pub mod TellFacts
+pub mod ActorFacts

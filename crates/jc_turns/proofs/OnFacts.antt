@@ -1,5 +1,5 @@
 -- A play that goes on and on, and a cluster that does what comes next in it.
-use Rattle.std.proofs.Common.{◌≡◌, ℕ, zero, suc, ◌+◌, ◌-◌, ◌<◌, ◌≤◌, nat_lt, Bool, true, false, cond, List, [], ◌∷◌, length, map, Option, Some, None, refl, sym, ap, ◌∙◌, subst, arith, ltb-true, ltb-false}
+use Rattle.std.proofs.Common.{◌≡◌, ℕ, zero, suc, ◌+◌, ◌-◌, ◌<◌, ◌≤◌, nat_lt, Bool, true, false, cond, ◌∷◌, length, Option, Some, None, refl, sym, ap, ◌∙◌, subst, arith, ltb-true, ltb-false}
 use Rattle.jc_types.specs.declared.runs.Event.{Event}
 use Rattle.std.specs.List.{list_any}
 use Rattle.jc_types.specs.declared.runs.Event.TheVariants.{System}
@@ -10,27 +10,27 @@ use Rattle.jc_history.specs.Legal.{lane_count}
 use Rattle.jc_history.specs.Play.{Playing, does_if, event_played, is_command, on_and_on, until_done, with_answer}
 use Rattle.jc_history.specs.Replies.{gives, log_given}
 use Rattle.jc_runs.specs.Seen.{Seen, deeds_seen, happened, log_seen, past_seen}
-use Rattle.jc_turns.specs.Turns.{HasGoneOn, played}
+use Rattle.jc_turns.specs.Turns.{HasGoneOn, playing_of}
 
 -- ---- one event
 
 -- Where there is room the event happens.
-pub happens : (seen : Seen) (event : Event) → length seen.pasts < seen.shape.events → event_played seen.script seen.shape event (played false seen) ≡ played false (happened seen event)
+pub happens : (seen : Seen) (event : Event) → length seen.pasts < seen.shape.events → event_played seen.script seen.shape event (playing_of false seen) ≡ playing_of false (happened seen event)
 unfolding event_played log_given
 happens seen event lt = by (nat_lt (length seen.pasts) seen.shape.events) refl
   where
     by : (b : Bool) → nat_lt (length seen.pasts) seen.shape.events ≡ b
-        → cond b (with_answer event (gives seen.shape (deeds_seen seen) (log_seen seen) (act_of_event seen.script.commands event)) (played false seen)) (played true seen) ≡ played false (happened seen event)
+        → cond b (with_answer event (gives seen.shape (deeds_seen seen) (log_seen seen) (act_of_event seen.script.commands event)) (playing_of false seen)) (playing_of true seen) ≡ playing_of false (happened seen event)
     by true s = refl
     by false s = let le = ltb-false (length seen.pasts) seen.shape.events s in absurd (omega (arith, lt, le))
 
 -- Where there is none the play is full.
-pub fills : (seen : Seen) (event : Event) → seen.shape.events ≤ length seen.pasts → event_played seen.script seen.shape event (played false seen) ≡ played true seen
+pub fills : (seen : Seen) (event : Event) → seen.shape.events ≤ length seen.pasts → event_played seen.script seen.shape event (playing_of false seen) ≡ playing_of true seen
 unfolding event_played
 fills seen event le = by (nat_lt (length seen.pasts) seen.shape.events) refl
   where
     by : (b : Bool) → nat_lt (length seen.pasts) seen.shape.events ≡ b
-        → cond b (with_answer event (gives seen.shape (deeds_seen seen) (log_seen seen) (act_of_event seen.script.commands event)) (played false seen)) (played true seen) ≡ played true seen
+        → cond b (with_answer event (gives seen.shape (deeds_seen seen) (log_seen seen) (act_of_event seen.script.commands event)) (playing_of false seen)) (playing_of true seen) ≡ playing_of true seen
     by true s = let lt = ltb-true (length seen.pasts) seen.shape.events s in absurd (omega (arith, lt, le))
     by false s = refl
 
@@ -74,8 +74,8 @@ module _ (old : Seen) (next : Playing → Option Event) where
       by (Some event) e more = on event p.full refl more
 
   -- One turn.
-  one-turn : (seen : Seen) (event : Event) → next (played false seen) ≡ Some event → (n : ℕ) → go (suc n) (played false seen) ≡ go n (event_played old.script old.shape event (played false seen))
-  one-turn seen event e n = ap (λ o. turn n o (played false seen)) e
+  one-turn : (seen : Seen) (event : Event) → next (playing_of false seen) ≡ Some event → (n : ℕ) → go (suc n) (playing_of false seen) ≡ go n (event_played old.script old.shape event (playing_of false seen))
+  one-turn seen event e n = ap (λ o. turn n o (playing_of false seen)) e
 
   -- Nothing has come yet.
   pub none-yet : HasGoneOn next old old
@@ -83,29 +83,29 @@ module _ (old : Seen) (next : Playing → Option Event) where
 
   module _ (new : Seen) (h : HasGoneOn next old new) where
     -- One event, with the script and the shape of either.
-    same-event : (event : Event) → event_played old.script old.shape event (played false new) ≡ event_played new.script new.shape event (played false new)
-    same-event event = ap (λ s. event_played s old.shape event (played false new)) (sym h.script) ∙ ap (λ s. event_played new.script s event (played false new)) (sym h.shape)
+    same-event : (event : Event) → event_played old.script old.shape event (playing_of false new) ≡ event_played new.script new.shape event (playing_of false new)
+    same-event event = ap (λ s. event_played s old.shape event (playing_of false new)) (sym h.script) ∙ ap (λ s. event_played new.script s event (playing_of false new)) (sym h.shape)
 
     -- The turns that are left.
-    rest : until_done old.script old.shape next (played false old) ≡ go (suc (old.shape.events - h.turns)) (played false new)
+    rest : until_done old.script old.shape next (playing_of false old) ≡ go (suc (old.shape.events - h.turns)) (playing_of false new)
     rest =
-        (let few = h.few in let same : old.shape.events + 1 ≡ h.turns + suc (old.shape.events - h.turns) = omega (arith, few) in ap (λ n. go n (played false old)) same)
-        ∙ adds h.turns (suc (old.shape.events - h.turns)) (played false old)
+        (let few = h.few in let same : old.shape.events + 1 ≡ h.turns + suc (old.shape.events - h.turns) = omega (arith, few) in ap (λ n. go n (playing_of false old)) same)
+        ∙ adds h.turns (suc (old.shape.events - h.turns)) (playing_of false old)
         ∙ ap (go (suc (old.shape.events - h.turns))) h.played
 
     -- All is done where nothing is next.
-    pub all-done : next (played false new) ≡ None → until_done old.script old.shape next (played false old) ≡ played false new
-    all-done e = rest ∙ stays-none (suc (old.shape.events - h.turns)) (played false new) e
+    pub all-done : next (playing_of false new) ≡ None → until_done old.script old.shape next (playing_of false old) ≡ playing_of false new
+    all-done e = rest ∙ stays-none (suc (old.shape.events - h.turns)) (playing_of false new) e
 
     -- The play is full where one is next and there is no room.
-    pub all-full : (event : Event) → next (played false new) ≡ Some event → new.shape.events ≤ length new.pasts → until_done old.script old.shape next (played false old) ≡ played true new
+    pub all-full : (event : Event) → next (playing_of false new) ≡ Some event → new.shape.events ≤ length new.pasts → until_done old.script old.shape next (playing_of false old) ≡ playing_of true new
     all-full event e le =
         rest ∙ one-turn new event e (old.shape.events - h.turns)
         ∙ ap (go (old.shape.events - h.turns)) (same-event event ∙ fills new event le)
-        ∙ stays-full (old.shape.events - h.turns) (played true new) refl
+        ∙ stays-full (old.shape.events - h.turns) (playing_of true new) refl
 
     -- One more.
-    pub one-more : (event : Event) (system : Sys) → event ≡ System system → next (played false new) ≡ Some event → length new.pasts < new.shape.events → HasGoneOn next old (happened new event)
+    pub one-more : (event : Event) (system : Sys) → event ≡ System system → next (playing_of false new) ≡ Some event → length new.pasts < new.shape.events → HasGoneOn next old (happened new event)
     one-more event system is e lt = record {
       script = h.script;
       shape = h.shape;
@@ -113,7 +113,7 @@ module _ (old : Seen) (next : Playing → Option Event) where
       count = let count = h.count in omega (arith, count);
       few = let count = h.count in let same = ap (λ (s : Shape). s.events) h.shape in omega (arith, count, lt, same);
       played =
-          adds h.turns 1 (played false old)
+          adds h.turns 1 (playing_of false old)
           ∙ ap (go 1) h.played
           ∙ one-turn new event e 0
           ∙ same-event event

@@ -1,26 +1,24 @@
 -- The parts of a play by a cluster.
-use Rattle.std.proofs.Common.{◌≡◌, ℕ, ◌+◌, ◌||◌, ◌++◌, eq-eqb, ◌<◌, ◌≤◌, nat_lt, Bool, true, false, cond, List, [], ◌∷◌, length, slice_get, Option, Some, None, refl, sym, ap, ◌∙◌, subst, arith, ltb-true}
+use Rattle.std.proofs.Common.{◌≡◌, ℕ, ◌+◌, ◌||◌, ◌++◌, eq-eqb, ◌<◌, ◌≤◌, nat_lt, Bool, true, false, cond, List, [], ◌∷◌, length, slice_get, refl, sym, ap, ◌∙◌, subst, arith, ltb-true}
 use Rattle.std.specs.List.{list_any}
 use Rattle.std.specs.Prelude.{Result, Ok, Err, OnErr, OnOk}
 use Rattle.jc_types.specs.declared.numbers.Version.{Version}
 use Rattle.jc_types.specs.declared.objects.Kind.{Kind}
-use Rattle.jc_types.specs.declared.objects.Kind.TheVariants.{Jobs, Pods}
 use Rattle.jc_types.specs.declared.replies.Reply.{Reply}
 use Rattle.jc_types.specs.declared.replies.Reply.TheVariants as reply
 use Rattle.jc_types.specs.declared.runs.Event.{Event}
-use Rattle.jc_types.specs.declared.runs.Event.TheVariants.{Command}
 use Rattle.jc_types.specs.declared.runs.Past.{Past}
 use Rattle.jc_types.specs.declared.runs.Shape.{Shape}
 use Rattle.jc_log.specs.Acts as does
 use Rattle.jc_log.specs.Acts.{Act}
 use Rattle.jc_log.specs.Deeds.{act_of_event, lane_of}
 use Rattle.jc_history.specs.Available.{WasAvailable, available}
-use Rattle.jc_history.specs.Legal.{ComesNext, IsOfShape, MaySettle, lane_count, lane_places, next_place}
+use Rattle.jc_history.specs.Legal.{ComesNext, IsOfShape, MaySettle, lane_count, lane_places}
 use Rattle.jc_history.specs.Play.{Playing, after_begin, brought_up, event_played, has_just_begun, is_command, stepped_if, stepped_through}
 use Rattle.jc_runs.specs.Seen.{Admits, IsDoable, Seen, act_seen, deeds_seen, happened, log_seen, past_seen, reply_seen}
 use Rattle.jc_core.specs.declared.apply.ApplyFault.{ApplyFault}
 use Rattle.jc_core.specs.declared.apply.ApplyFault.TheVariants.{HistoryFull}
-use Rattle.jc_turns.specs.Turns.{HasCome, HasGrown, IsOwn, NeedsNoRest, Reaches, has_rest, is_begin, next_to_bring, played}
+use Rattle.jc_turns.specs.Turns.{HasCome, HasGrown, IsOwn, NeedsNoRest, Reaches, has_rest, is_begun_reply, next_to_bring, playing_of}
 use Rattle.jc_turns.proofs.GoFacts.{done-reaches, grown-on, none-grown, ok-err, room-left, stop, stop-reaches}
 use Rattle.jc_turns.proofs.OnFacts.{fills, happens, stays-full}
 
@@ -28,16 +26,16 @@ use Rattle.jc_turns.proofs.OnFacts.{fills, happens, stays-full}
 
 module _ (old s : Seen) (same : s.shape ≡ old.shape) where
   -- A full play is not brought on.
-  pub up-full : (c : ℕ) (kind : Kind) → brought_up old.script old.shape c kind (played true s) ≡ played true s
+  pub up-full : (c : ℕ) (kind : Kind) → brought_up old.script old.shape c kind (playing_of true s) ≡ playing_of true s
   unfolding brought_up
-  up-full c kind = stays-full old (next_to_bring c kind old.script old.shape) (old.shape.events + 1) (played true s) refl
+  up-full c kind = stays-full old (next_to_bring c kind old.script old.shape) (old.shape.events + 1) (playing_of true s) refl
 
   -- Nothing happens in it.
-  pub event-full : (event : Event) → s.shape.events ≤ length s.pasts → event_played old.script old.shape event (played true s) ≡ played true s
+  pub event-full : (event : Event) → s.shape.events ≤ length s.pasts → event_played old.script old.shape event (playing_of true s) ≡ playing_of true s
   unfolding event_played
   event-full event le = by (nat_lt (length s.pasts) old.shape.events) _ refl
     where
-      by : (b : Bool) (x : Playing) → nat_lt (length s.pasts) old.shape.events ≡ b → cond b x (played true s) ≡ played true s
+      by : (b : Bool) (x : Playing) → nat_lt (length s.pasts) old.shape.events ≡ b → cond b x (playing_of true s) ≡ playing_of true s
       by true x e = let lt = ltb-true (length s.pasts) old.shape.events e in let is = ap (λ (shape : Shape). shape.events) same in absurd (omega (arith, lt, le, is))
       by false x e = refl
 
@@ -82,7 +80,8 @@ err-same e f h = cc
 
 -- ---- what has come
 
-any-more : (test : Past → Bool) (more pasts : List Past) → list_any test pasts ≡ true → list_any test (more ++ pasts) ≡ true
+-- What has come once stays.
+pub any-more : (test : Past → Bool) (more pasts : List Past) → list_any test pasts ≡ true → list_any test (more ++ pasts) ≡ true
 any-more test [] pasts e = e
 any-more test (past ∷ more) pasts e = by (test past) (list_any test (more ++ pasts)) (any-more test more pasts e)
   where
@@ -111,34 +110,34 @@ plain-came old new event (Err e) ok = tt
 
 -- ---- begins
 
-begin-is : (event : Event) (r : Reply) (end : Version) (pasts : List Past) → has_just_begun (record { event = event; reply = r; length = end } ∷ pasts) ≡ is_begin r
+begin-is : (event : Event) (r : Reply) (end : Version) (pasts : List Past) → has_just_begun (record { event = event; reply = r; length = end } ∷ pasts) ≡ is_begun_reply r
 begin-is event (reply.Begun key jobs_at pods_at) end pasts = refl
 begin-is event other end pasts = refl
 
 -- Whether a sync began by the event.
-pub just-begun : (seen : Seen) (event : Event) (r : Reply) (b : Bool) → r ≡ reply_seen seen event → b ≡ is_begin r → b ≡ has_just_begun (happened seen event).pasts
-just-begun seen event r b e g = g ∙ ap is_begin e ∙ sym (begin-is event (reply_seen seen event) (past_seen seen event).length seen.pasts)
+pub just-begun : (seen : Seen) (event : Event) (r : Reply) (b : Bool) → r ≡ reply_seen seen event → b ≡ is_begun_reply r → b ≡ has_just_begun (happened seen event).pasts
+just-begun seen event r b e g = g ∙ ap is_begun_reply e ∙ sym (begin-is event (reply_seen seen event) (past_seen seen event).length seen.pasts)
 
 module _ (old : Seen) (event : Event) (c w : ℕ) where
   -- The play of the event, and of what follows it.
   abbrev pub begun-play : Playing
-  begun-play = after_begin old.script old.shape c w (event_played old.script old.shape event (played false old))
+  begun-play = after_begin old.script old.shape c w (event_played old.script old.shape event (playing_of false old))
 
   -- The history is full.
-  pub begin-full : old.shape.events ≤ length old.pasts → begun-play ≡ played true old
+  pub begin-full : old.shape.events ≤ length old.pasts → begun-play ≡ playing_of true old
   begin-full le = ap (after_begin old.script old.shape c w) (fills old event le)
 
-  begin-on : (b : Bool) → length old.pasts < old.shape.events → b ≡ has_just_begun (happened old event).pasts → begun-play ≡ stepped_if old.script old.shape c w b (played false (happened old event))
-  begin-on b lt e = ap (after_begin old.script old.shape c w) (happens old event lt) ∙ ap (λ b. stepped_if old.script old.shape c w b (played false (happened old event))) (sym e)
+  begin-on : (b : Bool) → length old.pasts < old.shape.events → b ≡ has_just_begun (happened old event).pasts → begun-play ≡ stepped_if old.script old.shape c w b (playing_of false (happened old event))
+  begin-on b lt e = ap (after_begin old.script old.shape c w) (happens old event lt) ∙ ap (λ b. stepped_if old.script old.shape c w b (playing_of false (happened old event))) (sym e)
 
   -- A sync began, and its steps follow.
   pub begin-steps : (s new : Seen) (r : Result (Unit {0}) ApplyFault) → s ≡ happened old event → length old.pasts < old.shape.events → true ≡ has_just_begun (happened old event).pasts
-      → Reaches r (stepped_through s.script s.shape c w (played false s)) new → Reaches r begun-play new
-  begin-steps s new r same lt e h = subst (λ q. Reaches r q new) (sym (begin-on true lt e)) (subst (λ (s : Seen). Reaches r (stepped_through s.script s.shape c w (played false s)) new) same h)
+      → Reaches r (stepped_through s.script s.shape c w (playing_of false s)) new → Reaches r begun-play new
+  begin-steps s new r same lt e h = subst (λ q. Reaches r q new) (sym (begin-on true lt e)) (subst (λ (s : Seen). Reaches r (stepped_through s.script s.shape c w (playing_of false s)) new) same h)
 
   -- None began.
   pub begin-ends : (s : Seen) → s ≡ happened old event → length old.pasts < old.shape.events → false ≡ has_just_begun (happened old event).pasts → Reaches (Ok tt) begun-play s
-  begin-ends s same lt e = done-reaches begun-play s (begin-on false lt e ∙ ap (played false) (sym same))
+  begin-ends s same lt e = done-reaches begun-play s (begin-on false lt e ∙ ap (playing_of false) (sym same))
 
   -- It was not done.
   pub begin-stops : (s : Seen) (r : Result (Unit {0}) ApplyFault) (e : ApplyFault) → r ≡ stop e → s ≡ old → (e ≡ HistoryFull → old.shape.events ≤ length old.pasts) → Reaches r begun-play s
@@ -149,9 +148,9 @@ module _ (old : Seen) (event : Event) (c w : ℕ) where
 module _ (old new : Seen) (event : Event) where
   -- So far its play has come.
   pub plain-reaches : (r : Result (Unit {0}) ApplyFault) → OnOk r (new ≡ happened old event) → OnErr r (new ≡ old) → (old.shape.events ≤ length old.pasts → r ≡ stop HistoryFull) → (r ≡ stop HistoryFull → old.shape.events ≤ length old.pasts)
-      → Reaches r (event_played old.script old.shape event (played false old)) new
-  plain-reaches (Ok tt) ok kept full room = done-reaches (event_played old.script old.shape event (played false old)) new (happens old event (room-left (length old.pasts) old.shape.events (λ le. ok-err tt HistoryFull (full le))) ∙ ap (played false) (sym ok))
-  plain-reaches (Err e) ok kept full room = subst (Reaches (stop e) (event_played old.script old.shape event (played false old))) (sym kept) (stop-reaches (stop e) e (event_played old.script old.shape event (played false old)) old refl (λ h. (fills old event (room h), room h)))
+      → Reaches r (event_played old.script old.shape event (playing_of false old)) new
+  plain-reaches (Ok tt) ok kept full room = done-reaches (event_played old.script old.shape event (playing_of false old)) new (happens old event (room-left (length old.pasts) old.shape.events (λ le. ok-err tt HistoryFull (full le))) ∙ ap (playing_of false) (sym ok))
+  plain-reaches (Err e) ok kept full room = subst (Reaches (stop e) (event_played old.script old.shape event (playing_of false old))) (sym kept) (stop-reaches (stop e) e (event_played old.script old.shape event (playing_of false old)) old refl (λ h. (fills old event (room h), room h)))
 
   pub plain-grown : (r : Result (Unit {0}) ApplyFault) → IsOwn old event → OnOk r (new ≡ happened old event) → OnErr r (new ≡ old) → HasGrown old new
   plain-grown (Ok tt) own ok kept = own-grown old new event own ok

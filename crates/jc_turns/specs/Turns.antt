@@ -10,7 +10,7 @@
 --     IsOwn seen event            a command, its lane's next one
 --     HasCome event seen          the command has come
 --     NeedsNoRest seen event      it may come whether or not there is something to do
---     is_begin reply              a sync began
+--     is_begun_reply reply              a sync began
 --     has_rest seen               nothing is available
 use Rattle.std.specs.Prelude.{◌≡◌, ℕ, ◌+◌, ◌≤◌, ◌++◌, Bool, true, false, List, length, Result, Err, OnOk, Option, Some, None, is_some}
 use Rattle.std.specs.List.{list_any}
@@ -41,8 +41,8 @@ earliest_of found (Some moment) = Some (earlier found moment)
 
 -- What has happened to a cluster, as a play so far; it is full where one event more was to come and
 -- had no room.
-abbrev pub played : Bool → Seen → Playing
-played full seen = record { pasts = seen.pasts; log = log_seen seen; full = full }
+abbrev pub playing_of : Bool → Seen → Playing
+playing_of full seen = record { pasts = seen.pasts; log = log_seen seen; full = full }
 
 -- What comes next in a play that settles: the first that is available.
 abbrev pub next_to_settle : Script → Shape → Playing → Option Event
@@ -71,7 +71,7 @@ pub record HasGoneOn (next : Playing → Option Event) (old new : Seen) : Type 0
   pub turns : ℕ
   pub count : length new.pasts ≡ turns + length old.pasts
   pub few : turns ≤ old.shape.events
-  pub played : on_and_on old.script old.shape next turns (played false old) ≡ played false new
+  pub played : on_and_on old.script old.shape next turns (playing_of false old) ≡ playing_of false new
   pub counts : (lane : ℕ) → lane_count lane new.pasts ≡ lane_count lane old.pasts
   pub commands : (place : ℕ)
       → list_any (is_command place) new.pasts ≡ list_any (is_command place) old.pasts
@@ -87,8 +87,8 @@ pub record HasGrown (old new : Seen) : Type 0 where
 -- So far the play has come: to q where all was done. It is full there just where the history has all
 -- its events and one was still to come.
 pub record Reaches (result : Result (Unit {0}) ApplyFault) (q : Playing) (new : Seen) : Type 0 where
-  pub done : OnOk result (q ≡ played false new)
-  pub full : result ≡ Err HistoryFull → q ≡ played true new
+  pub done : OnOk result (q ≡ playing_of false new)
+  pub full : result ≡ Err HistoryFull → q ≡ playing_of true new
   pub room : result ≡ Err HistoryFull → new.shape.events ≤ length new.pasts
 
 -- The event is a command, its lane's next one, and fits the shape.
@@ -110,9 +110,9 @@ abbrev pub NeedsNoRest : Seen → Event → Type 0
 NeedsNoRest seen event = (rests : Bool) → MaySettle (act_seen seen event) rests
 
 -- The reply says that a sync began.
-abbrev pub is_begin : Reply → Bool
-is_begin (reply.Begun key jobs_at pods_at) = true
-is_begin other = false
+abbrev pub is_begun_reply : Reply → Bool
+is_begun_reply (reply.Begun key jobs_at pods_at) = true
+is_begun_reply other = false
 
 -- Nothing is available.
 abbrev pub has_rest : Seen → Bool

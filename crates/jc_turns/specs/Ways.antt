@@ -3,7 +3,9 @@
 --     by_way way script ..        what is played so
 --     FitsWay way seen event      the event may be played so
 --     place_played place ..       what is played of a place of the script
-use Rattle.std.specs.Prelude.{ℕ, ◌<◌, ◌||◌, if◌then◌else◌, Option, Some, None}
+--     ArePlayed place pasts       the commands of all places below this one were played
+--     IsAtPlace place own         the event is the command at this place
+use Rattle.std.specs.Prelude.{◌≡◌, ℕ, ◌<◌, ◌||◌, true, if◌then◌else◌, List, Option, Some, None}
 use Rattle.std.specs.List.{list_any}
 use Rattle.jc_types.specs.declared.actions.Action1.{Action1}
 use Rattle.jc_types.specs.declared.actions.Action1.TheVariants as action
@@ -12,6 +14,7 @@ use Rattle.jc_types.specs.declared.actions.Script.{Script}
 use Rattle.jc_types.specs.declared.objects.Kind.TheVariants.{Jobs, Pods}
 use Rattle.jc_types.specs.declared.runs.Event.{Event}
 use Rattle.jc_types.specs.declared.runs.Event.TheVariants as event
+use Rattle.jc_types.specs.declared.runs.Past.{Past}
 use Rattle.jc_types.specs.declared.runs.Shape.{Shape}
 use Rattle.jc_history.specs.Play.{Playing, after_begin, brought_up, commanded, event_played, is_command, settled_down}
 use Rattle.jc_runs.specs.Seen.{Seen}
@@ -47,3 +50,12 @@ place_played place None script shape p = p
 place_played place (Some command) script shape p =
     if p.full || list_any (is_command place) p.pasts then p
     else commanded script shape command.action (event.Command command.lane place) p
+
+-- The commands of all places below this one were played.
+abbrev pub ArePlayed : ℕ → List Past → Type 0
+ArePlayed place pasts = (n : ℕ) → n < place → list_any (is_command n) pasts ≡ true
+
+-- The event is the command at this place.
+pub record IsAtPlace (place : ℕ) (own : Event) : Type 0 where
+  pub lane : ℕ
+  pub is : own ≡ event.Command lane place

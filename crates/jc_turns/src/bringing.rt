@@ -7,7 +7,7 @@ ghost use Rattle.jc_history.specs.Numbers.{number};
 ghost use Rattle.jc_history.specs.Play.{brings, brought_up, next_step, stepped_through};
 ghost use Rattle.jc_history.specs.Registers.{register};
 ghost use Rattle.jc_runs.specs.Seen.{log_seen};
-ghost use Rattle.jc_turns.specs.Turns.{HasGoneOn, HasGrown, IsComing, Reaches, next_to_bring, next_to_step, played};
+ghost use Rattle.jc_turns.specs.Turns.{HasGoneOn, HasGrown, IsComing, Reaches, next_to_bring, next_to_step, playing_of};
 
 use crate::settling::happen;
 use jc_core::{ApplyFault, Cluster};
@@ -71,7 +71,7 @@ fn step_event(cluster: &Cluster, controller: u32, worker: u32) -> Option<Event>
 pub(crate) fn bring_up(cluster: &mut Cluster, controller: u32, kind: Kind) -> Result<(), ApplyFault>
     requires { controller < cluster.old.shape.controllers }
     ensures reaches { Reaches result
-        (brought_up cluster.old.script cluster.old.shape controller kind (played false cluster.old))
+        (brought_up cluster.old.script cluster.old.shape controller kind (playing_of false cluster.old))
         cluster.new }
     ensures kept { HasGoneOn
         (next_to_bring controller kind cluster.old.script cluster.old.shape) cluster.old
@@ -96,7 +96,7 @@ pub(crate) fn step_through(
     requires worker { worker < cluster.old.shape.workers }
     ensures reaches { Reaches result
         (stepped_through cluster.old.script cluster.old.shape controller worker
-        (played false cluster.old)) cluster.new }
+        (playing_of false cluster.old)) cluster.new }
     ensures kept { HasGoneOn
         (next_to_step controller worker cluster.old.script cluster.old.shape) cluster.old
         cluster.new }

@@ -1,12 +1,20 @@
 //! What a cluster can do of itself, and doing it: one event after another until nothing is left.
 #![tactic(auto)]
 
+mod actors;
 mod bringing;
 mod kinds;
+mod laws;
 mod next;
+mod offers;
 mod playing;
 mod settling;
 mod ways;
+mod whole;
 
+pub use actors::Actor;
+pub use laws::{available_events_keep_the_order, new_clusters_play_the_whole_script};
 pub use next::{is_quiescent, next_event};
+pub use offers::available;
 pub use settling::settle;
+pub use whole::play;

@@ -100,7 +100,7 @@ fn least_of_all(cluster: &Cluster) -> Option<Moment>
 }
 
 // The step of the node, where it has one.
-fn node_event(cluster: &Cluster) -> Option<Event>
+pub(crate) fn node_event(cluster: &Cluster) -> Option<Event>
     ensures { result ≡ first_event (node_events
         (is_some (node_step (log_seen cluster.now) (fate (deeds_seen cluster.now))))) }
 {
@@ -112,7 +112,7 @@ fn node_event(cluster: &Cluster) -> Option<Event>
 }
 
 // What there is but for the clock.
-fn but_clock_event(cluster: &Cluster) -> Option<Event>
+pub(crate) fn but_clock_event(cluster: &Cluster) -> Option<Event>
     ensures { result ≡ first_event (but_clock cluster.now.shape (deeds_seen cluster.now)
         (log_seen cluster.now)) }
 {
@@ -132,7 +132,7 @@ fn but_clock_event(cluster: &Cluster) -> Option<Event>
 }
 
 // The clock to the least delay, by 0 seconds where it has passed.
-fn clock_event(cluster: &Cluster) -> Option<Event>
+pub(crate) fn clock_event(cluster: &Cluster) -> Option<Event>
     ensures { result ≡ first_event (clock_events
         (moment cluster.now.shape (deeds_seen cluster.now))
         (least_of_all cluster.now.shape (deeds_seen cluster.now) (log_seen cluster.now))) }

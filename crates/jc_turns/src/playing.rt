@@ -6,7 +6,7 @@ ghost use Rattle.jc_history.specs.Play.{after_begin, brought_up, event_played, h
 ghost use Rattle.jc_types.specs.declared.objects.Kind.TheVariants.{Jobs, Pods};
 ghost use Rattle.jc_types.specs.declared.runs.Event.{Event};
 ghost use Rattle.jc_runs.specs.Seen.{Admits, happened};
-ghost use Rattle.jc_turns.specs.Turns.{HasCome, HasGrown, IsOwn, NeedsNoRest, Reaches, is_begin, played};
+ghost use Rattle.jc_turns.specs.Turns.{HasCome, HasGrown, IsOwn, NeedsNoRest, Reaches, is_begun_reply, playing_of};
 ghost use Rattle.jc_turns.specs.Ways.{FitsWay, by_way};
 
 use crate::bringing::{bring_up, step_through};
@@ -17,7 +17,7 @@ use jc_types::{Event, Kind, Reply};
 
 // Whether the reply says that a sync began.
 fn is_begun(reply: Reply) -> bool
-    ensures { result ≡ is_begin reply }
+    ensures { result ≡ is_begun_reply reply }
 {
     matches!(reply, Reply::Begun { .. })
 }
@@ -52,7 +52,7 @@ fn begin_and_step(
     requires free { NeedsNoRest cluster.old event }
     ensures reaches { Reaches result
         (after_begin cluster.old.script cluster.old.shape controller worker
-        (event_played cluster.old.script cluster.old.shape event (played false cluster.old)))
+        (event_played cluster.old.script cluster.old.shape event (playing_of false cluster.old)))
         cluster.new }
     ensures grown { HasGrown cluster.old cluster.new }
     ensures came { OnOk result (HasCome event cluster.new) }
@@ -71,7 +71,7 @@ fn bring_both(cluster: &mut Cluster, controller: u32) -> Result<(), ApplyFault>
     ensures reaches { Reaches result
         (brought_up cluster.old.script cluster.old.shape controller Pods
         (brought_up cluster.old.script cluster.old.shape controller Jobs
-        (played false cluster.old))) cluster.new }
+        (playing_of false cluster.old))) cluster.new }
     ensures grown { HasGrown cluster.old cluster.new }
     ensures own { (event : Event) → IsOwn cluster.old event → IsOwn cluster.new event }
 {
@@ -95,7 +95,7 @@ fn play_sync(
         (event_played cluster.old.script cluster.old.shape event
         (brought_up cluster.old.script cluster.old.shape controller Pods
         (brought_up cluster.old.script cluster.old.shape controller Jobs
-        (played false cluster.old))))) cluster.new }
+        (playing_of false cluster.old))))) cluster.new }
     ensures grown { HasGrown cluster.old cluster.new }
     ensures came { OnOk result (HasCome event cluster.new) }
 {
@@ -108,7 +108,7 @@ fn play_plain(cluster: &mut Cluster, event: Event) -> Result<(), ApplyFault>
     requires own { IsOwn cluster.old event }
     requires admits { Admits cluster.old event }
     ensures reaches { Reaches result
-        (event_played cluster.old.script cluster.old.shape event (played false cluster.old))
+        (event_played cluster.old.script cluster.old.shape event (playing_of false cluster.old))
         cluster.new }
     ensures grown { HasGrown cluster.old cluster.new }
     ensures came { OnOk result (HasCome event cluster.new) }
@@ -121,7 +121,7 @@ fn play_settle(cluster: &mut Cluster, event: Event) -> Result<(), ApplyFault>
     requires own { IsOwn cluster.old event }
     ensures reaches { Reaches result
         (event_played cluster.old.script cluster.old.shape event
-        (settled_down cluster.old.script cluster.old.shape (played false cluster.old)))
+        (settled_down cluster.old.script cluster.old.shape (playing_of false cluster.old)))
         cluster.new }
     ensures grown { HasGrown cluster.old cluster.new }
     ensures came { OnOk result (HasCome event cluster.new) }
@@ -131,11 +131,11 @@ fn play_settle(cluster: &mut Cluster, event: Event) -> Result<(), ApplyFault>
 }
 
 // Plays a command with what comes round it.
-fn play_own(cluster: &mut Cluster, event: Event, way: Way) -> Result<(), ApplyFault>
+pub(crate) fn play_own(cluster: &mut Cluster, event: Event, way: Way) -> Result<(), ApplyFault>
     requires own { IsOwn cluster.old event }
     requires fits { FitsWay way cluster.old event }
     ensures reaches { Reaches result
-        (by_way way cluster.old.script cluster.old.shape event (played false cluster.old))
+        (by_way way cluster.old.script cluster.old.shape event (playing_of false cluster.old))
         cluster.new }
     ensures grown { HasGrown cluster.old cluster.new }
     ensures came { OnOk result (HasCome event cluster.new) }

@@ -4,7 +4,7 @@ ghost use Rattle.std.specs.Prelude.{◌≡◌, ◌≤◌, Err, OnErr, OnOk, fals
 ghost use Rattle.jc_core.specs.declared.apply.ApplyFault.TheVariants.{HistoryFull};
 ghost use Rattle.jc_history.specs.Play.{settled_down};
 ghost use Rattle.jc_runs.specs.Seen.{Admits, happened};
-ghost use Rattle.jc_turns.specs.Turns.{HasGoneOn, HasGrown, Reaches, has_rest, next_to_settle, played};
+ghost use Rattle.jc_turns.specs.Turns.{HasGoneOn, HasGrown, Reaches, has_rest, next_to_settle, playing_of};
 
 use crate::next::next_event;
 use jc_core::{ApplyFault, Cluster};
@@ -34,7 +34,7 @@ pub(crate) fn happen(cluster: &mut Cluster, event: Event) -> Result<(), ApplyFau
 /// to come; `Want` where there is no memory. The events before it are kept.
 pub fn settle(cluster: &mut Cluster) -> Result<(), ApplyFault>
     ensures reaches { Reaches result
-        (settled_down cluster.old.script cluster.old.shape (played false cluster.old))
+        (settled_down cluster.old.script cluster.old.shape (playing_of false cluster.old))
         cluster.new }
     ensures rests { OnOk result (has_rest cluster.new ≡ true) }
     ensures kept { HasGoneOn (next_to_settle cluster.old.script cluster.old.shape) cluster.old

@@ -1,8 +1,8 @@
-use Rattle.std.proofs.Common.{◌≡◌, ◌<◌, length, true, false, sym, ◌∙◌, subst}
+use Rattle.std.proofs.Common.{◌<◌, length, false, sym, ◌∙◌, subst}
 use Rattle.std.proofs.lemmas.Result.{err_from_is_err_and}
 use Rattle.jc_types.specs.declared.runs.Shape.{Shape}
 use Rattle.jc_history.specs.Play.{brought_up}
-use Rattle.jc_turns.specs.Turns.{next_to_bring, Reaches, played}
+use Rattle.jc_turns.specs.Turns.{next_to_bring, Reaches, playing_of}
 use Rattle.jc_turns.proofs.GoFacts.{done-reaches, goes-on, has-no-room, less-room, ok-err, room-left, settles, started, stop-reaches}
 use Rattle.jc_turns.proofs.SystemFacts.{coming-admits}
 use Rattle.jc_turns.proofs.bringing.bring_up.Goals as goal
@@ -31,7 +31,7 @@ pub returns-in_err-happen-clause-reaches : goal.returns-in_err-happen-clause-rea
 unfolding brought_up
 returns-in_err-happen-clause-reaches c =
     let p = err_from_is_err_and c.from_residual.result c.from_residual.ensures.1 in
-    subst (Reaches c.from_residual.result (brought_up c.args.cluster.now.script c.args.cluster.now.shape c.args.controller c.args.kind (played false c.args.cluster.now))) (sym c.in_err-happen.ensures.kept)
+    subst (Reaches c.from_residual.result (brought_up c.args.cluster.now.script c.args.cluster.now.shape c.args.controller c.args.kind (playing_of false c.args.cluster.now))) (sym c.in_err-happen.ensures.kept)
     (stop-reaches c.from_residual.result c.in_err-happen.field-0.0 _ c.bringing.cluster (cc (p.1, p.2)) (λ h.
     (has-no-room (next_to_bring c.args.controller c.args.kind) c.args.cluster.now c.bringing.cluster c.bringing.invariant c.in-Some.event (sym c.bring_event.ensures.first ∙ c.in-Some.is) (c.in_err-happen.ensures.room h), c.in_err-happen.ensures.room h)))
 

@@ -1,7 +1,7 @@
-use Rattle.std.proofs.Common.{◌≡◌, ◌<◌, length, true, false, sym, ◌∙◌, subst}
+use Rattle.std.proofs.Common.{◌<◌, length, false, sym, ◌∙◌, subst}
 use Rattle.std.proofs.lemmas.Result.{err_from_is_err_and}
 use Rattle.jc_history.specs.Play.{settled_down}
-use Rattle.jc_turns.specs.Turns.{next_to_settle, Reaches, played}
+use Rattle.jc_turns.specs.Turns.{next_to_settle, Reaches, playing_of}
 use Rattle.jc_turns.proofs.GoFacts.{done-reaches, goes-on, has-no-room, less-room, ok-err, room-left, settles, started, stop-reaches}
 use Rattle.jc_turns.proofs.SystemFacts.{first-coming}
 use Rattle.jc_turns.proofs.settling.settle.Goals as goal
@@ -24,7 +24,7 @@ pub returns-in_err-happen-clause-reaches : goal.returns-in_err-happen-clause-rea
 unfolding settled_down
 returns-in_err-happen-clause-reaches c =
     let p = err_from_is_err_and c.from_residual.result c.from_residual.ensures.1 in
-    subst (Reaches c.from_residual.result (settled_down c.args.cluster.now.script c.args.cluster.now.shape (played false c.args.cluster.now))) (sym c.in_err-happen.ensures.kept)
+    subst (Reaches c.from_residual.result (settled_down c.args.cluster.now.script c.args.cluster.now.shape (playing_of false c.args.cluster.now))) (sym c.in_err-happen.ensures.kept)
     (stop-reaches c.from_residual.result c.in_err-happen.field-0.0 _ c.settling.cluster (cc (p.1, p.2)) (λ h.
     (has-no-room next_to_settle c.args.cluster.now c.settling.cluster c.settling.invariant c.in-Some.event (sym c.next_event.ensures.first ∙ c.in-Some.is) (c.in_err-happen.ensures.room h), c.in_err-happen.ensures.room h)))
 
