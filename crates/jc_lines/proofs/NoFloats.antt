@@ -11,7 +11,7 @@ use Rattle.jc_types.specs.declared.actions.ContainerChange.{ContainerChange}
 use Rattle.jc_types.specs.declared.actions.End.{End}
 use Rattle.jc_types.specs.declared.actions.PhaseChange.{PhaseChange}
 use Rattle.jc_types.specs.declared.policies.Pattern.{Pattern}
-use Rattle.jc_lines.specs.Changes.{condition_data, container_data, end_data, ends_data, exit_data, phase_change_data, with_container, with_exit}
+use Rattle.jc_lines.specs.Changes.{pod_condition_data, container_data, end_data, ends_data, exit_data, phase_change_data, with_container, with_exit_member}
 use Rattle.jc_manifest.specs.Members.{number_data, with_json_member}
 
 both : (a b : Bool) → a ≡ false → b ≡ false → (a || b) ≡ false
@@ -63,12 +63,12 @@ exit_clean : (z : ℤ) → has_float (number (of_integer z)) ≡ false
 exit_clean (pos n) = refl
 exit_clean (negsuc n) = refl
 
-condition_clean : (condition : Pattern) → has_float (condition_data condition) ≡ false
-unfolding condition_data
+condition_clean : (condition : Pattern) → has_float (pod_condition_data condition) ≡ false
+unfolding pod_condition_data
 condition_clean condition = with_clean _ _ _ refl (with_clean _ _ _ refl refl)
 
 container_clean : (change : ContainerChange) → has_float (container_data change) ≡ false
-unfolding container_data with_container with_exit
+unfolding container_data with_container with_exit_member
 container_clean change =
     with_clean _ _ _ (given_clean number_data change.restarts (λ n. refl))
     (with_clean _ _ _ refl (with_clean _ _ _ (given_clean exit_data change.exit exit_clean) refl))
@@ -78,7 +78,7 @@ unfolding phase_change_data
 phase_change_has_no_float change =
     with_clean _ _ _ refl
     (with_clean _ _ _ (list_clean container_data change.containers container_clean)
-    (with_clean _ _ _ (list_clean condition_data change.conditions condition_clean) refl))
+    (with_clean _ _ _ (list_clean pod_condition_data change.conditions condition_clean) refl))
 
 end_clean : (end : End) → has_float (end_data end) ≡ false
 unfolding end_data

@@ -7,7 +7,7 @@ use Rattle.jc_types.specs.declared.runs.Sys.TheVariants as sys
 use Rattle.jc_log.specs.Deeds.{act_of_system}
 use Rattle.jc_lines.specs.Acts.{act_text}
 use Rattle.jc_lines.specs.Told.{IsSystem}
-use Rattle.jc_lines.specs.Words.{kind_word}
+use Rattle.jc_lines.specs.Words.{objects_word}
 use Rattle.jc_lines.proofs.Digits.{Told, number_ends}
 
 -- What the event does, in words.
@@ -17,7 +17,7 @@ system_text s = act_text (act_of_system s)
 pub first_of_both : (xs ys : List ℕ) → xs ≡ ys → get_or xs 0 0 ≡ get_or ys 0 0
 first_of_both xs ys e = ap (λ l. get_or l 0 0) e
 
-kind_told : (k l : Kind) (xs ys : List ℕ) → kind_word k ++ xs ≡ kind_word l ++ ys → k ≡ l
+kind_told : (k l : Kind) (xs ys : List ℕ) → objects_word k ++ xs ≡ objects_word l ++ ys → k ≡ l
 kind_told Jobs Jobs xs ys e = refl
 kind_told Jobs Pods xs ys e = absurd (omega (arith, first_of_both _ _ e))
 kind_told Pods Jobs xs ys e = absurd (omega (arith, first_of_both _ _ e))
@@ -36,10 +36,10 @@ worker_told v w xs ys few less e = (number_ends 32 v w xs ys (omega arith) few l
 pub system_told : (s t : Sys) (xs ys : List ℕ) → IsSystem s → IsSystem t
     → system_text s ++ 32 ∷ xs ≡ system_text t ++ 32 ∷ ys → s ≡ t
 system_told (sys.List c k) (sys.List d l) xs ys few less e =
-    let both = controller_told c d (kind_word k) (kind_word l) (32 ∷ xs) (32 ∷ ys) few less (ap (drop 5) e) in
+    let both = controller_told c d (objects_word k) (objects_word l) (32 ∷ xs) (32 ∷ ys) few less (ap (drop 5) e) in
     ap (λ n. sys.List n k) both.number ∙ ap (λ kind. sys.List d kind) (kind_told k l _ _ both.rest)
 system_told (sys.Deliver c k) (sys.Deliver d l) xs ys few less e =
-    let both = controller_told c d (kind_word k) (kind_word l) (32 ∷ xs) (32 ∷ ys) few less (ap (drop 8) e) in
+    let both = controller_told c d (objects_word k) (objects_word l) (32 ∷ xs) (32 ∷ ys) few less (ap (drop 8) e) in
     ap (λ n. sys.Deliver n k) both.number ∙ ap (λ kind. sys.Deliver d kind) (kind_told k l _ _ both.rest)
 system_told (sys.Begin c v) (sys.Begin d w) xs ys few less e =
     let both = controller_told c d (decimal v) (decimal w) (32 ∷ xs) (32 ∷ ys) few.0 less.0 (ap (drop 6) e) in

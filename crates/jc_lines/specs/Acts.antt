@@ -8,7 +8,7 @@ use Rattle.jc_log.specs.Acts as does
 use Rattle.jc_manifest.specs.PrintedSpecs.{change_data, spec_data}
 use Rattle.jc_types.specs.declared.numbers.Version.{Version}
 use Rattle.jc_lines.specs.Changes.{ends_data, phase_change_data}
-use Rattle.jc_lines.specs.Words.{fault_word, key_text, kind_word, version_text}
+use Rattle.jc_lines.specs.Words.{fault_word, key_text, objects_word, version_text}
 
 -- The version that an update needs, or `any`.
 abbrev pub wanted_text : Option Version → List ℕ
@@ -33,8 +33,8 @@ act_text (does.Report pod change) =
     codes "report " ++ (decimal pod.0 ++ (codes " " ++ compact_text (phase_change_data change)))
 act_text (does.Fate key ends) = codes "fate " ++ (key_text key ++ (codes " " ++ compact_text (ends_data ends)))
 act_text (does.Clock add) = codes "clock " ++ decimal add
-act_text (does.List controller kind) = codes "list " ++ (decimal controller ++ (codes " " ++ kind_word kind))
-act_text (does.Deliver controller kind) = codes "deliver " ++ (decimal controller ++ (codes " " ++ kind_word kind))
+act_text (does.List controller kind) = codes "list " ++ (decimal controller ++ (codes " " ++ objects_word kind))
+act_text (does.Deliver controller kind) = codes "deliver " ++ (decimal controller ++ (codes " " ++ objects_word kind))
 act_text (does.Begin controller worker) = codes "begin " ++ worker_text controller worker
 act_text (does.Step controller worker) = codes "step " ++ worker_text controller worker
 act_text does.Node = codes "node"

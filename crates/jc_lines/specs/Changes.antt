@@ -18,20 +18,20 @@ exit_data exit = number (of_integer exit)
 -- ---- the change of a phase
 
 -- The name and the exit code.
-unfoldable pub with_exit : ContainerChange → Members → Members
-with_exit change ms = with_json_member (codes "name") (Some (string change.name))
+unfoldable pub with_exit_member : ContainerChange → Members → Members
+with_exit_member change ms = with_json_member (codes "name") (Some (string change.name))
     (with_json_member (codes "exitCode") (option_map exit_data change.exit) ms)
 
 -- And how often it was restarted.
 unfoldable pub with_container : ContainerChange → Members → Members
 with_container change ms =
-    with_json_member (codes "restartCount") (option_map number_data change.restarts) (with_exit change ms)
+    with_json_member (codes "restartCount") (option_map number_data change.restarts) (with_exit_member change ms)
 
 unfoldable pub container_data : ContainerChange → Data
 container_data change = object (with_container change no_members)
 
-unfoldable pub condition_data : Pattern → Data
-condition_data condition =
+unfoldable pub pod_condition_data : Pattern → Data
+pod_condition_data condition =
     object (with_json_member (codes "type") (Some (string condition.kind))
     (with_json_member (codes "status") (Some (string (truth_word condition.truth))) no_members))
 
@@ -40,7 +40,7 @@ unfoldable pub phase_change_data : PhaseChange → Data
 phase_change_data change =
     object (with_json_member (codes "phase") (Some (string (phase_word change.phase)))
     (with_json_member (codes "containers") (Some (list_data (map container_data change.containers)))
-    (with_json_member (codes "conditions") (Some (list_data (map condition_data change.conditions))) no_members)))
+    (with_json_member (codes "conditions") (Some (list_data (map pod_condition_data change.conditions))) no_members)))
 
 -- ---- ends
 

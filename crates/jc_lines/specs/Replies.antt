@@ -2,6 +2,7 @@
 --     request_text request     what a sync asks
 --     answer_text answer       what it is answered
 --     reply_text reply         the reply to an event
+--     TellsThree reply         it tells of three things
 use Rattle.std.specs.Prelude.{ℕ, List, ◌++◌, Option, None, Some, codes, decimal}
 use Rattle.jc_moment.specs.Text.{moment_text}
 use Rattle.jc_types.specs.declared.numbers.Uid.{Uid}
@@ -11,7 +12,7 @@ use Rattle.jc_types.specs.declared.replies.Reply.{Reply}
 use Rattle.jc_types.specs.declared.replies.Reply.TheVariants as reply
 use Rattle.jc_types.specs.declared.replies.Request.{Request}
 use Rattle.jc_types.specs.declared.replies.Request.TheVariants.{CreatePod, MarkPod, LetGo, Status, Release}
-use Rattle.jc_lines.specs.Words.{field_word, key_text, kind_word, phase_word, version_text}
+use Rattle.jc_lines.specs.Words.{field_word, key_text, objects_word, phase_word, version_text}
 
 -- The index of a pod, or `-` where it has none.
 abbrev pub index_text : Option ℕ → List ℕ
@@ -69,7 +70,7 @@ reply_text (reply.Begun key jobs_at pods_at) =
     ++ (codes " jobs " ++ (version_text jobs_at ++ (codes " pods " ++ version_text pods_at))))
 reply_text reply.NoKey = codes "no-key"
 reply_text (reply.Behind kind need have) =
-    codes "behind " ++ (kind_word kind
+    codes "behind " ++ (objects_word kind
     ++ (codes " need " ++ (version_text need ++ (codes " have " ++ version_text have))))
 reply_text reply.WorkerBusy = codes "worker-busy"
 reply_text (reply.Stepped request answer) = request_text request ++ (codes " " ++ answer_text answer)
@@ -79,3 +80,10 @@ reply_text (reply.NodeDone pod phase version) =
     codes "pod " ++ (decimal pod.0
     ++ (codes " " ++ (phase_word phase ++ (codes " written " ++ version_text version))))
 reply_text reply.Done = codes "done"
+
+-- The reply tells of three things: of a key or a kind and two versions, or of a pod, its phase and a version.
+abbrev pub TellsThree : Reply → Type 0
+TellsThree (reply.Begun key jobs_at pods_at) = Unit {0}
+TellsThree (reply.Behind kind need have) = Unit {0}
+TellsThree (reply.NodeDone pod phase version) = Unit {0}
+TellsThree other = ⊥

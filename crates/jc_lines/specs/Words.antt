@@ -1,5 +1,5 @@
 -- The words of a report that stand for one thing, and the texts of keys and versions.
---     phase_word, kind_word, fault_word, field_word     one word each
+--     phase_word, objects_word, fault_word, field_word     one word each
 --     key_text key                                      a key, as `default/pi`
 --     version_text version                              a version, as `v3`
 use Rattle.std.specs.Prelude.{ℕ, List, ◌++◌, codes, decimal}
@@ -20,9 +20,9 @@ phase_word Running = codes "Running"
 phase_word Succeeded = codes "Succeeded"
 phase_word Failed = codes "Failed"
 
-abbrev pub kind_word : Kind → List ℕ
-kind_word Jobs = codes "jobs"
-kind_word Pods = codes "pods"
+abbrev pub objects_word : Kind → List ℕ
+objects_word Jobs = codes "jobs"
+objects_word Pods = codes "pods"
 
 abbrev pub fault_word : Fault → List ℕ
 fault_word Drop = codes "drop"

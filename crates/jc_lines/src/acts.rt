@@ -4,7 +4,7 @@ ghost use Rattle.std.specs.Prelude.{◌≡◌, ◌++◌, OnOk, codes, decimal, s
 ghost use Rattle.jc_log.specs.Acts as does;
 ghost use Rattle.jc_log.specs.Deeds.{act_of_action, act_of_system};
 ghost use Rattle.jc_lines.specs.Acts.{act_text, wanted_text, worker_text};
-ghost use Rattle.jc_lines.specs.Words.{key_text, kind_word};
+ghost use Rattle.jc_lines.specs.Words.{key_text, objects_word};
 
 use crate::changes::{print_ends, print_phase_change};
 use crate::keys::print_key;
@@ -116,7 +116,7 @@ fn print_clock(out: &mut String, add: u64) -> Result<(), Want>
 // What befalls a controller's cache of a kind, in a word.
 fn print_cache(out: &mut String, word: &str, controller: u32, kind: Kind) -> Result<(), Want>
     ensures { OnOk result (string_bytes out.new ≡ string_bytes out.old
-        ++ (word.now ++ (codes " " ++ (decimal controller ++ (codes " " ++ kind_word kind))))) }
+        ++ (word.now ++ (codes " " ++ (decimal controller ++ (codes " " ++ objects_word kind))))) }
 {
     let kind = kind_word(kind);
     write!(out, "{word} {controller} {kind}")

@@ -4,8 +4,8 @@ ghost use Rattle.std.specs.Prelude.{◌≡◌, ◌++◌, IfOk, OnOk, map, option
 ghost use Rattle.serde_json.specs.Data.{string};
 ghost use Rattle.serde_json.specs.View.{members_view, view};
 ghost use Rattle.serde_json.specs.Written.{compact_text};
-ghost use Rattle.jc_lines.specs.Changes.{condition_data, container_data, phase_change_data};
-ghost use Rattle.jc_lines.specs.Changes.{end_data, ends_data, with_container, with_exit};
+ghost use Rattle.jc_lines.specs.Changes.{pod_condition_data, container_data, phase_change_data};
+ghost use Rattle.jc_lines.specs.Changes.{end_data, ends_data, with_container, with_exit_member};
 ghost use Rattle.jc_manifest.specs.Members.{list_data};
 
 use crate::members::{Members, put_given, put_given_exit, put_given_number, put_text, put_value};
@@ -25,10 +25,10 @@ fn given_text(alloc: Global, text: &Option<Text>) -> Result<Option<Value>, Want>
 }
 
 // Puts the exit code and the name of a container.
-#[tactic(auto, unfolding(crate::specs::Changes::with_exit))]
+#[tactic(auto, unfolding(crate::specs::Changes::with_exit_member))]
 fn put_exit(members: &mut Members, alloc: Global, change: &ContainerChange) -> Result<(), Want>
     ensures { OnOk result (members_view members.new.entries
-        ≡ with_exit change.now (members_view members.old.entries)) }
+        ≡ with_exit_member change.now (members_view members.old.entries)) }
 {
     put_given_exit(members, alloc, "exitCode", change.exit)?;
     put_text(members, alloc, "name", change.name.as_str())?;
@@ -65,9 +65,9 @@ fn container_values(alloc: Global, changes: &[ContainerChange]) -> Result<Value,
     Ok(Value::Array(values))
 }
 
-#[tactic(auto, unfolding(crate::specs::Changes::condition_data))]
+#[tactic(auto, unfolding(crate::specs::Changes::pod_condition_data))]
 fn condition_value(alloc: Global, condition: &PodCondition) -> Result<Value, Want>
-    ensures { IfOk result (λ v. view v ≡ condition_data condition.now) }
+    ensures { IfOk result (λ v. view v ≡ pod_condition_data condition.now) }
 {
     let mut members = Map::new(alloc);
     put_text(&mut members, alloc, "status", truth_word(condition.truth))?;
@@ -76,7 +76,7 @@ fn condition_value(alloc: Global, condition: &PodCondition) -> Result<Value, Wan
 }
 
 fn condition_values(alloc: Global, conditions: &[PodCondition]) -> Result<Value, Want>
-    ensures { IfOk result (λ v. view v ≡ list_data (map condition_data conditions.now)) }
+    ensures { IfOk result (λ v. view v ≡ list_data (map pod_condition_data conditions.now)) }
 {
     let mut values = Vec::new(alloc);
     for condition in conditions {

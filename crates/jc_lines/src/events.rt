@@ -52,8 +52,13 @@ fn print_deed(out: &mut String, alloc: Global, script: &Script, event: &Event) -
     }
 }
 
-// The whole line.
-fn put_event(
+/// Puts the line of an event behind the text, as `print_event`, but after want of memory a part of the
+/// line may stand there: for a text that is given up then.
+///
+/// # Errors
+///
+/// Want of memory.
+pub fn put_event(
     out: &mut String,
     alloc: Global,
     script: &Script,

@@ -13,7 +13,7 @@ mod replies;
 mod summaries;
 mod words;
 
-pub use events::print_event;
+pub use events::{print_event, put_event};
 pub use jobs::print_job;
 pub use laws::{lines_tell_events, lines_tell_histories};
 pub use summaries::{print_full, print_summary, print_verdicts};

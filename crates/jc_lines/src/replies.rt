@@ -4,7 +4,7 @@ ghost use Rattle.std.specs.Prelude.{◌≡◌, ◌++◌, OnOk, codes, decimal, s
 ghost use Rattle.jc_types.specs.declared.replies.Answer.TheVariants as answer;
 ghost use Rattle.jc_types.specs.declared.replies.Reply.TheVariants as reply;
 ghost use Rattle.jc_types.specs.declared.replies.Request.TheVariants as request;
-ghost use Rattle.jc_lines.specs.Replies.{answer_text, reply_text, request_text};
+ghost use Rattle.jc_lines.specs.Replies.{TellsThree, answer_text, reply_text, request_text};
 ghost use Rattle.jc_lines.specs.Words.{version_text};
 
 use crate::keys::print_key;
@@ -112,6 +112,28 @@ fn print_node(out: &mut String, pod: Uid, phase: Phase, version: Version) -> Res
     write!(out, "pod {pod} {phase} written v{at}")
 }
 
+// A reply that tells of three things.
+fn print_three(out: &mut String, reply: &Reply) -> Result<(), Want>
+    requires { TellsThree reply.now }
+    ensures { OnOk result (string_bytes out.new
+        ≡ string_bytes out.old ++ reply_text reply.now) }
+{
+    match reply {
+        Reply::Begun {
+            key,
+            jobs_at,
+            pods_at,
+        } => print_begun(out, key, *jobs_at, *pods_at),
+        Reply::Behind { kind, need, have } => print_behind(out, *kind, *need, *have),
+        Reply::NodeDone {
+            pod,
+            phase,
+            version,
+        } => print_node(out, *pod, *phase, *version),
+        _ => unreachable!(),
+    }
+}
+
 fn print_creation(out: &mut String, index: Option<u32>) -> Result<(), Want>
     ensures { OnOk result (string_bytes out.new
         ≡ string_bytes out.old ++ request_text (request.CreatePod index)) }
@@ -210,22 +232,14 @@ pub fn print_reply(out: &mut String, alloc: Global, reply: &Reply) -> Result<(),
         Reply::UpToDate => print_word(out, "up-to-date"),
         Reply::Expired { floor } => print_version(out, "expired", *floor),
         Reply::NotSynced => print_word(out, "not-synced"),
-        Reply::Begun {
-            key,
-            jobs_at,
-            pods_at,
-        } => print_begun(out, key, *jobs_at, *pods_at),
+        Reply::Begun { .. } => print_three(out, reply),
         Reply::NoKey => print_word(out, "no-key"),
-        Reply::Behind { kind, need, have } => print_behind(out, *kind, *need, *have),
+        Reply::Behind { .. } => print_three(out, reply),
         Reply::WorkerBusy => print_word(out, "worker-busy"),
         Reply::Stepped { request, answer } => print_stepped(out, request, answer),
         Reply::Ended => print_word(out, "ended"),
         Reply::Idle => print_word(out, "idle"),
-        Reply::NodeDone {
-            pod,
-            phase,
-            version,
-        } => print_node(out, *pod, *phase, *version),
+        Reply::NodeDone { .. } => print_three(out, reply),
         Reply::Done => print_word(out, "done"),
     }
 }

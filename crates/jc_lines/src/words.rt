@@ -2,7 +2,7 @@
 
 ghost use Rattle.std.specs.Prelude.{◌≡◌};
 ghost use Rattle.jc_manifest.specs.PrintedSpecs.{truth_word};
-ghost use Rattle.jc_lines.specs.Words.{fault_word, field_word, kind_word, phase_word};
+ghost use Rattle.jc_lines.specs.Words.{fault_word, field_word, objects_word, phase_word};
 
 use jc_types::{Fault, Field, Kind, Phase, Truth};
 
@@ -18,7 +18,7 @@ pub fn phase_word(phase: Phase) -> &'static str
 }
 
 pub fn kind_word(kind: Kind) -> &'static str
-    ensures { result.now ≡ kind_word kind }
+    ensures { result.now ≡ objects_word kind }
 {
     match kind {
         Kind::Jobs => "jobs",

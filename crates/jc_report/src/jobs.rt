@@ -1,0 +1,105 @@
+//! The Jobs of a report: in which order they stand, and their lines.
+
+ghost use Rattle.std.specs.Prelude.{◌≡◌, ◌++◌, IfOk, OnOk, string_bytes};
+ghost use Rattle.std.specs.BTreeMap.{insert_entry};
+ghost use Rattle.jc_ledger.specs.Books.{verdicts_at};
+ghost use Rattle.jc_queue.specs.Delayed.{key_order};
+ghost use Rattle.jc_report.specs.Reports.{by_key, in_order, job_lines, jobs_text};
+
+use jc_ledger::Verdicts;
+use jc_lines::{print_job, print_verdicts};
+use jc_table::Table;
+use jc_types::{Copied, Job, Jobs, Key, Uid, Want};
+use std::alloc::Global;
+use std::collections::BTreeMap;
+
+// Puts a copy of the Job at its key's place.
+fn put_copy(rows: &mut BTreeMap<Key, Job>, key: &Key, job: &Job) -> Result<(), Want>
+    ensures { OnOk result (rows.new.entries
+        ≡ insert_entry key_order rows.old.entries key.now job.now) }
+{
+    rows.insert(key.copy()?, job.copy()?)?;
+    Ok(())
+}
+
+// The Jobs by their keys, in ascending key.
+fn ordered(alloc: Global, jobs: &Table<Key, Job>) -> Result<BTreeMap<Key, Job>, Want>
+    ensures { IfOk result (λ rows. rows.entries ≡ by_key jobs.now) }
+{
+    let mut rows = BTreeMap::new(alloc);
+    for place in (0..jobs.len()).rev() {
+        let Some((key, job)) = jobs.row(place) else {
+            unreachable!()
+        };
+        put_copy(&mut rows, key, job)?;
+    }
+    Ok(rows)
+}
+
+/// The Jobs in ascending key: by namespace and then by name, byte by byte.
+///
+/// # Errors
+///
+/// Want of memory.
+pub fn in_order(alloc: Global, jobs: &Table<Key, Job>) -> Result<Jobs, Want>
+    ensures { IfOk result (λ list. list ≡ in_order jobs.now) }
+{
+    let rows = ordered(alloc, jobs)?;
+    let mut list = Jobs::new(alloc);
+    for job in rows.into_values() {
+        list.push(job)?;
+    }
+    Ok(list)
+}
+
+// The verdicts in the row of a Job; none where it has no row.
+fn verdicts_of(rows: &Table<Uid, Verdicts>, job: Uid) -> Verdicts
+    ensures { result ≡ verdicts_at job rows.now }
+{
+    match rows.get(&job) {
+        Some(found) => *found,
+        None => Verdicts {
+            succeeded: 0,
+            failed: 0,
+            indexes: 0,
+        },
+    }
+}
+
+// The two lines of a Job.
+fn print_lines(
+    out: &mut String,
+    alloc: Global,
+    rows: &Table<Uid, Verdicts>,
+    job: &Job,
+) -> Result<(), Want>
+    ensures { OnOk result (string_bytes out.new
+        ≡ string_bytes out.old ++ job_lines (λ j. verdicts_at j rows.now) job.now) }
+{
+    let found = verdicts_of(rows, job.uid);
+    print_job(out, alloc, job)?;
+    print_verdicts(
+        out,
+        alloc,
+        job,
+        found.succeeded,
+        found.failed,
+        found.indexes,
+    )
+}
+
+/// The lines of the Jobs, where these rows have their verdicts.
+///
+/// # Errors
+///
+/// Want of memory.
+pub fn jobs_text(alloc: Global, rows: &Table<Uid, Verdicts>, jobs: &[Job]) -> Result<String, Want>
+    ensures { IfOk result (λ text. string_bytes text
+        ≡ jobs_text (λ j. verdicts_at j rows.now) jobs.now) }
+{
+    let mut text = String::new(alloc);
+    for job in jobs {
+        print_lines(&mut text, alloc, rows, job)?;
+    }
+    Ok(text)
+}
