@@ -1,2 +1,3 @@
+pub mod Commands
 mod Fit
 mod Rows

@@ -8,7 +8,8 @@
 --     fate number i                  the command that sets how its pods are to end
 --     job_commands number pods i     both
 --     generated number jobs pods     the whole script
-use Rattle.std.specs.Prelude.{ℕ, ℤ, ◌+◌, ◌*◌, ◌%◌, ◌==◌, pos, false, List, [], ◌∷◌, ◌++◌, replicate, flat_map, codes, decimal, if◌then◌else◌, Some, None}
+--     IsGenerated number jobs pods command   the command is one that such a script may have
+use Rattle.std.specs.Prelude.{◌≡◌, ◌<◌, ◌⊎◌, ℕ, ℤ, ◌+◌, ◌*◌, ◌%◌, ◌==◌, pos, false, List, [], ◌∷◌, ◌++◌, replicate, flat_map, codes, decimal, if◌then◌else◌, Some, None}
 use Rattle.std.specs.List.{range_with_len}
 use Rattle.jc_types.specs.declared.actions.Action1.{Action1}
 use Rattle.jc_types.specs.declared.actions.Action1.TheVariants.{Create, Fate, Settle}
@@ -67,15 +68,22 @@ abbrev pub creation : ℕ → ℕ → ℕ → Command
 creation number pods i = on_first_lane (Create (job_key i) (job_spec number pods i))
 
 -- The fate of its pods is set.
-abbrev pub fate : ℕ → ℕ → Command
-fate number i = on_first_lane (Fate (job_key i) (job_ends number i))
+abbrev pub fate_command : ℕ → ℕ → Command
+fate_command number i = on_first_lane (Fate (job_key i) (job_ends number i))
 
 -- Both, one after the other.
 abbrev pub job_commands : ℕ → ℕ → ℕ → List Command
-job_commands number pods i = creation number pods i ∷ fate number i ∷ []
+job_commands number pods i = creation number pods i ∷ fate_command number i ∷ []
 
 -- The Jobs from 0 on, one after the other, and at last a settle.
 unfoldable pub generated : ℕ → ℕ → ℕ → Script
 generated number jobs pods = record {
   commands = flat_map (job_commands number pods) (range_with_len 0 jobs) ++ on_first_lane Settle ∷ [];
 }
+
+-- The command creates one of the Jobs, or sets the fate of its pods, or is the settle.
+abbrev pub IsGenerated : ℕ → ℕ → ℕ → Command → Type 0
+IsGenerated number jobs pods command =
+    ((i : ℕ) × (i < jobs) × (command ≡ creation number pods i))
+    ⊎ (((i : ℕ) × (i < jobs) × (command ≡ fate_command number i))
+    ⊎ (command ≡ on_first_lane Settle))

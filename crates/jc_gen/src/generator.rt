@@ -1,7 +1,7 @@
 //! The generated script, command by command.
 
 ghost use Rattle.std.specs.Prelude.{◌≡◌, ◌+◌, ◌*◌, ◌%◌, ◌≤◌, ◌↔◌, IfOk, IsTrue};
-ghost use Rattle.jc_gen.specs.Generated.{creation, end_with, fate, generated, job_ends, job_key, job_mode, job_spec};
+ghost use Rattle.jc_gen.specs.Generated.{creation, end_with, fate_command, generated, job_ends, job_key, job_mode, job_spec};
 
 use jc_types::{
     Action1, Arc, Command, Commands, End, Ends, JobSpec, Key, Mode, Name, Names, Replacement,
@@ -116,7 +116,7 @@ fn creation(alloc: Global, number: u32, pods: u32, i: u32) -> Result<Command, Wa
 
 // How the pods of a Job are to end.
 fn fate(alloc: Global, number: u32, i: u32) -> Result<Command, Want>
-    ensures { IfOk result (λ command. command ≡ fate number i) }
+    ensures { IfOk result (λ command. command ≡ fate_command number i) }
 {
     Ok(Command {
         lane: 0,

@@ -1,8 +1,11 @@
-//! Laws on generated scripts. The function is empty: what it ensures holds of every script, and its callers may cite it.
+//! Laws on generated scripts. Each function is empty: what it ensures holds of every script, and its callers may cite it.
 
 ghost use Rattle.std.specs.Prelude.{◌≡◌, ◌+◌, ◌*◌, ◌<◌, ◌≤◌, ◌^◌, ℕ, length};
+ghost use Rattle.std.specs.List.{AllByRecursion as Each};
+ghost use Rattle.jc_states.specs.ValidActions.{IsValidAction};
 ghost use Rattle.jc_states.specs.ValidSpecs.{IsValidSpec};
-ghost use Rattle.jc_gen.specs.Generated.{generated, job_ends, job_key, job_spec};
+ghost use Rattle.jc_types.specs.declared.actions.Command.{Command};
+ghost use Rattle.jc_gen.specs.Generated.{IsGenerated, generated, job_ends, job_key, job_spec};
 
 /// A script has two commands for each Job, and one more. Each Job has a specification that is valid and a key of its
 /// own, and its pods have one to four ends.
@@ -14,4 +17,14 @@ pub fn generated_scripts_are_fit()
     ensures apart { (i j : ℕ) → i < 2 ^ 32 → j < 2 ^ 32 → job_key i ≡ job_key j → i ≡ j }
     ensures some_ends { (number i : ℕ) → 0 < length (job_ends number i) }
     ensures few_ends { (number i : ℕ) → length (job_ends number i) ≤ 4 }
+{}
+
+/// Each command of a script creates a Job, or decides how its pods end, or is the settle. So each is valid.
+pub fn generated_commands_are_valid()
+    ensures each { (number jobs pods : ℕ)
+        → Each (λ (command : Command). IsGenerated number jobs pods command)
+        (generated number jobs pods).commands }
+    ensures valid { (number jobs pods : ℕ) → 1 ≤ pods → pods ≤ 20
+        → Each (λ (command : Command). IsValidAction command.action)
+        (generated number jobs pods).commands }
 {}

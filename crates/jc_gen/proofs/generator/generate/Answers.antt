@@ -3,12 +3,12 @@ use Rattle.std.proofs.Common.{◌≡◌, refl, ap, sym, ◌∙◌, ◌++◌, [],
 use Rattle.std.specs.List.{range_with_len}
 use Rattle.jc_types.specs.declared.actions.Action1.TheVariants.{Settle}
 use Rattle.jc_gen.proofs.Rows.{pushed_two}
-use Rattle.jc_gen.specs.Generated.{creation, fate, generated, job_commands, on_first_lane}
+use Rattle.jc_gen.specs.Generated.{creation, fate_command, generated, job_commands, on_first_lane}
 use Rattle.jc_gen.proofs.generator.generate.Goals as goal
 
 pub loop-i-preserved : goal.loop-i-preserved
 loop-i-preserved c =
-    pushed_two (creation c.args.number c.args.pods) (fate c.args.number) c.loop-i.i _ _ _ _ _
+    pushed_two (creation c.args.number c.args.pods) (fate_command c.args.number) c.loop-i.i _ _ _ _ _
     c.loop-i.invariant c.in_ok-creation.ensures c.in_ok-fate.ensures
     c.in_ok-push.ensures.added c.in_ok-push-2.ensures.added
 
