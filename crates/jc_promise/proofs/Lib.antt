@@ -1,0 +1,2 @@
+mod DeedFacts
+mod SampleFacts

@@ -1,0 +1,130 @@
+-- The history in which one pod is made, and succeeds, and is counted: worked out.
+use Rattle.std.proofs.Common.{◌≡◌, Bool, true, false, List, [], ◌∷◌, ◌++◌, drop, take, Option, Some, None, is_some, refl, sym, ap, ◌∙◌, arith, true≢false}
+use Rattle.std.proofs.lemmas.List.{take-append-drop}
+use Rattle.std.specs.Option.{option_map, unwrap_or}
+use Rattle.jc_types.specs.declared.objects.Entry.{Entry}
+use Rattle.jc_types.specs.declared.objects.Entry.TheVariants.{JobPut, JobGone, PodPut, PodGone}
+use Rattle.jc_types.specs.declared.objects.Job.{Job}
+use Rattle.jc_types.specs.declared.objects.Pod.{Pod}
+use Rattle.jc_types.specs.declared.replies.Reply.TheVariants.{Ended}
+use Rattle.jc_types.specs.declared.runs.Shape.{Shape}
+use Rattle.jc_states.specs.Conditions.{has_end}
+use Rattle.jc_account.specs.Accounts.{counted_in, counted_out}
+use Rattle.jc_manage.specs.Backoffs.{pause}
+use Rattle.jc_plan.specs.Plans.{planned}
+use Rattle.jc_plan.specs.Statuses.{first_value, second_value}
+use Rattle.jc_log.specs.Acts as does
+use Rattle.jc_log.specs.Deeds.{Deed}
+use Rattle.jc_log.specs.Log.{Life, Gone, Live, Never, is_never, job_in, life}
+use Rattle.jc_log.specs.Requests.{grown}
+use Rattle.jc_history.specs.Available.{available, is_empty}
+use Rattle.jc_history.specs.Legal.{IsLegal}
+use Rattle.jc_history.specs.Play.{brought_up, event_played, settled_down, stepped_through, whole_play}
+use Rattle.jc_history.specs.Replies.{gives, log_given}
+use Rattle.jc_history.specs.Samples.{pi_key, usual_shape, version_at}
+use Rattle.jc_history.specs.SampleScripts.{one_pod_script}
+use Rattle.jc_order.specs.Plays.{IsProper}
+use Rattle.jc_promise.specs.SomeDeeds.{FindsEnd, MakesPod, SomeDeed, one_pod_deeds}
+use Rattle.jc_order.proofs.PlayFacts.{plays-whole}
+
+-- ---- the history is legal
+
+proper : IsProper one_pod_script usual_shape
+unfolding one_pod_script
+proper = (tt, ((omega arith, omega arith), (tt, ((omega arith, omega arith), tt))))
+
+pub one_pod-legal : IsLegal usual_shape one_pod_deeds
+one_pod-legal = (plays-whole one_pod_script usual_shape proper).plays.legal
+
+-- ---- its pod is made
+
+never-is : (x : Life) → is_never x ≡ true → x ≡ Never
+never-is Never e = refl
+never-is (Live pod) e = absurd (true≢false (sym e))
+never-is Gone e = absurd (true≢false (sym e))
+
+abbrev tail_of : List Entry → List Entry
+tail_of [] = []
+tail_of (e ∷ older) = older
+
+-- A pod that is in the log came into it with a deed.
+module _ (shape : Shape) (pod : Pod) (older : List Entry) (new : life pod.uid older ≡ Never) where
+  nothing : (newer : List Entry) → [] ≡ newer ++ PodPut pod ∷ older → ⊥
+  nothing [] e = true≢false (ap is_empty e)
+  nothing (x ∷ newer) e = true≢false (ap is_empty e)
+
+  more : (d : Deed) (past : List Deed) → SomeDeed (MakesPod shape) past → SomeDeed (MakesPod shape) (d ∷ past)
+  more d past some = record { later = d ∷ some.later; past = some.past; d = some.d; parts = ap (λ (l : List Deed). d ∷ l) some.parts; holds = some.holds }
+
+  one-more : (d : Deed) (past : List Deed) (o : Option Entry) → log_given shape (d ∷ past) ≡ grown (log_given shape past) o → ((newer : List Entry) → log_given shape past ≡ newer ++ PodPut pod ∷ older → SomeDeed (MakesPod shape) past)
+      → (newer : List Entry) → grown (log_given shape past) o ≡ newer ++ PodPut pod ∷ older → SomeDeed (MakesPod shape) (d ∷ past)
+  one-more d past None is before newer e = more d past (before newer e)
+  one-more d past (Some x) is before [] e = record {
+    later = [];
+    past = past;
+    d = d;
+    parts = refl;
+    holds = record {
+      pod = pod;
+      put = is ∙ e ∙ ap (λ (l : List Entry). PodPut pod ∷ l) (sym (ap tail_of e));
+      new = ap (life pod.uid) (ap tail_of e) ∙ new;
+    };
+  }
+  one-more d past (Some x) is before (y ∷ newer) e = more d past (before newer (ap tail_of e))
+
+  came : (deeds : List Deed) (newer : List Entry) → log_given shape deeds ≡ newer ++ PodPut pod ∷ older → SomeDeed (MakesPod shape) deeds
+  unfolding log_given
+  came [] newer e = absurd (nothing newer e)
+  came (d ∷ past) newer e = one-more d past (gives shape past (log_given shape past) d.act).entry refl (came past) newer e
+
+-- The newest entry makes a pod.
+abbrev is_making : List Entry → Bool
+is_making (PodPut pod ∷ older) = is_never (life pod.uid older)
+is_making other = false
+
+came-of : (shape : Shape) (deeds : List Deed) (newer log : List Entry) → is_making log ≡ true → log_given shape deeds ≡ newer ++ log → SomeDeed (MakesPod shape) deeds
+came-of shape deeds newer [] makes e = absurd (true≢false (sym makes))
+came-of shape deeds newer (PodPut pod ∷ older) makes e = came shape pod older (never-is (life pod.uid older) makes) deeds newer e
+came-of shape deeds newer (PodGone pod ∷ older) makes e = absurd (true≢false (sym makes))
+came-of shape deeds newer (JobPut job ∷ older) makes e = absurd (true≢false (sym makes))
+came-of shape deeds newer (JobGone job ∷ older) makes e = absurd (true≢false (sym makes))
+
+-- The log of the play.
+abbrev one_pod_log : List Entry
+one_pod_log = (whole_play one_pod_script usual_shape).log
+
+making : is_making (drop 5 one_pod_log) ≡ true
+unfolding whole_play brought_up stepped_through settled_down event_played gives planned first_value second_value counted_in counted_out pause available one_pod_script
+making = refl
+
+pub one_pod-made : SomeDeed (MakesPod usual_shape) one_pod_deeds
+one_pod-made =
+    came-of usual_shape one_pod_deeds (take 5 one_pod_log) (drop 5 one_pod_log) making
+    (sym (plays-whole one_pod_script usual_shape proper).plays.log_is ∙ sym (take-append-drop 5 one_pod_log))
+
+-- ---- its Job ends
+
+-- The last deed is the end of the sync that has ended the Job.
+found : (past : List Deed) (d : Deed) (o : Option Job) → job_in pi_key (log_given usual_shape past) ≡ o → option_map (λ (job : Job). has_end job.status.conditions) o ≡ Some true → FindsEnd usual_shape past d
+found past d None there ended = absurd (true≢false (sym (ap is_some ended)))
+found past d (Some job) there ended = record { key = pi_key; job = job; there = there; ended = ap (λ o. unwrap_or o false) ended }
+
+ended-then : option_map (λ (job : Job). has_end job.status.conditions) (job_in pi_key (log_given usual_shape (drop 1 one_pod_deeds))) ≡ Some true
+unfolding whole_play brought_up stepped_through settled_down event_played gives log_given planned first_value second_value counted_in counted_out pause available one_pod_script
+ended-then = refl
+
+abbrev last : Deed
+last = record { lane = None; act = does.Step 0 0; reply = Ended; length = version_at 7 }
+
+parted : one_pod_deeds ≡ last ∷ drop 1 one_pod_deeds
+unfolding whole_play brought_up stepped_through settled_down event_played gives planned first_value second_value counted_in counted_out pause available one_pod_script
+parted = refl
+
+pub one_pod-ends : SomeDeed (FindsEnd usual_shape) one_pod_deeds
+one_pod-ends = record {
+  later = [];
+  past = drop 1 one_pod_deeds;
+  d = last;
+  parts = parted;
+  holds = found (drop 1 one_pod_deeds) last (job_in pi_key (log_given usual_shape (drop 1 one_pod_deeds))) refl ended-then;
+}

@@ -1,0 +1,20 @@
+-- What holds of each legal history, from the laws below.
+use Rattle.std.proofs.Common.{arith, ◌≡◌, ◌+◌, ◌<◌, ◌^◌, subst, length, reverse}
+use Rattle.jc_log.specs.Deeds.{deeds}
+use Rattle.jc_runs.specs.Runs.{AllAskValid}
+use Rattle.jc_promise.proofs.DeedFacts.{deeds-are}
+use Rattle.jc_promise.proofs.laws.legal_histories_keep_the_promises.Goals as goal
+
+pub returns : goal.returns
+returns c = λ script shape history valid some working few follows.
+    let asks : AllAskValid (deeds script history) =
+    subst AllAskValid (deeds-are script history.events.items) (c.valid_scripts_ask_valid.ensures script (reverse history.events.items) valid) in
+    record {
+      once = c.legal_histories_count_once.ensures.at_each shape (deeds script history) follows.legal asks;
+      lost = c.finalizers_are_lost_with_a_cause.ensures shape (deeds script history) follows.legal asks;
+      told = λ other legal events others same.
+          let short : 1 + length other.events.items < 2 ^ 64 = omega (arith, legal.few, few) in
+          c.lines_determine_histories.ensures script shape other history legal follows others events short same;
+      bounds = λ one. c.one_controller_holds_the_bounds.ensures shape (deeds script history) one follows.legal;
+      rests = λ quiet room. c.no_ended_pod_is_forgotten_at_rest.ensures shape (deeds script history) follows.legal asks some working quiet room;
+    }

@@ -1,0 +1,51 @@
+-- What the program promises of a history that it prints.
+--     IsToldAlone script shape h       no other history of the script has the same lines
+--     RestsWell shape deeds            where nothing is left to do, no ended pod is forgotten
+--     KeepsPromises script shape h     all together
+use Rattle.std.specs.Prelude.{◌≡◌, ◌+◌, ◌<◌, true, List, map, Some}
+use Rattle.jc_moment.specs.Range.{end_of_moments}
+use Rattle.jc_types.specs.declared.actions.Script.{Script}
+use Rattle.jc_types.specs.declared.objects.Job.{Job}
+use Rattle.jc_types.specs.declared.objects.Key.{Key}
+use Rattle.jc_types.specs.declared.runs.History.{History}
+use Rattle.jc_types.specs.declared.runs.Shape.{Shape}
+use Rattle.jc_log.specs.Deeds.{Deed, deed, deeds}
+use Rattle.jc_log.specs.Log.{job_in}
+use Rattle.jc_ledger.specs.Once.{OnceAtEach}
+use Rattle.jc_history.specs.Available.{is_quiescent}
+use Rattle.jc_history.specs.Diaries.{moment}
+use Rattle.jc_history.specs.Legal.{IsHistory}
+use Rattle.jc_history.specs.Replies.{log_given}
+use Rattle.jc_bounds.specs.Histories.{HoldsBounds}
+use Rattle.jc_rest.specs.LetGo.{EndedAreLetGo}
+use Rattle.jc_rest.specs.Lost.{AreLostWell}
+use Rattle.jc_lines.specs.Events.{event_lines}
+use Rattle.jc_lines.specs.Told.{AreEvents}
+
+-- The lines of its events tell the history: no other one of the script has the same.
+abbrev pub IsToldAlone : Script → Shape → History → Type 0
+IsToldAlone script shape history = (other : History) → IsHistory script shape other
+    → AreEvents history.events.items → AreEvents other.events.items
+    → event_lines 1 (map (deed script) other.events.items)
+    ≡ event_lines 1 (map (deed script) history.events.items)
+    → other.events.items ≡ history.events.items
+
+-- Where nothing is left to do, each pod that has ended, of a Job that is there, has lost its
+-- finalizer. The clock stands more than a minute before the last moment.
+abbrev pub RestsWell : Shape → List Deed → Type 0
+RestsWell shape past = is_quiescent shape past (log_given shape past) ≡ true
+    → moment shape past + 60 < end_of_moments
+    → (k : Key) (job : Job) → job_in k (log_given shape past) ≡ Some job
+    → EndedAreLetGo job (log_given shape past)
+
+-- After each of its events each pod of each Job was counted once, and each finalizer that a sync took
+-- was taken justly. Each pod without a finalizer lost it to a command or to a sync that had a cause.
+-- Its lines tell it. Where one controller runs, no more pods run at once than a Job allows, and a Job
+-- that has ended stays so. At rest no ended pod is forgotten.
+pub record KeepsPromises (script : Script) (shape : Shape) (history : History) : Type 0 where
+  pub once : OnceAtEach (deeds script history) (log_given shape (deeds script history))
+  pub lost : (k : Key) (job : Job) → job_in k (log_given shape (deeds script history)) ≡ Some job
+      → AreLostWell job (deeds script history) (log_given shape (deeds script history))
+  pub told : IsToldAlone script shape history
+  pub bounds : shape.controllers ≡ 1 → HoldsBounds shape (deeds script history)
+  pub rests : RestsWell shape (deeds script history)

@@ -1,0 +1,43 @@
+-- That what is said of pods that are made and of Jobs that have ended is said of something.
+--     SomeDeed P deeds            P holds of a deed of the history and what came before it
+--     MakesPod shape past d       the deed brings a pod into the log whose UID was never there
+--     FindsEnd shape past d       before the deed a Job is there that has ended
+--     one_pod_deeds               the history in which one pod is made, and succeeds, and is counted
+use Rattle.std.specs.Prelude.{◌≡◌, true, List, ◌∷◌, ◌++◌, Some}
+use Rattle.jc_types.specs.declared.objects.Entry.TheVariants.{PodPut}
+use Rattle.jc_types.specs.declared.objects.Job.{Job}
+use Rattle.jc_types.specs.declared.objects.Key.{Key}
+use Rattle.jc_types.specs.declared.objects.Pod.{Pod}
+use Rattle.jc_types.specs.declared.runs.Shape.{Shape}
+use Rattle.jc_states.specs.Conditions.{has_end}
+use Rattle.jc_log.specs.Deeds.{Deed}
+use Rattle.jc_log.specs.Log.{Never, job_in, life}
+use Rattle.jc_history.specs.Play.{deeds_played, whole_play}
+use Rattle.jc_history.specs.Replies.{log_given}
+use Rattle.jc_history.specs.Samples.{usual_shape}
+use Rattle.jc_history.specs.SampleScripts.{one_pod_script}
+
+-- P holds of a deed of the history and what came before it.
+pub record SomeDeed (P : List Deed → Deed → Type 0) (deeds : List Deed) : Type 0 where
+  pub later : List Deed
+  pub past : List Deed
+  pub d : Deed
+  pub parts : deeds ≡ later ++ d ∷ past
+  pub holds : P past d
+
+-- The deed brings a pod into the log whose UID was never there.
+pub record MakesPod (shape : Shape) (past : List Deed) (d : Deed) : Type 0 where
+  pub pod : Pod
+  pub put : log_given shape (d ∷ past) ≡ PodPut pod ∷ log_given shape past
+  pub new : life pod.uid (log_given shape past) ≡ Never
+
+-- Before the deed a Job is there that has ended.
+pub record FindsEnd (shape : Shape) (past : List Deed) (d : Deed) : Type 0 where
+  pub key : Key
+  pub job : Job
+  pub there : job_in key (log_given shape past) ≡ Some job
+  pub ended : has_end job.status.conditions ≡ true
+
+-- One pod is made, and succeeds, and is counted.
+abbrev pub one_pod_deeds : List Deed
+one_pod_deeds = deeds_played one_pod_script (whole_play one_pod_script usual_shape)
