@@ -1,0 +1,5 @@
+mod Decimals
+mod Fitting
+mod Moments
+mod Pairs
+mod Reading

@@ -1,0 +1,5 @@
+pub mod Values
+pub mod Options
+pub mod Said
+pub mod Words
+pub mod Fits
