@@ -25,10 +25,10 @@ TakesAtMost-after a b c xs n m before t e = record {
 pub written_more : (a b c : Option (List ℕ)) (bytes : List ℕ) (i n : ℕ) → Appends a b (take i bytes) → Appends b c (take n (take (length bytes - i) (drop i bytes))) → Appends a c (take (i + n) bytes)
 written_more a b c bytes i n before now = rw (take-add i n bytes) (Appends-trans a b c _ _ before (rw (take_rest bytes i) at now))
 
--- n bytes of those from i on were copied, as many as there is room for
-pub copied_leave : (bytes from given : List ℕ) (i n : ℕ) → from ≡ drop i bytes → take n given ≡ take n from → n ≡ min (length given) (length from)
+-- n bytes of those from i on were copied, as many as a piece may have and there is room for
+pub copied_leave : (bytes from given : List ℕ) (i n most : ℕ) → from ≡ drop i bytes → take n given ≡ take n from → 0 < most → n ≡ min most (min (length given) (length from))
     → (drop i bytes ≡ take n given ++ drop (i + n) bytes) × (n ≡ 0 → 0 < length given → drop (i + n) bytes ≡ [])
-copied_leave bytes from given i n is_rest copied count =
+copied_leave bytes from given i n most is_rest copied moves count =
     let whole : take n (drop i bytes) ++ drop (i + n) bytes ≡ drop i bytes = rw (← drop-drop n i bytes) (take-append-drop n (drop i bytes)) in
     let len : length from ≡ length bytes - i = rw is_rest (length-drop i bytes) in
     (rw (copied, is_rest) (sym whole), λ none room. drop_of_length-le bytes (omega arith))

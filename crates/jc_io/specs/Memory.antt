@@ -12,6 +12,10 @@ bytes_left s = drop s.at s.bytes.items
 abbrev pub source_plan : MemSource → Plan
 source_plan s = s.plan
 
+-- how many bytes a call of the source gives at most
+abbrev pub source_most : MemSource → ℕ
+source_most s = s.most
+
 -- the bytes that the sink holds
 abbrev pub bytes_held : MemSink → List ℕ
 bytes_held s = s.held.items
@@ -23,6 +27,10 @@ sink_room s = s.room
 -- how many bytes more the sink can hold
 abbrev pub room_left : MemSink → ℕ
 room_left s = sink_room s - length (bytes_held s)
+
+-- how many bytes a call of the sink takes at most
+abbrev pub sink_most : MemSink → ℕ
+sink_most s = s.most
 
 -- which calls of the sink fail, and how many there were
 abbrev pub sink_plan : MemSink → Plan

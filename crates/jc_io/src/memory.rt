@@ -1,5 +1,5 @@
 // A source and a sink in memory, whose faults are planned.
-ghost use Rattle.std.specs.Prelude.{◌≡◌, ◌≤◌, min, take, length, vec_len, vec_capacity};
+ghost use Rattle.std.specs.Prelude.{◌≡◌, ◌≤◌, ◌<◌, min, take, length, vec_len, vec_capacity};
 
 use super::plan::Plan;
 use super::{Bytes, Failed, Sink, Source, Want};
@@ -12,24 +12,44 @@ use std::alloc::Global;
 pub struct MemSource {
     bytes: Bytes,
     at: usize,
+    most: usize,
     plan: Plan,
     ghost within: { at ≤ vec_len bytes },
+    ghost moves: { 0 < most },
 }
 
 impl MemSource {
-    ghost use Rattle.std.specs.Prelude.{◌≡◌};
-    ghost use Rattle.jc_io.specs.Memory.{bytes_left, source_plan};
+    ghost use Rattle.std.specs.Prelude.{◌≡◌, ◌≤◌, ◌-◌, ◌^◌};
+    ghost use Rattle.jc_io.specs.Memory.{bytes_left, source_most, source_plan};
     ghost use Rattle.jc_io.specs.Plan.{new_plan};
 
     /// A source of `bytes`, whose calls with a number in `fails` fail. It takes no memory.
     pub fn new(bytes: Bytes, fails: Vec<u64>) -> MemSource
         ensures left { bytes_left result ≡ bytes.items }
         ensures plan { source_plan result ≡ new_plan fails }
+        // More than any buffer has room for.
+        ensures pieces { source_most result ≡ 2 ^ 64 - 1 }
     {
         MemSource {
             bytes,
             at: 0,
+            most: usize::MAX,
             plan: Plan::new(fails),
+        }
+    }
+
+    /// This source, of which one call gives at most `most` bytes from now on. It takes no memory.
+    pub fn in_pieces(self, most: u32) -> MemSource
+        requires { 1 ≤ most }
+        ensures left { bytes_left result ≡ bytes_left self }
+        ensures plan { source_plan result ≡ source_plan self }
+        ensures pieces { source_most result ≡ most }
+    {
+        MemSource {
+            bytes: self.bytes,
+            at: self.at,
+            most: most as usize,
+            plan: self.plan,
         }
     }
 }
@@ -39,7 +59,7 @@ impl Source for MemSource {
     ghost use Rattle.std.specs.Io.{ReadsAtMost};
     ghost use Rattle.std.specs.Io.KnownBytes.{ReadConsumes};
     ghost use Rattle.jc_io.specs.Faults.{HasCause};
-    ghost use Rattle.jc_io.specs.Memory.{bytes_left, source_plan};
+    ghost use Rattle.jc_io.specs.Memory.{bytes_left, source_most, source_plan};
     ghost use Rattle.jc_io.specs.Plan.{after_call, fails_next};
 
     ghost left = { λ s. Some (bytes_left s) };
@@ -53,13 +73,16 @@ impl Source for MemSource {
         ensures cause { HasCause
             (source_plan self.old).faults (source_plan self.new).faults result }
         ensures never_falls { (source_plan self.old).faults ≤ (source_plan self.new).faults }
-        // A call gives as much as the buffer has room for, and fails exactly where that is planned.
-        ensures count { IfOk result (λ n. n ≡ min (length buf.old) (length (bytes_left self.old))) }
+        // A call gives as much as a piece may have and the buffer has room for, and fails exactly
+        // where that is planned.
+        ensures count { IfOk result (λ n. n
+            ≡ min (source_most self.old) (min (length buf.old) (length (bytes_left self.old)))) }
+        ensures same_pieces { source_most self.new ≡ source_most self.old }
         ensures refused { is_err result ≡ fails_next (source_plan self.old) }
         ensures counted { source_plan self.new ≡ after_call (source_plan self.old) (is_err result) }
     {
         self.plan.call(true)?;
-        let count = copy_front(&self.bytes[self.at..], buf);
+        let count = copy_front(&self.bytes[self.at..], buf, self.most);
         self.at += count;
         Ok(count)
     }
@@ -74,14 +97,16 @@ impl Source for MemSource {
 pub struct MemSink {
     held: Bytes,
     room: usize,
+    most: usize,
     plan: Plan,
     ghost within: { vec_len held ≤ room },
     ghost reserved: { room ≤ vec_capacity held },
+    ghost moves: { 0 < most },
 }
 
 impl MemSink {
-    ghost use Rattle.std.specs.Prelude.{◌≡◌, [], IfOk};
-    ghost use Rattle.jc_io.specs.Memory.{bytes_held, sink_plan, sink_room};
+    ghost use Rattle.std.specs.Prelude.{◌≡◌, ◌≤◌, ◌-◌, ◌^◌, [], IfOk};
+    ghost use Rattle.jc_io.specs.Memory.{bytes_held, sink_most, sink_plan, sink_room};
     ghost use Rattle.jc_io.specs.Plan.{new_plan};
 
     /// A sink with room for `room` bytes, whose calls with a number in `fails` fail.
@@ -89,13 +114,32 @@ impl MemSink {
         ensures empty { IfOk result (λ s. bytes_held s ≡ []) }
         ensures room { IfOk result (λ s. sink_room s ≡ room) }
         ensures plan { IfOk result (λ s. sink_plan s ≡ new_plan fails) }
+        // More than any piece has.
+        ensures pieces { IfOk result (λ s. sink_most s ≡ 2 ^ 64 - 1) }
     {
         let room = room as usize;
         Ok(MemSink {
             held: Vec::with_capacity(alloc, room)?,
             room,
+            most: usize::MAX,
             plan: Plan::new(fails),
         })
+    }
+
+    /// This sink, of which one call takes at most `most` bytes from now on. It takes no memory.
+    pub fn in_pieces(self, most: u32) -> MemSink
+        requires { 1 ≤ most }
+        ensures held { bytes_held result ≡ bytes_held self }
+        ensures room { sink_room result ≡ sink_room self }
+        ensures plan { sink_plan result ≡ sink_plan self }
+        ensures pieces { sink_most result ≡ most }
+    {
+        MemSink {
+            held: self.held,
+            room: self.room,
+            most: most as usize,
+            plan: self.plan,
+        }
     }
 
     /// The bytes that were written.
@@ -111,7 +155,7 @@ impl Sink for MemSink {
     ghost use Rattle.std.specs.Io.{WritesAtMost};
     ghost use Rattle.std.specs.Io.KnownBytes.{Keeps, WriteAppends};
     ghost use Rattle.jc_io.specs.Faults.{HasCause};
-    ghost use Rattle.jc_io.specs.Memory.{bytes_held, room_left, sink_plan, sink_room};
+    ghost use Rattle.jc_io.specs.Memory.{bytes_held, room_left, sink_most, sink_plan, sink_room};
     ghost use Rattle.jc_io.specs.Plan.{after_call, fails_next};
 
     ghost held = { λ s. Some (bytes_held s) };
@@ -126,17 +170,19 @@ impl Sink for MemSink {
             (Some (bytes_held self.old)) (Some (bytes_held self.new)) result piece.now }
         ensures cause { HasCause (sink_plan self.old).faults (sink_plan self.new).faults result }
         ensures never_falls { (sink_plan self.old).faults ≤ (sink_plan self.new).faults }
-        // A call appends as much as there is room for, and fails exactly where that is planned or
-        // no room is left.
-        ensures count { IfOk result (λ n. n ≡ min (length piece.now) (room_left self.old)) }
+        // A call appends as much as a piece may have and there is room for, and fails exactly where
+        // that is planned or no room is left.
+        ensures count { IfOk result (λ n. n
+            ≡ min (sink_most self.old) (min (length piece.now) (room_left self.old))) }
         ensures same_room { sink_room self.new ≡ sink_room self.old }
+        ensures same_pieces { sink_most self.new ≡ sink_most self.old }
         ensures refused { is_err result
             ≡ (fails_next (sink_plan self.old) || (room_left self.old == 0)) }
         ensures counted { sink_plan self.new ≡ after_call (sink_plan self.old) (is_err result) }
     {
         let room = self.room - self.held.len();
         self.plan.call(room > 0)?;
-        let count = piece.len().min(room);
+        let count = self.most.min(piece.len().min(room));
         match self.held.extend_from_slice(&piece[..count]) {
             Ok(()) => Ok(count),
             Err(_) => unreachable!(),
@@ -149,6 +195,7 @@ impl Sink for MemSink {
         ensures never_falls { (sink_plan self.old).faults ≤ (sink_plan self.new).faults }
         // A call fails exactly where that is planned.
         ensures same_room { sink_room self.new ≡ sink_room self.old }
+        ensures same_pieces { sink_most self.new ≡ sink_most self.old }
         ensures refused { is_err result ≡ fails_next (sink_plan self.old) }
         ensures counted { sink_plan self.new ≡ after_call (sink_plan self.old) (is_err result) }
     {
@@ -156,12 +203,12 @@ impl Sink for MemSink {
     }
 }
 
-// Copies as many bytes as both have, and says how many.
-fn copy_front(from: &[u8], to: &mut [u8]) -> usize
-    ensures count { result ≡ min (length to.old) (length from.now) }
+// Copies as many bytes as both have, `most` at most, and says how many.
+fn copy_front(from: &[u8], to: &mut [u8], most: usize) -> usize
+    ensures count { result ≡ min most (min (length to.old) (length from.now)) }
     ensures copied { take result to.new ≡ take result from.now }
 {
-    let count = to.len().min(from.len());
+    let count = most.min(to.len().min(from.len()));
     to[..count].copy_from_slice(&from[..count]);
     count
 }

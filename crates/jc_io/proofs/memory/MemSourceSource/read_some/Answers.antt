@@ -8,5 +8,5 @@ pub returns-clause-bytes : goal.returns-clause-bytes
 returns-clause-bytes c =
     let start = c.args.self.now.at in
     let whole = c.deref.result.now in
-    copied_leave c.args.self.now.bytes.items (take (length whole - start) (drop start whole)) c.copy_front-count.new.to start c.copy_front-count.result
-    (take_rest whole start ∙ ap (drop start) c.deref.ensures.value) c.copy_front-count.ensures.copied (grind arith)
+    copied_leave c.args.self.now.bytes.items (take (length whole - start) (drop start whole)) c.copy_front-count.new.to start c.copy_front-count.result c.args.self.now.most
+    (take_rest whole start ∙ ap (drop start) c.deref.ensures.value) c.copy_front-count.ensures.copied (grind arith) (grind arith)
