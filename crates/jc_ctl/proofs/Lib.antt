@@ -1,5 +1,4 @@
-pub mod Create
-pub mod FirstLine
-pub mod Pods
-pub mod Reading
-pub mod Counting
+mod PrintFacts
+mod ShapeFacts
+mod WholeFacts
+mod RunFacts

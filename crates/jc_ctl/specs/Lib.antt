@@ -1,5 +1,2 @@
-pub mod Lines
-pub mod Commands
-pub mod Script
-pub mod Report
-pub mod Run
+pub mod Runs
+pub mod Told

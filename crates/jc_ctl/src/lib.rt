@@ -1,11 +1,13 @@
-//! The top call: it reads a script, plays it on one thread, and writes what was counted.
+//! The program whole, on one thread: what its words ask for is read, played and written.
 #![tactic(auto)]
 
-mod commands;
-mod lines;
-mod report;
+mod laws;
+mod orders;
+mod plays;
 mod run;
-mod script;
+mod status;
+mod texts;
 
-pub use run::{Status, run_program};
-pub use script::{Cause, ScriptFault, read_script};
+pub use laws::{plays_tell_their_history, runs_tell_their_history};
+pub use run::run_program;
+pub use status::Status;

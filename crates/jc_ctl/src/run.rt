@@ -1,128 +1,147 @@
-//! The top call.
-ghost use Rattle.std.specs.Prelude.{◌≡◌, ◌≢◌, ◌<◌, ◌≤◌, ◌+◌, ◌↔◌, ◌⊎◌, ℕ, List, true, false, IfOk, IsOkAnd, IfSome, IsErrOf, Ok, Err, length, map, string_bytes};
+//! The top call: it reads, plays and writes.
+
+ghost use Rattle.std.specs.Prelude.{◌≡◌, ◌≢◌, ◌<◌, ◌≤◌, ◌+◌, ◌↔◌, ◌⊎◌, Err, IfOk, IfSome, IsErrOf, IsOkAnd, None, OnErr, Some, false, if◌then◌else◌, length, map, string_bytes, true, vec_len, ℕ};
 ghost use Rattle.std.specs.Io.KnownBytes.{Appends, Keeps};
 ghost use Rattle.jc_io.specs.Faults.{Rose};
 ghost use Rattle.jc_io.specs.Moved.{AppendsFront, TakesAtMost, TakesCount};
-ghost use Rattle.jc_ctl.specs.Script.{script_of};
-ghost use Rattle.jc_ctl.specs.Run.{in_grammar, most_bytes, answer_of, status_of, CountsOnceAtEach};
+ghost use Rattle.jc_types.specs.declared.runs.Shape.{Shape};
+ghost use Rattle.jc_script.specs.Scripts.{most_bytes, script_of};
+ghost use Rattle.jc_script.specs.declared.causes.Cause.{Cause};
+ghost use Rattle.jc_words.specs.Words.{order_of};
+ghost use Rattle.jc_words.specs.declared.words.Order.{Order};
+ghost use Rattle.jc_words.specs.declared.words.Order.TheVariants.{Generate, Run};
+ghost use Rattle.jc_ctl.specs.Runs.{OfInput, answer_of, status_of};
+ghost use Rattle.jc_ctl.specs.Told.{TellsHistory, ends_full};
 
-use crate::report::report;
-use crate::script::{Cause, ScriptFault, read_script};
-use jc_io::{ReadEnd, Sink, Source, WriteFault, read_all, write_all};
-use jc_play::play;
-use std::alloc::{AllocError, Global};
-
-/// How a run of the program ends.
-#[derive(Clone, Copy, PartialEq, Eq, Debug)]
-pub enum Status {
-    /// The script was read to its end and the whole report was written.
-    Ok,
-    /// The words are not in the grammar. Nothing was read or written.
-    BadWords,
-    /// The source failed. Nothing was written.
-    ReadFault,
-    /// The sink failed. What went out is a prefix of the report.
-    WriteFault,
-    /// The line is the script's first bad one. Nothing was written.
-    BadScript { line: u32, cause: Cause },
-    /// Memory ran out. Nothing was written.
-    Want,
-    /// The input has more than 67,108,864 bytes. Nothing was written.
-    TooLong,
-}
+use crate::laws::runs_tell_their_history;
+use crate::orders::answer;
+use crate::status::Status;
+use jc_io::{Bytes, ReadEnd, Sink, Source, WriteFault, read_all, write_all};
+use jc_script::ScriptFault;
+use jc_words::{Order, orders_fit, read_words};
+use std::alloc::Global;
 
 // A script has at most this many bytes.
 const MOST_BYTES: u64 = 67_108_864;
 
-// Whether the words are in the grammar.
-fn are_known(words: &[String]) -> bool
-    ensures { result ≡ in_grammar (map string_bytes words.now) }
+// Reads all that the order needs: the whole source for a script, and nothing for a generated one.
+fn read_input<S: Source>(alloc: Global, order: &Order, source: &mut S) -> Result<Bytes, ReadEnd>
+    ensures all { IfOk result
+        (λ bytes. OfInput order.now (S.left source.old) (λ input. input ≡ bytes.items)) }
+    ensures within { IfOk result (λ bytes. vec_len bytes ≤ most_bytes) }
+    ensures generates { (number jobs pods : ℕ) → order.now ≡ Generate number jobs pods
+        → Keeps (S.left source.old) (S.left source.new) }
+    ensures never_fails { (number jobs pods : ℕ) → order.now ≡ Generate number jobs pods
+        → OnErr result ⊥ }
+    ensures fault { IsErrOf result ReadEnd.ReadFault
+        → Rose (S.faults source.old) (S.faults source.new) }
+    ensures too_long { IsErrOf result ReadEnd.TooLong
+        → TakesCount (S.left source.old) (S.left source.new) (most_bytes + 1) }
+    ensures not_too_long { result ≢ Err ReadEnd.TooLong
+        → TakesAtMost (S.left source.old) (S.left source.new) most_bytes }
 {
-    match words {
-        [word] => word.as_str() == "run",
-        _ => false,
+    match order {
+        Order::Run { .. } => read_all(alloc, source, MOST_BYTES),
+        Order::Generate { .. } => Ok(Vec::new(alloc)),
     }
 }
 
-// The report of the play of a script.
-#[tactic(auto, unfolding(crate::specs::Run::answer_of))]
-fn answer(alloc: Global, input: &[u8]) -> Result<String, ScriptFault>
-    requires { length input.now ≤ most_bytes }
-    ensures text { IfOk result (λ text. answer_of input.now ≡ Ok (string_bytes text)) }
-    ensures bad_line { (number : ℕ) (cause : Cause) → IsErrOf result (ScriptFault.BadLine number cause)
-        → answer_of input.now ≡ Err number }
+// The status of a run that has written all.
+fn ended(full: bool) -> Status
+    ensures { result ≡ (if full then Status.HistoryFull else Status.Ok) }
 {
-    let commands = read_script(alloc, input)?;
-    let journal = play(alloc, &commands)?;
-    Ok(report(alloc, &journal)?)
+    if full {
+        return Status::HistoryFull;
+    }
+    Status::Ok
 }
 
-/// Reads a script from the source, plays it on one thread and writes the report to the sink.
+/// Does what the words ask for, on one thread. `words` are those after the program's name.
 ///
-/// `words` are the words after the program's name, and must be the one word `run`. The script has at most 67,108,864
-/// bytes and 1,000 commands, one JSON object a line:
-/// `{"do":"create","job":{..}}` with the manifest of the Job `default/pi`, `{"do":"sync"}`, and
-/// `{"do":"finish","pod":N,"exit":0}` with N from 1 to 4,294,967,295. Empty lines are skipped, and one carriage return at
-/// a line's end is dropped.
+/// `run` with its options reads a script of at most 67,108,864 bytes from the source, plays it, and
+/// writes the report; `generate` with three numbers plays a generated script, and writes the summary.
+/// The answers are tested in the order words, reading, script, writing.
 ///
-/// With `Ok` the report was appended to the sink: the two lines `job default/pi vV succeeded N` and
-/// `verdicts default/pi succeeded N failed N` where the Job is there, and nothing where it is not. The answers are tested
-/// in the order words, reading, script, writing.
-#[tactic(auto, using(crate::proofs::Counting::script_once))]
+/// **The headline (KEP-2307)**: with `Ok` and with `HistoryFull` what `run` has written is the report of
+/// a history of the script that is legal and orderly. After each of its events each pod of each Job was
+/// counted once, and each finalizer that a sync took had its cause. Its lines tell it. With one controller
+/// no more pods run at once than a Job allows, and a Job that has ended stays as it is. Where the script
+/// ends in a settle, and the history is not full, no ended pod is forgotten.
 pub fn run_program<S: Source, K: Sink>(
     alloc: Global,
     words: &[String],
     source: &mut S,
     sink: &mut K,
 ) -> Status
-    ensures ok { result ≡ Status.Ok → IfSome (S.left source.old) (λ input.
-        IsOkAnd (answer_of input) (Appends (K.held sink.old) (K.held sink.new))) }
-    // After each version of the log of the play, the Job's total with its uncounted UIDs is the ledger's count of
-    // distinct pods, and no finalizer was taken of a pod that was not judged before.
-    ensures once { IfSome (S.left source.old) (λ input. CountsOnceAtEach (script_of input)) }
-    ensures bad_words { (result ≡ Status.BadWords) ↔ (in_grammar (map string_bytes words.now) ≡ false) }
+    // With Ok the whole text was written: what the words ask for, of what the source had.
+    ensures ok { result ≡ Status.Ok → IfSome (order_of (map string_bytes words.now)) (λ order.
+        OfInput order (S.left source.old) (λ input. IsOkAnd (answer_of order input)
+        (λ printed. (printed.full ≡ false) × Appends (K.held sink.old) (K.held sink.new) printed.text))) }
+    ensures history_full { result ≡ Status.HistoryFull → IfSome (order_of (map string_bytes words.now))
+        (λ order. OfInput order (S.left source.old) (λ input. IsOkAnd (answer_of order input)
+        (λ printed. (printed.full ≡ true) × Appends (K.held sink.old) (K.held sink.new) printed.text))) }
+    // The headline.
+    ensures headline { (result ≡ Status.Ok) ⊎ (result ≡ Status.HistoryFull)
+        → (threads : ℕ) (shape : Shape) → order_of (map string_bytes words.now) ≡ Some (Run threads shape)
+        → IfSome (S.left source.old) (λ input. IsOkAnd (script_of shape input) (λ commands.
+        TellsHistory (record { commands = commands }) shape (ends_full result)
+        (K.held sink.old) (K.held sink.new))) }
+    ensures bad_words { (result ≡ Status.BadWords) ↔ (order_of (map string_bytes words.now) ≡ None) }
     ensures nothing_read { result ≡ Status.BadWords → Keeps (S.left source.old) (S.left source.new) }
+    // A generated script needs no source.
+    ensures generates { (number jobs pods : ℕ)
+        → order_of (map string_bytes words.now) ≡ Some (Generate number jobs pods)
+        → Keeps (S.left source.old) (S.left source.new) }
     ensures read_fault { result ≡ Status.ReadFault → Rose (S.faults source.old) (S.faults source.new) }
     ensures write_fault { result ≡ Status.WriteFault → Rose (K.faults sink.old) (K.faults sink.new) }
     ensures bad_script { (line : ℕ) (cause : Cause) → result ≡ Status.BadScript line cause
-        → IfSome (S.left source.old) (λ input. answer_of input ≡ Err line) }
+        → IfSome (order_of (map string_bytes words.now)) (λ order. OfInput order (S.left source.old)
+        (λ input. answer_of order input ≡ Err (record { number = line; cause = cause }))) }
     ensures too_long { result ≡ Status.TooLong
         → TakesCount (S.left source.old) (S.left source.new) (most_bytes + 1) }
-    // `TooLong` takes one byte more than a script may have, and no other end takes so many.
-    ensures not_too_long { result ≢ Status.TooLong → TakesAtMost (S.left source.old) (S.left source.new) most_bytes }
-    ensures nothing_written { result ≢ Status.Ok → result ≢ Status.WriteFault
+    // TooLong takes one byte more than a script may have, and no other end takes so many.
+    ensures not_too_long { result ≢ Status.TooLong
+        → TakesAtMost (S.left source.old) (S.left source.new) most_bytes }
+    ensures nothing_written { result ≢ Status.Ok → result ≢ Status.HistoryFull → result ≢ Status.WriteFault
         → Keeps (K.held sink.old) (K.held sink.new) }
-    ensures front { result ≡ Status.WriteFault → IfSome (S.left source.old) (λ input.
-        IsOkAnd (answer_of input) (AppendsFront (K.held sink.old) (K.held sink.new))) }
-    // Words in the grammar, an input that is not too long and no fault give what the script asks for, or want of memory.
-    ensures complete { in_grammar (map string_bytes words.now) ≡ true
+    ensures front { result ≡ Status.WriteFault → IfSome (order_of (map string_bytes words.now)) (λ order.
+        OfInput order (S.left source.old) (λ input. IsOkAnd (answer_of order input)
+        (λ printed. AppendsFront (K.held sink.old) (K.held sink.new) printed.text))) }
+    // Words in the grammar, an input that is not too long and no fault give what was asked for, or want of memory.
+    ensures complete { (order : Order) → order_of (map string_bytes words.now) ≡ Some order
         → ¬ Rose (S.faults source.old) (S.faults source.new) → ¬ Rose (K.faults sink.old) (K.faults sink.new)
-        → IfSome (S.left source.old) (λ input. length input ≤ most_bytes
-        → (result ≡ status_of (answer_of input)) ⊎ (result ≡ Status.Want)) }
+        → OfInput order (S.left source.old) (λ input. length input ≤ most_bytes
+        → (result ≡ status_of (answer_of order input)) ⊎ (result ≡ Status.Want)) }
     // The same of a longer input.
-    ensures complete_too_long { in_grammar (map string_bytes words.now) ≡ true
+    ensures complete_too_long { (threads : ℕ) (shape : Shape)
+        → order_of (map string_bytes words.now) ≡ Some (Run threads shape)
         → ¬ Rose (S.faults source.old) (S.faults source.new) → IfSome (S.left source.old) (λ input.
         most_bytes < length input → (result ≡ Status.TooLong) ⊎ (result ≡ Status.Want)) }
 {
-    if !are_known(words) {
-        return Status::BadWords;
-    }
-    let input = match read_all(alloc, source, MOST_BYTES) {
+    orders_fit();
+    runs_tell_their_history();
+    let order = match read_words(words) {
+        Some(order) => order,
+        None => return Status::BadWords,
+    };
+    let input = match read_input(alloc, &order, source) {
         Ok(bytes) => bytes,
         Err(ReadEnd::ReadFault) => return Status::ReadFault,
         Err(ReadEnd::TooLong) => return Status::TooLong,
         Err(ReadEnd::Want) => return Status::Want,
     };
-    let text = match answer(alloc, &input) {
-        Ok(text) => text,
-        Err(ScriptFault::BadLine { number, cause }) => return Status::BadScript {
-            line: number,
-            cause,
-        },
+    let output = match answer(alloc, &order, &input) {
+        Ok(output) => output,
+        Err(ScriptFault::BadLine { number, cause }) => {
+            return Status::BadScript {
+                line: number,
+                cause,
+            };
+        }
         Err(ScriptFault::Want) => return Status::Want,
     };
-    match write_all(sink, text.as_bytes()) {
-        Ok(()) => Status::Ok,
+    match write_all(sink, output.text.as_bytes()) {
+        Ok(()) => ended(output.full),
         Err(WriteFault) => Status::WriteFault,
     }
 }

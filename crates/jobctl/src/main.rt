@@ -1,8 +1,10 @@
-//! `jobctl`: plays a script of a cluster, read from standard input, and prints what its Jobs counted.
+//! `jobctl`: plays a script of a cluster, read from standard input, and prints the report; or plays a generated script,
+//! and prints its summary.
 #![tactic(auto)]
 
-use jc_ctl::{Cause, Status, run_program};
+use jc_ctl::{Status, run_program};
 use jc_io::{StdSink, StdSource};
+use jc_script::Cause;
 use std::process::ExitCode;
 use std::{env, io};
 
@@ -27,30 +29,40 @@ fn run(rt: &HostRuntime) -> Status {
     }
 }
 
+// Says on standard error why a script is bad.
+fn tell_bad(rt: &HostRuntime, line: u32, cause: &Cause) {
+    let _told = match cause.text(rt.alloc()) {
+        Ok(text) => eprintln!(rt; "jobctl: line {line}: {text}"),
+        Err(_) => eprintln!(rt; "jobctl: line {line}"),
+    };
+}
+
 // Says on standard error why a run did not end well. That line may be lost without harm.
-fn tell(rt: &HostRuntime, status: Status) {
+fn tell(rt: &HostRuntime, status: &Status) {
     let _told = match status {
         Status::Ok => Ok(()),
         Status::BadWords => eprintln!(rt; "jobctl: bad words"),
         Status::ReadFault => eprintln!(rt; "jobctl: read fault"),
         Status::WriteFault => eprintln!(rt; "jobctl: write fault"),
-        Status::BadScript {
-            line,
-            cause: Cause::NotBuilt,
-        } => eprintln!(rt; "jobctl: line {line}: not built"),
+        Status::BadScript { line, cause } => {
+            tell_bad(rt, *line, cause);
+            Ok(())
+        }
+        Status::HistoryFull => eprintln!(rt; "jobctl: history full"),
         Status::Want => eprintln!(rt; "jobctl: no memory"),
         Status::TooLong => eprintln!(rt; "jobctl: input too long"),
     };
 }
 
 // The status with which the process ends.
-fn value(status: Status) -> u8 {
+fn value(status: &Status) -> u8 {
     match status {
         Status::Ok => 0,
         Status::BadWords => 2,
         Status::ReadFault => 3,
         Status::WriteFault => 4,
         Status::BadScript { .. } => 5,
+        Status::HistoryFull => 6,
         Status::Want => 7,
         Status::TooLong => 8,
     }
@@ -58,6 +70,6 @@ fn value(status: Status) -> u8 {
 
 fn main(rt: HostRuntime) -> ExitCode {
     let status = run(&rt);
-    tell(&rt, status);
-    ExitCode::from(value(status))
+    tell(&rt, &status);
+    ExitCode::from(value(&status))
 }

@@ -1,9 +1,0 @@
-use Rattle.std.proofs.Common.{option_copied}
-use Rattle.jc_ctl.proofs.Reading.{IsReading, left_len}
-use Rattle.jc_ctl.proofs.script.read_script.Given as goal
-
-abbrev pub invariant-lines : goal.invariant-lines
-invariant-lines l = IsReading l.bytes l.commands.items l.number (option_copied l.left)
-
-abbrev pub decreases-lines : goal.decreases-lines
-decreases-lines l = left_len (option_copied l.left)
