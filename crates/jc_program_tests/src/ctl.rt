@@ -1,6 +1,6 @@
-//! Runs over bytes in memory, with the reports that the rules of batch/v1 give.
+//! Runs of the program over bytes in memory. The reports come from a second implementation of the rules.
 
-use jc_ctl::{Cause, Status, run_program};
+use jc_ctl::{Status, run_program};
 use jc_io::{MemSink, MemSource, read_all};
 use std::alloc::Global;
 use std::process::Abort;
@@ -13,182 +13,294 @@ const SYNC: &str = r#"{"do":"sync"}"#;
 
 const FINISH: &str = r#"{"do":"finish","pod":2,"exit":0}"#;
 
-const CREATED: &str = "job default/pi v1 succeeded 0\nverdicts default/pi succeeded 0 failed 0\n";
+// A pod is made, exits with 0, and is counted.
+const COUNTED: &[&str] = &[CREATE, SYNC, FINISH, SYNC];
 
-const SYNCED: &str = "job default/pi v3 succeeded 0\nverdicts default/pi succeeded 0 failed 0\n";
+const COUNTED_REPORT: &str =
+    r#"1 @0 create default/pi {"backoffLimit":6,"completionMode":"NonIndexed","completions":1,"parallelism":1,"podReplacementPolicy":"TerminatingOrFailed","suspend":false,"template":{"containers":["main"],"initContainers":[],"restartPolicy":"Never"}} -> created 1 v1
+2 - list 0 jobs -> listed v1
+3 - list 0 pods -> listed v1
+4 @0 begin 0 0 -> begun default/pi jobs v1 pods v1
+5 - step 0 0 -> create-pod - created 2 v2
+6 - step 0 0 -> status written v3
+7 - step 0 0 -> ended
+8 @0 finish 2 0 -> written v4
+9 - deliver 0 jobs -> entry v2
+10 - deliver 0 jobs -> entry v3
+11 - deliver 0 jobs -> entry v4
+12 - deliver 0 pods -> entry v2
+13 - deliver 0 pods -> entry v3
+14 - deliver 0 pods -> entry v4
+15 @0 begin 0 0 -> begun default/pi jobs v4 pods v4
+16 - step 0 0 -> status written v5
+17 - step 0 0 -> release 2 released v6
+18 - step 0 0 -> status written v7
+19 - step 0 0 -> ended
+job default/pi 00000000-0000-0000-0000-000000000001 v7 {"completionTime":"2024-01-01T00:00:00Z","conditions":[{"lastTransitionTime":"2024-01-01T00:00:00Z","reason":"CompletionsReached","status":"True","type":"SuccessCriteriaMet"},{"lastTransitionTime":"2024-01-01T00:00:00Z","reason":"CompletionsReached","status":"True","type":"Complete"}],"startTime":"2024-01-01T00:00:00Z","succeeded":1}
+verdicts default/pi succeeded 1 failed 0
+"#;
 
-const COUNTED: &str = "job default/pi v7 succeeded 1\nverdicts default/pi succeeded 1 failed 0\n";
+// The same where the history has room for three events.
+const FULL_REPORT: &str =
+    r#"1 @0 create default/pi {"backoffLimit":6,"completionMode":"NonIndexed","completions":1,"parallelism":1,"podReplacementPolicy":"TerminatingOrFailed","suspend":false,"template":{"containers":["main"],"initContainers":[],"restartPolicy":"Never"}} -> created 1 v1
+2 - list 0 jobs -> listed v1
+3 - list 0 pods -> listed v1
+job default/pi 00000000-0000-0000-0000-000000000001 v1 {}
+verdicts default/pi succeeded 0 failed 0
+full
+"#;
 
-// The lines of a script, and the report of its play.
-const PLAYS: &[(&[&str], &str)] = &[
-    (&[CREATE, SYNC, FINISH, SYNC], COUNTED),
-    (&[CREATE, SYNC, SYNC, FINISH, SYNC], COUNTED),
-    (&[CREATE, SYNC, FINISH, SYNC, SYNC, FINISH], COUNTED),
-    (&[CREATE, CREATE, FINISH], CREATED),
-    (&[CREATE, SYNC], SYNCED),
-    (&[CREATE, SYNC, FINISH], SYNCED),
-    (&[SYNC, FINISH], ""),
-    (&[], ""),
-    (&["", "\r", CREATE, "", "{\"do\":\"sync\"}\r", ""], SYNCED),
-];
+const SUMMARY: &str = "jobs 2\ncomplete 2\nfailed 0\npods succeeded 6\npods failed 3\n";
 
-// A line, and whether it is one of the three forms.
-const LINES: &[(&str, bool)] = &[
-    ("", true),
-    ("\r", true),
-    (r#"{"do":"settle","do":"sync"}"#, true),
-    ("{\"do\":\"sync\"}\r\r", true),
-    (" { \"do\" :\t\"sync\" } ", true),
-    (r#"{"exit":0,"pod":1,"do":"finish"}"#, true),
-    (r#"{"do":"finish","pod":4294967295,"exit":0}"#, true),
-    (
-        r#"{"job":{"spec":{"template":{"spec":{"containers":[{"name":"main"}],"restartPolicy":"Never"}}},"metadata":{"name":"pi"},"kind":"Job","apiVersion":"batch/v1"},"do":"create"}"#,
-        true,
-    ),
-    (
-        r#"{"do":"create","job":{"apiVersion":"batch/v1","kind":"Job","metadata":{"name":"po"},"spec":{"template":{"spec":{"restartPolicy":"Never","containers":[{"name":"main"}]}}}}}"#,
-        false,
-    ),
-    (
-        r#"{"do":"create","job":{"apiVersion":"batch/v1","kind":"Job","metadata":{"name":"pi"},"spec":{"parallelism":1,"template":{"spec":{"restartPolicy":"Never","containers":[{"name":"main"}]}}}}}"#,
-        false,
-    ),
-    (" ", false),
-    ("\r\r", false),
-    ("sync", false),
-    ("[]", false),
-    ("{}", false),
-    (r#"{"do":"sync"#, false),
-    (r#"{"do":"sync"}{"do":"sync"}"#, false),
-    (r#"{"do":"settle"}"#, false),
-    (r#"{"do":"Sync"}"#, false),
-    (r#"{"Do":"sync"}"#, false),
-    (r#"{"do":"sync","lane":0}"#, false),
-    (r#"{"do":"create"}"#, false),
-    (r#"{"do":"finish","pod":0,"exit":0}"#, false),
-    (r#"{"do":"finish","pod":-1,"exit":0}"#, false),
-    (r#"{"do":"finish","pod":4294967296,"exit":0}"#, false),
-    (r#"{"do":"finish","pod":2.0,"exit":0}"#, false),
-    (r#"{"do":"finish","pod":"2","exit":0}"#, false),
-    (r#"{"do":"finish","pod":2,"exit":1}"#, false),
-    (r#"{"do":"finish","pod":2}"#, false),
-    (r#"{"do":"finish","exit":0}"#, false),
-    (r#"{"do":"finish","pod":2,"exit":0,"lane":0}"#, false),
-];
-
-// Words that are not in the grammar.
-const OTHER_WORDS: &[&[&str]] = &[
-    &[],
-    &["run", "run"],
-    &["Run"],
-    &["run "],
-    &[""],
-    &["--help"],
-];
-
-// What a run works on: the words, the script, the numbers of the calls of the source and of the sink
-// that fail, and the bytes that the sink has room for.
+// How a run is to end.
 #[derive(Clone, Copy)]
-struct Setting<'a> {
-    words: &'a [&'a str],
-    script: &'a str,
-    reads_fail: &'a [u64],
-    writes_fail: &'a [u64],
-    room: u64,
+enum End {
+    Plain,
+    BadWords,
+    ReadFault,
+    WriteFault,
+    BadScript(u32),
+    Full,
+    TooLong,
 }
 
-// The run of a script without faults.
-fn plain(script: &str) -> Setting<'_> {
-    Setting {
+// What a run works on, and how it is to end: the words, the lines of the script, the numbers of the calls
+// of the source and of the sink that fail, the bytes that the sink has room for, the end, and what is written.
+struct Run {
+    words: &'static [&'static str],
+    script: &'static [&'static str],
+    reads_fail: &'static [u64],
+    writes_fail: &'static [u64],
+    room: u64,
+    end: End,
+    written: &'static str,
+}
+
+// A line that ends within a text.
+const CUT: &[&str] = &[CREATE, SYNC, r#"{"do":"finish","pod":2"#];
+
+// A controller that the shape does not have, and a line that is no object.
+const FOREIGN: &[&str] = &["", r#"{"do":"sync","controller":1}"#, "[]"];
+
+const RUNS: &[Run] = &[
+    Run {
         words: &["run"],
-        script,
+        script: COUNTED,
         reads_fail: &[],
         writes_fail: &[],
-        room: 1000,
+        room: 10_000,
+        end: End::Plain,
+        written: COUNTED_REPORT,
+    },
+    Run {
+        words: &["run", "--threads=0", "--events", "19"],
+        script: COUNTED,
+        reads_fail: &[],
+        writes_fail: &[],
+        room: 10_000,
+        end: End::Plain,
+        written: COUNTED_REPORT,
+    },
+    Run {
+        words: &["run", "--events", "3"],
+        script: COUNTED,
+        reads_fail: &[],
+        writes_fail: &[],
+        room: 10_000,
+        end: End::Full,
+        written: FULL_REPORT,
+    },
+    Run {
+        words: &["run"],
+        script: &[],
+        reads_fail: &[],
+        writes_fail: &[],
+        room: 10_000,
+        end: End::Plain,
+        written: "",
+    },
+    Run {
+        words: &["generate", "1", "2", "3"],
+        script: &["not read"],
+        reads_fail: &[],
+        writes_fail: &[],
+        room: 10_000,
+        end: End::Plain,
+        written: SUMMARY,
+    },
+    Run {
+        words: &[],
+        script: COUNTED,
+        reads_fail: &[],
+        writes_fail: &[],
+        room: 10_000,
+        end: End::BadWords,
+        written: "",
+    },
+    Run {
+        words: &["--help"],
+        script: COUNTED,
+        reads_fail: &[],
+        writes_fail: &[],
+        room: 10_000,
+        end: End::BadWords,
+        written: "",
+    },
+    Run {
+        words: &["run", "--threads", "17"],
+        script: COUNTED,
+        reads_fail: &[],
+        writes_fail: &[],
+        room: 10_000,
+        end: End::BadWords,
+        written: "",
+    },
+    Run {
+        words: &["run", "--events", "5", "--events", "5"],
+        script: COUNTED,
+        reads_fail: &[],
+        writes_fail: &[],
+        room: 10_000,
+        end: End::BadWords,
+        written: "",
+    },
+    Run {
+        words: &["generate", "1", "101", "3"],
+        script: COUNTED,
+        reads_fail: &[],
+        writes_fail: &[],
+        room: 10_000,
+        end: End::BadWords,
+        written: "",
+    },
+    Run {
+        words: &["run"],
+        script: CUT,
+        reads_fail: &[],
+        writes_fail: &[],
+        room: 10_000,
+        end: End::BadScript(3),
+        written: "",
+    },
+    Run {
+        words: &["run"],
+        script: FOREIGN,
+        reads_fail: &[],
+        writes_fail: &[],
+        room: 10_000,
+        end: End::BadScript(2),
+        written: "",
+    },
+    Run {
+        words: &["run"],
+        script: COUNTED,
+        reads_fail: &[1],
+        writes_fail: &[],
+        room: 10_000,
+        end: End::ReadFault,
+        written: "",
+    },
+    Run {
+        words: &["run"],
+        script: COUNTED,
+        reads_fail: &[],
+        writes_fail: &[1],
+        room: 10_000,
+        end: End::WriteFault,
+        written: "",
+    },
+    Run {
+        words: &["run"],
+        script: COUNTED,
+        reads_fail: &[],
+        writes_fail: &[],
+        room: 4,
+        end: End::WriteFault,
+        written: "1 @0",
+    },
+    Run {
+        words: &["run", "--events", "3"],
+        script: COUNTED,
+        reads_fail: &[],
+        writes_fail: &[],
+        room: 4,
+        end: End::WriteFault,
+        written: "1 @0",
+    },
+];
+
+// Whether the run ended so.
+fn is_so(status: &Status, end: End) -> bool {
+    match (status, end) {
+        (Status::Ok, End::Plain)
+        | (Status::BadWords, End::BadWords)
+        | (Status::ReadFault, End::ReadFault)
+        | (Status::WriteFault, End::WriteFault)
+        | (Status::HistoryFull, End::Full)
+        | (Status::TooLong, End::TooLong) => true,
+        (Status::BadScript { line, .. }, End::BadScript(number)) => *line == number,
+        _ => false,
     }
 }
 
-fn bad(line: u32) -> Status {
-    Status::BadScript {
-        line,
-        cause: Cause::NotBuilt,
+// Whether the words ask for the play of a script.
+fn asks_to_run(run: &Run) -> bool {
+    match run.words {
+        [word, ..] => *word == "run",
+        [] => false,
     }
 }
 
-// Runs the program, which is to end so, to write that and to leave that many bytes of the script.
-fn runs(
-    rt: &impl Abort,
-    alloc: Global,
-    setting: Setting,
-    status: Status,
-    written: &str,
-    left: usize,
-) -> Result<(), Fail> {
+// How many bytes of the script are to be left: all where nothing was read.
+fn left(run: &Run, script: &str) -> usize {
+    match run.end {
+        End::BadWords | End::ReadFault => script.len(),
+        _ if asks_to_run(run) => 0,
+        _ => script.len(),
+    }
+}
+
+// Runs the program, which is to end so, to write that and to leave the script or nothing.
+fn runs(rt: &impl Abort, alloc: Global, run: &Run) -> Result<(), Fail> {
     let mut words = Vec::new(alloc);
-    for word in setting.words {
+    for word in run.words {
         words.push(String::from_str(alloc, word)?)?;
     }
-    let script = setting.script;
+    let script = run.script.join(alloc, "\n")?;
     let mut source = MemSource::new(
         script.as_bytes().to_vec(alloc)?,
-        setting.reads_fail.to_vec(alloc)?,
+        run.reads_fail.to_vec(alloc)?,
     );
-    let mut sink = MemSink::new(alloc, setting.room, setting.writes_fail.to_vec(alloc)?)?;
-    let ended = run_program(alloc, &words, &mut source, &mut sink);
-    assert_eq!(rt; ended, status, "for {script}");
-    assert_eq!(rt; sink.held(), written.as_bytes(), "for {script}");
+    let mut sink = MemSink::new(alloc, run.room, run.writes_fail.to_vec(alloc)?)?;
+    let status = run_program(alloc, &words, &mut source, &mut sink);
+    assert!(rt; is_so(&status, run.end), "for {script}");
+    assert_eq!(rt; sink.held(), run.written.as_bytes(), "for {script}");
     match read_all(alloc, &mut source, 1000) {
-        Ok(rest) => assert_eq!(rt; rest.len(), left, "for {script}"),
+        Ok(rest) => assert_eq!(rt; rest.len(), left(run, &script), "for {script}"),
         Err(_) => assert!(rt; false, "for {script}"),
     }
     Ok(())
 }
 
 #[test]
-fn reports_what_was_counted(rt: HostRuntime) -> Result<(), Fail> {
+fn runs_end_as_they_should(rt: HostRuntime) -> Result<(), Fail> {
     let alloc = rt.alloc();
-    for (lines, report) in PLAYS {
-        let script = lines.join(alloc, "\n")?;
-        runs(&rt, alloc, plain(&script), Status::Ok, report, 0)?;
+    for run in RUNS {
+        runs(&rt, alloc, run)?;
     }
-    for (line, is_form) in LINES {
-        let script = [CREATE, *line, SYNC].join(alloc, "\n")?;
-        if *is_form {
-            runs(&rt, alloc, plain(&script), Status::Ok, SYNCED, 0)?;
-        } else {
-            runs(&rt, alloc, plain(&script), bad(2), "", 0)?;
-        }
-    }
-    runs(&rt, alloc, plain(r#"{"do":"cre"#), bad(1), "", 0)?;
-    let script = ["", "\r", CREATE, "", "{}", "[]"].join(alloc, "\n")?;
-    runs(&rt, alloc, plain(&script), bad(5), "", 0)?;
+    Ok(())
+}
 
-    let mut script = String::from_str(alloc, CREATE)?;
-    for _ in 1..1000 {
-        script.push_str("\n{\"do\":\"sync\"}")?;
-    }
-    runs(&rt, alloc, plain(&script), Status::Ok, SYNCED, 0)?;
-    script.push_str("\n{\"do\":\"sync\"}")?;
-    runs(&rt, alloc, plain(&script), bad(1001), "", 0)?;
-
-    let script = [CREATE, SYNC, FINISH, SYNC].join(alloc, "\n")?;
-    let run = plain(&script);
-    for words in OTHER_WORDS {
-        let other = Setting { words, ..run };
-        runs(&rt, alloc, other, Status::BadWords, "", script.len())?;
-    }
-    let faulty = Setting {
-        reads_fail: &[1],
-        ..run
-    };
-    runs(&rt, alloc, faulty, Status::ReadFault, "", script.len())?;
-    for (room, written) in [(0, ""), (10, "job defaul")] {
-        let small = Setting { room, ..run };
-        runs(&rt, alloc, small, Status::WriteFault, written, 0)?;
-    }
-    let faulty = Setting {
-        writes_fail: &[1],
-        ..run
-    };
-    runs(&rt, alloc, faulty, Status::WriteFault, "", 0)
+// One byte more than a script may have.
+#[test]
+fn long_input_is_refused(rt: HostRuntime) -> Result<(), Fail> {
+    let alloc = rt.alloc();
+    let mut words = Vec::new(alloc);
+    words.push(String::from_str(alloc, "run")?)?;
+    let mut source = MemSource::new(vec![in alloc; 32u8; 67_108_865]?, Vec::new(alloc));
+    let mut sink = MemSink::new(alloc, 10, Vec::new(alloc))?;
+    let status = run_program(alloc, &words, &mut source, &mut sink);
+    assert!(rt; is_so(&status, End::TooLong), "the input is too long");
+    assert_eq!(rt; sink.held().len(), 0, "nothing is written");
+    Ok(())
 }
