@@ -10,6 +10,7 @@
 mod jobs;
 mod laws;
 mod pods;
+mod shared_pods;
 
 pub use jobs::JobCache;
 pub use laws::{listed_jobs_fill_the_table, pods_stay_with_their_owner};

@@ -5,21 +5,21 @@ ghost use Rattle.jc_types.specs.declared.objects.Entry.TheVariants.{PodGone, Pod
 ghost use Rattle.jc_states.specs.PodLists.{IsRising};
 ghost use Rattle.jc_cache.specs.Caches.{HoldsByOwner, IsNext, TakesIn, pods_at};
 
+use crate::shared_pods::SharedPods;
 use indexmap::IndexMap;
 use jc_states::Pods;
-use jc_table::PodTable;
-use jc_types::{Copied, Entry, Key, Pod, Version, Want};
+use jc_types::{Arc, Copied, Entry, Key, Pod, Version, Want};
 use std::alloc::Global;
 use std::marker::Model;
 
-/// The pods as a controller knows them, apart by the key of their owner, so that neither a delivery
-/// nor a look-up goes over the pods of other Jobs. A contract sees its number, or none, and the pods
-/// under each owner key.
+/// The pods as a controller knows them, apart by the key of their owner, so that a delivery does not go
+/// over the pods of other Jobs, and a look-up over no pod at all. A contract sees its number, or none, and
+/// the pods under each owner key.
 #[derive(Drop)]
 pub struct PodCache {
     alloc: Global,
     number: Option<Version>,
-    rows: IndexMap<Key, PodTable>,
+    rows: IndexMap<Key, SharedPods>,
 }
 
 impl Model for PodCache {
@@ -33,54 +33,55 @@ impl Model for PodCache {
 // Puts a pod among those of its owner.
 //
 // `Want` where there is no memory for it; the rows are then as before.
-fn put_pod(alloc: Global, rows: &mut IndexMap<Key, PodTable>, pod: &Pod) -> Result<(), Want>
+fn put_pod(alloc: Global, rows: &mut IndexMap<Key, SharedPods>, pod: &Pod) -> Result<(), Want>
     ensures puts { OnOk result (TakesIn (PodPut pod.now) rows.old.entries rows.new.entries) }
     ensures kept { OnErr result (rows.new.entries ≡ rows.old.entries) }
 {
     let again = pod.copy()?;
     if let Some(pods) = rows.get_mut(&pod.owner) {
-        pods.put(again)?;
+        pods.put(alloc, again)?;
         return Ok(());
     }
     let owner = pod.owner.copy()?;
-    let mut pods = PodTable::new(alloc);
+    let mut pods = Pods::new(alloc);
     pods.put(again)?;
-    rows.insert(owner, pods)?;
+    rows.insert(owner, SharedPods::new(alloc, pods)?)?;
     Ok(())
 }
 
 // Drops a pod from those of its owner; an owner without pods has no row.
-fn drop_pod(rows: &mut IndexMap<Key, PodTable>, pod: &Pod)
-    ensures { TakesIn (PodGone pod.now) rows.old.entries rows.new.entries }
+//
+// `Want` where there is no memory for it; the rows are then as before.
+fn drop_pod(alloc: Global, rows: &mut IndexMap<Key, SharedPods>, pod: &Pod) -> Result<(), Want>
+    ensures drops { OnOk result (TakesIn (PodGone pod.now) rows.old.entries rows.new.entries) }
+    ensures kept { OnErr result (rows.new.entries ≡ rows.old.entries) }
 {
     let Some(pods) = rows.get_mut(&pod.owner) else {
-        return;
+        return Ok(());
     };
-    pods.take(pod.uid);
+    pods.drop_pod(alloc, pod.uid)?;
     if pods.is_empty() {
         rows.swap_remove(&pod.owner);
     }
+    Ok(())
 }
 
 // Takes one more entry in. One about a Job changes nothing.
 //
 // `Want` where there is no memory for it; the rows are then as before.
-fn take_in(alloc: Global, rows: &mut IndexMap<Key, PodTable>, entry: &Entry) -> Result<(), Want>
+fn take_in(alloc: Global, rows: &mut IndexMap<Key, SharedPods>, entry: &Entry) -> Result<(), Want>
     ensures pods { OnOk result (TakesIn entry.now rows.old.entries rows.new.entries) }
     ensures kept { OnErr result (rows.new.entries ≡ rows.old.entries) }
 {
     match entry {
         Entry::PodPut(pod) => put_pod(alloc, rows, pod),
-        Entry::PodGone(pod) => {
-            drop_pod(rows, pod);
-            Ok(())
-        }
+        Entry::PodGone(pod) => drop_pod(alloc, rows, pod),
         Entry::JobPut(_) | Entry::JobGone(_) => Ok(()),
     }
 }
 
 // The pods apart by owner, each in ascending UID as all of them are.
-fn rows_of(alloc: Global, pods: &[Pod]) -> Result<IndexMap<Key, PodTable>, Want>
+fn rows_of(alloc: Global, pods: &[Pod]) -> Result<IndexMap<Key, SharedPods>, Want>
     requires { IsRising pods.now }
     ensures { IfOk result (λ rows. HoldsByOwner pods.now rows.entries) }
 {
@@ -89,20 +90,6 @@ fn rows_of(alloc: Global, pods: &[Pod]) -> Result<IndexMap<Key, PodTable>, Want>
         put_pod(alloc, &mut rows, pod)?;
     }
     Ok(rows)
-}
-
-// The pods of a table in a list of their own.
-fn listed(alloc: Global, table: &PodTable) -> Result<Pods, Want>
-    ensures pods { IfOk result (λ pods. pods ≡ table.now) }
-    ensures rising { IfOk result (λ pods. IsRising pods) }
-{
-    let mut pods = Pods::new(alloc);
-    for pod in table.values() {
-        pods.push(pod.copy()?)?;
-    }
-    let all = pods.len() == table.len();
-    prove!(all);
-    Ok(pods)
 }
 
 impl PodCache {
@@ -125,17 +112,18 @@ impl PodCache {
         self.number
     }
 
-    /// The pods whose owner has the key, in ascending UID, whatever their owner's UID.
+    /// The pods whose owner has the key, in ascending UID, whatever their owner's UID. No pod is copied: they
+    /// are shared with the cache until it is told of a change of them.
     ///
     /// # Errors
-    /// `Want` where there is no memory for them.
-    pub fn pods_of(&self, key: &Key) -> Result<Pods, Want>
+    /// `Want` where there is no memory for it.
+    pub fn pods_of(&self, key: &Key) -> Result<Arc<Pods>, Want>
         ensures pods { IfOk result (λ pods. pods ≡ pods_at key.now self.now.rows) }
         ensures rising { IfOk result (λ pods. IsRising pods) }
     {
         match self.rows.get(key) {
-            None => Ok(Pods::new(self.alloc)),
-            Some(pods) => listed(self.alloc, pods),
+            None => Arc::new(self.alloc, Pods::new(self.alloc)),
+            Some(pods) => pods.seen(),
         }
     }
 

@@ -8,7 +8,7 @@ use Rattle.jc_control.specs.declared.ends.SyncEnd.TheVariants.{Ended, Retry, Gon
 use Rattle.jc_control.proofs.TurnFacts.{added-processing, all_added-processing, got-processing, known_done, known_got, sent-processing}
 use Rattle.jc_log.specs.Tables.{Sets, at, puts}
 use Rattle.jc_moment.specs.Range.{end_of_moments}
-use Rattle.jc_queue.proofs.QueueFacts.{is_in-last, is_in-without}
+use Rattle.jc_queue.proofs.KeyLists.{is_in-last, is_in-without}
 use Rattle.jc_queue.specs.Delayed.{Delayed, RoomedDelays, delayed, due_keys, failed, retried}
 use Rattle.jc_queue.specs.Queued.{IsQueue, Queued, RoomedQueue, added, finished, got, has_key, sent_back, without}
 use Rattle.jc_types.proofs.KeyFacts.{same_key-eq, same_key-itself}

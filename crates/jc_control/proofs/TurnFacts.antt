@@ -10,9 +10,10 @@ use Rattle.jc_control.specs.declared.begins.Lag.{Lag}
 use Rattle.jc_control.specs.declared.controller.Known.{Known}
 use Rattle.jc_queue.proofs.BackFacts.{retracted-added}
 use Rattle.jc_queue.proofs.DueFacts.{due_keys-none, due_keys-some, fewer-left, left_after-none, left_after-some, once-left}
-use Rattle.jc_queue.proofs.QueueFacts.{first_is_idle, is_in-last}
+use Rattle.jc_queue.proofs.KeyLists.{is_in-last}
+use Rattle.jc_queue.proofs.QueueFacts.{first_is_idle}
 use Rattle.jc_queue.specs.Delayed.{Delayed, due_key, due_keys, left_after, left_by}
-use Rattle.jc_queue.specs.Queued.{IsQueue, Queued, added, finished, got, got_first, has_key, retracted, sent_back, sent_back_first, without}
+use Rattle.jc_queue.specs.Queued.{IsQueue, Queued, added, finished, got, got_first, has_key, plus_key, retracted, sent_back, sent_back_first, without}
 use Rattle.std.proofs.lemmas.Bool.{or_right}
 use Rattle.jc_types.specs.declared.numbers.Version.{Version}
 use Rattle.jc_types.specs.declared.objects.Key.{Key}
@@ -37,7 +38,7 @@ all_added-next key q before after xs i next x more b a =
 pub added-processing : (q : Queued) (k : Key) → (added q k).processing ≡ q.processing
 added-processing q k = by (has_key k q.dirty)
   where
-    by : (b : Bool) → (cond {A = Queued} b q (record { line = cond (has_key k q.processing) q.line (q.line ++ k ∷ []); dirty = q.dirty ++ k ∷ []; processing = q.processing })).processing ≡ q.processing
+    by : (b : Bool) → (cond {A = Queued} b q (record { line = cond (has_key k q.processing) q.line (q.line ++ k ∷ []); dirty = plus_key k q.dirty; processing = q.processing })).processing ≡ q.processing
     by true = refl
     by false = refl
 

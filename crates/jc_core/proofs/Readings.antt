@@ -1,9 +1,9 @@
 -- What is read of a controller is what its notes say.
-use Rattle.std.proofs.Common.{◌≡◌, ℕ, ◌<◌, ◌≤◌, Bool, List, [], ◌∷◌, length, reverse, get_or, slice_get, Option, Some, None, is_some, is_none, refl, sym, ap, ◌∙◌, subst, arith, true≢false}
+use Rattle.std.proofs.Common.{◌≡◌, ℕ, ◌<◌, ◌≤◌, Bool, List, [], ◌∷◌, length, reverse, get_or, set, slice_get, Option, Some, None, is_some, is_none, refl, sym, ap, ◌∙◌, subst, arith, true≢false}
 use Rattle.std.proofs.lemmas.Option.{slice_get-get_or}
 use Rattle.std.specs.List.{IsDistinct}
 use Rattle.std.specs.Map.{keys_of}
-use Rattle.std.specs.Option.{option_map}
+use Rattle.std.specs.Option.{option_map, unwrap_or}
 use Rattle.jc_types.specs.declared.actions.End.{End}
 use Rattle.jc_types.specs.declared.actions.Script.{Script}
 use Rattle.jc_types.specs.declared.objects.Entry.{Entry}
@@ -12,6 +12,7 @@ use Rattle.jc_types.specs.declared.objects.Kind.{Kind}
 use Rattle.jc_types.specs.declared.runs.Past.{Past}
 use Rattle.jc_types.specs.declared.runs.Shape.{Shape}
 use Rattle.jc_types.specs.Keys.{same_key}
+use Rattle.jc_states.specs.declared.bases.Basis.{Basis}
 use Rattle.jc_log.specs.Tables.{at}
 use Rattle.jc_asks.specs.Steps.{Sync}
 use Rattle.jc_queue.specs.Delayed.{first_of, in_turn}
@@ -36,6 +37,7 @@ use Rattle.jc_core.specs.Diaries.{diary_seen}
 use Rattle.jc_core.specs.Kept.{IsClusterKept}
 use Rattle.jc_core.proofs.Closing.{view_of}
 use Rattle.jc_runs.proofs.ClusterFacts.{member_at}
+use Rattle.jc_runs.proofs.ListFacts.{set_itself}
 
 -- ---- the row that is due first
 
@@ -84,6 +86,10 @@ module _ (script : Script) (shape : Shape) (items : List Past) (places : List (O
   there : slice_get teams c ≡ Some team
   there = member_at teams c team shape.controllers (subst (λ (s : Seen). c < s.shape.controllers) (sym view) inside) (sym kept.cluster.run.count) value
 
+  -- The controller that is put in its place, where it is the same.
+  pub put_back : (new : Team) → new ≡ team → IsClusterKept script shape (reverse items) places log (set teams c new) rows now
+  put_back new is = subst (λ ts. IsClusterKept script shape (reverse items) places log ts rows now) (sym (ap (set teams c) is ∙ set_itself teams c team there)) kept
+
   of : IsTeam shape (deeds_in script (reverse items)) log c team
   of = kept.cluster.run.each c team there
 
@@ -109,3 +115,9 @@ module _ (script : Script) (shape : Shape) (items : List Past) (places : List (O
 
     pub free_read : (b : Bool) → ((r : Option Sync) → slice_get team.registers w ≡ Some r → b ≡ is_none r) → b ≡ is_none (register w (diary_seen seen c))
     free_read b h = h mine mine-there ∙ sym (none-mapped (λ (s : Sync). s.flight.basis) mine) ∙ ap is_none (sym (of.workers.syncs w mine mine-there)) ∙ ap (λ n. is_none (register w n)) same_notes
+
+    pub basis_read : (o : Option Basis) → ((r : Option Sync) → slice_get team.registers w ≡ Some r → o ≡ option_map (λ (s : Sync). s.flight.basis) r) → o ≡ register w (diary_seen seen c)
+    basis_read o h = h mine mine-there ∙ sym (of.workers.syncs w mine mine-there) ∙ ap (register w) same_notes
+
+    pub own_read : (basis : Basis) → register w (diary_seen seen c) ≡ Some basis → (sync : Sync) → slice_get team.registers w ≡ Some (Some sync) → basis ≡ sync.flight.basis
+    own_read basis is sync at = ap (λ o. unwrap_or o basis) (sym is ∙ ap (register w) (sym same_notes) ∙ of.workers.syncs w (Some sync) at)

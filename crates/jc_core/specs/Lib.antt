@@ -5,3 +5,4 @@ pub mod Fits
 pub mod Diaries
 pub mod Idle
 pub mod Syncs
+pub mod Started

@@ -27,7 +27,7 @@ impl Cluster {
     {
         self.history.events.reserve(1)?;
         let member = &mut self.members[controller as usize];
-        let begins = member.begin(self.alloc, worker as usize, self.clock)?;
+        let begins = member.begin(worker as usize, self.clock)?;
         let length = self.store.log_len();
         let past = Past {
             event,

@@ -1,7 +1,7 @@
 //! A controller with its workers, and what each event of theirs does.
 
-ghost use Rattle.std.specs.Prelude.{◌≡◌, ◌<◌, ◌-◌, ◌^◌, IfOk, IsSome, OnErr, OnOk, None, Option, Some, is_none, map, set, slice_get, length, true};
-ghost use Rattle.std.specs.Option.{option_map};
+ghost use Rattle.std.specs.Prelude.{◌≡◌, ◌<◌, ◌-◌, ◌^◌, IfOk, IfSome, IsSome, OnErr, OnOk, None, Option, Some, is_none, map, set, slice_get, length, true};
+ghost use Rattle.std.specs.Option.{option_copied, option_map};
 ghost use Rattle.jc_states.specs.declared.bases.Basis.{Basis};
 ghost use Rattle.jc_states.specs.Bases.{CanPlan};
 ghost use Rattle.jc_states.specs.PodLists.{IsRising};
@@ -13,6 +13,7 @@ ghost use Rattle.jc_queue.specs.Queued.{has_key};
 ghost use Rattle.jc_control.specs.Schedules.{MirrorsLog, log_end, number_of};
 ghost use Rattle.jc_control.specs.ControllerCalls.{begun, can_begin};
 ghost use Rattle.jc_control.specs.declared.begins.Begin.TheVariants.{Begun};
+ghost use Rattle.jc_asks.specs.Sends.{new_sync};
 ghost use Rattle.jc_asks.specs.Steps.{Sync};
 ghost use Rattle.jc_types.specs.declared.replies.Reply.TheVariants as reply;
 ghost use Rattle.jc_history.specs.Replies.{deliver_gives};
@@ -20,14 +21,15 @@ ghost use Rattle.jc_runs.specs.Teams.{KnowsNothing, begin_held, begin_registers,
 ghost use Rattle.jc_runs.specs.Texts.{HasNoText};
 
 use crate::keeping::Twice;
-use crate::strides::{close, prepared, start, step_sync};
+use crate::started::Started;
+use crate::strides::{close, prepared, start};
 use jc_cache::listed_jobs_fill_the_table;
 use jc_control::{Controller, caches_follow_the_log};
 use jc_moment::Moment;
-use jc_states::Pods;
+use jc_states::{Basis, Pods};
 use jc_store::Store;
 use jc_sync::Syncing;
-use jc_types::{Fault, Jobs, Kind, Reply, Version, Want};
+use jc_types::{Arc, Fault, Jobs, Kind, Reply, Version, Want};
 use jc_watch::{list_jobs, list_pods};
 use std::alloc::Global;
 use std::marker::Model;
@@ -37,7 +39,7 @@ use std::marker::Model;
 #[derive(Drop)]
 pub struct Member {
     controller: Controller,
-    registers: Vec<Option<Syncing>>,
+    registers: Vec<Option<Started>>,
     faults: Vec<Option<Fault>>,
 }
 
@@ -112,6 +114,35 @@ impl Member {
             → result ≡ is_none register }
     {
         self.registers[worker].is_none()
+    }
+
+    /// What the worker's sync began with; `None` exactly where the worker has no sync. It can be
+    /// planned.
+    pub fn basis(&self, worker: usize) -> Option<&Arc<Basis>>
+        requires { worker < length self.now.registers }
+        ensures sync { (register : Option Sync)
+            → slice_get self.now.registers worker ≡ Some register
+            → option_copied result ≡ option_map (λ sync. sync.flight.basis) register }
+        ensures plannable { IfSome result (λ basis. IsSome basis.now.job → CanPlan basis.now) }
+    {
+        match &self.registers[worker] {
+            None => None,
+            Some(started) => Some(started.basis()),
+        }
+    }
+
+    /// Gives the worker's sync its plan with all its requests, where it has none yet. It takes no
+    /// memory.
+    pub fn give_plan(&mut self, worker: usize, planned: Syncing)
+        requires worker { worker < length self.old.registers }
+        requires whole { planned ≡ new_sync planned.flight.basis }
+        requires own { (sync : Sync) → slice_get self.old.registers worker ≡ Some (Some sync)
+            → planned.flight.basis ≡ sync.flight.basis }
+        ensures { self.new ≡ self.old }
+    {
+        if let Some(started) = &mut self.registers[worker] {
+            started.give(planned);
+        }
     }
 
     /// Whether the next begin of a free worker starts a sync.
@@ -222,11 +253,12 @@ impl Member {
         Ok(Reply::Delivered { version })
     }
 
-    /// Begins the sync of the first key of the line by the worker. The reply is given twice.
+    /// Begins the sync of the first key of the line by the worker. Its plan is not made yet. The reply
+    /// is given twice.
     ///
     /// # Errors
     /// `Want` where there is no memory for it; all is then as before.
-    pub fn begin(&mut self, alloc: Global, worker: usize, now: Moment) -> Result<Twice, Want>
+    pub fn begin(&mut self, worker: usize, now: Moment) -> Result<Twice, Want>
         requires worker { worker < length self.old.registers }
         requires plans { (basis : Basis) → (begun now self.old.con).answer ≡ Begun basis
             → IsSome basis.job → CanPlan basis }
@@ -251,17 +283,23 @@ impl Member {
             });
         }
         let answer = self.controller.peek(now)?;
-        let (replies, sync) = prepared(alloc, &answer)?;
+        let (replies, sync) = prepared(&answer)?;
         self.controller.begin(now)?;
         start(&mut self.registers, worker, sync);
         Ok(replies)
     }
 
-    /// Makes the next request of the worker's sync.
+    /// Makes the next request of the worker's sync, and before it the plan, where it has none yet.
     ///
     /// # Errors
     /// `Want` where there is no memory for it; all is then as before.
-    pub fn step(&mut self, store: &mut Store, worker: usize, now: Moment) -> Result<Reply, Want>
+    pub fn step(
+        &mut self,
+        alloc: Global,
+        store: &mut Store,
+        worker: usize,
+        now: Moment,
+    ) -> Result<Reply, Want>
         requires worker { worker < length self.old.registers }
         requires faulty { worker < length self.old.faults }
         requires busy { (sync : Sync) → slice_get self.old.registers worker ≡ Some (Some sync)
@@ -283,10 +321,10 @@ impl Member {
         ensures log_kept { OnErr result (store.new ≡ store.old) }
     {
         let pending = self.faults[worker];
-        let Some(sync) = &mut self.registers[worker] else {
+        let Some(started) = &mut self.registers[worker] else {
             return Ok(Reply::Idle);
         };
-        let taken = step_sync(&mut self.controller, sync, store, pending, now)?;
+        let taken = started.step(alloc, &mut self.controller, store, pending, now)?;
         close(&mut self.registers, worker, taken.is_over);
         self.faults[worker] = taken.fault;
         Ok(taken.reply)

@@ -22,7 +22,7 @@ impl Cluster {
     {
         self.history.events.reserve(1)?;
         let member = &mut self.members[controller as usize];
-        let reply = member.step(&mut self.store, worker as usize, self.clock)?;
+        let reply = member.step(self.alloc, &mut self.store, worker as usize, self.clock)?;
         let length = self.store.log_len();
         let _log = self.store.log();
         let events = &mut self.history.events;

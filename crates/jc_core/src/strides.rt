@@ -15,26 +15,25 @@ ghost use Rattle.jc_runs.specs.Teams.{begun_sync, end_of_next, fault_left, is_fi
 ghost use Rattle.jc_runs.specs.Texts.{HasNoText};
 
 use crate::keeping::Twice;
+use crate::started::Started;
 use jc_asks::Ask;
 use jc_control::{Begin, Controller, SyncEnd};
 use jc_moment::Moment;
-use jc_plan::plan;
 use jc_store::Store;
 use jc_sync::{Progress, Syncing};
 use jc_types::{Answer, Backoff, Copied, Fault, Key, Reply, Version, Want};
-use std::alloc::Global;
 
 // What a begin will leave: the reply, and the sync where one begins. Nothing changes yet.
 //
 // `Want` where there is no memory for it.
-pub(crate) fn prepared(alloc: Global, answer: &Begin) -> Result<(Twice, Option<Syncing>), Want>
+pub(crate) fn prepared(answer: &Begin) -> Result<(Twice, Option<Started>), Want>
     requires { (basis : Basis) → answer.now ≡ Begun basis → IsSome basis.job → CanPlan basis }
     ensures reply { IfOk result (λ r. r.0.reply ≡ reply_of_begin answer.now) }
     ensures again { IfOk result (λ r. r.0.again ≡ r.0.reply) }
     ensures sync { IfOk result (λ r. r.1 ≡ begun_sync answer.now) }
 {
     let sync = match answer {
-        Begin::Begun(basis) => Some(Syncing::new(alloc, plan(alloc, basis)?)?),
+        Begin::Begun(basis) => Some(Started::new(basis.copy()?)),
         Begin::NotSynced | Begin::NoKey | Begin::Behind { .. } => None,
     };
     let reply = reply_to(answer)?;
@@ -65,7 +64,7 @@ fn reply_to(answer: &Begin) -> Result<Reply, Want>
 }
 
 // Puts the sync into the worker's register, where one begins.
-pub(crate) fn start(registers: &mut Vec<Option<Syncing>>, worker: usize, sync: Option<Syncing>)
+pub(crate) fn start(registers: &mut Vec<Option<Started>>, worker: usize, sync: Option<Started>)
     requires { worker < length registers.old.items }
     ensures { registers.new.items ≡ with_sync registers.old.items worker sync }
 {
@@ -75,7 +74,7 @@ pub(crate) fn start(registers: &mut Vec<Option<Syncing>>, worker: usize, sync: O
 }
 
 // Makes the worker's register free, where its sync is over.
-pub(crate) fn close(registers: &mut Vec<Option<Syncing>>, worker: usize, is_over: bool)
+pub(crate) fn close(registers: &mut Vec<Option<Started>>, worker: usize, is_over: bool)
     requires { worker < length registers.old.items }
     ensures { registers.new.items
         ≡ (if is_over then set registers.old.items worker None else registers.old.items) }
@@ -114,6 +113,7 @@ pub(crate) fn step_sync(
         → register_of (stepped now pending store.old sync.old).next ≡ Some sync.new) }
     ensures fault { IfOk result (λ r. r.fault
         ≡ fault_left (end_of_next (stepped now pending store.old sync.old).next) pending) }
+    ensures basis { sync.new.flight.basis ≡ sync.old.flight.basis }
     ensures schedule { OnOk result (controller.new.schedule
         ≡ (stride_by now pending controller.old.schedule sync.old
         (stepped now pending store.old sync.old)).schedule) }

@@ -2,3 +2,5 @@ mod PrintFacts
 mod ShapeFacts
 mod WholeFacts
 mod RunFacts
+mod LeftFacts
+mod AskedFacts

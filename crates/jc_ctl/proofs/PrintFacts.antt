@@ -1,5 +1,5 @@
 -- What a report needs of a history: each command has a place in the script, and the log is short.
-use Rattle.std.proofs.Common.{◌≡◌, ℕ, zero, suc, ◌+◌, ◌<◌, ◌≤◌, ◌==◌, ◌^◌, Bool, true, false, cond, List, [], ◌∷◌, length, reverse, slice_get, Option, Some, None, sym, ap, subst, arith, true≢false}
+use Rattle.std.proofs.Common.{◌≡◌, ℕ, zero, suc, ◌+◌, ◌<◌, ◌≤◌, ◌==◌, ◌^◌, Bool, true, false, cond, List, [], ◌∷◌, length, reverse, slice_get, Some, sym, ap, subst, arith, true≢false}
 use Rattle.std.specs.List.{AllByRecursion as Each}
 use Rattle.std.specs.List.Sorted.{IsPermutation}
 use Rattle.std.specs.Option.{is_some, unwrap_or}
@@ -13,13 +13,11 @@ use Rattle.jc_types.specs.declared.runs.Event.{Event}
 use Rattle.jc_types.specs.declared.runs.Event.TheVariants as event
 use Rattle.jc_types.specs.declared.runs.History.{History}
 use Rattle.jc_types.specs.declared.runs.Past.{Past}
-use Rattle.jc_types.specs.declared.runs.Shape.{Shape}
-use Rattle.jc_log.specs.Deeds.{Deed, deed}
-use Rattle.jc_log.specs.Requests.{grown}
-use Rattle.jc_ledger.specs.Verdicts.{IsNumbered, IsPlace}
+use Rattle.jc_log.specs.Deeds.{deed}
+use Rattle.jc_verdicts.specs.Verdicts.{IsNumbered, IsPlace}
 use Rattle.jc_history.specs.Legal.{ComesNext, InLanes, lane_count, places_from}
-use Rattle.jc_history.specs.Replies.{gives, log_given}
 use Rattle.jc_runs.specs.Seen.{Seen, deeds_seen, log_seen}
+use Rattle.jc_runs.proofs.BackoffFacts.{log_short}
 
 -- ---- places
 
@@ -65,18 +63,6 @@ numbered script history pasts lanes e =
     (All-from_recursion P pasts (are-places script.commands pasts lanes))
 
 -- ---- the log
-
--- A deed appends at most one entry.
-log_short : (shape : Shape) (deeds : List Deed) → length (log_given shape deeds) ≤ length deeds
-unfolding log_given
-log_short shape [] = omega arith
-log_short shape (d ∷ past) =
-    by (log_short shape past) (gives shape past (log_given shape past) d.act).entry
-  where
-    by : length (log_given shape past) ≤ length past → (o : Option Entry)
-        → length (grown (log_given shape past) o) ≤ suc (length past)
-    by ih None = omega (arith, ih)
-    by ih (Some e) = omega (arith, ih)
 
 -- The log that a cluster keeps has fewer than 2^32 entries.
 pub log_fits : (seen : Seen) (log : List Entry) → reverse log ≡ log_seen seen

@@ -2,11 +2,13 @@
 --     Printed                        what a run prints: a text, and whether the history is full
 --     report_printed script shape    that of the play of a script
 --     summary_printed script shape   that of a generated script
---     answer_of order input          what the words ask for, where the source has these bytes
+--     answer_of order input          what the words ask for on one thread, where the source has these bytes
+--     IsSingle order                 it is played on one thread
+--     MayEnd said status             how a run on threads may end, of what a text says
 --     OfInput order left P           P holds of the bytes that the order reads
 --     status_of answer               the status of a run that meets no fault and no want of memory
 --     printed_by output              what is written, as it is printed
-use Rattle.std.specs.Prelude.{ℕ, Bool, List, [], string_bytes, Option, Result, Ok, Err, IfSome, if◌then◌else◌}
+use Rattle.std.specs.Prelude.{◌≡◌, ℕ, ◌⊎◌, Bool, List, [], string_bytes, Option, Result, Ok, Err, IfSome, if◌then◌else◌}
 use Rattle.jc_types.specs.declared.actions.Command.{Command}
 use Rattle.jc_types.specs.declared.actions.Script.{Script}
 use Rattle.jc_types.specs.declared.runs.Shape.{Shape}
@@ -45,7 +47,7 @@ abbrev pub reported : Shape → Result (List Command) BadLine → Result Printed
 reported shape (Ok commands) = Ok (report_printed (record { commands = commands }) shape)
 reported shape (Err bad) = Err bad
 
--- What the words ask for, where the source has these bytes.
+-- What the words ask for on one thread, where the source has these bytes.
 unfoldable pub answer_of : Order → List ℕ → Result Printed BadLine
 answer_of (order.Run threads shape) input = reported shape (script_of shape input)
 answer_of (order.Generate number jobs pods) input =
@@ -60,6 +62,16 @@ OfInput (order.Generate number jobs pods) left P = P []
 abbrev pub status_of : Result Printed BadLine → Status
 status_of (Ok printed) = if printed.full then status.HistoryFull else status.Ok
 status_of (Err bad) = status.BadScript bad.number bad.cause
+
+-- It is played on one thread: without threads, or a generated script.
+abbrev pub IsSingle : Order → Type 0
+IsSingle (order.Run threads shape) = threads ≡ 0
+IsSingle (order.Generate number jobs pods) = Unit {0}
+
+-- How a run on threads may end that meets no fault and no want of memory, of what a text says.
+abbrev pub MayEnd : Result (List Command) BadLine → Status → Type 0
+MayEnd (Ok commands) ended = (ended ≡ status.Ok) ⊎ (ended ≡ status.HistoryFull)
+MayEnd (Err bad) ended = ended ≡ status.BadScript bad.number bad.cause
 
 -- What is written, as it is printed.
 abbrev pub printed_by : Output → Printed

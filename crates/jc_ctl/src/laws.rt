@@ -1,8 +1,7 @@
 //! Laws on what runs write. Each function is empty: what it ensures holds of every script, and its callers may cite it.
 
-ghost use Rattle.std.specs.Prelude.{◌≡◌, ◌<◌, ◌≤◌, Bool, IsOkAnd, List, Ok, Option, ℕ};
+ghost use Rattle.std.specs.Prelude.{◌≡◌, ◌<◌, ◌≤◌, IsOkAnd, List, Ok, ℕ};
 ghost use Rattle.std.specs.List.{AllByRecursion as Each};
-ghost use Rattle.std.specs.Io.KnownBytes.{Appends};
 ghost use Rattle.jc_types.specs.declared.actions.Command.{Command};
 ghost use Rattle.jc_types.specs.declared.actions.Script.{Script};
 ghost use Rattle.jc_types.specs.declared.runs.Shape.{Shape};
@@ -13,21 +12,20 @@ ghost use Rattle.jc_script.specs.Scripts.{script_of};
 ghost use Rattle.jc_words.specs.declared.words.Order.TheVariants.{Run};
 ghost use Rattle.jc_words.specs.Fits.{IsFitShape};
 ghost use Rattle.jc_ctl.specs.Runs.{Printed, answer_of, report_printed};
-ghost use Rattle.jc_ctl.specs.Told.{TellsHistory};
+ghost use Rattle.jc_ctl.specs.Told.{IsReport};
 
 use jc_order::{plays_are_orderly_histories, settled_plays_are_at_rest};
 use jc_promise::legal_histories_keep_the_promises;
 use jc_script::scripts_fit_their_shape;
 
-/// **The report of the play of a script is that of a legal history of it, of which all promises hold
-/// (KEP-2307).**
+/// **The report of the play of a script on one thread is that of a legal history of it, of which all
+/// promises hold (KEP-2307).**
 pub fn plays_tell_their_history()
-    ensures { (script : Script) (shape : Shape) (full : Bool) (old new : Option (List ℕ))
+    ensures { (script : Script) (shape : Shape)
         → Each (λ (command : Command). IsValidAction command.action) script.commands
         → IsProper script shape → 0 < shape.controllers → 0 < shape.workers
-        → shape.events ≤ 200000 → full ≡ is_full script shape
-        → Appends old new (report_printed script shape).text
-        → TellsHistory script shape full old new }
+        → shape.events ≤ 200000
+        → IsReport 0 script shape (is_full script shape) (report_printed script shape).text }
 {
     plays_are_orderly_histories();
     legal_histories_keep_the_promises();
@@ -36,11 +34,10 @@ pub fn plays_tell_their_history()
 
 /// So is what is printed of a text that is a script.
 pub fn runs_tell_their_history()
-    ensures { (threads : ℕ) (shape : Shape) (input : List ℕ) (printed : Printed)
-        (old new : Option (List ℕ)) → IsFitShape shape
-        → answer_of (Run threads shape) input ≡ Ok printed → Appends old new printed.text
+    ensures { (threads : ℕ) (shape : Shape) (input : List ℕ) (printed : Printed) → IsFitShape shape
+        → answer_of (Run threads shape) input ≡ Ok printed
         → IsOkAnd (script_of shape input) (λ commands.
-        TellsHistory (record { commands = commands }) shape printed.full old new) }
+        IsReport 0 (record { commands = commands }) shape printed.full printed.text) }
 {
     plays_tell_their_history();
     scripts_fit_their_shape();

@@ -1,6 +1,6 @@
-//! The top call: it reads, plays and writes.
+//! The top calls: they read, play and write.
 
-ghost use Rattle.std.specs.Prelude.{◌≡◌, ◌≢◌, ◌<◌, ◌≤◌, ◌+◌, ◌↔◌, ◌⊎◌, Err, IfOk, IfSome, IsErrOf, IsOkAnd, None, OnErr, Some, false, if◌then◌else◌, length, map, string_bytes, true, vec_len, ℕ};
+ghost use Rattle.std.specs.Prelude.{◌≡◌, ◌≢◌, ◌<◌, ◌≤◌, ◌+◌, ◌↔◌, ◌⊎◌, Err, IfOk, IfSome, IsErrOf, IsOkAnd, IsTrue, None, OnErr, Some, false, if◌then◌else◌, length, map, string_bytes, true, vec_len, ℕ};
 ghost use Rattle.std.specs.Io.KnownBytes.{Appends, Keeps};
 ghost use Rattle.jc_io.specs.Faults.{Rose};
 ghost use Rattle.jc_io.specs.Moved.{AppendsFront, TakesAtMost, TakesCount};
@@ -10,19 +10,24 @@ ghost use Rattle.jc_script.specs.declared.causes.Cause.{Cause};
 ghost use Rattle.jc_words.specs.Words.{order_of};
 ghost use Rattle.jc_words.specs.declared.words.Order.{Order};
 ghost use Rattle.jc_words.specs.declared.words.Order.TheVariants.{Generate, Run};
-ghost use Rattle.jc_ctl.specs.Runs.{OfInput, answer_of, status_of};
-ghost use Rattle.jc_ctl.specs.Told.{TellsHistory, ends_full};
+ghost use Rattle.jc_ctl.specs.Runs.{IsSingle, MayEnd, OfInput, answer_of, status_of};
+ghost use Rattle.jc_ctl.specs.Told.{TellsFront, TellsHistory, ends_full};
 
 use crate::laws::runs_tell_their_history;
 use crate::orders::answer;
 use crate::status::Status;
+use crate::threaded::run_threaded;
 use jc_io::{Bytes, ReadEnd, Sink, Source, WriteFault, read_all, write_all};
 use jc_script::ScriptFault;
+use jc_shared::Gate;
+use jc_types::Shape;
 use jc_words::{Order, orders_fit, read_words};
 use std::alloc::Global;
+use std::sync::Wait;
+use std::thread::Threads;
 
 // A script has at most this many bytes.
-const MOST_BYTES: u64 = 67_108_864;
+pub(crate) const MOST_BYTES: u64 = 67_108_864;
 
 // Reads all that the order needs: the whole source for a script, and nothing for a generated one.
 fn read_input<S: Source>(alloc: Global, order: &Order, source: &mut S) -> Result<Bytes, ReadEnd>
@@ -47,7 +52,7 @@ fn read_input<S: Source>(alloc: Global, order: &Order, source: &mut S) -> Result
 }
 
 // The status of a run that has written all.
-fn ended(full: bool) -> Status
+pub(crate) fn ended(full: bool) -> Status
     ensures { result ≡ (if full then Status.HistoryFull else Status.Ok) }
 {
     if full {
@@ -56,23 +61,15 @@ fn ended(full: bool) -> Status
     Status::Ok
 }
 
-/// Does what the words ask for, on one thread. `words` are those after the program's name.
-///
-/// `run` with its options reads a script of at most 67,108,864 bytes from the source, plays it, and
-/// writes the report; `generate` with three numbers plays a generated script, and writes the summary.
-/// The answers are tested in the order words, reading, script, writing.
-///
-/// **The headline (KEP-2307)**: with `Ok` and with `HistoryFull` what `run` has written is the report of
-/// a history of the script that is legal and orderly. After each of its events each pod of each Job was
-/// counted once, and each finalizer that a sync took had its cause. Its lines tell it. With one controller
-/// no more pods run at once than a Job allows, and a Job that has ended stays as it is. Where the script
-/// ends in a settle, and the history is not full, no ended pod is forgotten.
-pub fn run_program<S: Source, K: Sink>(
+/// Does what the words ask for, where they ask for no threads: it waits for nobody. `words` are those after
+/// the program's name. It is `run_program` for such words, which says more of it.
+pub fn run_single<S: Source, K: Sink>(
     alloc: Global,
     words: &[String],
     source: &mut S,
     sink: &mut K,
 ) -> Status
+    requires { (order : Order) → order_of (map string_bytes words.now) ≡ Some order → IsSingle order }
     // With Ok the whole text was written: what the words ask for, of what the source had.
     ensures ok { result ≡ Status.Ok → IfSome (order_of (map string_bytes words.now)) (λ order.
         OfInput order (S.left source.old) (λ input. IsOkAnd (answer_of order input)
@@ -84,8 +81,13 @@ pub fn run_program<S: Source, K: Sink>(
     ensures headline { (result ≡ Status.Ok) ⊎ (result ≡ Status.HistoryFull)
         → (threads : ℕ) (shape : Shape) → order_of (map string_bytes words.now) ≡ Some (Run threads shape)
         → IfSome (S.left source.old) (λ input. IsOkAnd (script_of shape input) (λ commands.
-        TellsHistory (record { commands = commands }) shape (ends_full result)
+        TellsHistory threads (record { commands = commands }) shape (ends_full result)
         (K.held sink.old) (K.held sink.new))) }
+    // The same where the sink failed: what went out is the front of such a report.
+    ensures headline_front { result ≡ Status.WriteFault
+        → (threads : ℕ) (shape : Shape) → order_of (map string_bytes words.now) ≡ Some (Run threads shape)
+        → IfSome (S.left source.old) (λ input. IsOkAnd (script_of shape input) (λ commands.
+        TellsFront threads (record { commands = commands }) shape (K.held sink.old) (K.held sink.new))) }
     ensures bad_words { (result ≡ Status.BadWords) ↔ (order_of (map string_bytes words.now) ≡ None) }
     ensures nothing_read { result ≡ Status.BadWords → Keeps (S.left source.old) (S.left source.new) }
     // A generated script needs no source.
@@ -143,5 +145,122 @@ pub fn run_program<S: Source, K: Sink>(
     match write_all(sink, output.text.as_bytes()) {
         Ok(()) => ended(output.full),
         Err(WriteFault) => Status::WriteFault,
+    }
+}
+
+// What a run on threads is asked for.
+#[derive(Clone, Copy)]
+struct Asked {
+    threads: u32,
+    shape: Shape,
+}
+
+// The threads that the words ask for, where they ask for some.
+fn threads_asked(words: &[String]) -> Option<Asked>
+    ensures some { IfSome result (λ asked. order_of (map string_bytes words.now)
+        ≡ Some (Run asked.threads asked.shape)) }
+    ensures threads { IfSome result (λ asked. 1 ≤ asked.threads) }
+    ensures none { result ≡ None → (order : Order) → order_of (map string_bytes words.now) ≡ Some order
+        → IsSingle order }
+{
+    match read_words(words) {
+        Some(Order::Run { threads, shape }) if threads > 0 => Some(Asked { threads, shape }),
+        _ => None,
+    }
+}
+
+/// Whether the words ask for no threads, so that `run_single` does what they ask for.
+pub fn is_single(words: &[String]) -> bool
+    ensures { IsTrue result ↔ ((order : Order) → order_of (map string_bytes words.now) ≡ Some order
+        → IsSingle order) }
+{
+    threads_asked(words).is_none()
+}
+
+/// Does what the words ask for. `words` are those after the program's name.
+///
+/// `run` with its options reads a script of at most 67,108,864 bytes from the source, plays it, and
+/// writes the report; `generate` with three numbers plays a generated script, and writes the summary.
+/// With `--threads` from 1 on as many seats play the script, and make their plans beside each other;
+/// `gate` is told of each plan. The answers are tested in the order words, reading, script, writing.
+///
+/// **The headline (KEP-2307)**: whatever the script and the number of threads, with `Ok` and with
+/// `HistoryFull` what `run` has written is the report of a history of the script that is legal and orderly.
+/// After each of its events each pod of each Job was counted once, and each finalizer that a sync took had
+/// its cause. Its lines tell it, and the statuses that are printed are those of its log. With one controller
+/// no more pods run at once than a Job allows, and a Job that has ended stays as it is. Where the script
+/// is played on threads or ends in a settle, and the history is not full, nothing is left to do and no ended
+/// pod is forgotten. With `WriteFault` what went out is the front of such a report.
+///
+/// On one thread the history is that of the play. On threads it may wait, and what it promises holds if it
+/// returns; which of the possible histories it is, is not said.
+pub fn run_program<R: Threads + Wait + Sync, S: Source, K: Sink, G: Gate + Sync>(
+    rt: &R,
+    alloc: Global,
+    words: &[String],
+    source: &mut S,
+    sink: &mut K,
+    gate: &G,
+) -> Status
+    // On one thread, with Ok, the whole text was written: what the words ask for, of what the source had.
+    ensures ok { result ≡ Status.Ok → IfSome (order_of (map string_bytes words.now)) (λ order.
+        IsSingle order → OfInput order (S.left source.old) (λ input. IsOkAnd (answer_of order input)
+        (λ printed. (printed.full ≡ false) × Appends (K.held sink.old) (K.held sink.new) printed.text))) }
+    ensures history_full { result ≡ Status.HistoryFull → IfSome (order_of (map string_bytes words.now))
+        (λ order. IsSingle order → OfInput order (S.left source.old) (λ input.
+        IsOkAnd (answer_of order input) (λ printed. (printed.full ≡ true) × Appends (K.held sink.old) (K.held sink.new) printed.text))) }
+    // The headline.
+    ensures headline { (result ≡ Status.Ok) ⊎ (result ≡ Status.HistoryFull)
+        → (threads : ℕ) (shape : Shape) → order_of (map string_bytes words.now) ≡ Some (Run threads shape)
+        → IfSome (S.left source.old) (λ input. IsOkAnd (script_of shape input) (λ commands.
+        TellsHistory threads (record { commands = commands }) shape (ends_full result)
+        (K.held sink.old) (K.held sink.new))) }
+    // The same where the sink failed: what went out is the front of such a report.
+    ensures headline_front { result ≡ Status.WriteFault
+        → (threads : ℕ) (shape : Shape) → order_of (map string_bytes words.now) ≡ Some (Run threads shape)
+        → IfSome (S.left source.old) (λ input. IsOkAnd (script_of shape input) (λ commands.
+        TellsFront threads (record { commands = commands }) shape (K.held sink.old) (K.held sink.new))) }
+    ensures bad_words { (result ≡ Status.BadWords) ↔ (order_of (map string_bytes words.now) ≡ None) }
+    ensures nothing_read { result ≡ Status.BadWords → Keeps (S.left source.old) (S.left source.new) }
+    // A generated script needs no source.
+    ensures generates { (number jobs pods : ℕ)
+        → order_of (map string_bytes words.now) ≡ Some (Generate number jobs pods)
+        → Keeps (S.left source.old) (S.left source.new) }
+    ensures read_fault { result ≡ Status.ReadFault → Rose (S.faults source.old) (S.faults source.new) }
+    ensures write_fault { result ≡ Status.WriteFault → Rose (K.faults sink.old) (K.faults sink.new) }
+    ensures bad_script { (line : ℕ) (cause : Cause) → result ≡ Status.BadScript line cause
+        → IfSome (order_of (map string_bytes words.now)) (λ order. OfInput order (S.left source.old)
+        (λ input. answer_of order input ≡ Err (record { number = line; cause = cause }))) }
+    ensures too_long { result ≡ Status.TooLong
+        → TakesCount (S.left source.old) (S.left source.new) (most_bytes + 1) }
+    // TooLong takes one byte more than a script may have, and no other end takes so many.
+    ensures not_too_long { result ≢ Status.TooLong
+        → TakesAtMost (S.left source.old) (S.left source.new) most_bytes }
+    ensures nothing_written { result ≢ Status.Ok → result ≢ Status.HistoryFull → result ≢ Status.WriteFault
+        → Keeps (K.held sink.old) (K.held sink.new) }
+    ensures front { result ≡ Status.WriteFault → IfSome (order_of (map string_bytes words.now)) (λ order.
+        IsSingle order → OfInput order (S.left source.old) (λ input. IsOkAnd (answer_of order input)
+        (λ printed. AppendsFront (K.held sink.old) (K.held sink.new) printed.text))) }
+    // Words in the grammar, an input that is not too long and no fault give what was asked for, or want of memory.
+    ensures complete { (order : Order) → order_of (map string_bytes words.now) ≡ Some order → IsSingle order
+        → ¬ Rose (S.faults source.old) (S.faults source.new) → ¬ Rose (K.faults sink.old) (K.faults sink.new)
+        → OfInput order (S.left source.old) (λ input. length input ≤ most_bytes
+        → (result ≡ status_of (answer_of order input)) ⊎ (result ≡ Status.Want)) }
+    // On threads the same, with the report of some history.
+    ensures complete_on_threads { (threads : ℕ) (shape : Shape)
+        → order_of (map string_bytes words.now) ≡ Some (Run threads shape) → 1 ≤ threads
+        → ¬ Rose (S.faults source.old) (S.faults source.new) → ¬ Rose (K.faults sink.old) (K.faults sink.new)
+        → IfSome (S.left source.old) (λ input. length input ≤ most_bytes
+        → MayEnd (script_of shape input) result ⊎ (result ≡ Status.Want)) }
+    // The same of a longer input.
+    ensures complete_too_long { (threads : ℕ) (shape : Shape)
+        → order_of (map string_bytes words.now) ≡ Some (Run threads shape)
+        → ¬ Rose (S.faults source.old) (S.faults source.new) → IfSome (S.left source.old) (λ input.
+        most_bytes < length input → (result ≡ Status.TooLong) ⊎ (result ≡ Status.Want)) }
+{
+    orders_fit();
+    match threads_asked(words) {
+        Some(asked) => run_threaded(rt, alloc, &asked.shape, asked.threads, source, sink, gate),
+        None => run_single(alloc, words, source, sink),
     }
 }

@@ -1,13 +1,12 @@
 -- What settles how a Job will end (batch/v1, KEP-3329, KEP-3998). `counted` is what the sync has counted, `now` its
 -- moment, and `own` are the Job's own pods.
---     restarts_of own                  the restarts of all containers of the open pods
 --     exceeds limit restarts           so many restarts are too many under the limit
 --     is_failed_by_pod, is_past_limit, is_overdue, is_policy_met, is_complete
 --                                      the five reasons, in their order
 --     first_line counted now job own   the first of them that holds, as a condition with its reason
 --     decided counted now job own      the same, unless how the Job will end is settled
 --     decision_of basis counted        what is decided of the Job of a basis
-use Rattle.std.specs.Prelude.{ℕ, ◌==◌, nat_lt, nat_le, Bool, true, false, not, ◌&&◌, ◌||◌, List, filter, sum_by, if◌then◌else◌, Option, Some, None, is_some, option_and_then}
+use Rattle.std.specs.Prelude.{ℕ, ◌==◌, nat_lt, nat_le, Bool, true, false, not, ◌&&◌, ◌||◌, List, if◌then◌else◌, Option, Some, None, is_some, option_and_then}
 use Rattle.std.specs.List.{list_any}
 use Rattle.jc_types.specs.declared.objects.Job.{Job}
 use Rattle.jc_types.specs.declared.objects.Pod.{Pod}
@@ -25,20 +24,13 @@ use Rattle.jc_types.specs.declared.syncs.CountIn.{CountIn}
 use Rattle.jc_states.specs.Bases.{own_pods}
 use Rattle.jc_states.specs.Conditions.{has_target}
 use Rattle.jc_types.specs.Counts.{counts}
-use Rattle.jc_states.specs.Pods.{is_active, is_open, is_tracked}
+use Rattle.jc_states.specs.Pods.{is_active, is_tracked}
+use Rattle.jc_states.specs.Tallies.{restarts_of}
 use Rattle.jc_failpol.specs.FailJob.{fails_job}
 use Rattle.jc_succpol.specs.Rules.{met_place}
 use Rattle.jc_finish.specs.Starts.{end_after, start_of}
 
--- ---- the restarts of containers
-
--- The restarts of all containers of the pod.
-abbrev pub restarts_in : Pod → ℕ
-restarts_in pod = sum_by (λ container. container.restarts) pod.containers
-
--- The restarts of all containers of the open pods.
-abbrev pub restarts_of : List Pod → ℕ
-restarts_of own = sum_by restarts_in (filter is_open own)
+-- ---- too many restarts
 
 -- As many restarts as the limit are too many, but under the limit 0 the first is.
 abbrev pub exceeds : ℕ → ℕ → Bool

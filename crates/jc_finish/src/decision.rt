@@ -1,18 +1,16 @@
 //! What settles how a Job will end.
 
 ghost use Rattle.std.specs.Prelude.{◌≡◌, ◌+◌, ◌<◌, ◌^◌, length, nat_le};
-ghost use Rattle.std.specs.List.{list_any};
 ghost use Rattle.jc_states.specs.Bases.{own_pods};
 ghost use Rattle.jc_types.specs.Counts.{counts as counts_of};
-ghost use Rattle.jc_states.specs.Pods.{is_active};
 ghost use Rattle.jc_finish.specs.Decisions.{decided, decision_of, first_line, is_complete, is_enough, is_failed_by_pod, is_overdue, is_past_limit, is_policy_met, restarts_on_failure};
 
-use crate::restarts::{is_exceeded, restarts_of};
+use crate::restarts::is_exceeded;
 use crate::start::start_of;
 use jc_failpol::fails_job;
 use jc_moment::Moment;
 use jc_ranges::Ranges;
-use jc_states::{Basis, has_target, is_active, is_own};
+use jc_states::{Basis, Pods, count_restarts, has_active, has_target, is_own};
 use jc_succpol::is_met;
 use jc_types::{
     CondKind, CountIn, Job, JobSpec, JobStatus, Pod, Reason, Restart, SuccessPolicy, counts,
@@ -37,13 +35,12 @@ fn does_restart(restart: Restart) -> bool
 
 // Whether more pods have failed than the backoff limit, or containers that start anew have done so too
 // often.
-fn is_limit_passed(job: &Job, pods: &[Pod], failed: u64) -> bool
-    requires { length pods.now < 2 ^ 31 }
+fn is_limit_passed(job: &Job, pods: &Pods, failed: u64) -> bool
     ensures { result ≡ is_past_limit failed job.now.spec (own_pods job.now pods.now) }
 {
     let limit = job.spec.backoff_limit;
     failed > u64::from(limit)
-        || does_restart(job.spec.template.restart) && is_exceeded(limit, restarts_of(job, pods))
+        || does_restart(job.spec.template.restart) && is_exceeded(limit, count_restarts(job, pods))
 }
 
 // Whether so many seconds have passed since the start.
@@ -76,13 +73,6 @@ fn is_success_policy_met(policy: &Option<SuccessPolicy>, completed: &Ranges) -> 
     }
 }
 
-// Whether one of the Job's pods is active.
-fn has_active(job: &Job, pods: &[Pod]) -> bool
-    ensures { result ≡ list_any is_active (own_pods job.now pods.now) }
-{
-    pods.iter().any(|pod| is_own(job, pod) && is_active(pod))
-}
-
 // Whether there are as many successes as completions are wanted; where none are, one is enough.
 fn has_enough(completions: Option<u32>, succeeded: u64) -> bool
     ensures { result ≡ is_enough completions succeeded }
@@ -97,16 +87,15 @@ fn has_enough(completions: Option<u32>, succeeded: u64) -> bool
 fn first_reason(
     now: Moment,
     job: &Job,
-    pods: &[Pod],
+    pods: &Pods,
     counted: &CountIn,
 ) -> Option<(CondKind, Reason)>
-    requires few { length pods.now < 2 ^ 31 }
     requires failed { (counts_of counted.now).0 < 2 ^ 64 }
     requires succeeded { (counts_of counted.now).1 < 2 ^ 64 }
     ensures { result ≡ first_line counted.now now job.now (own_pods job.now pods.now) }
 {
     let (failed, succeeded) = counts(counted);
-    if is_failed_by_a_pod(job, pods) {
+    if is_failed_by_a_pod(job, pods.as_slice()) {
         Some((CondKind::FailureTarget, Reason::PodFailurePolicy))
     } else if is_limit_passed(job, pods, failed) {
         Some((CondKind::FailureTarget, Reason::BackoffLimitExceeded))
@@ -122,8 +111,7 @@ fn first_reason(
 }
 
 // What is decided of the Job among the pods.
-fn decide_job(now: Moment, job: &Job, pods: &[Pod], counted: &CountIn) -> Option<(CondKind, Reason)>
-    requires few { length pods.now < 2 ^ 31 }
+fn decide_job(now: Moment, job: &Job, pods: &Pods, counted: &CountIn) -> Option<(CondKind, Reason)>
     requires failed { (counts_of counted.now).0 < 2 ^ 64 }
     requires succeeded { (counts_of counted.now).1 < 2 ^ 64 }
     ensures { result ≡ decided counted.now now job.now (own_pods job.now pods.now) }
@@ -154,5 +142,5 @@ pub fn decide(basis: &Basis, counted: &CountIn) -> Option<(CondKind, Reason)>
     ensures { result ≡ decision_of basis.entry.now counted.now }
 {
     let job = basis.job.as_ref()?;
-    decide_job(basis.now, job, basis.pods.as_slice(), counted)
+    decide_job(basis.now, job, &*basis.pods, counted)
 }

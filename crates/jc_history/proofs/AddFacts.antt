@@ -7,8 +7,8 @@ use Rattle.jc_types.specs.Keys.{same_key}
 use Rattle.jc_types.proofs.KeyFacts.{same_key-eq, same_key-either_way}
 use Rattle.jc_types.proofs.ListFacts.{filter_filter}
 use Rattle.jc_control.specs.ControllerCalls.{all_added}
-use Rattle.jc_queue.proofs.QueueFacts.{is_in-last}
-use Rattle.jc_queue.specs.Queued.{Queued, added, has_key}
+use Rattle.jc_queue.proofs.KeySets.{is_in-plus}
+use Rattle.jc_queue.specs.Queued.{Queued, added, has_key, plus_key}
 use Rattle.jc_history.specs.Keys.{once}
 use Rattle.jc_history.proofs.KeyFacts.{once-filter}
 
@@ -18,7 +18,7 @@ is_fresh q k = not (has_key k q.processing) && not (has_key k q.dirty)
 
 -- A queue with this line and the key dirty.
 abbrev with_key : Queued → List Key → Key → Queued
-with_key q line k = record { line = line; dirty = q.dirty ++ k ∷ []; processing = q.processing }
+with_key q line k = record { line = line; dirty = plus_key k q.dirty; processing = q.processing }
 
 -- ---- what is dirty
 
@@ -35,15 +35,9 @@ added-dirty j q k = by (has_key k q.dirty) refl
     there true s h = ap (λ z. has_key z q.dirty) (same_key-eq j k s) ∙ h
     there false s h = refl
 
-    swapped : (a b : Bool) → (a || b) ≡ (b || a)
-    swapped true true = refl
-    swapped true false = refl
-    swapped false true = refl
-    swapped false false = refl
-
     by : (b : Bool) → has_key k q.dirty ≡ b → has_key j (cond {A = Queued} b q (with_key q (cond (has_key k q.processing) q.line (q.line ++ k ∷ [])) k)).dirty ≡ (same_key j k || has_key j q.dirty)
     by true h = there (same_key j k) refl h
-    by false h = is_in-last j k q.dirty ∙ swapped (has_key j q.dirty) (same_key j k)
+    by false h = is_in-plus j k q.dirty
 
 pub all_added-dirty : (j : Key) (q : Queued) (keys : List Key) → has_key j (all_added q keys).dirty ≡ (has_key j keys || has_key j q.dirty)
 all_added-dirty j q [] = refl
@@ -53,14 +47,16 @@ all_added-dirty j q (k ∷ keys) =
 -- ---- the line
 
 -- A fresh key that goes last is fresh no more; of a key that is processing nothing changes.
-fresh-without : (p d m : Bool) → (not p && not (d || m)) ≡ ((not p && not d) && not m)
+fresh-without : (p d m : Bool) → (not p && not (m || d)) ≡ ((not p && not d) && not m)
 fresh-without true d m = refl
-fresh-without false true m = refl
-fresh-without false false m = refl
+fresh-without false true true = refl
+fresh-without false true false = refl
+fresh-without false false true = refl
+fresh-without false false false = refl
 
 fresh-last : (q : Queued) (line : List Key) (k j : Key) → is_fresh (with_key q line k) j ≡ (is_fresh q j && not (same_key k j))
 fresh-last q line k j =
-    ap (λ b. not (has_key j q.processing) && not b) (is_in-last j k q.dirty ∙ ap (λ m. has_key j q.dirty || m) (same_key-either_way j k))
+    ap (λ b. not (has_key j q.processing) && not b) (is_in-plus j k q.dirty ∙ ap (λ m. m || has_key j q.dirty) (same_key-either_way j k))
     ∙ fresh-without (has_key j q.processing) (has_key j q.dirty) (same_key k j)
 
 fresh-busy : (q : Queued) (line : List Key) (k j : Key) → has_key k q.processing ≡ true → is_fresh (with_key q line k) j ≡ is_fresh q j

@@ -8,7 +8,7 @@ use Rattle.jc_types.specs.Keys.{same_key}
 use Rattle.jc_types.proofs.KeyFacts.{same_key-eq, same_key-itself, same_key-either_way}
 use Rattle.jc_types.proofs.ListFacts.{Each-filter, Each-passes, Each-weaker, filter_filter}
 use Rattle.jc_queue.specs.Queued.{has_key}
-use Rattle.jc_queue.proofs.QueueFacts.{none_is}
+use Rattle.jc_queue.proofs.KeyLists.{none_is}
 use Rattle.jc_history.specs.Keys.{once, last_of}
 
 and-swap : (a b : Bool) → (a && b) ≡ (b && a)

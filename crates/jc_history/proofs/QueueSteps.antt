@@ -6,7 +6,9 @@ use Rattle.jc_control.proofs.TurnFacts.{all_added-processing}
 use Rattle.jc_control.specs.declared.ends.SyncEnd.{SyncEnd}
 use Rattle.jc_control.specs.Schedules.{Schedule}
 use Rattle.jc_control.specs.ControllerCalls.{all_added}
-use Rattle.jc_queue.proofs.QueueFacts.{first_is_dirty, first_is_idle, is_in-last, is_in-without}
+use Rattle.jc_queue.proofs.KeyLists.{is_in-last, is_in-without}
+use Rattle.jc_queue.proofs.KeySets.{ascends-once}
+use Rattle.jc_queue.proofs.QueueFacts.{first_is_dirty, first_is_idle}
 use Rattle.jc_queue.specs.Queued.{IsQueue, Queued, finished, got, got_first, has_key, sent_back, sent_back_first, without}
 use Rattle.jc_types.specs.declared.objects.Key.{Key}
 use Rattle.jc_states.specs.declared.bases.Basis.{Basis}
@@ -67,7 +69,7 @@ module _ (older : List Note) (schedule new : Schedule) (k : Key) (rest : List Ke
   pub queued-began : (worker : ℕ) (basis : Basis) → basis.key ≡ k → new.queue ≡ got schedule.queue → IsQueued (Began worker basis ∷ older) new
   queued-began worker basis same e = record {
     line_is = ap (λ (queue : Queued). queue.line) after ∙ sym shorter ∙ ap (λ z. filter (λ j. not (same_key z j)) (line older)) (sym same) ∙ sym (line-began worker basis older);
-    dirty_is = λ j. ap (λ (queue : Queued). has_key j queue.dirty) after ∙ is_in-without j k schedule.queue.dirty queue.dirty_once
+    dirty_is = λ j. ap (λ (queue : Queued). has_key j queue.dirty) after ∙ is_in-without j k schedule.queue.dirty (ascends-once schedule.queue.dirty queue.dirty_ascends)
         ∙ (λ i. not (same_key (same-back i) j) && q.dirty_is j i);
     processing_is = λ j. ap (λ (queue : Queued). has_key j queue.processing) after ∙ is_in-last j k schedule.queue.processing
         ∙ or-swapped (has_key j schedule.queue.processing) (same_key j k) ∙ (λ i. (same_key-either_way j k ∙ ap (λ z. same_key z j) (sym same)) i || q.processing_is j i)

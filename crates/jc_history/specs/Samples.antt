@@ -42,7 +42,7 @@ use Rattle.jc_types.specs.declared.statuses.Condition.{Condition}
 use Rattle.jc_types.specs.declared.statuses.Reason.{Reason}
 use Rattle.jc_log.specs.Log.{job_in}
 use Rattle.jc_ledger.specs.Ledger.{ledger_of}
-use Rattle.jc_ledger.specs.Verdicts.{verdicts_of}
+use Rattle.jc_ledger.specs.Ledger.{verdicts_of}
 use Rattle.jc_ledger.specs.declared.counts.Verdicts.{Verdicts}
 use Rattle.jc_history.specs.Play.{deeds_played, play_of, whole_play}
 

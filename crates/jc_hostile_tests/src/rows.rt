@@ -1,6 +1,6 @@
 //! The Job of which the runs are, and the run of it that nothing disturbs.
 
-use jc_ctl::{Status, run_program};
+use jc_ctl::{Status, is_single, run_single};
 use jc_io::{Bytes, MemSink, MemSource};
 use std::alloc::Global;
 use std::test::Fail;
@@ -64,5 +64,9 @@ pub(crate) fn run(
 ) -> Result<Status, Fail> {
     let mut words = Vec::new(alloc);
     words.push(String::from_str(alloc, "run")?)?;
-    Ok(run_program(alloc, &words, source, sink))
+    if is_single(&words) {
+        Ok(run_single(alloc, &words, source, sink))
+    } else {
+        Ok(Status::BadWords)
+    }
 }

@@ -22,10 +22,4 @@ pub mod SecondStatus
 pub mod AgreementFacts
 pub mod FirstFacts
 pub mod FirstStatus
-pub mod VerdictPods
-pub mod VerdictSteps
-pub mod VerdictRows
-pub mod VerdictEvents
 pub mod VerdictBounds
-pub mod VerdictFacts
-pub mod BookFacts

@@ -1,11 +1,11 @@
 -- A ledger has at most as many records as the log has entries, and at most as many indexes as records.
-use Rattle.std.proofs.Common.{◌≡◌, ℕ, ◌≤◌, Bool, true, false, cond, ◌||◌, nat_lt, List, [], ◌∷◌, map, length, Option, Some, None, refl, sym, ap, ◌∙◌, subst, arith}
+use Rattle.std.proofs.Common.{◌≡◌, ℕ, ◌≤◌, Bool, true, false, cond, ◌||◌, nat_lt, ltb, ◌+◌, List, [], ◌∷◌, map, filter, length, Option, Some, None, refl, sym, ap, ◌∙◌, subst, arith}
 use Rattle.std.specs.Cmp.{IsEquivalence}
 use Rattle.std.specs.List.{AllByRecursion as Each, IsDistinct, cons_option}
 use Rattle.std.specs.Set.{is_member}
 use Rattle.std.proofs.lemmas.List.{length-append, length-map}
 use Rattle.std.proofs.lemmas.Map.Made.{length-le_from_is_member}
-use Rattle.std.proofs.lemmas.Bool.{or_right}
+use Rattle.std.proofs.lemmas.Bool.{ltb-true, or_right}
 use Rattle.jc_types.specs.declared.numbers.Uid.{Uid}
 use Rattle.jc_types.specs.declared.objects.Entry.{Entry}
 use Rattle.jc_types.specs.declared.objects.Entry.TheVariants.{JobPut, JobGone, PodPut, PodGone}
@@ -14,6 +14,7 @@ use Rattle.jc_types.specs.declared.objects.Pod.{Pod}
 use Rattle.jc_log.specs.Deeds.{Deed}
 use Rattle.jc_types.specs.Keys.{same_uid}
 use Rattle.jc_log.specs.Log.{Live, Gone, life, upto, pods_of}
+use Rattle.jc_states.specs.UidLists.{join}
 use Rattle.jc_types.proofs.KeyFacts.{same_uid-eq, same_uid-itself, same_uid-either_way}
 use Rattle.jc_types.proofs.ListFacts.{Each-weaker, Each-filter, Each-append, Each-map}
 use Rattle.jc_log.proofs.PodFacts.{pods_of-live}
@@ -22,7 +23,6 @@ use Rattle.jc_failpol.specs.Outcomes.{outcome_of, same_outcome}
 use Rattle.jc_account.specs.Modes.{indexes_of}
 use Rattle.jc_account.specs.Judged.{is_fresh}
 use Rattle.jc_ledger.specs.Ledger.{Record, Ledger, Judging, chosen, has_record, recorded, successes, entered, judged_by, judging_of, ledger_of}
-use Rattle.jc_ledger.proofs.VerdictRows.{length-join}
 
 -- Equality of UIDs is an equivalence.
 pub same_uid-laws : IsEquivalence same_uid
@@ -122,6 +122,27 @@ few_records j deeds log once =
     let count = length-map records (λ (r : Record). r.pod.uid) in
     let puts = length-puts log in
     omega (arith, few, count, puts)
+
+-- How many are below or above a number: at most all.
+parted : (n : ℕ) (xs : List ℕ) → length (filter (λ x. ltb x n) xs) + length (filter (λ x. ltb n x) xs) ≤ length xs
+parted n [] = omega arith
+parted n (x ∷ xs) = by (ltb x n) refl (ltb n x) refl (parted n xs)
+  where
+    by : (a : Bool) → ltb x n ≡ a → (b : Bool) → ltb n x ≡ b → length (filter (λ y. ltb y n) xs) + length (filter (λ y. ltb n y) xs) ≤ length xs
+        → length (cond a (x ∷ filter (λ y. ltb y n) xs) (filter (λ y. ltb y n) xs)) + length (cond b (x ∷ filter (λ y. ltb n y) xs) (filter (λ y. ltb n y) xs)) ≤ length (x ∷ xs)
+    by true s true t ih = let lt = ltb-true x n s in let gt = ltb-true n x t in absurd (omega (arith, lt, gt))
+    by true s false t ih = omega (arith, ih)
+    by false s true t ih = omega (arith, ih)
+    by false s false t ih = omega (arith, ih)
+
+-- Each that joins makes at most one more.
+length-join : (xs more : List ℕ) → length (join xs more) ≤ length xs + length more
+length-join xs [] = omega arith
+length-join xs (n ∷ more) =
+    let ih = length-join xs more in
+    let all = parted n (join xs more) in
+    let sum = length-append (filter (λ x. ltb x n) (join xs more)) (n ∷ filter (λ x. ltb n x) (join xs more)) in
+    omega (arith, ih, all, sum)
 
 -- The successes among pods have at most as many indexes as there are pods.
 few_indexes : (job : Job) (pods : List Pod) → length (indexes_of (successes job pods)) ≤ length pods

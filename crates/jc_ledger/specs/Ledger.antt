@@ -7,11 +7,12 @@
 --     chosen job records pods         the pods that a write judges
 --     judged_as outcome records       the records with the outcome
 --     Ledger                          the records of a Job, and the indexes of its judged successes
+--     verdicts_of ledger              how many records have each outcome, and how many indexes there are
 --     entered job pods seen at ledger the ledger after a write whose sync saw the pods
 --     Judging                         a write that judges: the Job that its sync saw, where, and its version
 --     judging_of d past log           that of the deed
 --     ledger_of j deeds log           the ledger of the Job of the UID
-use Rattle.std.specs.Prelude.{ℕ, Bool, true, false, ◌&&◌, List, [], ◌∷◌, ◌++◌, map, filter, find, if◌then◌else◌, Option, Some, None, is_some, option_map, option_and_then}
+use Rattle.std.specs.Prelude.{ℕ, Bool, true, false, ◌&&◌, List, [], ◌∷◌, ◌++◌, map, filter, length, find, if◌then◌else◌, Option, Some, None, is_some, option_map, option_and_then}
 use Rattle.jc_types.specs.declared.numbers.Uid.{Uid}
 use Rattle.jc_types.specs.declared.objects.Entry.{Entry}
 use Rattle.jc_types.specs.declared.objects.Job.{Job}
@@ -23,10 +24,11 @@ use Rattle.jc_types.specs.Keys.{same_uid}
 use Rattle.jc_log.specs.Log.{upto, job_in, pods_of}
 use Rattle.jc_states.specs.UidLists.{join}
 use Rattle.jc_failpol.specs.declared.outcomes.Outcome.{Outcome}
-use Rattle.jc_failpol.specs.declared.outcomes.Outcome.TheVariants.{Succeeded}
+use Rattle.jc_failpol.specs.declared.outcomes.Outcome.TheVariants.{Failed, Succeeded}
 use Rattle.jc_failpol.specs.Outcomes.{outcome_of, same_outcome}
 use Rattle.jc_account.specs.Judged.{is_fresh}
 use Rattle.jc_account.specs.Modes.{indexes_of}
+use Rattle.jc_ledger.specs.declared.counts.Verdicts.{Verdicts}
 use Rattle.jc_ledger.specs.Syncs.{Began, request_of, step_sync, appends}
 
 -- A judged pod: as it stood among the first `seen` entries, its outcome there, and the version of the
@@ -67,6 +69,14 @@ judged_as outcome records = filter (λ (r : Record). same_outcome r.outcome outc
 pub record Ledger : Type 0 where
   pub records : List Record
   pub done : List ℕ
+
+-- How many records have each outcome, and how many indexes there are.
+abbrev pub verdicts_of : Ledger → Verdicts
+verdicts_of ledger = record {
+  succeeded = length (judged_as Succeeded ledger.records);
+  failed = length (judged_as Failed ledger.records);
+  indexes = length ledger.done;
+}
 
 -- The pods that have succeeded.
 abbrev pub successes : Job → List Pod → List Pod

@@ -5,6 +5,3 @@ pub mod Flights
 pub mod Tied
 pub mod EventKinds
 pub mod Runs
-pub mod Verdicts
-pub mod Starts
-pub mod Books

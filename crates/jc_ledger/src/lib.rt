@@ -1,17 +1,10 @@
 //! The ledger of judged pods, and the laws by which each pod is counted once (KEP-2307).
 #![tactic(auto)]
 
-mod books;
-mod counting;
 mod counts;
-mod events;
 mod flights;
 mod laws;
-mod rows;
-mod seen;
-mod starts;
 
-pub use counting::{all_verdicts, verdicts};
 pub use counts::Verdicts;
 pub use flights::Flight;
 pub use laws::{

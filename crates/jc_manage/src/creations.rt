@@ -9,7 +9,7 @@ ghost use Rattle.jc_types.specs.Counts.{counts as counts_of};
 ghost use Rattle.jc_manage.specs.Creations.{creatable, free, holds, job_lacks, job_wants, keepers, keeps, keeps_own, lacking, wanted};
 
 use jc_ranges::Ranges;
-use jc_states::{count_ending, count_tracked_active, is_active, is_ending, is_own};
+use jc_states::{Pods, count_ending, count_tracked_active, is_active, is_ending, is_own};
 use jc_types::{CountIn, Indexes, Job, JobSpec, Mode, Pod, Replacement, Want, counts};
 use std::alloc::Global;
 
@@ -35,7 +35,7 @@ fn lacking(replacement: Replacement, wanted: u64, active: u64, ending: u64) -> u
 }
 
 // How many active tracked pods the Job should have.
-pub(crate) fn job_wants(job: &Job, pods: &[Pod], counted: &CountIn) -> u64
+pub(crate) fn job_wants(job: &Job, pods: &Pods, counted: &CountIn) -> u64
     requires failed { (counts_of counted.now).0 < 2 ^ 64 }
     requires succeeded { (counts_of counted.now).1 < 2 ^ 64 }
     ensures { result ≡ job_wants job.now (own_pods job.now pods.now) counted.now }
@@ -45,7 +45,7 @@ pub(crate) fn job_wants(job: &Job, pods: &[Pod], counted: &CountIn) -> u64
 }
 
 // How many pods the Job is to make.
-fn job_lacks(job: &Job, pods: &[Pod], counted: &CountIn) -> u64
+fn job_lacks(job: &Job, pods: &Pods, counted: &CountIn) -> u64
     requires failed { (counts_of counted.now).0 < 2 ^ 64 }
     requires succeeded { (counts_of counted.now).1 < 2 ^ 64 }
     ensures { result ≡ job_lacks job.now (own_pods job.now pods.now) counted.now }
@@ -204,7 +204,7 @@ pub(crate) fn creatable(
     alloc: Global,
     target: bool,
     job: &Job,
-    pods: &[Pod],
+    pods: &Pods,
     counted: &CountIn,
 ) -> Result<Indexes, Want>
     requires failed { (counts_of counted.now).0 < 2 ^ 64 }
@@ -218,6 +218,6 @@ pub(crate) fn creatable(
     let lacking = job_lacks(job, pods, counted);
     match job.spec.mode {
         Mode::NonIndexed => without_index(alloc, lacking),
-        Mode::Indexed => least_free(alloc, job, pods, &counted.completed, lacking),
+        Mode::Indexed => least_free(alloc, job, pods.as_slice(), &counted.completed, lacking),
     }
 }

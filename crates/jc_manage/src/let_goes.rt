@@ -15,7 +15,7 @@ use crate::creations::job_wants;
 use crate::lists::list_of;
 use crate::ranks::{Rank, is_below, least_to_go, rank_of};
 use jc_ranges::Ranges;
-use jc_states::{is_active, is_completed, is_own, is_tracked_active};
+use jc_states::{Pods, is_active, is_completed, is_own, is_tracked_active};
 use jc_types::{CountIn, Job, Mode, Pod, PodVersions, Uid, Uids, Version, Want};
 use std::alloc::Global;
 use std::collections::HashMap;
@@ -202,7 +202,7 @@ fn going(
 fn surplus(
     alloc: Global,
     job: &Job,
-    pods: &[Pod],
+    pods: &Pods,
     counted: &CountIn,
 ) -> Result<Vec<(Uid, Version)>, Want>
     requires failed { (counts_of counted.now).0 < 2 ^ 64 }
@@ -212,10 +212,11 @@ fn surplus(
         (job_wants job.now (own_pods job.now pods.now) counted.now)
         (own_tracked job.now pods.now))) }
 {
-    let holders = holders_of(alloc, job, pods)?;
-    let ranks = ranks_of(alloc, job, pods, &counted.completed, &holders)?;
+    let listed = pods.as_slice();
+    let holders = holders_of(alloc, job, listed)?;
+    let ranks = ranks_of(alloc, job, listed, &counted.completed, &holders)?;
     let least = least_to_go(ranks, job_wants(job, pods, counted));
-    going(alloc, job, pods, &counted.completed, &holders, least)
+    going(alloc, job, listed, &counted.completed, &holders, least)
 }
 
 // All active tracked pods.
@@ -238,7 +239,7 @@ pub(crate) fn let_goes(
     alloc: Global,
     target: bool,
     job: &Job,
-    pods: &[Pod],
+    pods: &Pods,
     counted: &CountIn,
 ) -> Result<PodVersions, Want>
     requires failed { (counts_of counted.now).0 < 2 ^ 64 }
@@ -250,7 +251,7 @@ pub(crate) fn let_goes(
         return Ok(PodVersions::new(alloc));
     }
     if job.spec.suspend {
-        let going = all_tracked(alloc, job, pods)?;
+        let going = all_tracked(alloc, job, pods.as_slice())?;
         return list_of(alloc, going.as_slice());
     }
     let going = surplus(alloc, job, pods, counted)?;

@@ -56,11 +56,11 @@ fn wants_of(
     ensures backoff { IfOk result (λ wants.
         wants.backoff ≡ backoff_in basis.entry.now counted.now) }
 {
-    let pods = basis.pods.as_slice();
+    let pods = &*basis.pods;
     let backoff = backoff_after(&basis.backoff, counted, basis.now);
     let opening = opening(&backoff);
     let creatable = creatable(alloc, target, job, pods, counted)?;
-    let marks = marks(alloc, target, job, pods)?;
+    let marks = marks(alloc, target, job, pods.as_slice())?;
     let let_goes = let_goes(alloc, target, job, pods, counted)?;
     let next = next(opening, basis.now, &creatable);
     let creates = creates(alloc, opening, basis.now, creatable);

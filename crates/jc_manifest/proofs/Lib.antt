@@ -5,6 +5,7 @@ pub mod IndexSetFacts
 pub mod Lists
 pub mod NameFacts
 pub mod NamedFacts
+pub mod CleanMembers
 pub mod NoFloats
 pub mod PolicyFacts
 pub mod Puts

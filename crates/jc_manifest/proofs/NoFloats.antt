@@ -1,12 +1,7 @@
 -- No number that is printed is a float, so the text of each printed value is exact.
-use Rattle.std.proofs.Common.{◌≡◌, ℕ, ℤ, pos, negsuc, List, [], ◌∷◌, map, Bool, true, false, ◌||◌, cond, Option, Some, None, option_map, Ordering, Less, Equal, Greater, nat_cmp, true≢false, refl}
-use Rattle.std.specs.Prelude.{IfSome}
-use Rattle.std.specs.Cmp.Lexicographic.{slice_cmp}
-use Rattle.std.specs.Ordering.{match_ordering}
-use Rattle.serde_json.specs.Data.{Data, number, string, boolean, Members, no_members, member, put}
-use Rattle.serde_json.specs.Find.{of_integer}
-use Rattle.serde_json.specs.View.{items_of}
-use Rattle.serde_json.specs.Written.{has_float, items_have_float, members_have_float}
+use Rattle.std.proofs.Common.{◌≡◌, ℕ, ℤ, List, map, false, Option, refl}
+use Rattle.serde_json.specs.Data.{Data, string, boolean, Members, no_members}
+use Rattle.serde_json.specs.Written.{has_float, members_have_float}
 use Rattle.jc_types.specs.declared.actions.SpecChange.{SpecChange}
 use Rattle.jc_types.specs.declared.numbers.Uid.{Uid}
 use Rattle.jc_types.specs.declared.policies.FailureRule.{FailureRule}
@@ -19,62 +14,12 @@ use Rattle.jc_types.specs.declared.specifications.JobSpec.{JobSpec}
 use Rattle.jc_types.specs.declared.specifications.Template.{Template}
 use Rattle.jc_types.specs.declared.statuses.Condition.{Condition}
 use Rattle.jc_types.specs.declared.statuses.JobStatus.{JobStatus}
-use Rattle.jc_manifest.specs.Members.{with_json_member, number_data}
+use Rattle.jc_manifest.specs.Members.{number_data}
 use Rattle.jc_manifest.specs.PrintedSpecs.{rules_data, pattern_data, exit_codes_data, with_requirement, failure_rule_data, failure_data, with_success_rule, success_rule_data, success_data, with_template, template_data, with_limits, with_counts, with_policies, spec_data, with_changed_counts, with_changed_limits, change_data}
 use Rattle.jc_manifest.specs.PrintedStatuses.{moment_data, uid_data, condition_data, uncounted_data, with_pods, with_totals, with_times, with_lists, status_data}
-
-both : (a b : Bool) → a ≡ false → b ≡ false → (a || b) ≡ false
-both true b p q = p
-both false b p q = q
-
-or_left : (a b : Bool) → (a || b) ≡ false → a ≡ false
-or_left true b e = e
-or_left false b e = refl
-
-or_right : (a b : Bool) → (a || b) ≡ false → b ≡ false
-or_right true b e = absurd (true≢false e)
-or_right false b e = e
-
-placed : (o : Ordering) (k l : List ℕ) (d e : Data) (ms more : Members) → has_float d ≡ false
-    → (has_float e || members_have_float ms) ≡ false → members_have_float more ≡ false
-    → members_have_float (match_ordering o (member k d (member l e ms)) (member l d ms) (member l e more)) ≡ false
-placed Less k l d e ms more clean rest later = both _ _ clean rest
-placed Equal k l d e ms more clean rest later = both _ _ clean (or_right (has_float e) _ rest)
-placed Greater k l d e ms more clean rest later = both _ _ (or_left _ (members_have_float ms) rest) later
-
--- a member without floats among members without floats
-put_clean : (k : List ℕ) (d : Data) (ms : Members) → has_float d ≡ false → members_have_float ms ≡ false → members_have_float (put k d ms) ≡ false
-put_clean k d no_members clean rest = both _ _ clean refl
-put_clean k d (member l e ms) clean rest =
-    placed (slice_cmp nat_cmp k l) k l d e ms (put k d ms) clean rest
-    (put_clean k d ms clean (or_right (has_float e) _ rest))
-
--- a value that may be given has no float
-abbrev IsClean : Option Data → Type 0
-IsClean given = IfSome given (λ d. has_float d ≡ false)
-
-with_clean : (k : List ℕ) (given : Option Data) (ms : Members) → IsClean given → members_have_float ms ≡ false → members_have_float (with_json_member k given ms) ≡ false
-unfolding with_json_member
-with_clean k None ms clean rest = rest
-with_clean k (Some d) ms clean rest = put_clean k d ms clean rest
-
-given_clean : {X : Type 0} (f : X → Data) (given : Option X) → ((x : X) → has_float (f x) ≡ false) → IsClean (option_map f given)
-given_clean f None clean = tt
-given_clean f (Some x) clean = clean x
-
-list_clean : {X : Type 0} (f : X → Data) (xs : List X) → ((x : X) → has_float (f x) ≡ false) → items_have_float (items_of (map f xs)) ≡ false
-list_clean f [] clean = refl
-list_clean f (x ∷ xs) clean = both _ _ (clean x) (list_clean f xs clean)
-
-some_clean : (b : Bool) (d : Data) → has_float d ≡ false → IsClean (cond b None (Some d))
-some_clean true d clean = tt
-some_clean false d clean = clean
+use Rattle.jc_manifest.proofs.CleanMembers.{with_clean, given_clean, list_clean, some_clean, exit_clean}
 
 -- ---- specifications
-
-exit_clean : (z : ℤ) → has_float (number (of_integer z)) ≡ false
-exit_clean (pos n) = refl
-exit_clean (negsuc n) = refl
 
 pattern_clean : (pattern : Pattern) → has_float (pattern_data pattern) ≡ false
 unfolding pattern_data

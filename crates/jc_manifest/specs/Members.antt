@@ -1,6 +1,7 @@
 -- JSON objects by their members, one line a member.
---     with_members ms rows     the members with those of the rows, which leave out what is not given
---     object_of_members rows   the object of the rows' members
+--     with_json_member name given ms   the members with one more, which is left out where it is not given
+--     unless_zero, unless_blank, ..    what is given: nothing for 0, for the empty text, for the empty list
+--     number_data, list_data, ..       a number, a list, texts as JSON
 use Rattle.std.specs.Prelude.{ℕ, List, ◌==◌, length, map, if◌then◌else◌, Option, Some, None}
 use Rattle.serde_json.specs.Data.{Data, number, string, array, unsigned, Members, put}
 use Rattle.serde_json.specs.View.{items_of}

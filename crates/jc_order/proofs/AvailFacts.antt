@@ -3,6 +3,7 @@ use Rattle.std.proofs.Common.{◌≡◌, ℕ, zero, suc, ◌+◌, ◌<◌, ◌�
 use Rattle.std.proofs.lemmas.Bool.{eqb-false}
 use Rattle.std.specs.List.{AllByRecursion as Each, Any, flat_map, range_with_len}
 use Rattle.std.specs.Option.{option_map, option_to_list, unwrap_or}
+use Rattle.jc_types.proofs.ListFacts.{Each-append}
 use Rattle.jc_log.specs.Acts as does
 use Rattle.jc_types.specs.declared.numbers.Version.{Version}
 use Rattle.jc_types.specs.declared.objects.Entry.{Entry}
@@ -26,7 +27,7 @@ module _ {A : Type 0} (P : A → Type 0) where
   pub any-here : (x : A) (xs : List A) → P x → Any P (x ∷ xs)
   any-here x xs p = (0, x, omega arith, refl, p)
 
-  any-later : (x : A) (xs : List A) → Any P xs → Any P (x ∷ xs)
+  pub any-later : (x : A) (xs : List A) → Any P xs → Any P (x ∷ xs)
   any-later x xs h = (suc h.0, h.1, let lt = h.2 in omega (arith, lt), h.3, h.4)
 
   any-right : (xs ys : List A) → Any P ys → Any P (xs ++ ys)
@@ -49,13 +50,9 @@ module _ {A : Type 0} (P : A → Type 0) where
       by true s more = any-left (f a) _ (subst (λ c. Any P (f c)) (eqb-true c a s) h)
       by false s more = let other = eqb-false c a s in any-right (f a) _ (more (omega (arith, le, other)))
 
-  each-append : (xs ys : List A) → Each P xs → Each P ys → Each P (xs ++ ys)
-  each-append [] ys h g = g
-  each-append (x ∷ xs) ys h g = (h.0, each-append xs ys h.1 g)
-
-  each-flat : (f : ℕ → List A) (a n : ℕ) → ((c : ℕ) → a ≤ c → c < a + n → Each P (f c)) → Each P (flat_map f (range_with_len a n))
+  pub each-flat : (f : ℕ → List A) (a n : ℕ) → ((c : ℕ) → a ≤ c → c < a + n → Each P (f c)) → Each P (flat_map f (range_with_len a n))
   each-flat f a zero h = tt
-  each-flat f a (suc n) h = each-append (f a) _ (h a (omega arith) (omega arith)) (each-flat f (a + 1) n (λ c le lt. h c (omega (arith, le)) (omega (arith, lt))))
+  each-flat f a (suc n) h = Each-append P (f a) _ (h a (omega arith) (omega arith)) (each-flat f (a + 1) n (λ c le lt. h c (omega (arith, le)) (omega (arith, lt))))
 
 -- The event of the act is available.
 abbrev pub Is : Act → List Sys → Type 0
@@ -182,12 +179,12 @@ module _ (shape : Shape) (past : List Deed) (log : List Entry) where
 
       lists-of : (c : ℕ) → 0 ≤ c → c < 0 + shape.controllers → Each (IsOf shape) (list_events (notes shape c past log) c)
       lists-of c le lt =
-          each-append (IsOf shape) (list_event c Jobs (number Jobs (notes shape c past log))) (list_event c Pods (number Pods (notes shape c past log)))
+          Each-append (IsOf shape) (list_event c Jobs (number Jobs (notes shape c past log))) (list_event c Pods (number Pods (notes shape c past log)))
           (list-of c Jobs (number Jobs (notes shape c past log)) (omega (arith, lt))) (list-of c Pods (number Pods (notes shape c past log)) (omega (arith, lt)))
 
       deliveries-of : (c : ℕ) → 0 ≤ c → c < 0 + shape.controllers → Each (IsOf shape) (delivery_events (notes shape c past log) log c)
       deliveries-of c le lt =
-          each-append (IsOf shape) (delivery_event log c Jobs (number Jobs (notes shape c past log))) (delivery_event log c Pods (number Pods (notes shape c past log)))
+          Each-append (IsOf shape) (delivery_event log c Jobs (number Jobs (notes shape c past log))) (delivery_event log c Pods (number Pods (notes shape c past log)))
           (delivery-of c Jobs (number Jobs (notes shape c past log)) (omega (arith, lt))) (delivery-of c Pods (number Pods (notes shape c past log)) (omega (arith, lt)))
 
       steps-of : (c : ℕ) → 0 ≤ c → c < 0 + shape.controllers → Each (IsOf shape) (step_events (notes shape c past log) shape.workers c)
@@ -199,8 +196,8 @@ module _ (shape : Shape) (past : List Deed) (log : List Entry) where
 
       all : Each (IsOf shape) (but_clock shape past log)
       all =
-          each-append (IsOf shape) (flat_map (λ c. list_events (notes shape c past log) c) (below shape.controllers)) _ (each-flat (IsOf shape) (λ c. list_events (notes shape c past log) c) 0 shape.controllers lists-of)
-          (each-append (IsOf shape) (flat_map (λ c. delivery_events (notes shape c past log) log c) (below shape.controllers)) _ (each-flat (IsOf shape) (λ c. delivery_events (notes shape c past log) log c) 0 shape.controllers deliveries-of)
-          (each-append (IsOf shape) (flat_map (λ c. step_events (notes shape c past log) shape.workers c) (below shape.controllers)) _ (each-flat (IsOf shape) (λ c. step_events (notes shape c past log) shape.workers c) 0 shape.controllers steps-of)
-          (each-append (IsOf shape) (flat_map (λ c. begin_events (notes shape c past log) log shape.workers c) (below shape.controllers)) _ (each-flat (IsOf shape) (λ c. begin_events (notes shape c past log) log shape.workers c) 0 shape.controllers begins-of)
+          Each-append (IsOf shape) (flat_map (λ c. list_events (notes shape c past log) c) (below shape.controllers)) _ (each-flat (IsOf shape) (λ c. list_events (notes shape c past log) c) 0 shape.controllers lists-of)
+          (Each-append (IsOf shape) (flat_map (λ c. delivery_events (notes shape c past log) log c) (below shape.controllers)) _ (each-flat (IsOf shape) (λ c. delivery_events (notes shape c past log) log c) 0 shape.controllers deliveries-of)
+          (Each-append (IsOf shape) (flat_map (λ c. step_events (notes shape c past log) shape.workers c) (below shape.controllers)) _ (each-flat (IsOf shape) (λ c. step_events (notes shape c past log) shape.workers c) 0 shape.controllers steps-of)
+          (Each-append (IsOf shape) (flat_map (λ c. begin_events (notes shape c past log) log shape.workers c) (below shape.controllers)) _ (each-flat (IsOf shape) (λ c. begin_events (notes shape c past log) log shape.workers c) 0 shape.controllers begins-of)
           (node-of (is_some (node_step log (fate past)))))))

@@ -378,7 +378,7 @@ fn pod(alloc: Global, now: Moment, seen: &Seen) -> Result<Pod, Fail> {
 fn pods(alloc: Global, now: Moment, rows: &[Seen]) -> Result<Pods, Fail> {
     let mut pods = Pods::new(alloc);
     for seen in rows {
-        pods.push(pod(alloc, now, seen)?)?;
+        pods.put(pod(alloc, now, seen)?)?;
     }
     Ok(pods)
 }
@@ -398,7 +398,7 @@ fn basis(alloc: Global, now: Moment, case: &Case) -> Result<Basis, Fail> {
     Ok(Basis {
         key: key(alloc)?,
         job: Some(job(alloc, now, case)?),
-        pods: pods(alloc, now, case.pods)?,
+        pods: Arc::new(alloc, pods(alloc, now, case.pods)?)?,
         jobs_at: Version(9),
         pods_at: Version(9),
         now,

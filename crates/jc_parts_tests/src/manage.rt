@@ -417,7 +417,7 @@ fn spec(alloc: Global, case: &Case) -> Result<JobSpec, Fail> {
 fn basis(alloc: Global, case: &Case) -> Result<Basis, Fail> {
     let mut pods = Pods::new(alloc);
     for row in case.pods {
-        pods.push(pod(alloc, row)?)?;
+        pods.put(pod(alloc, row)?)?;
     }
     let job = Job {
         key: key(alloc)?,
@@ -430,7 +430,7 @@ fn basis(alloc: Global, case: &Case) -> Result<Basis, Fail> {
     Ok(Basis {
         key: key(alloc)?,
         job: Some(job),
-        pods,
+        pods: Arc::new(alloc, pods)?,
         jobs_at: Version(200),
         pods_at: Version(200),
         now: moment(case.now)?,

@@ -101,11 +101,11 @@ fn end(alloc: Global) -> Result<End, Want> {
 
 fn basis(alloc: Global, now: Moment) -> Result<Basis, Want> {
     let mut pods = Pods::new(alloc);
-    pods.push(pod(alloc, now)?)?;
+    pods.put(pod(alloc, now)?)?;
     Ok(Basis {
         key: key(alloc, "pi")?,
         job: Some(job(alloc, now)?),
-        pods,
+        pods: Arc::new(alloc, pods)?,
         jobs_at: Version(4),
         pods_at: Version(4),
         now,
@@ -188,7 +188,9 @@ fn keeps_objects(rt: &impl Abort, alloc: Global, now: Moment) -> Result<(), Want
     let seen = basis(alloc, now)?;
     let mut again = seen.copy()?;
     assert!(rt; again.is_same(&seen));
-    again.pods.push(marked)?;
+    let mut pods = (&*seen.pods).copy()?;
+    pods.put(marked)?;
+    again.pods = Arc::new(alloc, pods)?;
     assert!(rt; !again.is_same(&seen));
     crosses_threads(&seen);
     Ok(())

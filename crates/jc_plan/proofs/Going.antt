@@ -1,15 +1,19 @@
--- How many pods a sync marks, lets go and makes at most.
-use Rattle.std.proofs.Common.{◌≡◌, ℕ, ◌+◌, ◌-◌, ◌≤◌, ◌==◌, Bool, true, false, cond, not, ◌&&◌, ◌||◌, List, [], ◌∷◌, length, filter, Option, Some, None, refl, arith}
+-- How many pods a sync marks, lets go and makes at most, and how many stay ready.
+use Rattle.std.proofs.Common.{◌≡◌, ℕ, ◌+◌, ◌-◌, ◌≤◌, ◌==◌, Bool, true, false, cond, not, ◌&&◌, ◌||◌, List, [], ◌∷◌, length, filter, Option, Some, None, refl, ap, ◌∙◌, arith}
 use Rattle.std.proofs.lemmas.List.{length-map}
+use Rattle.std.proofs.lemmas.List.Elements.{filter_agree}
 use Rattle.std.proofs.lemmas.List.Sums.{count_by-le-length, length-filter}
 use Rattle.jc_types.specs.declared.limits.TheConstants.{GREATEST_PARALLELISM}
 use Rattle.jc_types.specs.declared.objects.Job.{Job}
 use Rattle.jc_types.specs.declared.objects.Pod.{Pod}
 use Rattle.jc_types.specs.declared.syncs.CountIn.{CountIn}
 use Rattle.jc_types.specs.Counts.{counts}
-use Rattle.jc_states.specs.Pods.{is_active, is_marked, is_open, is_tracked, is_ending, active_pods, ending_pods, is_tracked_active, tracked_active_pods}
+use Rattle.jc_states.specs.UidLists.{is_in}
+use Rattle.jc_states.specs.Pods.{is_active, is_marked, is_open, is_ready, is_tracked, is_ending, active_pods, ending_pods, is_tracked_active, tracked_active_pods}
 use Rattle.jc_manage.specs.Creations.{creatable, creates, job_wants, wanted}
 use Rattle.jc_manage.specs.LetGoes.{going, is_let_go, is_to_mark, let_goes, marks, seen}
+use Rattle.jc_manage.specs.declared.results.Wants.{Wants}
+use Rattle.jc_plan.specs.Numbers.{is_let_go_of, keeps_on, ready_after, stopped_by}
 use Rattle.jc_manage.proofs.Bounds.{creatable-few, creates-few, lacks-few, wanted-few}
 
 -- 1 where it holds.
@@ -110,3 +114,23 @@ creates-bounded opening now target job own counted h =
       lacks-few job own counted,
       wants-few job.spec.completions job.spec.parallelism (counts counted).1 (length (tracked_active_pods own)) h,
     )
+
+-- ---- pods that are ready
+
+no_item : {A : Type 0} (xs : List A) → length xs ≡ 0 → xs ≡ []
+no_item [] h = refl
+no_item (x ∷ xs) h = absurd (omega (arith, h))
+
+-- Where no pod is marked or let go, all ready pods stay ready.
+pub ready-stay : (wants : Wants) (own : List Pod) → stopped_by wants ≡ 0 → ready_after wants own ≡ length (filter is_ready own)
+ready-stay wants own none =
+    ap length (filter_agree (λ pod. is_ready pod && keeps_on wants pod) is_ready (λ pod. both (is_ready pod) (keeps_on wants pod) (stays pod)) own)
+  where
+    both : (ready stays : Bool) → stays ≡ true → (ready && stays) ≡ ready
+    both true stays is = is
+    both false stays is = refl
+
+    stays : (pod : Pod) → keeps_on wants pod ≡ true
+    stays pod =
+        ap (λ marks. not (is_in pod.uid marks) && not (is_let_go_of pod.uid wants.let_goes)) (no_item wants.marks (omega (arith, none)))
+        ∙ ap (λ rows. not (is_let_go_of pod.uid rows)) (no_item wants.let_goes (omega (arith, none)))

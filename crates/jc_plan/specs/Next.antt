@@ -1,6 +1,5 @@
 -- The status that a Job comes to by one sync, were its pods counted at once (batch/v1): without uncounted UIDs,
 -- without two writes and without releases. `own` are the Job's own pods.
---     succeeded_at mode ..         the succeeded total
 --     next_counted job own         what is counted, with nothing left uncounted
 --     next_decided .., next_wants .. the target that is decided, and what is wanted of the pods
 --     next_status now backoff job own    the status

@@ -6,7 +6,7 @@
 --     completed_at ..               when the Job completed
 --     filled .. due                 the status with all these; `due` says that its end is due
 --     lists_none status             no UID is uncounted in it
---     may_end settled own status    nothing is in the way of its end
+--     is_first_due .., is_second_due ..  nothing is in the way of its end at the first write, at the second
 --     first_status_of .., first_value      counted in; it may end where no finalizer of an own pod is to go
 --     second_status_of .., second_value    counted out, once these finalizers are gone
 use Rattle.std.specs.Prelude.{ℕ, Bool, true, false, not, ◌&&◌, ◌||◌, List, [], ◌∷◌, Option, Some, is_some, if◌then◌else◌}

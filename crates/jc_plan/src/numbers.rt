@@ -1,13 +1,13 @@
 //! The numbers of pods that a status tells.
 
-ghost use Rattle.std.specs.Prelude.{◌≡◌, ◌<◌, ◌≤◌, ◌^◌, length};
+ghost use Rattle.std.specs.Prelude.{◌≡◌, ◌<◌, ◌≤◌, ◌^◌, ◌↔◌, IsTrue, length};
 ghost use Rattle.jc_types.specs.declared.limits.TheConstants.{GREATEST_PARALLELISM};
 ghost use Rattle.jc_states.specs.Bases.{own_pods};
 ghost use Rattle.jc_states.specs.Pods.{active_pods};
 ghost use Rattle.jc_plan.specs.Numbers.{active_after, ending_after, is_let_go_of, keeps_on, ready_after, stopped_by};
 
 use jc_manage::Wants;
-use jc_states::{count_active, count_ending, is_among, is_own, is_ready};
+use jc_states::{Pods, count_active, count_ending, count_ready, is_among, is_own, is_ready};
 use jc_types::{Job, Pod, PodVersions, Uid};
 
 /// How many pods are active, ready and terminating once the requests of a sync are made.
@@ -32,8 +32,15 @@ fn keeps_on(wants: &Wants, pod: &Pod) -> bool
     !is_among(pod.uid, wants.marks.as_slice()) && !is_let_go(pod.uid, &wants.let_goes)
 }
 
-// How many of the Job's own pods are ready and are neither marked nor let go.
-fn count_ready(job: &Job, pods: &[Pod], wants: &Wants) -> usize
+// Whether no pod is marked or let go.
+fn stops_none(wants: &Wants) -> bool
+    ensures { IsTrue result ↔ (stopped_by wants.now ≡ 0) }
+{
+    wants.marks.len() == 0 && wants.let_goes.len() == 0
+}
+
+// How many of the Job's own pods are ready and are neither marked nor let go, counted one by one.
+fn count_kept_on(job: &Job, pods: &[Pod], wants: &Wants) -> usize
     ensures { result ≡ ready_after wants.now (own_pods job.now pods.now) }
 {
     pods.iter()
@@ -42,8 +49,19 @@ fn count_ready(job: &Job, pods: &[Pod], wants: &Wants) -> usize
         .count()
 }
 
+// How many of the Job's own pods are ready and are neither marked nor let go. The pods are looked at
+// only where some of them are stopped.
+fn ready_after(job: &Job, pods: &Pods, wants: &Wants) -> usize
+    ensures { result ≡ ready_after wants.now (own_pods job.now pods.now) }
+{
+    if stops_none(wants) {
+        return count_ready(job, pods);
+    }
+    count_kept_on(job, pods.as_slice(), wants)
+}
+
 /// The numbers of the Job's own pods once what the sync wants of them is done.
-pub fn numbers_after(job: &Job, pods: &[Pod], wants: &Wants) -> Numbers
+pub fn numbers_after(job: &Job, pods: &Pods, wants: &Wants) -> Numbers
     requires few { length pods.now < 2 ^ 31 }
     requires created { length wants.now.creates ≤ GREATEST_PARALLELISM }
     requires going { stopped_by wants.now ≤ length (active_pods (own_pods job.now pods.now)) }
@@ -54,7 +72,7 @@ pub fn numbers_after(job: &Job, pods: &[Pod], wants: &Wants) -> Numbers
     let going = wants.marks.len() + wants.let_goes.len();
     Numbers {
         active: (count_active(job, pods) + wants.creates.len() - going) as u32,
-        ready: count_ready(job, pods, wants) as u32,
+        ready: ready_after(job, pods, wants) as u32,
         terminating: (count_ending(job, pods) + going) as u32,
     }
 }

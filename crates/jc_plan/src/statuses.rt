@@ -1,12 +1,11 @@
 //! The two statuses of a sync.
 
 ghost use Rattle.std.specs.Prelude.{◌≡◌, ◌⊎◌, ◌+◌, ◌<◌, ◌≤◌, ◌&&◌, ◌||◌, ◌^◌, IfOk, IfSome, IsSome, IsTrue, Some, false, is_some, length, true};
-ghost use Rattle.std.specs.List.{list_any};
 ghost use Rattle.jc_types.specs.declared.limits.TheConstants.{GREATEST_PARALLELISM};
 ghost use Rattle.jc_states.specs.Bases.{own_pods};
 ghost use Rattle.jc_account.specs.Accounts.{counted_out};
 ghost use Rattle.jc_states.specs.Conditions.{has_target};
-ghost use Rattle.jc_states.specs.Pods.{is_open, active_pods};
+ghost use Rattle.jc_states.specs.Pods.{active_pods};
 ghost use Rattle.jc_finish.specs.Settled.{is_target_kind, settled_of};
 ghost use Rattle.jc_finish.specs.Starts.{start_of};
 ghost use Rattle.jc_plan.specs.Numbers.{stopped_by};
@@ -17,8 +16,8 @@ use jc_account::count_out;
 use jc_finish::{settle_conditions, start_in_force};
 use jc_manage::Wants;
 use jc_moment::Moment;
-use jc_states::{Basis, has_end, has_target, is_open, is_own, stands};
-use jc_types::{CondKind, Conditions, Copied, CountIn, Job, JobStatus, Pod, Reason, Uids, Want};
+use jc_states::{Basis, Pods, has_end, has_open, has_target, stands};
+use jc_types::{CondKind, Conditions, Copied, CountIn, Job, JobStatus, Reason, Uids, Want};
 use std::alloc::Global;
 
 /// Whether how the Job ends is settled, before the sync or by it.
@@ -56,22 +55,15 @@ fn lists_none(succeeded: &Uids, failed: &Uids) -> bool
     is_none(succeeded) && is_none(failed)
 }
 
-// Whether one of the Job's own pods is open.
-fn has_open(job: &Job, pods: &[Pod]) -> bool
-    ensures { result ≡ list_any is_open (own_pods job.now pods.now) }
-{
-    pods.iter().any(|pod| is_own(job, pod) && is_open(pod))
-}
-
 // Whether how the Job ends is settled and none of its pods is open.
-fn is_over(settled: bool, job: &Job, pods: &[Pod]) -> bool
+fn is_over(settled: bool, job: &Job, pods: &Pods) -> bool
     ensures { result ≡ is_over settled (own_pods job.now pods.now) }
 {
     settled && !has_open(job, pods)
 }
 
 // Whether the end of the first status is due.
-fn is_first_due(settled: bool, job: &Job, pods: &[Pod], counted: &CountIn) -> bool
+fn is_first_due(settled: bool, job: &Job, pods: &Pods, counted: &CountIn) -> bool
     ensures { result ≡ is_first_due settled (own_pods job.now pods.now) counted.now }
 {
     is_over(settled, job, pods)
@@ -80,7 +72,7 @@ fn is_first_due(settled: bool, job: &Job, pods: &[Pod], counted: &CountIn) -> bo
 }
 
 // Whether the end of the second status is due.
-fn is_second_due(settled: bool, job: &Job, pods: &[Pod], status: &JobStatus) -> bool
+fn is_second_due(settled: bool, job: &Job, pods: &Pods, status: &JobStatus) -> bool
     ensures { result ≡ is_second_due settled (own_pods job.now pods.now) status.now }
 {
     is_over(settled, job, pods) && lists_none(&status.uncounted_succeeded, &status.uncounted_failed)
@@ -164,7 +156,7 @@ pub fn first_status(
     ensures { IfOk result (λ r. r ≡ first_status_of basis.entry.now.now job.now
         (own_pods job.now basis.entry.now.pods) counted.now target wants.now) }
 {
-    let pods = basis.pods.as_slice();
+    let pods = &*basis.pods;
     let due = is_first_due(is_settled(job, target), job, pods, counted);
     let numbers = numbers_after(job, pods, wants);
     let conditions = conditions_at(alloc, basis, job, target, due)?;
@@ -200,7 +192,7 @@ pub fn second_status(
         (own_pods job.now basis.entry.now.pods) target (counted_out first.now released.now)) }
 {
     let mut second = count_out(alloc, first, released)?;
-    let due = is_second_due(is_settled(job, target), job, basis.pods.as_slice(), &second);
+    let due = is_second_due(is_settled(job, target), job, &*basis.pods, &second);
     let conditions = conditions_at(alloc, basis, job, target, due)?;
     second.completion = completed_at(basis.now, &job.status, &conditions);
     second.conditions = conditions;

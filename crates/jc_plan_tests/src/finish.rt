@@ -17,9 +17,9 @@ use jc_moment::Moment;
 use jc_ranges::Ranges;
 use jc_states::{Basis, Pods, has_target};
 use jc_types::{
-    Backoff, CondKind, Condition, Conditions, Container, CountIn, Job, JobSpec, Mode, Names, Phase,
-    Pod, Reason, Replacement, Restart, SuccessPolicy, SuccessRule, SuccessRules, Template, Uid,
-    Uids, Version,
+    Arc, Backoff, CondKind, Condition, Conditions, Container, CountIn, Job, JobSpec, Mode, Names,
+    Phase, Pod, Reason, Replacement, Restart, SuccessPolicy, SuccessRule, SuccessRules, Template,
+    Uid, Uids, Version,
 };
 use std::alloc::Global;
 use std::process::Abort;
@@ -574,9 +574,10 @@ fn count_of(word: &str) -> &str {
     }
 }
 
-fn pod(rt: &impl Abort, alloc: Global, word: &str) -> Result<Pod, Fail> {
+fn pod(rt: &impl Abort, alloc: Global, uid: u64, word: &str) -> Result<Pod, Fail> {
     let phase = phase(word);
     let row = PodRow {
+        uid,
         owner: if word.contains("other") { 9 } else { 1 },
         phase,
         marked: word.contains("marked"),
@@ -591,14 +592,16 @@ fn pod(rt: &impl Abort, alloc: Global, word: &str) -> Result<Pod, Fail> {
 
 fn basis(rt: &impl Abort, alloc: Global, words: &str, pod_words: &str) -> Result<Basis, Fail> {
     let mut pods = Pods::new(alloc);
+    let mut uid = 2u64;
     for word in pod_words.split_whitespace() {
-        pods.push(pod(rt, alloc, word)?)?;
+        pods.put(pod(rt, alloc, uid, word)?)?;
+        uid = uid.saturating_add(1);
     }
     let now = given(rt, words, "now").unwrap_or(0);
     Ok(Basis {
         key: key(alloc, "pi")?,
         job: Some(job(rt, alloc, words)?),
-        pods,
+        pods: Arc::new(alloc, pods)?,
         jobs_at: Version(9),
         pods_at: Version(9),
         now: moment(rt, now),

@@ -818,7 +818,7 @@ fn pod(alloc: Global, now: Moment, seen: &Seen) -> Result<Pod, Fail> {
 fn pods(alloc: Global, now: Moment, rows: &[Seen]) -> Result<Pods, Fail> {
     let mut pods = Pods::new(alloc);
     for seen in rows {
-        pods.push(pod(alloc, now, seen)?)?;
+        pods.put(pod(alloc, now, seen)?)?;
     }
     Ok(pods)
 }
@@ -839,7 +839,7 @@ fn basis(alloc: Global, case: &Case) -> Result<Basis, Fail> {
     Ok(Basis {
         key: key(alloc, "pi")?,
         job: job(alloc, now, case)?,
-        pods: pods(alloc, now, case.pods)?,
+        pods: Arc::new(alloc, pods(alloc, now, case.pods)?)?,
         jobs_at: Version(case.jobs_at),
         pods_at: Version(9),
         now,

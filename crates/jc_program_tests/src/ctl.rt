@@ -1,6 +1,6 @@
 //! Runs of the program over bytes in memory. The reports come from a second implementation of the rules.
 
-use jc_ctl::{Status, run_program};
+use jc_ctl::{Status, is_single, run_single};
 use jc_io::{MemSink, MemSource, read_all};
 use std::alloc::Global;
 use std::process::Abort;
@@ -51,6 +51,9 @@ full
 "#;
 
 const SUMMARY: &str = "jobs 2\ncomplete 2\nfailed 0\npods succeeded 6\npods failed 3\n";
+
+// That of a hundred Jobs of twenty pods each.
+const MANY: &str = "jobs 100\ncomplete 100\nfailed 0\npods succeeded 2000\npods failed 150\n";
 
 // How a run is to end.
 #[derive(Clone, Copy)]
@@ -127,6 +130,15 @@ const RUNS: &[Run] = &[
         room: 10_000,
         end: End::Plain,
         written: SUMMARY,
+    },
+    Run {
+        words: &["generate", "7", "100", "20"],
+        script: &[],
+        reads_fail: &[],
+        writes_fail: &[],
+        room: 10_000,
+        end: End::Plain,
+        written: MANY,
     },
     Run {
         words: &[],
@@ -260,6 +272,20 @@ fn left(run: &Run, script: &str) -> usize {
     }
 }
 
+// Runs words that ask for no threads; `BadWords` where they do.
+fn run_words(
+    alloc: Global,
+    words: &[String],
+    source: &mut MemSource,
+    sink: &mut MemSink,
+) -> Status {
+    if is_single(words) {
+        run_single(alloc, words, source, sink)
+    } else {
+        Status::BadWords
+    }
+}
+
 // Runs the program, which is to end so, to write that and to leave the script or nothing.
 fn runs(rt: &impl Abort, alloc: Global, run: &Run) -> Result<(), Fail> {
     let mut words = Vec::new(alloc);
@@ -272,7 +298,7 @@ fn runs(rt: &impl Abort, alloc: Global, run: &Run) -> Result<(), Fail> {
         run.reads_fail.to_vec(alloc)?,
     );
     let mut sink = MemSink::new(alloc, run.room, run.writes_fail.to_vec(alloc)?)?;
-    let status = run_program(alloc, &words, &mut source, &mut sink);
+    let status = run_words(alloc, &words, &mut source, &mut sink);
     assert!(rt; is_so(&status, run.end), "for {script}");
     assert_eq!(rt; sink.held(), run.written.as_bytes(), "for {script}");
     match read_all(alloc, &mut source, 1000) {
@@ -299,7 +325,7 @@ fn long_input_is_refused(rt: HostRuntime) -> Result<(), Fail> {
     words.push(String::from_str(alloc, "run")?)?;
     let mut source = MemSource::new(vec![in alloc; 32u8; 67_108_865]?, Vec::new(alloc));
     let mut sink = MemSink::new(alloc, 10, Vec::new(alloc))?;
-    let status = run_program(alloc, &words, &mut source, &mut sink);
+    let status = run_words(alloc, &words, &mut source, &mut sink);
     assert!(rt; is_so(&status, End::TooLong), "the input is too long");
     assert_eq!(rt; sink.held().len(), 0, "nothing is written");
     Ok(())

@@ -1,2 +1,2 @@
-mod DeedFacts
+pub mod DeedFacts
 mod SampleFacts

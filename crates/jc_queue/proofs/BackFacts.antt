@@ -4,9 +4,10 @@ use Rattle.std.specs.List.{AllByRecursion as Each, IsDistinct, position}
 use Rattle.jc_types.specs.declared.objects.Key.{Key}
 use Rattle.jc_types.specs.Keys.{same_key}
 use Rattle.jc_types.proofs.KeyFacts.{same_key-either_way, same_key-itself}
-use Rattle.jc_queue.proofs.QueueFacts.{distinct-last, distinct-without, is_in-last, is_in-without, none_is}
+use Rattle.jc_queue.proofs.KeyLists.{distinct-last, distinct-without, is_in-last, is_in-without, none_is}
+use Rattle.jc_queue.proofs.KeySets.{ascends-once, ascends-without, without-plus}
 use Rattle.jc_queue.proofs.Steps.{no_place}
-use Rattle.jc_queue.specs.Queued.{Queued, IsQueue, added, has_key, retracted, sent_back, sent_back_first, without}
+use Rattle.jc_queue.specs.Queued.{Queued, IsQueue, added, has_key, plus_key, retracted, sent_back, sent_back_first, without}
 
 -- ---- the first key goes last
 
@@ -20,7 +21,7 @@ pub back_is : (k : Key) (rest dirty processing : List Key) → IsQueue (record {
 unfolding IsDistinct
 back_is k rest dirty processing s = record {
   line_once = distinct-last k rest (none_is k rest s.line_once.0) s.line_once.1;
-  dirty_once = s.dirty_once;
+  dirty_ascends = s.dirty_ascends;
   processing_once = s.processing_once;
   waiting = λ j. is_in-last j k rest ∙ swapped (has_key j rest) (same_key j k) ∙ s.waiting j;
 }
@@ -48,11 +49,11 @@ and-both false b c d e = refl
 pub retracted_is : (q : Queued) (k : Key) → IsQueue q → IsQueue (retracted q k)
 retracted_is q k s = record {
   line_once = distinct-without k q.line s.line_once;
-  dirty_once = distinct-without k q.dirty s.dirty_once;
+  dirty_ascends = ascends-without k q.dirty s.dirty_ascends;
   processing_once = s.processing_once;
   waiting = λ j. is_in-without j k q.line s.line_once
       ∙ and-both (not (same_key k j)) (has_key j q.line) (has_key j q.dirty) (not (has_key j q.processing)) (s.waiting j)
-      ∙ ap (λ b. b && not (has_key j q.processing)) (sym (is_in-without j k q.dirty s.dirty_once));
+      ∙ ap (λ b. b && not (has_key j q.processing)) (sym (is_in-without j k q.dirty (ascends-once q.dirty s.dirty_ascends)));
 }
 
 -- Without what went last, the keys are as before.
@@ -83,8 +84,8 @@ without-unplaced k keys e = sym (without-none k keys (by (has_key k keys) refl))
 -- A key that was not dirty, and is added and taken back, leaves the queue as it was.
 pub retracted-added : (q : Queued) (k : Key) → IsQueue q → has_key k q.dirty ≡ false → retracted (added q k) k ≡ q
 retracted-added q k s clean =
-    ap (λ b. retracted (cond b q (record { line = cond (has_key k q.processing) q.line (q.line ++ k ∷ []); dirty = q.dirty ++ k ∷ []; processing = q.processing })) k) clean
-    ∙ (λ i. record { line = line (has_key k q.processing) i; dirty = without-last k q.dirty clean i; processing = q.processing })
+    ap (λ b. retracted (cond b q (record { line = cond (has_key k q.processing) q.line (q.line ++ k ∷ []); dirty = plus_key k q.dirty; processing = q.processing })) k) clean
+    ∙ (λ i. record { line = line (has_key k q.processing) i; dirty = without-plus k q.dirty s.dirty_ascends clean i; processing = q.processing })
   where
     out : has_key k q.line ≡ false
     out = s.waiting k ∙ ap (λ b. b && not (has_key k q.processing)) clean

@@ -9,7 +9,8 @@ use Rattle.jc_queue.specs.declared.calls.Call.TheVariants.{Add, Get, Done, Finis
 use Rattle.jc_queue.specs.Calls.{GetsIdle, after, all_gots, called, finished_first, got_beside, gots_of, keys_got}
 use Rattle.jc_queue.specs.Queued.{IsQueue, Queued, finished, has_key}
 use Rattle.jc_queue.proofs.BackFacts.{retracted_is, sent_back_is}
-use Rattle.jc_queue.proofs.QueueFacts.{added_is, finished_is, first_in, first_is_idle, got_first_is}
+use Rattle.jc_queue.proofs.KeyLists.{first_in}
+use Rattle.jc_queue.proofs.QueueFacts.{added_is, finished_is, first_is_idle, got_first_is}
 
 -- The first of the processing keys is processing.
 pub first_is_busy : (k : Key) (keys : List Key) → Some k ≡ slice_get keys 0 → has_key k keys ≡ true

@@ -11,7 +11,7 @@ use Rattle.jc_log.specs.Tables.{at, takes}
 use Rattle.jc_types.proofs.KeyFacts.{same_key-either_way, same_key-eq, same_key-itself}
 use Rattle.jc_queue.specs.Delayed.{Delayed, due_key, due_keys, first_of, in_turn, is_before, is_due, key_by, key_order, left_after, left_by, put_in_turn, sooner}
 use Rattle.jc_queue.specs.Queued.{without}
-use Rattle.jc_queue.proofs.QueueFacts.{distinct-without}
+use Rattle.jc_queue.proofs.KeyLists.{distinct-without}
 
 -- The value of an option that is some.
 pub of_some : {X : Type 0} (x y : X) → Some x ≡ Some y → x ≡ y

@@ -2,6 +2,9 @@ pub mod BackFacts
 pub mod CallFacts
 pub mod DelayFacts
 pub mod DueFacts
+pub mod KeyLists
+pub mod KeyOrder
+pub mod KeySets
 pub mod OrderFacts
 pub mod QueueFacts
 pub mod Steps

@@ -1,6 +1,6 @@
 -- The order in which keys are due: the row that is due first is a least, the rows in turn are the rows in
 -- ascending order, and rows that have the same moments stand in the same order.
-use Rattle.std.proofs.Common.{◌≡◌, ℕ, zero, suc, ◌+◌, ◌≤◌, Bool, true, false, cond, ◌&&◌, ◌||◌, ◌==◌, nat_lt, nat_le, eqb-true, List, [], ◌∷◌, length, filter, Option, Some, None, is_some, refl, sym, ap, ◌∙◌, subst, arith, true≢false}
+use Rattle.std.proofs.Common.{◌≡◌, ℕ, zero, suc, ◌+◌, ◌≤◌, Bool, true, false, cond, ◌&&◌, ◌||◌, ◌==◌, nat_lt, nat_le, List, [], ◌∷◌, length, filter, Option, Some, None, is_some, refl, sym, ap, ◌∙◌, subst, arith, true≢false}
 use Rattle.std.proofs.lemmas.Cmp.{nat_cmp_total, nat_list_cmp_total, on_total, then_total}
 use Rattle.std.proofs.lemmas.List.Sorted.{IsPermutation-cons, IsPermutation-middle, IsPermutation-refl, IsPermutation-sym, IsPermutation-trans}
 use Rattle.std.specs.Cmp.{IsTotalOrder}
@@ -8,7 +8,7 @@ use Rattle.std.specs.Cmp.Lexicographic.{slice_cmp}
 use Rattle.std.specs.List.{AllByRecursion as Each, IsDistinct}
 use Rattle.std.specs.List.Sorted.{IsPermutation}
 use Rattle.std.specs.Map.{keys_of}
-use Rattle.std.specs.Ordering.{is_lt, is_eq, nat_cmp, on, then_cmp, ordering_then, ordering_reverse}
+use Rattle.std.specs.Ordering.{is_lt, nat_cmp, on, then_cmp, ordering_then, ordering_reverse}
 use Rattle.std.specs.declared.cmp.Ordering.{Ordering}
 use Rattle.std.specs.declared.cmp.Ordering.TheVariants.{Less, Equal, Greater}
 use Rattle.jc_types.specs.declared.objects.Key.{Key}
@@ -17,6 +17,7 @@ use Rattle.jc_log.specs.Tables.{at, takes}
 use Rattle.jc_types.proofs.KeyFacts.{same_key-eq, same_key-itself}
 use Rattle.jc_log.proofs.TableFacts.{Apart, Apart-takes, Sets-takes}
 use Rattle.jc_queue.specs.Delayed.{Delayed, IsInTurn, due_keys, first_of, in_turn, is_before, is_due, key_order, put_in_turn, sooner}
+use Rattle.jc_queue.proofs.KeyOrder.{both_equal, number_is, text_is}
 use Rattle.jc_queue.proofs.DueFacts.{distinct-kept, first_found, in_turn-first, of_some}
 
 -- ---- the order of rows
@@ -78,25 +79,6 @@ itself a = by (is_before a a) refl
     by false t = refl
 
 -- Rows that are equal in the order are equal.
-both_equal : (m n : Ordering) → ordering_then m n ≡ Equal → (m ≡ Equal) × (n ≡ Equal)
-both_equal Equal n h = (refl, h)
-both_equal Less n h = absurd (true≢false (sym (ap is_eq h)))
-both_equal Greater n h = absurd (true≢false (sym (ap is_eq h)))
-
-number_is : (x y : ℕ) → nat_cmp x y ≡ Equal → x ≡ y
-number_is x y h = by (nat_lt x y) (x == y) refl h
-  where
-    by : (l e : Bool) → (x == y) ≡ e → cond l Less (cond e Equal Greater) ≡ Equal → x ≡ y
-    by true e s h = absurd (true≢false (sym (ap is_eq h)))
-    by false true s h = eqb-true x y s
-    by false false s h = absurd (true≢false (sym (ap is_eq h)))
-
-text_is : (xs ys : List ℕ) → slice_cmp nat_cmp xs ys ≡ Equal → xs ≡ ys
-text_is [] [] h = refl
-text_is [] (y ∷ ys) h = absurd (true≢false (sym (ap is_eq h)))
-text_is (x ∷ xs) [] h = absurd (true≢false (sym (ap is_eq h)))
-text_is (x ∷ xs) (y ∷ ys) h = let e = both_equal (nat_cmp x y) (slice_cmp nat_cmp xs ys) h in λ i. number_is x y e.0 i ∷ text_is xs ys e.1 i
-
 equal_is : (a b : Key × ℕ) → row_cmp a b ≡ Equal → a ≡ b
 equal_is a b e =
     let m = both_equal (nat_cmp a.1 b.1) (key_order a.0 b.0) e in

@@ -1,81 +1,20 @@
 -- Each call leaves a queue in which no key stands twice, and in whose line stand just the dirty keys that
 -- are not processing.
 use Rattle.std.proofs.Common.{◌≡◌, Bool, true, false, cond, not, ◌&&◌, ◌||◌, List, [], ◌∷◌, ◌++◌, Bor, IfSome, Option, None, Some, is_some, length, nat_lt, slice_index_or, refl, sym, ap, ◌∙◌, subst, true≢false}
-use Rattle.std.specs.List.{AllByRecursion as Each, IsDistinct}
-use Rattle.std.proofs.lemmas.List.Folds.{list_any-append}
+use Rattle.std.specs.List.{IsDistinct}
+use Rattle.std.specs.List.Sorted.{IsStrictlySortedBy}
 use Rattle.std.proofs.Math.Bool.{and-false, or-false, or-true}
 use Rattle.jc_types.specs.declared.objects.Key.{Key}
 use Rattle.jc_types.specs.Keys.{same_key}
-use Rattle.jc_types.proofs.KeyFacts.{same_key-eq, same_key-itself, same_key-either_way}
-use Rattle.jc_queue.specs.Queued.{Queued, IsQueue, has_key, without, added, got, got_first, finished}
-
--- None of the keys is k, as one test.
-pub none_is : (k : Key) (keys : List Key) → Each (λ y. same_key k y ≡ false) keys → has_key k keys ≡ false
-none_is k [] h = refl
-none_is k (x ∷ xs) h = ap (λ b. b || has_key k xs) h.0 ∙ none_is k xs h.1
-
--- A key that goes last is among the keys, beside those that were.
-pub is_in-last : (q k : Key) (keys : List Key) → has_key q (keys ++ k ∷ []) ≡ (has_key q keys || same_key q k)
-is_in-last q k keys = list_any-append (same_key q) keys (k ∷ []) ∙ ap (λ b. has_key q keys || b) (or-false (same_key q k))
-
--- A key that is not among the keys may go last.
-each-last : (y k : Key) (keys : List Key) → same_key y k ≡ false → Each (λ z. same_key y z ≡ false) keys → Each (λ z. same_key y z ≡ false) (keys ++ k ∷ [])
-each-last y k [] f h = (f, tt)
-each-last y k (z ∷ zs) f h = (h.0, each-last y k zs f h.1)
-
-pub distinct-last : (k : Key) (keys : List Key) → has_key k keys ≡ false → IsDistinct same_key keys → IsDistinct same_key (keys ++ k ∷ [])
-unfolding IsDistinct
-distinct-last k [] h d = (tt, tt)
-distinct-last k (x ∷ xs) h d = by (same_key k x) refl h (distinct-last k xs)
-  where
-    by : (b : Bool) → same_key k x ≡ b → (b || has_key k xs) ≡ false → (has_key k xs ≡ false → IsDistinct same_key xs → IsDistinct same_key (xs ++ k ∷ [])) → IsDistinct same_key (x ∷ (xs ++ k ∷ []))
-    by true t h rest = absurd (true≢false h)
-    by false t h rest = (each-last x k xs (same_key-either_way x k ∙ t) d.0, rest h d.1)
-
--- What holds of each key holds of those that are left.
-each-without : (P : Key → Type 0) (k : Key) (keys : List Key) → Each P keys → Each P (without k keys)
-each-without P k [] h = tt
-each-without P k (x ∷ xs) h = by (same_key k x) (each-without P k xs h.1)
-  where
-    by : (b : Bool) → Each P (without k xs) → Each P (cond b xs (x ∷ without k xs))
-    by true rest = h.1
-    by false rest = (h.0, rest)
-
-pub distinct-without : (k : Key) (keys : List Key) → IsDistinct same_key keys → IsDistinct same_key (without k keys)
-unfolding IsDistinct
-distinct-without k [] d = tt
-distinct-without k (x ∷ xs) d = by (same_key k x) (distinct-without k xs d.1)
-  where
-    by : (b : Bool) → IsDistinct same_key (without k xs) → IsDistinct same_key (cond b xs (x ∷ without k xs))
-    by true rest = d.1
-    by false rest = (each-without (λ y. same_key x y ≡ false) k xs d.0, rest)
-
--- Just k is among the keys no more.
-pub is_in-without : (q k : Key) (keys : List Key) → IsDistinct same_key keys → has_key q (without k keys) ≡ (not (same_key k q) && has_key q keys)
-unfolding IsDistinct
-is_in-without q k [] d = by (same_key k q)
-  where
-    by : (b : Bool) → false ≡ (not b && false)
-    by true = refl
-    by false = refl
-is_in-without q k (x ∷ xs) d = by (same_key k x) refl (is_in-without q k xs d.1)
-  where
-    by : (b : Bool) → same_key k x ≡ b → has_key q (without k xs) ≡ (not (same_key k q) && has_key q xs) → has_key q (cond b xs (x ∷ without k xs)) ≡ (not (same_key k q) && (same_key q x || has_key q xs))
-    by true t rest = at_key (same_key k q) refl
-      where
-        at_key : (b : Bool) → same_key k q ≡ b → has_key q xs ≡ (not b && (same_key q x || has_key q xs))
-        at_key true s = ap (λ z. has_key z xs) (sym (same_key-eq k q s) ∙ same_key-eq k x t) ∙ none_is x xs d.0
-        at_key false s = ap (λ b. b || has_key q xs) (sym (ap (λ z. same_key q z) (sym (same_key-eq k x t)) ∙ same_key-either_way q k ∙ s))
-    by false t rest = at_key (same_key q x) refl
-      where
-        at_key : (b : Bool) → same_key q x ≡ b → (b || has_key q (without k xs)) ≡ (not (same_key k q) && (b || has_key q xs))
-        at_key true s = sym (ap (λ b. not b && true) (ap (λ z. same_key k z) (same_key-eq q x s) ∙ t))
-        at_key false s = rest
+use Rattle.jc_types.proofs.KeyFacts.{same_key-eq, same_key-either_way}
+use Rattle.jc_queue.specs.Queued.{Queued, IsQueue, has_key, plus_key, without, added, got, got_first, finished}
+use Rattle.jc_queue.proofs.KeyLists.{distinct-last, distinct-without, first_in, is_in-last, is_in-without, none_is}
+use Rattle.jc_queue.proofs.KeySets.{ascends-once, ascends-plus, ascends-without, is_in-plus}
 
 -- The empty queue.
 pub empty_is : IsQueue (record { line = []; dirty = []; processing = [] })
-unfolding IsDistinct
-empty_is = record { line_once = tt; dirty_once = tt; processing_once = tt; waiting = λ k. refl }
+unfolding IsDistinct IsStrictlySortedBy
+empty_is = record { line_once = tt; dirty_ascends = tt; processing_once = tt; waiting = λ k. refl }
 
 -- A dirty key that is not processing stands in line, and a key in line is not processing.
 pub in_line : (q : Queued) → IsQueue q → (k : Key) → has_key k q.line ≡ true → has_key k q.processing ≡ false
@@ -93,13 +32,9 @@ in_line-dirty q s k h = by (has_key k q.dirty) (has_key k q.processing) (sym h �
     by true p e = refl
     by false p e = absurd (true≢false e)
 
--- The first key is one of the keys.
-pub first_in : (k : Key) (rest : List Key) → has_key k (k ∷ rest) ≡ true
-first_in k rest = ap (λ b. b || has_key k rest) (same_key-itself k)
-
 -- A key that was not dirty is added.
-pub add_is : (q : Queued) (k : Key) → IsQueue q → has_key k q.dirty ≡ false → IsQueue (record { line = cond (has_key k q.processing) q.line (q.line ++ k ∷ []); dirty = q.dirty ++ k ∷ []; processing = q.processing })
-add_is q k s clean = record { line_once = once (has_key k q.processing); dirty_once = distinct-last k q.dirty clean s.dirty_once; processing_once = s.processing_once; waiting = λ j. waits j (has_key k q.processing) refl (same_key j k) refl }
+pub add_is : (q : Queued) (k : Key) → IsQueue q → has_key k q.dirty ≡ false → IsQueue (record { line = cond (has_key k q.processing) q.line (q.line ++ k ∷ []); dirty = plus_key k q.dirty; processing = q.processing })
+add_is q k s clean = record { line_once = once (has_key k q.processing); dirty_ascends = ascends-plus k q.dirty s.dirty_ascends; processing_once = s.processing_once; waiting = λ j. waits j (has_key k q.processing) refl (same_key j k) refl }
   where
     out : has_key k q.line ≡ false
     out = s.waiting k ∙ ap (λ b. b && not (has_key k q.processing)) clean
@@ -108,31 +43,34 @@ add_is q k s clean = record { line_once = once (has_key k q.processing); dirty_o
     once true = s.line_once
     once false = distinct-last k q.line out s.line_once
 
-    waits : (j : Key) (p : Bool) → has_key k q.processing ≡ p → (m : Bool) → same_key j k ≡ m → has_key j (cond p q.line (q.line ++ k ∷ [])) ≡ (has_key j (q.dirty ++ k ∷ []) && not (has_key j q.processing))
+    put : (j : Key) (m : Bool) → same_key j k ≡ m → has_key j (plus_key k q.dirty) ≡ (m || has_key j q.dirty)
+    put j m e = is_in-plus j k q.dirty ∙ ap (λ b. b || has_key j q.dirty) e
+
+    last : (j : Key) (m : Bool) → same_key j k ≡ m → has_key j (q.line ++ k ∷ []) ≡ (has_key j q.line || m)
+    last j m e = is_in-last j k q.line ∙ ap (λ b. has_key j q.line || b) e
+
+    waits : (j : Key) (p : Bool) → has_key k q.processing ≡ p → (m : Bool) → same_key j k ≡ m → has_key j (cond p q.line (q.line ++ k ∷ [])) ≡ (has_key j (plus_key k q.dirty) && not (has_key j q.processing))
     waits j true e true m =
         ap (λ z. has_key z q.line) (same_key-eq j k m) ∙ out
-        ∙ sym (ap (λ b. has_key j (q.dirty ++ k ∷ []) && not b) (ap (λ z. has_key z q.processing) (same_key-eq j k m) ∙ e) ∙ and-false (has_key j (q.dirty ++ k ∷ [])))
-    waits j true e false m =
-        s.waiting j ∙ ap (λ b. b && not (has_key j q.processing)) (sym (is_in-last j k q.dirty ∙ ap (λ b. has_key j q.dirty || b) m ∙ or-false (has_key j q.dirty)))
+        ∙ sym (ap (λ b. has_key j (plus_key k q.dirty) && not b) (ap (λ z. has_key z q.processing) (same_key-eq j k m) ∙ e) ∙ and-false (has_key j (plus_key k q.dirty)))
+    waits j true e false m = s.waiting j ∙ ap (λ b. b && not (has_key j q.processing)) (sym (put j false m))
     waits j false e true m =
-        is_in-last j k q.line ∙ ap (λ b. has_key j q.line || b) m ∙ or-true (has_key j q.line)
-        ∙ sym (ap (λ b. b && not (has_key j q.processing)) (is_in-last j k q.dirty ∙ ap (λ b. has_key j q.dirty || b) m ∙ or-true (has_key j q.dirty))
-        ∙ ap not (ap (λ z. has_key z q.processing) (same_key-eq j k m) ∙ e))
+        last j true m ∙ or-true (has_key j q.line)
+        ∙ sym (ap (λ b. b && not (has_key j q.processing)) (put j true m) ∙ ap not (ap (λ z. has_key z q.processing) (same_key-eq j k m) ∙ e))
     waits j false e false m =
-        is_in-last j k q.line ∙ ap (λ b. has_key j q.line || b) m ∙ or-false (has_key j q.line) ∙ s.waiting j
-        ∙ ap (λ b. b && not (has_key j q.processing)) (sym (is_in-last j k q.dirty ∙ ap (λ b. has_key j q.dirty || b) m ∙ or-false (has_key j q.dirty)))
+        last j false m ∙ or-false (has_key j q.line) ∙ s.waiting j ∙ ap (λ b. b && not (has_key j q.processing)) (sym (put j false m))
 
 pub added_is : (q : Queued) (k : Key) → IsQueue q → IsQueue (added q k)
 added_is q k s = by (has_key k q.dirty) refl
   where
-    by : (b : Bool) → has_key k q.dirty ≡ b → IsQueue (cond b q (record { line = cond (has_key k q.processing) q.line (q.line ++ k ∷ []); dirty = q.dirty ++ k ∷ []; processing = q.processing }))
+    by : (b : Bool) → has_key k q.dirty ≡ b → IsQueue (cond b q (record { line = cond (has_key k q.processing) q.line (q.line ++ k ∷ []); dirty = plus_key k q.dirty; processing = q.processing }))
     by true e = s
     by false e = add_is q k s e
 
 -- The first key of the line is got.
 pub got_is : (k : Key) (rest dirty processing : List Key) → IsQueue (record { line = k ∷ rest; dirty = dirty; processing = processing }) → IsQueue (record { line = rest; dirty = without k dirty; processing = processing ++ k ∷ [] })
 unfolding IsDistinct
-got_is k rest dirty processing s = record { line_once = s.line_once.1; dirty_once = distinct-without k dirty s.dirty_once; processing_once = distinct-last k processing idle s.processing_once; waiting = λ j. waits j (same_key k j) refl }
+got_is k rest dirty processing s = record { line_once = s.line_once.1; dirty_ascends = ascends-without k dirty s.dirty_ascends; processing_once = distinct-last k processing idle s.processing_once; waiting = λ j. waits j (same_key k j) refl }
   where
     idle : has_key k processing ≡ false
     idle = in_line (record { line = k ∷ rest; dirty = dirty; processing = processing }) s k (first_in k rest)
@@ -140,16 +78,16 @@ got_is k rest dirty processing s = record { line_once = s.line_once.1; dirty_onc
     waits : (j : Key) (m : Bool) → same_key k j ≡ m → has_key j rest ≡ (has_key j (without k dirty) && not (has_key j (processing ++ k ∷ [])))
     waits j true m =
         ap (λ z. has_key z rest) (sym (same_key-eq k j m)) ∙ none_is k rest s.line_once.0
-        ∙ sym (ap (λ b. b && not (has_key j (processing ++ k ∷ []))) (is_in-without j k dirty s.dirty_once ∙ ap (λ b. not b && has_key j dirty) m))
+        ∙ sym (ap (λ b. b && not (has_key j (processing ++ k ∷ []))) (is_in-without j k dirty (ascends-once dirty s.dirty_ascends) ∙ ap (λ b. not b && has_key j dirty) m))
     waits j false m =
         let other : same_key j k ≡ false = same_key-either_way j k ∙ m in
         ap (λ b. b || has_key j rest) (sym other) ∙ s.waiting j
-        ∙ sym (ap (λ b. b && not (has_key j (processing ++ k ∷ []))) (is_in-without j k dirty s.dirty_once ∙ ap (λ b. not b && has_key j dirty) m)
+        ∙ sym (ap (λ b. b && not (has_key j (processing ++ k ∷ []))) (is_in-without j k dirty (ascends-once dirty s.dirty_ascends) ∙ ap (λ b. not b && has_key j dirty) m)
         ∙ ap (λ b. has_key j dirty && not b) (is_in-last j k processing ∙ ap (λ b. has_key j processing || b) other ∙ or-false (has_key j processing)))
 
 -- A key that is processing is done.
 pub finished_is : (q : Queued) (k : Key) → IsQueue q → has_key k q.processing ≡ true → IsQueue (finished q k)
-finished_is q k s busy = record { line_once = once (has_key k q.dirty); dirty_once = s.dirty_once; processing_once = distinct-without k q.processing s.processing_once; waiting = λ j. waits j (has_key k q.dirty) refl (same_key k j) refl }
+finished_is q k s busy = record { line_once = once (has_key k q.dirty); dirty_ascends = s.dirty_ascends; processing_once = distinct-without k q.processing s.processing_once; waiting = λ j. waits j (has_key k q.dirty) refl (same_key k j) refl }
   where
     out : has_key k q.line ≡ false
     out = s.waiting k ∙ ap (λ b. has_key k q.dirty && not b) busy ∙ and-false (has_key k q.dirty)

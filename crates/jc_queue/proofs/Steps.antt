@@ -8,7 +8,7 @@ use Rattle.std.specs.Set.{remove_key}
 use Rattle.jc_types.specs.declared.objects.Key.{Key}
 use Rattle.jc_types.specs.Keys.{same_key}
 use Rattle.jc_types.proofs.KeyFacts.{same_key-eq}
-use Rattle.jc_queue.specs.Queued.{Queued, has_key, without, added, finished, got, got_first}
+use Rattle.jc_queue.specs.Queued.{Queued, has_key, plus_key, without, added, finished, got, got_first}
 
 -- The removal at the first place at which the test passes is the removal of the first key that passes.
 remove-first : {X : Type 0} (test : X → Bool) (xs : List X) → remove xs (position_or_len test xs) ≡ remove_key test xs
@@ -51,16 +51,11 @@ no_place test xs h e =
 pub placed_is : (k held : Key) (keys : List Key) (i : ℕ) → Some i ≡ position (same_key k) keys → held ≡ slice_index_or keys i held → held ≡ k
 placed_is k held keys i h e = e ∙ sym (same_key-eq k (slice_index_or keys i held) (position-Some (same_key k) keys i held (sym h)).1)
 
--- A copy of a key that is not among the keys goes last.
-pub goes_last : (k copied : Key) (keys after : List Key) → has_key k keys ≡ false → copied ≡ k → after ≡ cond (has_key copied keys) keys (keys ++ copied ∷ []) → after ≡ keys ++ k ∷ []
-goes_last k copied keys after clean same e =
-    e ∙ ap (λ j. cond (has_key j keys) keys (keys ++ j ∷ [])) same ∙ ap (λ b. cond b keys (keys ++ k ∷ [])) clean
-
 -- A queue with these lists is what `added` says.
-pub added-parts : (q : Queued) (k : Key) (line dirty processing : List Key) → has_key k q.dirty ≡ false → line ≡ cond (has_key k q.processing) q.line (q.line ++ k ∷ []) → dirty ≡ q.dirty ++ k ∷ [] → processing ≡ q.processing → record { line = line; dirty = dirty; processing = processing } ≡ added q k
+pub added-parts : (q : Queued) (k : Key) (line dirty processing : List Key) → has_key k q.dirty ≡ false → line ≡ cond (has_key k q.processing) q.line (q.line ++ k ∷ []) → dirty ≡ plus_key k q.dirty → processing ≡ q.processing → record { line = line; dirty = dirty; processing = processing } ≡ added q k
 added-parts q k line dirty processing clean l d p =
     (λ i. record { line = l i; dirty = d i; processing = p i })
-    ∙ sym (ap (λ b. cond b q (record { line = cond (has_key k q.processing) q.line (q.line ++ k ∷ []); dirty = q.dirty ++ k ∷ []; processing = q.processing })) clean)
+    ∙ sym (ap (λ b. cond b q (record { line = cond (has_key k q.processing) q.line (q.line ++ k ∷ []); dirty = plus_key k q.dirty; processing = q.processing })) clean)
 
 -- The line of a key that is processing, and that of another.
 pub stays_out : (k : Key) (line processing : List Key) → has_key k processing ≡ true → line ≡ cond (has_key k processing) line (line ++ k ∷ [])

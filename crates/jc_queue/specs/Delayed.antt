@@ -13,6 +13,7 @@
 --     is_before a b            the row a is due before the row b: at an earlier moment, or at the same with a lesser key
 --     row_at rows place        the row at the place, where there is a place
 --     first_of rows            the row that is due first
+--     least_moment rows        its moment
 --     due_key d now            the key that is due first, where its moment has come
 --     left_by d due            without the moment of the key that was due
 --     is_due now row           the row's moment has come
@@ -21,16 +22,15 @@
 --     due_keys d now           the keys that are due, in this order
 --     left_after d now         without their moments
 use Rattle.std.specs.Prelude.{◌≡◌, ℕ, ◌+◌, ◌-◌, ◌^◌, Bool, true, false, not, ◌&&◌, ◌||◌, ◌==◌, nat_lt, nat_le, List, [], ◌∷◌, Option, Some, None, is_some, min, filter, slice_get, if◌then◌else◌}
-use Rattle.std.specs.Cmp.Lexicographic.{slice_cmp}
 use Rattle.std.specs.List.{AllByRecursion as Each, IsDistinct}
 use Rattle.std.specs.Map.{keys_of}
-use Rattle.std.specs.Option.{option_and_then, unwrap_or}
-use Rattle.std.specs.Ordering.{is_lt, nat_cmp, ordering_then}
-use Rattle.std.specs.declared.cmp.Ordering.{Ordering}
+use Rattle.std.specs.Option.{option_and_then, option_map, unwrap_or}
+use Rattle.std.specs.Ordering.{is_lt}
 use Rattle.jc_moment.specs.Range.{end_of_moments}
 use Rattle.jc_types.specs.declared.objects.Key.{Key}
 use Rattle.jc_types.specs.Keys.{same_key}
 use Rattle.jc_log.specs.Tables.{at, puts, takes}
+pub use Rattle.jc_queue.specs.Queued.{key_order}
 use Rattle.jc_queue.specs.Queued.{has_key}
 
 -- The moment at which each key is due, and how often in a row each key has failed.
@@ -97,10 +97,6 @@ retried d k now = delayed_within (failed d k) k (now + seconds_after (failure_co
 abbrev pub forgotten : Delayed → Key → Delayed
 forgotten d k = record { moments = d.moments; failures = takes same_key d.failures k }
 
--- The order of keys: by namespace and then by name, byte by byte.
-abbrev pub key_order : Key → Key → Ordering
-key_order a b = ordering_then (slice_cmp nat_cmp a.namespace b.namespace) (slice_cmp nat_cmp a.name b.name)
-
 -- The row a is due before the row b: at an earlier moment, or at the same with a lesser key.
 abbrev pub is_before : Key × ℕ → Key × ℕ → Bool
 is_before a b = nat_lt a.1 b.1 || (a.1 == b.1) && is_lt (key_order a.0 b.0)
@@ -118,6 +114,10 @@ row_at rows place = option_and_then (slice_get rows) place
 abbrev pub first_of : List (Key × ℕ) → Option (Key × ℕ)
 first_of [] = None
 first_of (row ∷ rows) = Some (sooner row (first_of rows))
+
+-- The moment of the row that is due first.
+abbrev pub least_moment : List (Key × ℕ) → Option ℕ
+least_moment rows = option_map (λ row. row.1) (first_of rows)
 
 -- The key of the row, where its moment has come.
 abbrev pub key_by : Option (Key × ℕ) → ℕ → Option Key

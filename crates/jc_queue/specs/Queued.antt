@@ -1,29 +1,38 @@
--- A work queue as three lists of keys, and what each call leaves of it.
---     Queued             the line, the dirty keys and the keys that are processing
---     queue_of line dirty processing   the queue of these lists
+-- A work queue as a line, a set of dirty keys and the keys that are processing, and what each call leaves of
+-- it. A set of keys is seen as its keys in ascending order, so that two sets with the same keys are equal.
+--     Queued             the line, the set of the dirty keys and the keys that are processing
+--     queue_of line dirty processing   the queue of these keys
 --     RoomedQueue        a queue beside its room
 --     has_key k keys     one of the keys is k
 --     without k keys     the keys without k
+--     key_order a b      the order of keys: by namespace and then by name
+--     plus_key k keys    the set of keys with k
+--     key_set keys       the set of the keys of a list
 --     added q k          a key that is not dirty becomes dirty and, where it is not processing, goes last
 --     got q              the first key of the line is processing, and dirty no more
 --     finished q k       the key is processing no more; where it is dirty it goes last
 --     sent_back q        the first key of the line goes last
 --     retracted q k      the key is in line and dirty no more
 --     IsQueue q          no key stands twice, and just the dirty keys that are not processing are in line
+use Rattle.std.specs.BTreeSet.{insert_key}
+use Rattle.std.specs.Cmp.Lexicographic.{slice_cmp}
 use Rattle.std.specs.Prelude.{◌≡◌, ℕ, Bool, not, ◌&&◌, List, [], ◌∷◌, ◌++◌, if◌then◌else◌}
 use Rattle.std.specs.List.{IsDistinct}
+use Rattle.std.specs.List.Sorted.{IsStrictlySortedBy}
+use Rattle.std.specs.Ordering.{nat_cmp, ordering_then}
+use Rattle.std.specs.declared.cmp.Ordering.{Ordering}
 use Rattle.std.specs.Set.{is_member, remove_key}
 use Rattle.jc_types.specs.declared.objects.Key.{Key}
 use Rattle.jc_types.specs.Keys.{same_key}
 
--- The keys that wait in line, those that were added since they were last got, and those that were got and
--- are not done.
+-- The keys that wait in line, the set of those that were added since they were last got, and those that were
+-- got and are not done.
 pub record Queued : Type 0 where
   pub line : List Key
   pub dirty : List Key
   pub processing : List Key
 
--- The queue of these lists.
+-- The queue of these keys.
 abbrev pub queue_of : List Key → List Key → List Key → Queued
 queue_of line dirty processing = record { line = line; dirty = dirty; processing = processing }
 
@@ -40,6 +49,19 @@ has_key k keys = is_member same_key keys k
 abbrev pub without : Key → List Key → List Key
 without k keys = remove_key (same_key k) keys
 
+-- The order of keys: by namespace and then by name, byte by byte.
+abbrev pub key_order : Key → Key → Ordering
+key_order a b = ordering_then (slice_cmp nat_cmp a.namespace b.namespace) (slice_cmp nat_cmp a.name b.name)
+
+-- The set of keys with k.
+abbrev pub plus_key : Key → List Key → List Key
+plus_key k keys = insert_key key_order keys k
+
+-- The set of the keys of the list.
+abbrev pub key_set : List Key → List Key
+key_set [] = []
+key_set (k ∷ keys) = plus_key k (key_set keys)
+
 -- A key that is dirty changes nothing. Another becomes dirty and, where it is not processing, goes to the
 -- line's end.
 abbrev pub added : Queued → Key → Queued
@@ -47,7 +69,7 @@ added q k =
     if has_key k q.dirty then q
     else record {
       line = if has_key k q.processing then q.line else q.line ++ k ∷ [];
-      dirty = q.dirty ++ k ∷ [];
+      dirty = plus_key k q.dirty;
       processing = q.processing;
     }
 
@@ -82,9 +104,10 @@ sent_back q = sent_back_first q.line q
 abbrev pub retracted : Queued → Key → Queued
 retracted q k = record { line = without k q.line; dirty = without k q.dirty; processing = q.processing }
 
--- No key stands twice, and a key is in line just where it is dirty and not processing.
+-- No key stands twice, the dirty keys ascend as those of a set, and a key is in line just where it is dirty
+-- and not processing.
 pub record IsQueue (q : Queued) : Type 0 where
   pub line_once : IsDistinct same_key q.line
-  pub dirty_once : IsDistinct same_key q.dirty
+  pub dirty_ascends : IsStrictlySortedBy key_order q.dirty
   pub processing_once : IsDistinct same_key q.processing
   pub waiting : (k : Key) → has_key k q.line ≡ (has_key k q.dirty && not (has_key k q.processing))

@@ -8,7 +8,7 @@ ghost use Rattle.indexmap.specs.IndexSet.{spare as set_spare};
 ghost use Rattle.jc_types.specs.declared.objects.Key.{Key};
 ghost use Rattle.jc_types.specs.Keys.{same_key};
 ghost use Rattle.jc_log.specs.Tables.{at};
-ghost use Rattle.jc_queue.specs.Delayed.{AreCopied, HasOneMoment, at_with_moment, delayed, due_key, first_of, forgotten, is_before, left_by, retried, row_at, seconds_after, sooner, with_moment};
+ghost use Rattle.jc_queue.specs.Delayed.{AreCopied, HasOneMoment, at_with_moment, delayed, due_key, earlier, first_of, forgotten, is_before, least_moment, left_by, retried, row_at, seconds_after, sooner, with_moment};
 
 use crate::copies::{MOST_ROOM, Supply, Twice};
 use indexmap::{IndexMap, IndexSet};
@@ -31,14 +31,16 @@ pub struct Delays {
     // A second copy of each key that has a moment, so that a queue takes it with no memory.
     copies: IndexSet<Key>,
     failures: IndexMap<Key, u32>,
+    // Read at each clock event: the table is looked through only where a key is due.
+    least: Option<Moment>,
     room: u32,
 }
 
 impl Model for Delays {
-    ghost use Rattle.std.specs.Prelude.{◌≤◌};
+    ghost use Rattle.std.specs.Prelude.{◌≡◌, ◌≤◌};
     ghost use Rattle.indexmap.specs.IndexMap.{spare};
     ghost use Rattle.indexmap.specs.IndexSet.{spare as set_spare};
-    ghost use Rattle.jc_queue.specs.Delayed.{AreCopied, RoomedDelays};
+    ghost use Rattle.jc_queue.specs.Delayed.{AreCopied, RoomedDelays, least_moment};
 
     ghost Value = { RoomedDelays };
 
@@ -50,7 +52,8 @@ impl Model for Delays {
     ghost invariant = { λ d. AreCopied d.moments.entries d.copies.keys
         × (d.room ≤ spare d.moments)
         × (d.room ≤ set_spare d.copies)
-        × (d.room ≤ spare d.failures) };
+        × (d.room ≤ spare d.failures)
+        × (d.least ≡ least_moment d.moments.entries) };
 }
 
 impl Delays {
@@ -63,6 +66,7 @@ impl Delays {
             moments: IndexMap::new(alloc),
             copies: IndexSet::new(alloc),
             failures: IndexMap::new(alloc),
+            least: None,
             room: 0,
         }
     }
@@ -112,7 +116,13 @@ impl Delays {
         ensures room { self.new.room + 1 ≡ self.old.room }
     {
         self.room -= 1;
-        keep(&mut self.moments, &mut self.copies, key, moment);
+        keep(
+            &mut self.moments,
+            &mut self.copies,
+            &mut self.least,
+            key,
+            moment,
+        );
     }
 
     /// Counts one more failure of the key, and makes it due 1 second after `now`, or twice as long after
@@ -145,7 +155,13 @@ impl Delays {
             unreachable!()
         };
         if let Some(moment) = now.plus(pause(count)) {
-            keep(&mut self.moments, &mut self.copies, delayed, moment);
+            keep(
+                &mut self.moments,
+                &mut self.copies,
+                &mut self.least,
+                delayed,
+                moment,
+            );
         }
     }
 
@@ -175,15 +191,15 @@ impl Delays {
         ensures left { self.new.delays ≡ left_by self.old.delays result }
         ensures room { self.new.room ≡ self.old.room }
     {
-        let place = first_place(&self.moments)?;
-        let (_, moment) = self.moments.get_index(place)?;
-        if *moment > now {
+        if self.least? > now {
             return None;
         }
+        let place = first_place(&self.moments)?;
         let (key, _) = self.moments.shift_remove_index(place)?;
         let Some(again) = self.copies.swap_take(&key) else {
             unreachable!()
         };
+        self.least = least(&self.moments);
         Some(Twice::join(key, again))
     }
 
@@ -201,9 +217,8 @@ impl Delays {
         ensures moment { result ≡ option_map (λ row. row.1) (first_of self.now.delays.moments) }
         ensures once { HasOneMoment self.now.delays }
     {
-        let place = first_place(&self.moments)?;
-        let (_, moment) = self.moments.get_index(place)?;
-        Some(*moment)
+        let _delayed = self.moments.len();
+        self.least
     }
 }
 
@@ -223,13 +238,21 @@ fn count_after(failures: &IndexMap<Key, u32>, key: &Key) -> u32
     }
 }
 
-// Makes the key due at the moment, and keeps its second copy.
-fn keep(moments: &mut IndexMap<Key, Moment>, copies: &mut IndexSet<Key>, key: Twice, moment: Moment)
+// Makes the key due at the moment, and keeps its second copy and the least moment.
+fn keep(
+    moments: &mut IndexMap<Key, Moment>,
+    copies: &mut IndexSet<Key>,
+    least: &mut Option<Moment>,
+    key: Twice,
+    moment: Moment,
+)
     requires moments_room { 0 < spare moments.old }
     requires copies_room { 0 < set_spare copies.old }
     ensures earlier { moments.new.entries ≡ with_moment moments.old.entries key moment }
     ensures copied { AreCopied moments.old.entries copies.old.keys →
         AreCopied moments.new.entries copies.new.keys }
+    ensures least { least.old ≡ least_moment moments.old.entries →
+        least.new ≡ least_moment moments.new.entries }
     ensures moments_left { spare moments.old ≤ spare moments.new + 1 }
     ensures copies_left { set_spare copies.old ≤ set_spare copies.new + 1 }
 {
@@ -238,6 +261,7 @@ fn keep(moments: &mut IndexMap<Key, Moment>, copies: &mut IndexSet<Key>, key: Tw
         unreachable!()
     };
     keep_earlier(moments, key, moment);
+    *least = Some(earlier(*least, moment));
 }
 
 // Keeps the moment for the key; of two moments of a key the earlier.
@@ -248,13 +272,29 @@ fn keep_earlier(moments: &mut IndexMap<Key, Moment>, key: Key, moment: Moment)
         at same_key moments.new.entries k ≡ at_with_moment moments.old.entries key moment k }
     ensures room { spare moments.old ≤ spare moments.new + 1 }
 {
-    let kept = match moments.get(&key) {
-        Some(there) if *there < moment => *there,
-        _ => moment,
-    };
+    let kept = earlier(moments.get(&key).copied(), moment);
     let Ok(_) = moments.insert(key, kept) else {
         unreachable!()
     };
+}
+
+// The moment, or the one that is there already where that is earlier.
+fn earlier(there: Option<Moment>, moment: Moment) -> Moment
+    ensures { result ≡ earlier there moment }
+{
+    match there {
+        Some(there) if there < moment => there,
+        _ => moment,
+    }
+}
+
+// The least moment of all rows.
+fn least(rows: &IndexMap<Key, Moment>) -> Option<Moment>
+    ensures { result ≡ least_moment rows.now.entries }
+{
+    let place = first_place(rows)?;
+    let (_, moment) = rows.get_index(place)?;
+    Some(*moment)
 }
 
 // The place of the row that is due first.

@@ -1,8 +1,8 @@
 //! The work queue of a controller, and the delays of its keys, after client-go's queue.
 //!
 //! A key that is added while it is processing waits until it is done, so that no two workers have it at
-//! once. A contract sees a queue as three lists of keys, and the delays as two tables, each beside its room:
-//! so many more keys it takes with no memory.
+//! once. A contract sees a queue as a line, a set of dirty keys and the keys that are processing, and the
+//! delays as two tables, each beside its room: so many more keys it takes with no memory.
 #![tactic(auto)]
 
 mod calls;

@@ -1,12 +1,13 @@
 //! The work queue: a line of keys without repeats, the dirty keys, and those that are processing.
 
-ghost use Rattle.std.specs.Prelude.{◌≡◌, ◌+◌, ◌++◌, ◌≤◌, ◌<◌, ◌^◌, [], IfOk, IfSome, OnErr, OnOk, false, length, max, position, slice_get, true};
+ghost use Rattle.std.specs.Prelude.{◌≡◌, ◌+◌, ◌++◌, ◌≤◌, ◌<◌, ◌^◌, [], IfOk, IfSome, OnErr, OnOk, false, is_some, length, max, position, slice_get, true};
 ghost use Rattle.std.specs.List.{IsDistinct};
 ghost use Rattle.std.specs.Option.{option_copied};
 ghost use Rattle.std.specs.Vec.{vec_capacity, vec_len};
 ghost use Rattle.std.specs.VecDeque.{deque_capacity, deque_len};
+ghost use Rattle.indexmap.specs.IndexSet.{spare};
 ghost use Rattle.jc_types.specs.Keys.{same_key};
-ghost use Rattle.jc_queue.specs.Queued.{IsQueue, added, finished, got, has_key, queue_of, retracted, sent_back, without};
+ghost use Rattle.jc_queue.specs.Queued.{IsQueue, added, finished, got, has_key, plus_key, queue_of, retracted, sent_back, key_set, without};
 
 use crate::copies::{MOST_ROOM, Twice};
 use indexmap::IndexSet;
@@ -33,17 +34,17 @@ impl Model for Queue {
     ghost use Rattle.std.specs.Vec.{vec_capacity, vec_len};
     ghost use Rattle.std.specs.VecDeque.{deque_capacity, deque_len};
     ghost use Rattle.indexmap.specs.IndexSet.{spare};
-    ghost use Rattle.jc_queue.specs.Queued.{IsQueue, RoomedQueue, queue_of};
+    ghost use Rattle.jc_queue.specs.Queued.{IsQueue, RoomedQueue, queue_of, key_set};
 
     ghost Value = { RoomedQueue };
 
     ghost view = { λ q. record {
-      queue = queue_of q.line.items q.dirty.keys q.processing.items;
+      queue = queue_of q.line.items (key_set q.dirty.keys) q.processing.items;
       room = q.room;
     } };
 
     // A key in line may come to be processing, and a processing key may come into line, with no memory.
-    ghost invariant = { λ q. IsQueue (queue_of q.line.items q.dirty.keys q.processing.items)
+    ghost invariant = { λ q. IsQueue (queue_of q.line.items (key_set q.dirty.keys) q.processing.items)
         × (deque_len q.line + vec_len q.processing + q.room ≤ deque_capacity q.line)
         × (deque_len q.line + vec_len q.processing + q.room ≤ vec_capacity q.processing)
         × (q.room ≤ spare q.dirty) };
@@ -110,12 +111,10 @@ impl Queue {
     {
         let (key, again) = key.into_keys();
         self.room -= 1;
-        if self.dirty.contains(&key) {
+        if is_in(&self.dirty, &key) {
             return;
         }
-        let Ok(_) = self.dirty.insert(again) else {
-            unreachable!()
-        };
+        put_in(&mut self.dirty, again);
         if has_key(&self.processing, &key) {
             return;
         }
@@ -131,7 +130,7 @@ impl Queue {
         ensures room { self.new.room ≡ self.old.room }
     {
         let key = self.line.pop_front()?;
-        let Some(held) = self.dirty.shift_take(&key) else {
+        let Some(held) = take_from(&mut self.dirty, &key) else {
             unreachable!()
         };
         self.processing.push_reserved(held);
@@ -145,7 +144,7 @@ impl Queue {
         ensures room { self.new.room ≡ self.old.room }
     {
         let held = take_out(&mut self.processing, key);
-        if self.dirty.contains(key) {
+        if is_in(&self.dirty, key) {
             self.line.push_back_reserved(held);
         }
     }
@@ -176,7 +175,7 @@ impl Queue {
         ensures room { self.new.room ≡ self.old.room }
     {
         take_from_line(&mut self.line, key);
-        self.dirty.shift_remove(key);
+        take_from(&mut self.dirty, key);
     }
 
     /// Whether the key is dirty.
@@ -184,7 +183,7 @@ impl Queue {
         ensures dirty { result ≡ has_key key.now self.now.queue.dirty }
         ensures queue { IsQueue self.now.queue }
     {
-        self.dirty.contains(key)
+        is_in(&self.dirty, key)
     }
 
     /// Whether the key is processing.
@@ -268,6 +267,34 @@ fn copied_set(alloc: Global, keys: &[Key]) -> Result<IndexSet<Key>, Want>
         set.insert(key.copy()?)?;
     }
     Ok(set)
+}
+
+// Whether the key is one of the set.
+fn is_in(set: &IndexSet<Key>, key: &Key) -> bool
+    ensures { result ≡ has_key key.now (key_set set.now.keys) }
+{
+    set.contains(key)
+}
+
+// Puts the key into the set, in the room that there is.
+fn put_in(set: &mut IndexSet<Key>, key: Key)
+    requires room { 0 < spare set.old }
+    ensures set { key_set set.new.keys ≡ plus_key key (key_set set.old.keys) }
+    ensures room { spare set.old ≤ spare set.new + 1 }
+{
+    let Ok(_) = set.insert(key) else {
+        unreachable!()
+    };
+}
+
+// Takes the key out of the set, where it is in it. It does not move the other keys.
+fn take_from(set: &mut IndexSet<Key>, key: &Key) -> Option<Key>
+    ensures taken { IfSome result (λ taken. taken ≡ key.now) }
+    ensures found { is_some result ≡ has_key key.now (key_set set.old.keys) }
+    ensures set { key_set set.new.keys ≡ without key.now (key_set set.old.keys) }
+    ensures room { spare set.old ≤ spare set.new }
+{
+    set.swap_take(key)
 }
 
 // The place of the key in line.

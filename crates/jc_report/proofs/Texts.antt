@@ -4,7 +4,7 @@ use Rattle.std.specs.BTreeMap.{insert_entry}
 use Rattle.std.proofs.lemmas.List.{append-nil, drop_more, flat_map_more, length-map, length-take-le, map-append}
 use Rattle.std.proofs.lemmas.Option.{get_or_from_slice_get, slice_get_within}
 use Rattle.jc_ledger.specs.declared.counts.Verdicts.{Verdicts}
-use Rattle.jc_ledger.specs.Verdicts.{IsPlace}
+use Rattle.jc_verdicts.specs.Verdicts.{IsPlace}
 use Rattle.jc_lines.specs.Events.{HasPlace, event_line, event_lines}
 use Rattle.jc_log.specs.Deeds.{Deed, deed}
 use Rattle.jc_queue.specs.Delayed.{key_order}

@@ -13,7 +13,8 @@ use Rattle.std.specs.List.{flat_map}
 use Rattle.std.specs.Map.{values_of}
 use Rattle.jc_ledger.specs.declared.counts.Verdicts.{Verdicts}
 use Rattle.jc_ledger.specs.Ledger.{ledger_of}
-use Rattle.jc_ledger.specs.Verdicts.{deeds_of, verdicts_of}
+use Rattle.jc_verdicts.specs.Verdicts.{deeds_of}
+use Rattle.jc_ledger.specs.Ledger.{verdicts_of}
 use Rattle.jc_lines.specs.Events.{event_lines}
 use Rattle.jc_lines.specs.Jobs.{job_line}
 use Rattle.jc_lines.specs.Summaries.{full_line, summary_text, verdicts_line}

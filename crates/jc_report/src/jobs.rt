@@ -2,7 +2,7 @@
 
 ghost use Rattle.std.specs.Prelude.{◌≡◌, ◌++◌, IfOk, OnOk, string_bytes};
 ghost use Rattle.std.specs.BTreeMap.{insert_entry};
-ghost use Rattle.jc_ledger.specs.Books.{verdicts_at};
+ghost use Rattle.jc_verdicts.specs.Books.{verdicts_at};
 ghost use Rattle.jc_queue.specs.Delayed.{key_order};
 ghost use Rattle.jc_report.specs.Reports.{by_key, in_order, job_lines, jobs_text};
 
@@ -27,11 +27,8 @@ fn ordered(alloc: Global, jobs: &Table<Key, Job>) -> Result<BTreeMap<Key, Job>, 
     ensures { IfOk result (λ rows. rows.entries ≡ by_key jobs.now) }
 {
     let mut rows = BTreeMap::new(alloc);
-    for place in (0..jobs.len()).rev() {
-        let Some((key, job)) = jobs.row(place) else {
-            unreachable!()
-        };
-        put_copy(&mut rows, key, job)?;
+    for row in jobs.rows().rev() {
+        put_copy(&mut rows, &row.0, &row.1)?;
     }
     Ok(rows)
 }

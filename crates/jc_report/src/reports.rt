@@ -2,7 +2,7 @@
 
 ghost use Rattle.std.specs.Prelude.{◌≡◌, ◌++◌, ◌<◌, ◌^◌, All, IfOk, OnOk};
 ghost use Rattle.std.specs.Prelude.{length, map, reverse, string_bytes};
-ghost use Rattle.jc_ledger.specs.Verdicts.{IsNumbered, IsPlace};
+ghost use Rattle.jc_verdicts.specs.Verdicts.{IsNumbered, IsPlace};
 ghost use Rattle.jc_lines.specs.Events.{event_line, event_lines};
 ghost use Rattle.jc_log.specs.Deeds.{deed};
 ghost use Rattle.jc_log.specs.Log.{jobs_in};
@@ -10,10 +10,10 @@ ghost use Rattle.jc_types.specs.declared.runs.Past.{Past};
 ghost use Rattle.jc_report.specs.Reports.{report_text, summary_of};
 
 use crate::jobs::{in_order, jobs_text};
-use jc_ledger::all_verdicts;
 use jc_lines::{print_full, print_summary, put_event};
 use jc_table::Table;
 use jc_types::{Entries, History, Job, Key, Past, Script, Want};
+use jc_verdicts::all_verdicts;
 use std::alloc::Global;
 
 // The line of an event.

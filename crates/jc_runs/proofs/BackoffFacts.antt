@@ -72,7 +72,7 @@ seen_few k n log =
     omega (arith, own, all, part)
 
 -- A deed appends at most one entry.
-log_short : (shape : Shape) (deeds : List Deed) → length (log_given shape deeds) ≤ length deeds
+pub log_short : (shape : Shape) (deeds : List Deed) → length (log_given shape deeds) ≤ length deeds
 unfolding log_given
 log_short shape [] = omega arith
 log_short shape (d ∷ past) = by (log_short shape past) (gives shape past (log_given shape past) d.act).entry

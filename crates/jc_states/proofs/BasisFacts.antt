@@ -2,7 +2,7 @@
 use Rattle.std.proofs.Common.{◌≡◌, ℕ, true, eqb, refl}
 use Rattle.std.specs.Cmp.Lexicographic.{pointwise, pointwise_decides}
 use Rattle.std.proofs.lemmas.Bool.{eqb-true, eq-eqb, and_parts, and_from}
-use Rattle.jc_types.specs.Equality.{IsExact, same_backoff, same_job, same_option, same_pod}
+use Rattle.jc_types.specs.Equality.{IsExact, same_job, same_option, same_pod}
 use Rattle.jc_types.specs.Keys.{same_key}
 use Rattle.jc_types.proofs.KeyFacts.{same_key-eq, same_key-itself}
 use Rattle.jc_types.proofs.EqualityFacts.{exact_from, option-exact}

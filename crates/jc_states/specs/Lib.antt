@@ -9,3 +9,4 @@ pub mod ValidActions
 pub mod ValidSpecs
 pub mod Bases
 pub mod Owners
+pub mod Tallies

@@ -2,9 +2,10 @@
 --     put_pod pod pods       with the pod in its place: instead of that of its UID, or before the
 --                            first of a greater one
 --     drop_pod u pods        without the pod of the UID
+--     place_from u pods      the place of the first pod whose UID is at least u
 --     RisesFrom low pods     they are in ascending UID, none twice, and none below the bound
 --     IsRising pods          they are in ascending UID, none twice
-use Rattle.std.specs.Prelude.{ℕ, ◌+◌, ◌≤◌, ◌==◌, nat_lt, not, List, [], ◌∷◌, filter, if◌then◌else◌}
+use Rattle.std.specs.Prelude.{ℕ, suc, ◌+◌, ◌≤◌, ◌==◌, nat_lt, not, List, [], ◌∷◌, filter, if◌then◌else◌}
 use Rattle.jc_types.specs.declared.numbers.Uid.{Uid}
 use Rattle.jc_types.specs.declared.objects.Pod.{Pod}
 use Rattle.jc_types.specs.Keys.{same_uid}
@@ -20,6 +21,11 @@ put_pod pod (q ∷ pods) =
 -- Without the pod of the UID.
 abbrev pub drop_pod : Uid → List Pod → List Pod
 drop_pod u pods = filter (λ pod. not (same_uid pod.uid u)) pods
+
+-- The place of the first pod whose UID is at least this one; past the last pod where there is none.
+abbrev pub place_from : Uid → List Pod → ℕ
+place_from u [] = 0
+place_from u (pod ∷ pods) = if nat_lt pod.uid.0 u.0 then suc (place_from u pods) else 0
 
 -- The pods are in ascending UID, none twice, and none below the bound.
 abbrev pub RisesFrom : ℕ → List Pod → Type 0

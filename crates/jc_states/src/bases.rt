@@ -1,10 +1,8 @@
 //! What a sync starts from.
 
+use crate::pod_lists::Pods;
 use jc_moment::Moment;
-use jc_types::{Backoff, Copied, Job, Key, ListOf, Pod, Same, Version, Want};
-
-/// Pods in ascending order of their UIDs.
-pub type Pods = ListOf<Pod>;
+use jc_types::{Arc, Backoff, Copied, Job, Key, Same, Version, Want};
 
 /// What one sync sees: the Job and the pods of its key in the caches of a controller.
 #[derive(Drop)]
@@ -13,8 +11,8 @@ pub struct Basis {
     pub key: Key,
     /// The Job of the key, if there is one.
     pub job: Option<Job>,
-    /// The pods that were made for Jobs of the key.
-    pub pods: Pods,
+    /// The pods that were made for Jobs of the key, as the cache shares them.
+    pub pods: Arc<Pods>,
     /// The version of the Job cache.
     pub jobs_at: Version,
     /// The version of the pod cache.

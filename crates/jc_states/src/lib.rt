@@ -1,6 +1,7 @@
 //! What state a pod or a Job is in (batch/v1, core/v1): whether a pod is open, active, ending or ready,
 //! which index it has, how many pods of a Job are in a state, whether a UID is listed as uncounted, and
-//! which conditions of a Job stand. And what a sync sees of a Job and its pods.
+//! which conditions of a Job stand. `Pods` has pods in ascending UID, and beside them the numbers of each
+//! owner, so that these are read without a look at the pods. A `Basis` is what one sync sees.
 #![tactic(auto)]
 
 mod bases;
@@ -10,17 +11,24 @@ mod indexes;
 mod laws;
 mod owners;
 mod phases;
+mod pod_lists;
 mod pods;
+mod tallies;
 mod uids;
 
-pub use bases::{Basis, Pods};
+pub use bases::Basis;
 pub use conditions::{has_end, has_target, stands};
-pub use counts::{count_active, count_ending, count_tracked_active};
+pub use counts::{
+    count_active, count_ending, count_ready, count_restarts, count_tracked_active, has_active,
+    has_open,
+};
 pub use indexes::{has_index, is_completed};
 pub use laws::{bases_are_compared, lists_merge};
 pub use owners::is_foreign;
 pub use phases::{is_final, is_pending, is_same_phase};
+pub use pod_lists::Pods;
 pub use pods::{
     goes, is_active, is_ending, is_marked, is_open, is_own, is_ready, is_tracked_active,
 };
+pub use tallies::Tally;
 pub use uids::{is_among, is_listed};

@@ -78,23 +78,19 @@ fn entry(alloc: Global, step: Step, version: u64, now: Moment) -> Result<Entry, 
     }
 }
 
-fn filled_jobs(alloc: Global, now: Moment) -> Result<JobCache, Fail> {
+fn fill_jobs(alloc: Global, cache: &mut JobCache, now: Moment) -> Result<(), Fail> {
     let mut jobs = Jobs::new(alloc);
     jobs.push(job(alloc, PI, 1, now)?)?;
-    let mut cache = JobCache::empty(alloc);
     cache.replace(jobs, Version(FILLED))?;
-    Ok(cache)
+    Ok(())
 }
 
-fn filled_pods(alloc: Global, now: Moment) -> Result<PodCache, Fail> {
-    let first = pod(alloc, 2, PI, 2, now)?;
-    let second = pod(alloc, 4, E, 3, now)?;
+fn fill_pods(alloc: Global, cache: &mut PodCache, now: Moment) -> Result<(), Fail> {
     let mut pods = Pods::new(alloc);
-    pods.push(first)?;
-    pods.push(second)?;
-    let mut cache = PodCache::empty(alloc);
+    pods.put(pod(alloc, 2, PI, 2, now)?)?;
+    pods.put(pod(alloc, 4, E, 3, now)?)?;
     cache.replace(pods, Version(FILLED))?;
-    Ok(cache)
+    Ok(())
 }
 
 fn check_job(
@@ -187,18 +183,20 @@ fn check_forgotten(rt: &impl Abort, alloc: Global, caches: &mut Caches) -> Resul
     check_caches(rt, alloc, caches, (None, None), (&[], &[]))
 }
 
-fn filled(alloc: Global, now: Moment) -> Result<Caches, Fail> {
-    let jobs = filled_jobs(alloc, now)?;
-    let pods = filled_pods(alloc, now)?;
-    Ok(Caches { jobs, pods })
+fn check_all(rt: &impl Abort, alloc: Global, caches: &mut Caches) -> Result<(), Fail> {
+    let now = Moment::from_seconds(0).expect(rt, "the first moment");
+    fill_jobs(alloc, &mut caches.jobs, now)?;
+    fill_pods(alloc, &mut caches.pods, now)?;
+    check_caches(rt, alloc, caches, (Some(1), None), (&[2], &[3]))?;
+    check_entries(rt, alloc, caches, now)?;
+    check_forgotten(rt, alloc, caches)
 }
 
 #[test]
 fn caches_follow_the_log(rt: HostRuntime) -> Result<(), Fail> {
-    let alloc = rt.alloc();
-    let now = Moment::from_seconds(0).expect(&rt, "the first moment");
-    let mut caches = filled(alloc, now)?;
-    check_caches(&rt, alloc, &caches, (Some(1), None), (&[2], &[3]))?;
-    check_entries(&rt, alloc, &mut caches, now)?;
-    check_forgotten(&rt, alloc, &mut caches)
+    let mut caches = Caches {
+        jobs: JobCache::empty(rt.alloc()),
+        pods: PodCache::empty(rt.alloc()),
+    };
+    check_all(&rt, rt.alloc(), &mut caches)
 }

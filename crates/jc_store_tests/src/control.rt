@@ -148,7 +148,7 @@ fn list_jobs(alloc: Global, controller: &mut Controller, at: u64, now: Moment) -
 
 fn list_pods(alloc: Global, controller: &mut Controller, at: u64, now: Moment) -> Result<(), Fail> {
     let mut pods = Pods::new(alloc);
-    pods.push(pod(alloc, at, now)?)?;
+    pods.put(pod(alloc, at, now)?)?;
     controller.list_pods(pods, Version(at))?;
     Ok(())
 }
@@ -275,17 +275,20 @@ fn moment_after(rt: &impl Abort, step: Step, now: Moment) -> Moment {
     }
 }
 
-#[test]
-fn controller_begins_on_fresh_caches(rt: HostRuntime) -> Result<(), Fail> {
-    let alloc = rt.alloc();
-    let mut controller = Controller::new(alloc);
-    let mut now = moment(&rt, 0);
+fn take_all(rt: &impl Abort, alloc: Global, controller: &mut Controller) -> Result<(), Fail> {
+    let mut now = moment(rt, 0);
     assert!(rt; !controller.ready());
     for (step, expected, jobs_at, pods_at, next) in STEPS {
-        now = moment_after(&rt, *step, now);
-        let answer = take(&rt, alloc, &mut controller, *step, now)?;
-        check_answer(&rt, answer, *expected);
-        check_numbers(&rt, &controller, *jobs_at, *pods_at, *next);
+        now = moment_after(rt, *step, now);
+        let answer = take(rt, alloc, controller, *step, now)?;
+        check_answer(rt, answer, *expected);
+        check_numbers(rt, controller, *jobs_at, *pods_at, *next);
     }
     Ok(())
+}
+
+#[test]
+fn controller_begins_on_fresh_caches(rt: HostRuntime) -> Result<(), Fail> {
+    let mut controller = Controller::new(rt.alloc());
+    take_all(&rt, rt.alloc(), &mut controller)
 }

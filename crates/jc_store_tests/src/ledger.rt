@@ -2,19 +2,19 @@
 
 ghost use Rattle.std.specs.Prelude.{All, IsTrue};
 ghost use Rattle.jc_types.specs.declared.runs.Past.{Past};
-ghost use Rattle.jc_ledger.specs.Verdicts.{IsPlace};
+ghost use Rattle.jc_verdicts.specs.Verdicts.{IsPlace};
 
 use jc_cases::{
     POD, PodRow, SPEC, ignoring_disruptions, job_of, key, no_status, pod_conditions, pod_of,
     spec_of,
 };
-use jc_ledger::verdicts;
 use jc_moment::Moment;
 use jc_types::{
     Action1, Answer, Arc, Command, Commands, ContainerChanges, Ends, Entries, Entry, Event,
     History, Job, JobSpec, Kind, Mode, Past, Pasts, Patterns, Phase, PhaseChange, Pod, Replacement,
     Reply, Request, Script, Sys, Truth, Uid, Version,
 };
+use jc_verdicts::verdicts;
 use std::alloc::Global;
 use std::process::Abort;
 use std::test::Fail;

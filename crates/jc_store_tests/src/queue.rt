@@ -64,15 +64,26 @@ fn names(alloc: Global, keys: &[Key]) -> Result<String, Fail> {
     Ok(names)
 }
 
-fn handed_out(rt: &impl Abort, alloc: Global) -> Result<(), Fail> {
-    let mut queue = Queue::new(alloc);
+// Makes the calls, and compares the names of the keys that they hand out.
+fn make_calls(
+    rt: &impl Abort,
+    alloc: Global,
+    queue: &mut Queue,
+    words: &str,
+    got: &str,
+) -> Result<(), Fail> {
+    let mut calls = Vec::new(alloc);
+    for word in words.split_whitespace() {
+        calls.push(call(rt, alloc, word)?)?;
+    }
+    let keys = run(alloc, queue, &calls)?;
+    assert_eq!(rt; names(alloc, &keys)?.as_str(), got, "after {words}");
+    Ok(())
+}
+
+fn handed_out(rt: &impl Abort, alloc: Global, queue: &mut Queue) -> Result<(), Fail> {
     for (words, got) in CALLS {
-        let mut calls = Vec::new(alloc);
-        for word in words.split_whitespace() {
-            calls.push(call(rt, alloc, word)?)?;
-        }
-        let keys = run(alloc, &mut queue, &calls)?;
-        assert_eq!(rt; names(alloc, &keys)?.as_str(), got, "after {words}");
+        make_calls(rt, alloc, queue, words, got)?;
     }
     assert!(rt; queue.first().is_none());
     queue.add(&key(rt, alloc, "default", "b")?)?;
@@ -80,14 +91,13 @@ fn handed_out(rt: &impl Abort, alloc: Global) -> Result<(), Fail> {
     Ok(())
 }
 
-fn waits(rt: &impl Abort, alloc: Global, key: &Key) -> Result<Delays, Fail> {
-    let mut delays = Delays::new(alloc);
+fn waits(rt: &impl Abort, delays: &mut Delays, key: &Key) -> Result<(), Fail> {
     for wait in WAITS {
         delays.retry(key, moment(rt, 1_000))?;
         assert!(rt; delays.due(moment(rt, 999 + wait)).is_none());
         assert!(rt; delays.due(moment(rt, 1_000 + wait)).is_some());
     }
-    Ok(delays)
+    Ok(())
 }
 
 // A key that is forgotten waits as after its first failure, and its moment stays. No key is due past the
@@ -104,8 +114,7 @@ fn begins_anew(rt: &impl Abort, delays: &mut Delays, key: &Key) -> Result<(), Fa
     Ok(())
 }
 
-fn due(rt: &impl Abort, alloc: Global) -> Result<(), Fail> {
-    let mut delays = Delays::new(alloc);
+fn due(rt: &impl Abort, alloc: Global, delays: &mut Delays) -> Result<(), Fail> {
     for (namespace, name, seconds) in DELAYS {
         delays.add_after(&key(rt, alloc, namespace, name)?, moment(rt, seconds))?;
     }
@@ -120,12 +129,26 @@ fn due(rt: &impl Abort, alloc: Global) -> Result<(), Fail> {
     Ok(())
 }
 
+fn delays_grow(rt: &impl Abort, alloc: Global, delays: &mut Delays) -> Result<(), Fail> {
+    let key = key(rt, alloc, "default", "a")?;
+    waits(rt, delays, &key)?;
+    begins_anew(rt, delays, &key)
+}
+
 #[test]
-fn queue_and_delays(rt: HostRuntime) -> Result<(), Fail> {
-    let alloc = rt.alloc();
-    handed_out(&rt, alloc)?;
-    let key = key(&rt, alloc, "default", "a")?;
-    let mut delays = waits(&rt, alloc, &key)?;
-    begins_anew(&rt, &mut delays, &key)?;
-    due(&rt, alloc)
+fn queue_hands_out_what_waits(rt: HostRuntime) -> Result<(), Fail> {
+    let mut queue = Queue::new(rt.alloc());
+    handed_out(&rt, rt.alloc(), &mut queue)
+}
+
+#[test]
+fn failures_wait_longer(rt: HostRuntime) -> Result<(), Fail> {
+    let mut delays = Delays::new(rt.alloc());
+    delays_grow(&rt, rt.alloc(), &mut delays)
+}
+
+#[test]
+fn keys_are_due_in_order(rt: HostRuntime) -> Result<(), Fail> {
+    let mut delays = Delays::new(rt.alloc());
+    due(&rt, rt.alloc(), &mut delays)
 }

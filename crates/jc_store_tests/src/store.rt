@@ -508,17 +508,20 @@ fn check_owned(rt: &impl Abort, store: &Store, owner: u64, uids: &[u64]) -> Resu
     Ok(())
 }
 
-#[test]
-fn answers_as_the_rules_say(rt: HostRuntime) -> Result<(), Fail> {
-    let alloc = rt.alloc();
+fn check_all(rt: &impl Abort, alloc: Global, store: &mut Store) -> Result<(), Fail> {
     let now = Moment::parse(b"2024-01-01T00:00:00Z")
         .ok()
         .ok_or("a moment")?;
-    let mut store = Store::new(alloc);
-    check_replies(&rt, alloc, &mut store, now)?;
-    check_log(&rt, &store);
-    check_tables(&rt, &store);
-    check_objects(&rt, alloc, &store)?;
-    check_owned(&rt, &store, 1, &[3, 4])?;
-    check_owned(&rt, &store, 2, &[])
+    check_replies(rt, alloc, store, now)?;
+    check_log(rt, store);
+    check_tables(rt, store);
+    check_objects(rt, alloc, store)?;
+    check_owned(rt, store, 1, &[3, 4])?;
+    check_owned(rt, store, 2, &[])
+}
+
+#[test]
+fn answers_as_the_rules_say(rt: HostRuntime) -> Result<(), Fail> {
+    let mut store = Store::new(rt.alloc());
+    check_all(&rt, rt.alloc(), &mut store)
 }

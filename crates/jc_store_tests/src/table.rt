@@ -150,24 +150,24 @@ fn check_pods(rt: &impl Abort, table: &PodTable, versions: &[u64]) {
     assert_eq!(rt; table.len(), versions.len());
 }
 
-fn check_table(rt: &impl Abort, alloc: Global, now: Moment) -> Result<(), Fail> {
-    let mut table = Table::new(alloc);
+fn check_table(rt: &impl Abort, alloc: Global, table: &mut Table<Key, Job>) -> Result<(), Fail> {
+    let now = Moment::from_seconds(0).expect(rt, "the first moment");
     assert!(rt; table.is_empty());
     for (step, versions) in ROWS {
-        take_step(rt, alloc, &mut table, *step, now)?;
-        check_rows(rt, &table, versions);
+        take_step(rt, alloc, table, *step, now)?;
+        check_rows(rt, table, versions);
     }
     table.clear();
     assert!(rt; table.is_empty());
     Ok(())
 }
 
-fn check_pod_table(rt: &impl Abort, alloc: Global, now: Moment) -> Result<(), Fail> {
-    let mut table = PodTable::new(alloc);
+fn check_pod_table(rt: &impl Abort, alloc: Global, table: &mut PodTable) -> Result<(), Fail> {
+    let now = Moment::from_seconds(0).expect(rt, "the first moment");
     assert!(rt; table.is_empty());
     for (step, versions) in PODS {
-        take_pod_step(rt, alloc, &mut table, *step, now)?;
-        check_pods(rt, &table, versions);
+        take_pod_step(rt, alloc, table, *step, now)?;
+        check_pods(rt, table, versions);
     }
     for (number, version) in FROM {
         let found = table.at_or_after(Uid(*number)).map(|pod| pod.version.0);
@@ -180,7 +180,12 @@ fn check_pod_table(rt: &impl Abort, alloc: Global, now: Moment) -> Result<(), Fa
 
 #[test]
 fn tables_keep_their_rows(rt: HostRuntime) -> Result<(), Fail> {
-    let now = Moment::from_seconds(0).expect(&rt, "the first moment");
-    check_table(&rt, rt.alloc(), now)?;
-    check_pod_table(&rt, rt.alloc(), now)
+    let mut table = Table::new(rt.alloc());
+    check_table(&rt, rt.alloc(), &mut table)
+}
+
+#[test]
+fn tables_keep_their_pods(rt: HostRuntime) -> Result<(), Fail> {
+    let mut table = PodTable::new(rt.alloc());
+    check_pod_table(&rt, rt.alloc(), &mut table)
 }

@@ -95,23 +95,26 @@ const AFTER_THREE: &[(u64, u32, u64)] = &[
     (3, 0, 0),
 ];
 
-#[test]
-fn shows_what_the_log_says(rt: HostRuntime) -> Result<(), Fail> {
-    let alloc = rt.alloc();
+fn check_all(rt: &impl Abort, alloc: Global, store: &mut Store) -> Result<(), Fail> {
     let now = Moment::parse(b"2024-01-01T00:00:00Z")
         .ok()
         .ok_or("a moment")?;
-    let mut store = Store::new(alloc);
-    check_jobs(&rt, alloc, &store, &[], 0)?;
-    check_told(&rt, &store, &[(0, 2, 0)]);
+    check_jobs(rt, alloc, store, &[], 0)?;
+    check_told(rt, store, &[(0, 2, 0)]);
     for place in 0..3 {
-        create(alloc, &mut store, place, now)?;
+        create(alloc, store, place, now)?;
     }
-    check_told(&rt, &store, AFTER_THREE);
-    add_pod(alloc, &mut store, now)?;
+    check_told(rt, store, AFTER_THREE);
+    add_pod(alloc, store, now)?;
     store.delete_job(&key_of(alloc, 0)?)?;
-    check_jobs(&rt, alloc, &store, &[2, 3], 5)?;
-    check_pods(&rt, alloc, &store, &[4], 5)?;
-    check_told(&rt, &store, &[(4, 1, 5)]);
+    check_jobs(rt, alloc, store, &[2, 3], 5)?;
+    check_pods(rt, alloc, store, &[4], 5)?;
+    check_told(rt, store, &[(4, 1, 5)]);
     Ok(())
+}
+
+#[test]
+fn shows_what_the_log_says(rt: HostRuntime) -> Result<(), Fail> {
+    let mut store = Store::new(rt.alloc());
+    check_all(&rt, rt.alloc(), &mut store)
 }

@@ -326,7 +326,7 @@ fn basis(alloc: Global, store: &Store, now: Moment) -> Result<Basis, Fail> {
     Ok(Basis {
         key,
         job: Some(job),
-        pods,
+        pods: Arc::new(alloc, pods)?,
         jobs_at: at,
         pods_at: at,
         now,

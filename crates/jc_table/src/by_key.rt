@@ -1,14 +1,15 @@
 //! Rows by key, in the order in which their keys came.
 
 ghost use Rattle.std.specs.Prelude.{◌≡◌, ◌<◌, ◌^◌, ◌↔◌, [], IsSome, IsTrue, None, OnErr, OnOk, Some, is_some, length, map, slice_get};
-ghost use Rattle.std.specs.Map.Iter.{ShowsInOrder, deref, deref_pair};
+ghost use Rattle.std.specs.Map.Iter.{ShowsInOrder, ShowsInReverse, deref, deref_pair};
 ghost use Rattle.std.specs.Option.{option_copied, option_map};
 ghost use Rattle.jc_log.specs.Tables.{at, puts, takes, Sets};
 
+use crate::values::Values;
 use indexmap::IndexMap;
-use indexmap::map::Values;
-use jc_types::Want;
-use std::alloc::Global;
+use jc_types::{Copied, Want};
+use std::alloc::{AllocError, Global};
+use std::collections::{BTreeMap, btree_map};
 use std::hash::Hash;
 use std::marker::Model;
 
@@ -16,15 +17,24 @@ use std::marker::Model;
 /// is written again stays in its place, and a row that is taken leaves the others in their order.
 #[derive(Drop)]
 pub struct Table<K: Eq + Hash, V> {
-    rows: IndexMap<K, V>,
+    // The rows in their order, each under a number.
+    rows: BTreeMap<u64, (K, V)>,
+    // The number of each key's row.
+    numbers: IndexMap<K, u64>,
+    // The number of the next new row. All others are below it.
+    next: u64,
 }
 
 impl<K: Eq + Hash, V> Model for Table<K, V> {
     ghost use Rattle.std.specs.Prelude.{List};
+    ghost use Rattle.std.specs.Map.{values_of};
+    ghost use Rattle.jc_table.specs.Numbered.{AreNumbered};
 
     ghost Value = { List (K × V) };
 
-    ghost view = { λ t. t.rows.entries };
+    ghost view = { λ t. values_of t.rows.entries };
+
+    ghost invariant = { λ t. AreNumbered K.eq t.rows.entries t.numbers.entries t.next };
 }
 
 impl<K: Eq + Hash, V> Table<K, V> {
@@ -33,7 +43,9 @@ impl<K: Eq + Hash, V> Table<K, V> {
         ensures { result ≡ [] }
     {
         Table {
-            rows: IndexMap::new(alloc),
+            rows: BTreeMap::new(alloc),
+            numbers: IndexMap::new(alloc),
+            next: 0,
         }
     }
 
@@ -55,22 +67,36 @@ impl<K: Eq + Hash, V> Table<K, V> {
     pub fn get(&self, key: &K) -> Option<&V>
         ensures { option_copied result ≡ at K.eq self.now key.now }
     {
-        self.rows.get(key)
+        let number = self.numbers.get(key)?;
+        let (_key, value) = self.rows.get(number)?;
+        Some(value)
     }
 
     /// Whether a row has the key.
     pub fn contains(&self, key: &K) -> bool
         ensures { result ≡ is_some (at K.eq self.now key.now) }
     {
-        self.rows.contains_key(key)
+        self.numbers.contains_key(key)
     }
 
-    /// The row of this place, counted from 0; `None` exactly from the number of rows on.
+    /// The row of this place, counted from 0; `None` exactly from the number of rows on. It walks
+    /// over the rows before it.
     pub fn row(&self, place: usize) -> Option<(&K, &V)>
         ensures row { option_map deref_pair result ≡ slice_get self.now place }
         ensures found { IsSome result ↔ (place < length self.now) }
     {
-        self.rows.get_index(place)
+        let (key, value) = self.rows.values().nth(place)?;
+        Some((key, value))
+    }
+
+    /// All rows, in their order, from the front or from the back.
+    pub fn rows(&self) -> btree_map::Values<'_, u64, (K, V)>
+        ensures rows { result ≡ self.now }
+        ensures runs { ShowsInOrder (deref {X = K × V}) }
+        ensures runs_back { ShowsInReverse (deref {X = K × V}) }
+        ensures fits { length self.now < 2 ^ 63 }
+    {
+        self.rows.values()
     }
 
     /// All values, in the order of the rows.
@@ -79,36 +105,69 @@ impl<K: Eq + Hash, V> Table<K, V> {
         ensures runs { ShowsInOrder (deref {X = V}) }
         ensures fits { length self.now < 2 ^ 63 }
     {
-        self.rows.values()
+        Values::new(self.rows.values())
     }
 }
 
-impl<K: Eq + Hash + Drop, V: Drop> Table<K, V> {
+impl<K: Eq + Hash + Copied, V: Drop> Table<K, V> {
     /// Writes the value at the key: in the place of the one that is there, or in a new row at the
     /// end.
     ///
     /// # Errors
-    /// `Want` where there is no memory for a new row; the table is then as before.
+    /// `Want` where there is no memory for a new row; the table is then as before. So it is where
+    /// 2 ^ 64 rows have come before, which no program lives to see.
     pub fn put(&mut self, key: K, value: V) -> Result<(), Want>
         ensures sets { OnOk result (Sets K.eq self.old self.new key (Some value)) }
         ensures puts { OnOk result (self.new ≡ puts K.eq self.old key value) }
         ensures kept { OnErr result (self.new ≡ self.old) }
         ensures new_key { OnErr result (at K.eq self.old key ≡ None) }
     {
-        self.rows.insert(key, value)?;
-        Ok(())
+        if self.contains(&key) {
+            self.replace(&key, value);
+            return Ok(());
+        }
+        self.push(key, value)
     }
 
+    // Writes the value in a new row at the end.
+    fn push(&mut self, key: K, value: V) -> Result<(), Want>
+        requires { at K.eq self.old key ≡ None }
+        ensures sets { OnOk result (Sets K.eq self.old self.new key (Some value)) }
+        ensures puts { OnOk result (self.new ≡ puts K.eq self.old key value) }
+        ensures kept { OnErr result (self.new ≡ self.old) }
+    {
+        let number = self.next;
+        let Some(next) = number.checked_add(1) else {
+            return Err(AllocError);
+        };
+        self.rows.insert(number, (key.copy()?, value))?;
+        match self.numbers.insert(key, number) {
+            Ok(_) => {
+                self.next = next;
+                Ok(())
+            }
+            Err(_) => {
+                self.rows.remove(&number);
+                Err(AllocError)
+            }
+        }
+    }
+}
+
+impl<K: Eq + Hash + Drop, V: Drop> Table<K, V> {
     /// Writes the value at a key that is there. It takes no memory.
     pub fn replace(&mut self, key: &K, value: V)
         requires { IsSome (at K.eq self.old key.now) }
         ensures sets { Sets K.eq self.old self.new key.now (Some value) }
         ensures puts { self.new ≡ puts K.eq self.old key.now value }
     {
-        let Some(place) = self.rows.get_mut(key) else {
+        let Some(number) = self.numbers.get(key) else {
             unreachable!()
         };
-        *place = value;
+        let Some(row) = self.rows.get_mut(number) else {
+            unreachable!()
+        };
+        row.1 = value;
     }
 
     /// Takes the row of the key out, and hands over its value; `None` exactly where no row has the
@@ -118,7 +177,12 @@ impl<K: Eq + Hash + Drop, V: Drop> Table<K, V> {
         ensures sets { Sets K.eq self.old self.new key.now None }
         ensures rows { self.new ≡ takes K.eq self.old key.now }
     {
-        self.rows.shift_remove(key)
+        let number = self.numbers.get(key)?;
+        let Some((_key, value)) = self.rows.remove(number) else {
+            unreachable!()
+        };
+        self.numbers.swap_remove(key);
+        Some(value)
     }
 
     /// Takes all rows out.
@@ -126,5 +190,7 @@ impl<K: Eq + Hash + Drop, V: Drop> Table<K, V> {
         ensures { self.new ≡ [] }
     {
         self.rows.clear();
+        self.numbers.clear();
+        self.next = 0;
     }
 }

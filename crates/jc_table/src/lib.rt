@@ -9,9 +9,10 @@ mod by_key;
 mod by_uid;
 mod keys;
 mod stored_pods;
+mod values;
 
 pub use by_key::Table;
 pub use by_uid::PodTable;
-pub use indexmap::map::Values;
 pub use keys::has_key;
 pub use stored_pods::StoredPods;
+pub use values::Values;

@@ -35,7 +35,7 @@ module _ (seen : Seen) where
       (all-tell seen.shape (deeds_seen seen) (log_seen seen)) h.among
 
   -- One that is available, of the shape, can come.
-  comes : (system : Sys) → IsOfShape seen.shape (act_of_system system) → Is (act_of_system system) (available seen.shape (deeds_seen seen) (log_seen seen)) → CanCome seen (System system)
+  pub comes : (system : Sys) → IsOfShape seen.shape (act_of_system system) → Is (act_of_system system) (available seen.shape (deeds_seen seen) (log_seen seen)) → CanCome seen (System system)
   comes system within among = record {
     admits = coming-admits seen (System system) (record { system = system; is = refl; within = within; among = among });
     among = among;

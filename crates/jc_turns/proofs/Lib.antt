@@ -7,3 +7,4 @@ pub mod PlayFacts
 pub mod WholeFacts
 pub mod TellFacts
 pub mod ActorFacts
+pub mod UnheldFacts

@@ -4,6 +4,7 @@ use Rattle.std.proofs.lemmas.Bool.{eqb-false}
 use Rattle.std.proofs.lemmas.List.Elements.{Contains-append_left, Contains-append_right}
 use Rattle.std.specs.List.{AllByRecursion as Each, Contains, flat_map, range_with_len}
 use Rattle.std.specs.Option.{option_map, option_to_list}
+use Rattle.jc_types.proofs.ListFacts.{Each-append}
 use Rattle.jc_log.specs.Acts as does
 use Rattle.jc_types.specs.declared.numbers.Version.{Version}
 use Rattle.jc_types.specs.declared.objects.Entry.{Entry}
@@ -23,7 +24,7 @@ use Rattle.jc_history.specs.Notes.{Note}
 use Rattle.jc_history.specs.Numbers.{number}
 use Rattle.jc_history.specs.Play.{first_event}
 use Rattle.jc_history.specs.Registers.{register}
-use Rattle.jc_order.proofs.AvailFacts.{Is}
+use Rattle.jc_order.proofs.AvailFacts.{Is, each-flat}
 
 -- One of the events does what the act says.
 is-of : (act : Act) (event : Sys) (events : List Sys) → Contains events event → act_of_system event ≡ act → Is act events
@@ -39,14 +40,6 @@ in-flat f event a (suc n) c le lt h = by (c == a) refl (λ w. in-flat f event (a
 
 sole : (event : Sys) → Contains (event ∷ []) event
 sole event = (0, omega arith, refl)
-
-each-append : (P : Sys → Type 0) (xs ys : List Sys) → Each P xs → Each P ys → Each P (xs ++ ys)
-each-append P [] ys h g = g
-each-append P (x ∷ xs) ys h g = (h.0, each-append P xs ys h.1 g)
-
-each-flat : (P : Sys → Type 0) (f : ℕ → List Sys) (a n : ℕ) → ((c : ℕ) → Each P (f c)) → Each P (flat_map f (range_with_len a n))
-each-flat P f a zero h = tt
-each-flat P f a (suc n) h = each-append P (f a) _ (h a) (each-flat P f (a + 1) n h)
 
 -- What holds of what each of the events does, holds of the act that one of them does.
 pub known : (P : Act → Type 0) (act : Act) (events : List Sys) → Each (λ event. P (act_of_system event)) events → Is act events → P act
@@ -135,14 +128,14 @@ module _ (shape : Shape) (past : List Deed) (log : List Entry) where
 
       all : Each Told (but_clock shape past log)
       all =
-          each-append Told (flat_map (λ c. list_events (of c) c) (below shape.controllers)) _
-          (each-flat Told (λ c. list_events (of c) c) 0 shape.controllers (λ c. each-append Told (list_event c Jobs (number Jobs (of c))) (list_event c Pods (number Pods (of c))) (list-tells c Jobs) (list-tells c Pods)))
-          (each-append Told (flat_map (λ c. delivery_events (of c) log c) (below shape.controllers)) _
+          Each-append Told (flat_map (λ c. list_events (of c) c) (below shape.controllers)) _
+          (each-flat Told (λ c. list_events (of c) c) 0 shape.controllers (λ c from lt. Each-append Told (list_event c Jobs (number Jobs (of c))) (list_event c Pods (number Pods (of c))) (list-tells c Jobs) (list-tells c Pods)))
+          (Each-append Told (flat_map (λ c. delivery_events (of c) log c) (below shape.controllers)) _
           (each-flat Told (λ c. delivery_events (of c) log c) 0 shape.controllers
-          (λ c. each-append Told (delivery_event log c Jobs (number Jobs (of c))) (delivery_event log c Pods (number Pods (of c))) (delivery-tells c Jobs) (delivery-tells c Pods)))
-          (each-append Told (flat_map (λ c. step_events (of c) shape.workers c) (below shape.controllers)) _
-          (each-flat Told (λ c. step_events (of c) shape.workers c) 0 shape.controllers (λ c. each-flat Told (step_event (of c) c) 0 shape.workers (step-tells c)))
-          (each-append Told (flat_map (λ c. begin_events (of c) log shape.workers c) (below shape.controllers)) _ (each-flat Told (λ c. begin_events (of c) log shape.workers c) 0 shape.controllers begin-tells) node-tells)))
+          (λ c from lt. Each-append Told (delivery_event log c Jobs (number Jobs (of c))) (delivery_event log c Pods (number Pods (of c))) (delivery-tells c Jobs) (delivery-tells c Pods)))
+          (Each-append Told (flat_map (λ c. step_events (of c) shape.workers c) (below shape.controllers)) _
+          (each-flat Told (λ c. step_events (of c) shape.workers c) 0 shape.controllers (λ c from lt. each-flat Told (step_event (of c) c) 0 shape.workers (λ w start less. step-tells c w)))
+          (Each-append Told (flat_map (λ c. begin_events (of c) log shape.workers c) (below shape.controllers)) _ (each-flat Told (λ c. begin_events (of c) log shape.workers c) 0 shape.controllers (λ c from lt. begin-tells c)) node-tells)))
 
   -- ---- what else is among them
 

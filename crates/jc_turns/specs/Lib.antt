@@ -1,3 +1,4 @@
 pub mod Actors
+pub mod Slots
 pub mod Turns
 pub mod Ways

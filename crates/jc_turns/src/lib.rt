@@ -9,6 +9,8 @@ mod next;
 mod offers;
 mod playing;
 mod settling;
+mod slots;
+mod unheld;
 mod ways;
 mod whole;
 
@@ -17,4 +19,6 @@ pub use laws::{available_events_keep_the_order, new_clusters_play_the_whole_scri
 pub use next::{is_quiescent, next_event};
 pub use offers::available;
 pub use settling::settle;
+pub use slots::Slot;
+pub use unheld::next_unheld;
 pub use whole::play;

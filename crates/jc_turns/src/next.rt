@@ -16,7 +16,7 @@ use jc_moment::Moment;
 use jc_types::{Event, Sys};
 
 // The first list of all controllers.
-fn first_list(cluster: &Cluster) -> Option<Event>
+pub(crate) fn first_list(cluster: &Cluster) -> Option<Event>
     ensures { result ≡ first_event (flat_map
         (λ c. list_events (diary_seen cluster.now c) c) (below cluster.now.shape.controllers)) }
 {
@@ -29,7 +29,7 @@ fn first_list(cluster: &Cluster) -> Option<Event>
 }
 
 // The first delivery.
-fn first_delivery(cluster: &Cluster) -> Option<Event>
+pub(crate) fn first_delivery(cluster: &Cluster) -> Option<Event>
     ensures { result ≡ first_event (flat_map
         (λ c. delivery_events (diary_seen cluster.now c) (log_seen cluster.now) c)
         (below cluster.now.shape.controllers)) }
@@ -57,7 +57,7 @@ fn first_step(cluster: &Cluster) -> Option<Event>
 }
 
 // The first begin.
-fn first_begin(cluster: &Cluster) -> Option<Event>
+pub(crate) fn first_begin(cluster: &Cluster) -> Option<Event>
     ensures { result ≡ first_event (flat_map
         (λ c. begin_events (diary_seen cluster.now c) (log_seen cluster.now)
         cluster.now.shape.workers c) (below cluster.now.shape.controllers)) }

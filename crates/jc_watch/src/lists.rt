@@ -6,7 +6,7 @@ ghost use Rattle.jc_log.specs.Log.{RowsRise, jobs_in, pods_in};
 
 use jc_states::Pods;
 use jc_store::Store;
-use jc_types::{Copied, Jobs, Version, Want};
+use jc_types::{Copied, Jobs, ListOf, Pod, Version, Want};
 use std::alloc::Global;
 
 /// The Jobs that are there, in ascending UID, and the log's length.
@@ -34,9 +34,18 @@ pub fn list_pods(alloc: Global, store: &Store) -> Result<(Pods, Version), Want>
     ensures rising { IsRising (pods_in store.now) }
     ensures at { IfOk result (λ r. r.1.0 ≡ length store.now) }
 {
-    let mut list = Pods::new(alloc);
+    let list = copies(alloc, store)?;
+    let pods = Pods::from_slice(alloc, list.as_slice())?;
+    Ok((pods, store.log_len()))
+}
+
+// Copies of the pods that are there, in ascending UID.
+fn copies(alloc: Global, store: &Store) -> Result<ListOf<Pod>, Want>
+    ensures { IfOk result (λ list. list ≡ pods_in store.now) }
+{
+    let mut list = ListOf::new(alloc);
     for pod in store.pods().values() {
         list.push(pod.copy()?)?;
     }
-    Ok((list, store.log_len()))
+    Ok(list)
 }

@@ -21,9 +21,8 @@ Some a >>= next = next a
 
 -- ---- run
 
--- A play on more threads than one is not built.
 abbrev pub most_threads : ℕ
-most_threads = 0
+most_threads = 16
 
 -- The start is 2024-01-01T00:00:00Z.
 abbrev pub default_shape : Shape

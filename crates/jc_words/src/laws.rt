@@ -20,7 +20,12 @@ pub fn words_read()
     ensures run { order_of (codes "run" ∷ []) ≡ Some (Run 0 default_shape) }
     ensures no_threads { order_of (codes "run" ∷ codes "--threads" ∷ codes "0" ∷ [])
         ≡ Some (Run 0 default_shape) }
-    ensures one_thread { order_of (codes "run" ∷ codes "--threads" ∷ codes "1" ∷ []) ≡ None }
+    ensures most_threads { order_of (codes "run" ∷ codes "--threads" ∷ codes "16" ∷ [])
+        ≡ Some (Run 16 default_shape) }
+    ensures too_many_threads { order_of (codes "run" ∷ codes "--threads" ∷ codes "17" ∷ []) ≡ None }
+    ensures zero_in_front { order_of (codes "run" ∷ codes "--threads=01" ∷ []) ≡ None }
+    ensures threads_twice { order_of (codes "run" ∷ codes "--threads" ∷ codes "1" ∷ codes "--threads" ∷ codes "1" ∷ [])
+        ≡ None }
     ensures joined { order_of (codes "run" ∷ codes "--workers=16" ∷ codes "--controllers" ∷ codes "4" ∷ [])
         ≡ Some (Run 0 (record {
           controllers = 4;

@@ -10,8 +10,8 @@ use crate::numbers::{read_moment, read_number};
 use jc_moment::Moment;
 use jc_types::Shape;
 
-// The greatest number of threads: a play on more threads is not built.
-const MOST_THREADS: u32 = 0;
+// The greatest number of threads.
+const MOST_THREADS: u32 = 16;
 
 /// The name of an option.
 #[derive(Clone, Copy, PartialEq, Eq, Debug)]

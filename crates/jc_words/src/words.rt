@@ -79,8 +79,8 @@ fn generate_order(words: &[String]) -> Option<Order>
 /// memory.
 ///
 /// They are `run` and options, or `generate NUMBER JOBS PODS`. An option is `--NAME VALUE` or `--NAME=VALUE`, in any
-/// order and each name at most once: `threads` (0), `controllers` (1 to 4), `workers` (1 to 16), `window` and `events`
-/// (1 to 200,000), and `start` (the text of a moment). NUMBER is 0 to 4,294,967,295, JOBS 1 to 100 and PODS 1 to 20. A
+/// order and each name at most once: `threads` (0 to 16), `controllers` (1 to 4), `workers` (1 to 16), `window` and
+/// `events` (1 to 200,000), and `start` (the text of a moment). NUMBER is 0 to 4,294,967,295, JOBS 1 to 100 and PODS 1 to 20. A
 /// number is `0`, or digits that do not begin with 0.
 #[tactic(auto, unfolding(crate::specs::Words::order_of))]
 pub fn read_words(words: &[String]) -> Option<Order>

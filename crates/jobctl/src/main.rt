@@ -5,6 +5,7 @@
 use jc_ctl::{Status, run_program};
 use jc_io::{StdSink, StdSource};
 use jc_script::Cause;
+use jc_shared::FreeGate;
 use std::process::ExitCode;
 use std::{env, io};
 
@@ -13,20 +14,6 @@ fn words(rt: &HostRuntime) -> io::Result<Vec<String>> {
     let mut args = env::args(rt)?;
     let _program = args.next();
     Ok(args.collect(rt.alloc())?)
-}
-
-// Runs the program over standard input and output.
-fn run(rt: &HostRuntime) -> Status {
-    match words(rt) {
-        Ok(words) => {
-            let mut source = StdSource::new(rt.stdin());
-            let mut sink = StdSink::new(rt.stdout());
-            run_program(rt.alloc(), &words, &mut source, &mut sink)
-        }
-        Err(error) if error.kind() == io::ErrorKind::OutOfMemory => Status::Want,
-        // A word is not UTF-8.
-        Err(_) => Status::BadWords,
-    }
 }
 
 // Says on standard error why a script is bad.
@@ -69,7 +56,16 @@ fn value(status: &Status) -> u8 {
 }
 
 fn main(rt: HostRuntime) -> ExitCode {
-    let status = run(&rt);
+    let status = match words(&rt) {
+        Ok(words) => {
+            let mut source = StdSource::new(rt.stdin());
+            let mut sink = StdSink::new(rt.stdout());
+            run_program(&rt, rt.alloc(), &words, &mut source, &mut sink, &FreeGate)
+        }
+        Err(error) if error.kind() == io::ErrorKind::OutOfMemory => Status::Want,
+        // A word is not UTF-8.
+        Err(_) => Status::BadWords,
+    };
     tell(&rt, &status);
     ExitCode::from(value(&status))
 }

@@ -16,8 +16,8 @@ returns-in_err-put-clause-kept c =
 -- The owner had no row.
 pub returns-clause-puts : goal.returns-clause-puts
 returns-clause-puts c =
-    put-first c.args.rows.now.entries c.get_mut.follows.lender-at-none.entries c.insert.new.self.entries c.args.pod.now c.in_ok-again.again c.in_ok-owner.owner c.put-2.new.self
+    put-first c.args.rows.now.entries c.get_mut.follows.lender-at-none.entries c.insert.new.self.entries c.args.pod.now c.in_ok-again.again c.in_ok-owner.owner c.in_ok-new.field-0
     (λ i. (c.get_mut.follows.holds-at-none i).entries) c.in_ok-owner.ensures c.in_ok-again.ensures
-    (c.in_ok-put-2.ensures.puts ∙ ap (put_pod c.in_ok-again.again) c.new-pods.ensures)
+    (c.in_ok-new.ensures ∙ c.in_ok-put-2.ensures.puts ∙ ap (put_pod c.in_ok-again.again) c.new-pods.ensures)
     (sym c.get_mut.ensures.value ∙ ap option_copied_mut c.in_default.is)
     c.in_ok-insert.ensures.updates.0

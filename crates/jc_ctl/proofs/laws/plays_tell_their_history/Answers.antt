@@ -1,35 +1,37 @@
 -- The history is that of the play.
-use Rattle.std.proofs.Common.{◌∙◌, refl, subst, sym}
-use Rattle.std.specs.Io.KnownBytes.{Appends}
+use Rattle.std.proofs.Common.{◌≡◌, inl, inr, ap, arith, refl, true}
 use Rattle.jc_types.specs.declared.actions.Script.{Script}
 use Rattle.jc_types.specs.declared.runs.History.{History}
 use Rattle.jc_types.specs.declared.runs.Shape.{Shape}
-use Rattle.jc_log.specs.Deeds.{deeds}
 use Rattle.jc_history.specs.Play.{is_full, play_of}
-use Rattle.jc_history.specs.Replies.{log_given}
+use Rattle.jc_order.specs.Plays.{ends_in_settle}
 use Rattle.jc_report.specs.Reports.{report_text}
 use Rattle.jc_ctl.specs.Runs.{report_printed}
+use Rattle.jc_ctl.specs.Told.{EndsAtRest}
 use Rattle.jc_ctl.proofs.laws.plays_tell_their_history.Goals as goal
 
 abbrev history_of : Script → Shape → History
 history_of script shape = record { events = record { items = play_of script shape; room = 0 } }
 
+-- On one thread a script is played until nothing is left to do where it ends in a settle.
+settles : (script : Script) → EndsAtRest 0 script → ends_in_settle script.commands ≡ true
+settles script (inl some) = absurd (omega (arith, some))
+settles script (inr ends) = ends
+
 pub returns : goal.returns
 unfolding report_printed
-returns c script shape full old new valid proper controllers workers few is written =
+returns c script shape valid proper controllers workers few =
     let played = c.plays_are_orderly_histories.ensures in
     let h = history_of script shape in
     let legal = played.history script shape proper h refl in
     record {
       history = h;
-      written = subst (λ f. Appends old new (report_text script (play_of script shape) (log_given shape (deeds script h)) f))
-          (sym is)
-          (subst (λ l. Appends old new (report_text script (play_of script shape) l (is_full script shape)))
-          (played.log script shape proper h refl) written);
+      text_is = ap (λ l. report_text script (play_of script shape) l (is_full script shape)) (played.log script shape proper h refl);
       legal = legal;
       orderly = played.orderly script shape proper h refl;
       keeps = c.legal_histories_keep_the_promises.ensures script shape h valid controllers workers few legal;
-      used = λ room. played.used script shape proper (sym is ∙ room);
-      rests = λ room ends. c.settled_plays_are_at_rest.ensures script shape proper h refl (sym is ∙ room) ends;
-      filled = λ filled. played.full script shape proper (sym is ∙ filled);
+      used = played.used script shape proper;
+      rests = λ room ends. c.settled_plays_are_at_rest.ensures script shape proper h refl room (settles script ends);
+      filled = played.full script shape proper;
+      to_come = λ filled some. absurd (omega (arith, some));
     }

@@ -28,7 +28,7 @@ pub overflow_cast-result-2 : goal.overflow_cast-result-2
 overflow_cast-result-2 c =
     let pods = c.args.pods.now in
     let own = own_pods c.args.job.now pods in
-    omega (arith, c.count_ready.ensures, c.requires.few, filter-few (λ pod. is_ready pod && keeps_on c.args.wants.now pod) own, filter-few (is_own c.args.job.now) pods)
+    omega (arith, c.ready_after.ensures, c.requires.few, filter-few (λ pod. is_ready pod && keeps_on c.args.wants.now pod) own, filter-few (is_own c.args.job.now) pods)
 
 pub overflow_add-result-2 : goal.overflow_add-result-2
 overflow_add-result-2 c =

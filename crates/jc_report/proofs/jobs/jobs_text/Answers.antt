@@ -1,6 +1,6 @@
 use Rattle.std.proofs.Common.{arith, ◌+◌, ◌++◌, ◌∷◌, [], take, ap, sym, ◌∙◌}
 use Rattle.std.proofs.lemmas.List.{take_more}
-use Rattle.jc_ledger.specs.Books.{verdicts_at}
+use Rattle.jc_verdicts.specs.Books.{verdicts_at}
 use Rattle.jc_report.proofs.Texts.{jobs-more}
 use Rattle.jc_report.proofs.jobs.jobs_text.Goals as goal
 

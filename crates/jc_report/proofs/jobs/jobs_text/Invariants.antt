@@ -1,6 +1,6 @@
 -- The lines of the Jobs so far.
 use Rattle.std.proofs.Common.{◌≡◌, string_bytes, take}
-use Rattle.jc_ledger.specs.Books.{verdicts_at}
+use Rattle.jc_verdicts.specs.Books.{verdicts_at}
 use Rattle.jc_report.specs.Reports.{jobs_text}
 use Rattle.jc_report.proofs.jobs.jobs_text.Given as goal
 

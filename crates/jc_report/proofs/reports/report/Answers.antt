@@ -1,5 +1,5 @@
 use Rattle.std.proofs.Common.{◌≡◌, ◌∙◌, ap, ℕ, List, ◌++◌, map, string_bytes, reverse}
-use Rattle.jc_ledger.specs.Books.{verdicts_at}
+use Rattle.jc_verdicts.specs.Books.{verdicts_at}
 use Rattle.jc_ledger.specs.declared.counts.Verdicts.{Verdicts}
 use Rattle.jc_lines.specs.Events.{event_lines}
 use Rattle.jc_lines.specs.Summaries.{full_line}

@@ -1,7 +1,7 @@
 use Rattle.std.proofs.Common.{take}
 use Rattle.std.specs.Prelude.{All}
 use Rattle.jc_types.specs.declared.runs.Past.{Past}
-use Rattle.jc_ledger.specs.Verdicts.{IsPlace}
+use Rattle.jc_verdicts.specs.Verdicts.{IsPlace}
 use Rattle.jc_store_tests.proofs.ledger.are_places.Given as goal
 
 -- The number of each command event before this place is a place.

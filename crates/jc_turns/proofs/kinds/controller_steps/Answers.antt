@@ -1,4 +1,4 @@
-use Rattle.std.proofs.Common.{◌<◌, ap, sym, ◌∙◌, arith, below_more}
+use Rattle.std.proofs.Common.{ap, sym, ◌∙◌, arith, below_more}
 use Rattle.jc_types.specs.declared.runs.Shape.{Shape}
 use Rattle.jc_core.specs.Diaries.{diary_seen}
 use Rattle.jc_runs.specs.Seen.{log_seen}

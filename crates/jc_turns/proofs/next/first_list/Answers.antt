@@ -1,7 +1,6 @@
-use Rattle.std.proofs.Common.{◌<◌, ap, sym, ◌∙◌, arith, below_more}
+use Rattle.std.proofs.Common.{ap, sym, ◌∙◌, arith, below_more}
 use Rattle.jc_types.specs.declared.runs.Shape.{Shape}
 use Rattle.jc_core.specs.Diaries.{diary_seen}
-use Rattle.jc_runs.specs.Seen.{log_seen}
 use Rattle.jc_history.specs.Available.{list_events}
 use Rattle.jc_turns.proofs.FirstFacts.{first-found, first-none}
 use Rattle.jc_turns.proofs.next.first_list.Goals as goal

@@ -1,4 +1,4 @@
-use Rattle.std.proofs.Common.{◌<◌, ap, arith}
+use Rattle.std.proofs.Common.{ap, arith}
 use Rattle.jc_types.specs.declared.runs.Shape.{Shape}
 use Rattle.jc_core.specs.Diaries.{diary_seen}
 use Rattle.jc_history.specs.Delays.{least_delay}

@@ -1,12 +1,20 @@
 -- The pods of a log rise.
+use Rattle.std.proofs.Common.{rules, ◌≡◌, subst, sym}
+use Rattle.jc_log.specs.Log.{pods_in}
 use Rattle.jc_log.proofs.PodFacts.{pods_in-rises}
+use Rattle.jc_states.specs.PodLists.{IsRising}
 use Rattle.jc_watch.proofs.lists.list_pods.Goals as goal
+
+pub from_slice-requires : goal.from_slice-requires
+from_slice-requires c =
+    let all : c.as_slice.result.now ≡ pods_in c.args.store.now = search rules in
+    subst IsRising (sym all) (pods_in-rises c.args.store.now)
 
 pub returns-clause-rising : goal.returns-clause-rising
 returns-clause-rising c = pods_in-rises c.args.store.now
 
-pub returns-in_err-copy-clause-rising : goal.returns-in_err-copy-clause-rising
-returns-in_err-copy-clause-rising c = pods_in-rises c.args.store.now
+pub returns-in_err-list-clause-rising : goal.returns-in_err-list-clause-rising
+returns-in_err-list-clause-rising c = pods_in-rises c.args.store.now
 
-pub returns-in_err-push-clause-rising : goal.returns-in_err-push-clause-rising
-returns-in_err-push-clause-rising c = pods_in-rises c.args.store.now
+pub returns-in_err-pods-clause-rising : goal.returns-in_err-pods-clause-rising
+returns-in_err-pods-clause-rising c = pods_in-rises c.args.store.now

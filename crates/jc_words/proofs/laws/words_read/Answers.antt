@@ -18,9 +18,21 @@ pub returns-clause-no_threads : goal.returns-clause-no_threads
 unfolding order_of run_order run_said shape_said pairs_of cut_of values_of are_once number_said digits
 returns-clause-no_threads c = refl
 
-pub returns-clause-one_thread : goal.returns-clause-one_thread
+pub returns-clause-most_threads : goal.returns-clause-most_threads
 unfolding order_of run_order run_said shape_said pairs_of cut_of values_of are_once number_said digits
-returns-clause-one_thread c = refl
+returns-clause-most_threads c = refl
+
+pub returns-clause-too_many_threads : goal.returns-clause-too_many_threads
+unfolding order_of run_order run_said shape_said pairs_of cut_of values_of are_once number_said digits
+returns-clause-too_many_threads c = refl
+
+pub returns-clause-zero_in_front : goal.returns-clause-zero_in_front
+unfolding order_of run_order run_said shape_said pairs_of cut_of values_of are_once number_said digits
+returns-clause-zero_in_front c = refl
+
+pub returns-clause-threads_twice : goal.returns-clause-threads_twice
+unfolding order_of run_order pairs_of cut_of values_of are_once
+returns-clause-threads_twice c = refl
 
 pub returns-clause-joined : goal.returns-clause-joined
 unfolding order_of run_order run_said shape_said pairs_of cut_of values_of are_once number_said digits

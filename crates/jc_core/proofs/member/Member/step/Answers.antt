@@ -6,7 +6,7 @@ use Rattle.jc_runs.specs.Teams.{Stride, Team, end_of_next, stride_at, stride_of}
 use Rattle.jc_runs.proofs.ListFacts.{set_itself}
 use Rattle.jc_runs.proofs.StrideFacts.{closed_register, read_at, stride_is}
 use Rattle.jc_core.proofs.member.Member.step.Goals as goal
-use Rattle.jc_core.proofs.member.Member.step.Goals.{After-self-3-1, After-self-in_default-1, After-step_sync-arg-2-1}
+use Rattle.jc_core.proofs.member.Member.step.Goals.{After-self-3-1}
 
 pub returns-in_default-clause-faults : goal.returns-in_default-clause-faults
 returns-in_default-clause-faults c =
@@ -17,15 +17,15 @@ returns-in_default-clause-faults c =
     ∙ ap (λ (s : Stride). set c.args.self.now.faults c.args.worker s.fault)
     (sym (stride_is c.args.store.now c.args.now (record { con = c.self.inside.controller; registers = c.self.inside.registers.items; faults = c.self.inside.faults.items }) c.args.self.now c.args.worker None c.index-pending.result.now c.self.view_is (e ∙ ap (λ o. Some o) c.in_default.is) f))
 
-pub step_sync-requires-clause-busy : goal.step_sync-requires-clause-busy
-step_sync-requires-clause-busy c =
+pub step-requires-clause-busy : goal.step-requires-clause-busy
+step-requires-clause-busy c =
     let e = read_at c.self.inside.registers.items c.args.worker c.index_mut.result.now (length c.args.self.now.registers) c.requires.worker (ap (λ (t : Team). length t.registers) (sym c.self.view_is)) c.index_mut.ensures.value in
-    subst (λ (t : Team). has_key c.in-Some.sync.flight.basis.key t.con.schedule.queue.processing ≡ true) (sym c.self.view_is)
-    (c.requires.busy c.in-Some.sync (ap (λ (t : Team). slice_get t.registers c.args.worker) (sym c.self.view_is) ∙ e ∙ ap (λ o. Some o) c.in-Some.is))
+    subst (λ (t : Team). has_key c.in-Some.started.flight.basis.key t.con.schedule.queue.processing ≡ true) (sym c.self.view_is)
+    (c.requires.busy c.in-Some.started (ap (λ (t : Team). slice_get t.registers c.args.worker) (sym c.self.view_is) ∙ e ∙ ap (λ o. Some o) c.in-Some.is))
 
-stride : (c : After-self-3-1) → stride_of c.args.store.now c.args.now c.args.self.now c.args.worker ≡ stride_at c.args.store.now c.args.now c.index-pending.result.now c.self.inside.controller.schedule (Some c.in-Some.sync)
+stride : (c : After-self-3-1) → stride_of c.args.store.now c.args.now c.args.self.now c.args.worker ≡ stride_at c.args.store.now c.args.now c.index-pending.result.now c.self.inside.controller.schedule (Some c.in-Some.started)
 stride c =
-    stride_is c.args.store.now c.args.now (record { con = c.self.inside.controller; registers = c.self.inside.registers.items; faults = c.self.inside.faults.items }) c.args.self.now c.args.worker (Some c.in-Some.sync) c.index-pending.result.now c.self.view_is
+    stride_is c.args.store.now c.args.now (record { con = c.self.inside.controller; registers = c.self.inside.registers.items; faults = c.self.inside.faults.items }) c.args.self.now c.args.worker (Some c.in-Some.started) c.index-pending.result.now c.self.view_is
     (read_at c.self.inside.registers.items c.args.worker c.index_mut.result.now (length c.args.self.now.registers) c.requires.worker (ap (λ (t : Team). length t.registers) (sym c.self.view_is)) c.index_mut.ensures.value ∙ ap (λ o. Some o) c.in-Some.is)
     (read_at c.self.inside.faults.items c.args.worker c.index-pending.result.now (length c.args.self.now.faults) c.requires.faulty (ap (λ (t : Team). length t.faults) (sym c.self.view_is)) c.index-pending.ensures)
 
@@ -41,7 +41,7 @@ returns-clause-schedule c = c.in_ok-taken.ensures.schedule ∙ ap (λ (s : Strid
 pub returns-clause-registers : goal.returns-clause-registers
 returns-clause-registers c =
     c.close.ensures
-    ∙ closed_register c.self.inside.registers.items c.args.worker c.in_ok-taken.taken.is_over (stepped c.args.now c.index-pending.result.now c.args.store.now c.in-Some.sync).next c.step_sync.new.sync c.in_ok-taken.ensures.over c.in_ok-taken.ensures.goes
+    ∙ closed_register c.self.inside.registers.items c.args.worker c.in_ok-taken.taken.is_over (stepped c.args.now c.index-pending.result.now c.args.store.now c.in-Some.started).next c.step.new.self c.in_ok-taken.ensures.over c.in_ok-taken.ensures.goes
     ∙ ap (λ (s : Stride). set c.self.inside.registers.items c.args.worker s.register) (sym (stride c))
     ∙ ap (λ (t : Team). set t.registers c.args.worker (stride_of c.args.store.now c.args.now c.args.self.now c.args.worker).register) c.self.view_is
 

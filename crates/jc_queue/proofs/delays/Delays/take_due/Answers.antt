@@ -20,6 +20,7 @@ invariant_of-self-2 c = (
   omega (arith, c.self.invariant.1, c.shift_remove_index.ensures.room.0),
   omega (arith, c.self.invariant.2, c.swap_take.ensures.room.0),
   c.self.invariant.3,
+  c.least-self-inside.ensures,
 )
 
 -- The key at the place is the key of its row.

@@ -1,0 +1,175 @@
+//! Runs on threads. They stand here, since no crate but this one and those it runs by may start a thread.
+
+use crate::{Status, run_program};
+use jc_io::{MemSink, MemSource};
+use jc_shared::{FreeGate, Gate};
+use jc_types::Key;
+use std::alloc::Global;
+use std::process::Abort;
+use std::sync::atomic::{AtomicBool, AtomicU32, Ordering};
+use std::sync::{Mutex, Wait};
+use std::test::Fail;
+use std::thread::Threads;
+
+// A Job of three pods on one of the lanes, each of which exits with 0.
+fn put_job(
+    alloc: Global,
+    script: &mut String,
+    name: &str,
+    completions: u32,
+    lane: u32,
+) -> Result<(), Fail> {
+    let create = format!(in alloc;
+        r#"{{"do":"create","job":{{"apiVersion":"batch/v1","kind":"Job","metadata":{{"name":"{name}"}},"spec":{{"completions":{completions},"template":{{"spec":{{"restartPolicy":"Never","containers":[{{"name":"main"}}]}}}}}}}},"lane":{lane}}}"#
+    )?;
+    script.push_str(&create)?;
+    let fate = format!(in alloc;
+        "\n{{\"do\":\"fate\",\"name\":\"{name}\",\"ends\":[{{\"exitCode\":0}}],\"lane\":{lane}}}\n"
+    )?;
+    script.push_str(&fate)?;
+    Ok(())
+}
+
+// The words of a run of two workers on so many threads.
+fn words_of(alloc: Global, threads: u32) -> Result<Vec<String>, Fail> {
+    let mut words = Vec::new(alloc);
+    words.push(String::from_str(alloc, "run")?)?;
+    words.push(format!(in alloc; "--threads={threads}")?)?;
+    words.push(String::from_str(alloc, "--workers=2")?)?;
+    Ok(words)
+}
+
+// How often the part stands in the text.
+fn times(text: &str, part: &str) -> usize {
+    text.split(part).count() - 1
+}
+
+// Twenty Jobs on three lanes come to their end on any number of threads.
+#[test]
+fn jobs_end_on_threads(rt: HostRuntime) -> Result<(), Fail> {
+    let alloc = rt.alloc();
+    let mut script = String::new(alloc);
+    for job in 0..20u32 {
+        let name = format!(in alloc; "j{job}")?;
+        put_job(alloc, &mut script, &name, 3, job % 3)?;
+    }
+    for threads in [1u32, 2, 4, 16] {
+        let words = words_of(alloc, threads)?;
+        let mut source = MemSource::new(script.as_bytes().to_vec(alloc)?, Vec::new(alloc));
+        let mut sink = MemSink::new(alloc, 1_000_000, Vec::new(alloc))?;
+        let status = run_program(&rt, alloc, &words, &mut source, &mut sink, &FreeGate);
+        assert!(rt; matches!(status, Status::Ok), "{threads} threads");
+        let report = str::from_utf8(sink.held())?;
+        for job in 0..20u32 {
+            let verdicts = format!(in alloc; "\nverdicts default/j{job} succeeded 3 failed 0\n")?;
+            assert_eq!(rt;
+                times(report, &verdicts),
+                1,
+                "Job {job} on {threads} threads"
+            );
+        }
+        assert_eq!(rt;
+            times(
+                report,
+                "\"reason\":\"CompletionsReached\",\"status\":\"True\",\"type\":\"Complete\""
+            ),
+            20,
+            "{threads} threads"
+        );
+    }
+    Ok(())
+}
+
+// How often the first plan's seat looks whether a second has come, before the test has failed.
+const TURNS: u32 = 500_000_000;
+
+// A plan that was made: by which seat, and of the Job of which name.
+#[derive(Drop)]
+struct Made {
+    seat: u32,
+    name: String,
+}
+
+// A gate that lets the first plan pass only once a second has come. It keeps what was made.
+#[derive(Drop)]
+struct Meeting<'a, R: Wait> {
+    rt: &'a R,
+    alloc: Global,
+    came: AtomicU32,
+    is_late: AtomicBool,
+    made: Mutex<Vec<Made>>,
+}
+
+impl<'a, R: Wait> Meeting<'a, R> {
+    // Keeps that the plan was made. Where there is no memory for it, it is missed later.
+    fn keep(&self, seat: u32, name: &str) {
+        let Ok(name) = String::from_str(self.alloc, name) else {
+            return;
+        };
+        let mut made = self.made.lock(self.rt);
+        let _kept = made.push(Made { seat, name });
+    }
+
+    // Waits until two plans have come.
+    fn wait(&self) {
+        for _ in 0..TURNS {
+            if self.came.load(Ordering::SeqCst) >= 2 {
+                return;
+            }
+        }
+        self.is_late.store(true, Ordering::SeqCst);
+    }
+}
+
+impl<'a, R: Wait> Gate for Meeting<'a, R> {
+    fn planned(&self, seat: u32, key: &Key) {
+        self.keep(seat, key.name.as_str());
+        self.came.fetch_add(1, Ordering::SeqCst);
+        self.wait();
+    }
+}
+
+// Two seats make their plans beside each other: each holds up its first plan until the other's has come,
+// and no plan is made under the lock. Each sync that begins has its plan made so.
+#[test]
+fn plans_are_made_beside_each_other(rt: HostRuntime) -> Result<(), Fail> {
+    let alloc = rt.alloc();
+    let mut script = String::new(alloc);
+    for (name, lane) in [("a", 0u32), ("b", 0), ("c", 1), ("d", 1)] {
+        put_job(alloc, &mut script, name, 1, lane)?;
+    }
+    let words = words_of(alloc, 2)?;
+    let mut source = MemSource::new(script.as_bytes().to_vec(alloc)?, Vec::new(alloc));
+    let mut sink = MemSink::new(alloc, 1_000_000, Vec::new(alloc))?;
+    let gate = Meeting {
+        rt: &rt,
+        alloc,
+        came: AtomicU32::new(0),
+        is_late: AtomicBool::new(false),
+        made: Mutex::new(Vec::new(alloc)),
+    };
+    let status = run_program(&rt, alloc, &words, &mut source, &mut sink, &gate);
+    assert!(rt; matches!(status, Status::Ok), "the run ends well");
+    assert!(rt;
+        !gate.is_late.load(Ordering::SeqCst),
+        "two plans were made at once"
+    );
+    let report = str::from_utf8(sink.held())?;
+    let made = gate.made.lock(&rt);
+    assert!(rt; made.len() >= 2, "two plans were made");
+    assert!(rt; made[0].seat != made[1].seat, "by two seats");
+    assert_eq!(rt;
+        made.len(),
+        times(report, "-> begun "),
+        "each sync had its plan"
+    );
+    for name in ["a", "b", "c", "d"] {
+        let begun = format!(in alloc; "-> begun default/{name} jobs ")?;
+        let count = made
+            .iter()
+            .filter(|plan| plan.name.as_str() == name)
+            .count();
+        assert_eq!(rt; count, times(report, &begun), "plans of {name}");
+    }
+    Ok(())
+}

@@ -1,0 +1,166 @@
+//! A run on threads: its script is read, played by the seats, and written.
+
+ghost use Rattle.std.specs.Prelude.{◌≡◌, ◌≢◌, ◌<◌, ◌≤◌, ◌+◌, ◌^◌, ◌⊎◌, Err, IfOk, IfSome, IsErrOf, IsOkAnd, false, length, string_bytes, true, ℕ};
+ghost use Rattle.std.specs.List.{AllByRecursion as Each};
+ghost use Rattle.std.specs.Io.KnownBytes.{Keeps};
+ghost use Rattle.jc_io.specs.Faults.{Rose};
+ghost use Rattle.jc_io.specs.Moved.{TakesAtMost, TakesCount};
+ghost use Rattle.jc_types.specs.declared.actions.Command.{Command};
+ghost use Rattle.jc_states.specs.ValidActions.{IsValidAction};
+ghost use Rattle.jc_history.specs.Available.{IsOrderly};
+ghost use Rattle.jc_order.specs.Plays.{IsProper};
+ghost use Rattle.jc_runs.specs.Seen.{deeds_seen};
+ghost use Rattle.jc_shared.specs.Runs.{IsWhole};
+ghost use Rattle.jc_script.specs.Scripts.{most_bytes, script_of};
+ghost use Rattle.jc_script.specs.declared.causes.Cause.{Cause};
+ghost use Rattle.jc_words.specs.Fits.{IsFitShape};
+ghost use Rattle.jc_ctl.specs.Runs.{MayEnd};
+ghost use Rattle.jc_ctl.specs.Told.{IsReport, TellsFront, TellsHistory, ends_full};
+
+use crate::orders::Output;
+use crate::run::{MOST_BYTES, ended};
+use crate::status::Status;
+use crate::texts::report_text;
+use jc_core::Cluster;
+use jc_io::{ReadEnd, Sink, Source, WriteFault, read_all, write_all};
+use jc_promise::legal_histories_keep_the_promises;
+use jc_script::{ScriptFault, read_script, scripts_fit_their_shape};
+use jc_shared::{Gate, ThreadsFault, run_threads};
+use jc_types::{Script, Shape, Want};
+use std::alloc::{AllocError, Global};
+use std::sync::Wait;
+use std::thread::Threads;
+
+// What is printed of a cluster that a run on threads has left.
+fn told(alloc: Global, cluster: &Cluster, full: bool) -> Result<Output, Want>
+    requires fine { Each (λ (command : Command). IsValidAction command.action)
+        cluster.now.script.commands }
+    requires some_controllers { 0 < cluster.now.shape.controllers }
+    requires some_workers { 0 < cluster.now.shape.workers }
+    requires bound { cluster.now.shape.events ≤ 200000 }
+    requires orderly { IsOrderly cluster.now.shape (deeds_seen cluster.now) }
+    requires whole { full ≡ false → IsWhole cluster.now }
+    requires filled { full ≡ true → length cluster.now.pasts ≡ cluster.now.shape.events }
+    requires to_come { full ≡ true → ¬ IsWhole cluster.now }
+    ensures full { IfOk result (λ output. output.full ≡ full) }
+    ensures report { IfOk result (λ output. (threads : ℕ) → 1 ≤ threads
+        → IsReport threads cluster.now.script cluster.now.shape full (string_bytes output.text)) }
+{
+    legal_histories_keep_the_promises();
+    let _history = cluster.history();
+    let text = report_text(alloc, cluster, full)?;
+    Ok(Output { text, full })
+}
+
+// The report of a run of the script on threads.
+fn threaded_report<R: Threads + Wait + Sync, G: Gate + Sync>(
+    rt: &R,
+    alloc: Global,
+    script: &Script,
+    shape: &Shape,
+    threads: u32,
+    gate: &G,
+) -> Result<Output, Want>
+    requires some { 1 ≤ threads }
+    requires few { threads ≤ 16 }
+    requires fine { Each (λ (command : Command). IsValidAction command.action) script.now.commands }
+    requires proper { IsProper script.now shape.now }
+    requires fits { length script.now.commands < 2 ^ 32 }
+    requires fit_shape { IsFitShape shape.now }
+    ensures { IfOk result (λ output.
+        IsReport threads script.now shape.now output.full (string_bytes output.text)) }
+{
+    match run_threads(rt, alloc, script, shape, threads, gate) {
+        Ok(cluster) => told(alloc, &cluster, false),
+        Err(ThreadsFault::Full(cluster)) => told(alloc, &cluster, true),
+        Err(ThreadsFault::Want) => Err(AllocError),
+    }
+}
+
+// The report of a run on threads of the script in the input.
+fn threaded_answer<R: Threads + Wait + Sync, G: Gate + Sync>(
+    rt: &R,
+    alloc: Global,
+    shape: &Shape,
+    threads: u32,
+    input: &[u8],
+    gate: &G,
+) -> Result<Output, ScriptFault>
+    requires some { 1 ≤ threads }
+    requires few { threads ≤ 16 }
+    requires fit_shape { IsFitShape shape.now }
+    requires short { length input.now ≤ most_bytes }
+    ensures report { IfOk result (λ output. IsOkAnd (script_of shape.now input.now) (λ commands.
+        IsReport threads (record { commands = commands }) shape.now output.full
+        (string_bytes output.text))) }
+    ensures bad_line { (number : ℕ) (cause : Cause)
+        → IsErrOf result (ScriptFault.BadLine number cause)
+        → script_of shape.now input.now ≡ Err (record { number = number; cause = cause }) }
+{
+    scripts_fit_their_shape();
+    let script = read_script(alloc, input, shape)?;
+    Ok(threaded_report(rt, alloc, &script, shape, threads, gate)?)
+}
+
+/// Reads a script, plays it on threads, and writes the report.
+pub(crate) fn run_threaded<R: Threads + Wait + Sync, S: Source, K: Sink, G: Gate + Sync>(
+    rt: &R,
+    alloc: Global,
+    shape: &Shape,
+    threads: u32,
+    source: &mut S,
+    sink: &mut K,
+    gate: &G,
+) -> Status
+    requires some { 1 ≤ threads }
+    requires few { threads ≤ 16 }
+    requires fit_shape { IsFitShape shape.now }
+    ensures headline { (result ≡ Status.Ok) ⊎ (result ≡ Status.HistoryFull)
+        → IfSome (S.left source.old) (λ input. IsOkAnd (script_of shape.now input) (λ commands.
+        TellsHistory threads (record { commands = commands }) shape.now (ends_full result)
+        (K.held sink.old) (K.held sink.new))) }
+    ensures headline_front { result ≡ Status.WriteFault
+        → IfSome (S.left source.old) (λ input. IsOkAnd (script_of shape.now input) (λ commands.
+        TellsFront threads (record { commands = commands }) shape.now
+        (K.held sink.old) (K.held sink.new))) }
+    ensures good_words { result ≢ Status.BadWords }
+    ensures read_fault { result ≡ Status.ReadFault → Rose (S.faults source.old) (S.faults source.new) }
+    ensures write_fault { result ≡ Status.WriteFault → Rose (K.faults sink.old) (K.faults sink.new) }
+    ensures bad_script { (line : ℕ) (cause : Cause) → result ≡ Status.BadScript line cause
+        → IfSome (S.left source.old) (λ input.
+        script_of shape.now input ≡ Err (record { number = line; cause = cause })) }
+    ensures too_long { result ≡ Status.TooLong
+        → TakesCount (S.left source.old) (S.left source.new) (most_bytes + 1) }
+    ensures not_too_long { result ≢ Status.TooLong
+        → TakesAtMost (S.left source.old) (S.left source.new) most_bytes }
+    ensures nothing_written { result ≢ Status.Ok → result ≢ Status.HistoryFull → result ≢ Status.WriteFault
+        → Keeps (K.held sink.old) (K.held sink.new) }
+    ensures complete { ¬ Rose (S.faults source.old) (S.faults source.new)
+        → ¬ Rose (K.faults sink.old) (K.faults sink.new)
+        → IfSome (S.left source.old) (λ input. length input ≤ most_bytes
+        → MayEnd (script_of shape.now input) result ⊎ (result ≡ Status.Want)) }
+    ensures complete_too_long { ¬ Rose (S.faults source.old) (S.faults source.new)
+        → IfSome (S.left source.old) (λ input. most_bytes < length input
+        → (result ≡ Status.TooLong) ⊎ (result ≡ Status.Want)) }
+{
+    let input = match read_all(alloc, source, MOST_BYTES) {
+        Ok(bytes) => bytes,
+        Err(ReadEnd::ReadFault) => return Status::ReadFault,
+        Err(ReadEnd::TooLong) => return Status::TooLong,
+        Err(ReadEnd::Want) => return Status::Want,
+    };
+    let output = match threaded_answer(rt, alloc, shape, threads, &input, gate) {
+        Ok(output) => output,
+        Err(ScriptFault::BadLine { number, cause }) => {
+            return Status::BadScript {
+                line: number,
+                cause,
+            };
+        }
+        Err(ScriptFault::Want) => return Status::Want,
+    };
+    match write_all(sink, output.text.as_bytes()) {
+        Ok(()) => ended(output.full),
+        Err(WriteFault) => Status::WriteFault,
+    }
+}

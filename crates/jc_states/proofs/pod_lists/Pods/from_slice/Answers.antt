@@ -1,0 +1,11 @@
+use Rattle.std.proofs.Common.{refl}
+use Rattle.jc_states.proofs.PodPlaceFacts.{copied-below}
+use Rattle.jc_states.proofs.pod_lists.Pods.from_slice.Goals as goal
+
+-- The pods ascend, and so do their copies.
+pub push-requires : goal.push-requires
+push-requires c = record {
+  above =
+      copied-below c.args.items.now c.args.items.now c.loop-pod.pods c.loop-pod.pod-index c.pod-item.result c.in_ok-copy.field-0 c.requires refl
+      c.loop-pod-test.true c.pod-item.is c.in_ok-copy.ensures c.loop-pod.invariant;
+}

@@ -1,0 +1,52 @@
+use Rattle.std.proofs.Common.{ap, arith, length, subst, sym, ◌∙◌}
+use Rattle.jc_states.specs.PodLists.{drop_pod}
+use Rattle.jc_states.specs.Tallies.{KeepsTallies}
+use Rattle.jc_states.proofs.PodListFacts.{drop-absent, pod_among}
+use Rattle.jc_states.proofs.PodPlaceFacts.{found-shown, none-shown, removed-shown, within-shown}
+use Rattle.jc_states.proofs.TallyFacts.{kept-counts, kept-left}
+use Rattle.jc_states.proofs.pod_lists.Pods.take.Goals as goal
+
+pub returns-then-not-is_there-clause-drops : goal.returns-then-not-is_there-clause-drops
+returns-then-not-is_there-clause-drops c =
+    let none =
+    none-shown c.args.uid c.args.self.now c.as_slice-pods.result.now c.place_from-place.result (c.as_slice-pods.ensures.value ∙ c.self.view_is) c.place_from-place.ensures c.is_there.result c.is_there.ensures c.if-not-is_there.true in
+    sym (drop-absent c.args.uid c.args.self.now none)
+
+pub index-requires : goal.index-requires
+index-requires c =
+    let within =
+    within-shown c.args.uid c.self.inside.pods.items c.as_slice-pods.result.now c.place_from-place.result c.as_slice-pods.ensures.value c.place_from-place.ensures c.is_there.result c.is_there.ensures c.if-not-is_there.false in
+    omega (arith, within, ap length c.as_slice-pods.ensures.value, c.as_slice-pods.ensures.len)
+
+pub leave-requires : goal.leave-requires
+leave-requires c =
+    let found =
+    found-shown c.args.uid c.self.inside.pods.items c.as_slice-pods.result.now c.place_from-place.result c.as_slice-pods.ensures.value c.place_from-place.ensures c.is_there.result c.is_there.ensures c.if-not-is_there.false c.index.result.now c.self.invariant.rising c.index.ensures in
+    kept-counts c.args.uid c.index.result.now c.self.inside.pods.items c.self.inside.tallies.entries c.self.invariant found
+
+pub remove-requires : goal.remove-requires
+remove-requires c =
+    let within =
+    within-shown c.args.uid c.self.inside.pods.items c.as_slice-pods.result.now c.place_from-place.result c.as_slice-pods.ensures.value c.place_from-place.ensures c.is_there.result c.is_there.ensures c.if-not-is_there.false in
+    omega (arith, within, ap length c.as_slice-pods.ensures.value, c.as_slice-pods.ensures.len)
+
+pub invariant_of-self : goal.invariant_of-self
+invariant_of-self c =
+    let items = c.self.inside.pods.items in
+    let found =
+    found-shown c.args.uid items c.as_slice-pods.result.now c.place_from-place.result c.as_slice-pods.ensures.value c.place_from-place.ensures c.is_there.result c.is_there.ensures c.if-not-is_there.false c.index.result.now c.self.invariant.rising c.index.ensures in
+    let dropped =
+    removed-shown c.args.uid items c.as_slice-pods.result.now c.place_from-place.result c.as_slice-pods.ensures.value c.place_from-place.ensures c.is_there.result c.is_there.ensures c.if-not-is_there.false c.remove.new.self.items c.self.invariant.rising c.remove.ensures.items in
+    subst (λ pods. KeepsTallies pods c.leave.new.rows.entries) (sym dropped)
+    (kept-left c.args.uid c.index.result.now items c.self.inside.tallies.entries c.leave.new.rows.entries c.self.invariant found c.leave.ensures.numbers)
+
+pub returns-clause-taken : goal.returns-clause-taken
+returns-clause-taken c =
+    sym
+    (ap (pod_among c.args.uid) (sym c.self.view_is)
+    ∙ found-shown c.args.uid c.self.inside.pods.items c.as_slice-pods.result.now c.place_from-place.result c.as_slice-pods.ensures.value c.place_from-place.ensures c.is_there.result c.is_there.ensures c.if-not-is_there.false c.remove.result c.self.invariant.rising c.remove.ensures.value)
+
+pub returns-clause-drops : goal.returns-clause-drops
+returns-clause-drops c =
+    removed-shown c.args.uid c.self.inside.pods.items c.as_slice-pods.result.now c.place_from-place.result c.as_slice-pods.ensures.value c.place_from-place.ensures c.is_there.result c.is_there.ensures c.if-not-is_there.false c.remove.new.self.items c.self.invariant.rising c.remove.ensures.items
+    ∙ ap (drop_pod c.args.uid) c.self.view_is

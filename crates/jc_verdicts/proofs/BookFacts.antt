@@ -1,0 +1,120 @@
+-- The books of all Jobs: what one more write does to them, and what they come to.
+use Rattle.std.proofs.Common.{◌≡◌, ℕ, ◌+◌, ◌<◌, ◌^◌, Bool, true, false, cond, ◌||◌, List, [], ◌∷◌, ◌++◌, length, map, reverse, take, drop, slice_get, Option, Some, None, IfSome, refl, sym, ap, ◌∙◌, subst}
+use Rattle.std.specs.List.{IsDistinct}
+use Rattle.std.specs.Option.{option_map, option_map_or}
+use Rattle.std.proofs.lemmas.List.{drop_more}
+use Rattle.std.proofs.lemmas.List.Folds.{list_any-append}
+use Rattle.std.proofs.lemmas.Option.{get_or_from_slice_get, slice_get_within}
+use Rattle.jc_types.specs.declared.numbers.Uid.{Uid}
+use Rattle.jc_types.specs.declared.objects.Entry.{Entry}
+use Rattle.jc_types.specs.declared.objects.Job.{Job}
+use Rattle.jc_types.specs.Keys.{same_uid}
+use Rattle.jc_types.proofs.KeyFacts.{same_uid-eq, same_uid-either_way}
+use Rattle.jc_log.specs.Deeds.{Deed}
+use Rattle.jc_log.specs.Log.{upto, pods_of}
+use Rattle.jc_log.specs.Tables.{at, Sets}
+use Rattle.jc_log.proofs.LogFacts.{upto-reverse}
+use Rattle.jc_states.specs.UidLists.{join}
+use Rattle.jc_verdicts.specs.declared.books.Book.{Book}
+use Rattle.jc_ledger.specs.declared.counts.Verdicts.{Verdicts}
+use Rattle.jc_verdicts.specs.declared.rows.Row.{Row}
+use Rattle.jc_verdicts.specs.Books.{AreCounts, AreFew, AreSound, IsSoundBook, done_at, rows_at, totals_of, verdicts_at}
+use Rattle.jc_ledger.specs.Ledger.{Ledger, Record, entered, judged_by, ledger_of}
+use Rattle.jc_verdicts.specs.Verdicts.{IsCount, fresh_rows, has_row, indexes_in, new_rows}
+use Rattle.jc_ledger.specs.Ledger.{verdicts_of}
+use Rattle.jc_verdicts.proofs.VerdictFacts.{few_rows, few_kept, verdicts_are}
+use Rattle.jc_verdicts.proofs.VerdictRows.{count_entered}
+
+-- The UIDs are those of the rows after new ones are noted.
+pub uids-more : (known more : Uid → Bool) (rows new all : List Row) → ((u : Uid) → known u ≡ has_row rows u) → ((u : Uid) → more u ≡ (known u || has_row new u)) → all ≡ rows ++ new → (u : Uid) → more u ≡ has_row all u
+uids-more known more rows new all old noted is u =
+    noted u ∙ ap (λ b. b || has_row new u) (old u)
+    ∙ sym (list_any-append (λ (row : Row). same_uid row.uid u) rows new)
+    ∙ ap (λ rs. has_row rs u) (sym is)
+
+module _ (u : Uid) (old mid new : List (Uid × Book)) (book : Book)
+    (others : (j : Uid) → same_uid u j ≡ false → at same_uid mid j ≡ at same_uid old j)
+    (sets : Sets same_uid mid new u (Some book)) where
+  -- Each book is sound where one was changed that is.
+  pub books-sound : (log : List Entry) → AreSound log old → IsSoundBook u log book → AreSound log new
+  books-sound log all is j =
+      subst (λ o. IfSome o (λ b. IsSoundBook j log b)) (sym (sets j)) (by (same_uid u j) refl)
+    where
+      by : (b : Bool) → same_uid u j ≡ b → IfSome (cond b (Some book) (at same_uid mid j)) (λ x. IsSoundBook j log x)
+      by true s = subst (λ x. IsSoundBook x log book) (same_uid-eq u j s) is
+      by false s = subst (λ o. IfSome o (λ b. IsSoundBook j log b)) (sym (others j s)) (all j)
+
+-- Each book counts as its ledger after a write of the Job.
+pub books-counted : (job : Job) (log : List Entry) (seen version : ℕ) (ledgers : Uid → Ledger) (old mid new : List (Uid × Book)) (book : Book)
+    → ((j : Uid) → same_uid job.uid j ≡ false → at same_uid mid j ≡ at same_uid old j)
+    → Sets same_uid mid new job.uid (Some book)
+    → book.rows.items ≡ rows_at job.uid old ++ fresh_rows job (rows_at job.uid old) log seen
+    → book.done.items ≡ join (done_at job.uid old) (indexes_in (fresh_rows job (rows_at job.uid old) log seen))
+    → AreCounts ledgers old
+    → AreCounts (λ j. judged_by j (reverse log) (Some (record { job = job; seen = seen; at = version })) (ledgers j)) new
+books-counted job log seen version ledgers old mid new book others sets more joins counts j =
+    subst (λ o. IsCount (items o) (indexes o) (judged_by j (reverse log) (Some (record { job = job; seen = seen; at = version })) (ledgers j))) (sym (sets j))
+    (by (same_uid job.uid j) refl)
+  where
+    items : Option Book → List Row
+    items o = option_map_or (λ (b : Book). b.rows.items) o []
+
+    indexes : Option Book → List ℕ
+    indexes o = option_map_or (λ (b : Book). b.done.items) o []
+
+    pods_are : pods_of job.uid (reverse (take seen log)) ≡ pods_of job.uid (upto seen (reverse log))
+    pods_are = ap (pods_of job.uid) (sym (upto-reverse seen log))
+
+    own : IsCount book.rows.items book.done.items (entered job (pods_of job.uid (upto seen (reverse log))) seen version (ledgers job.uid))
+    own =
+        count_entered job (pods_of job.uid (upto seen (reverse log))) seen version (ledgers job.uid) (rows_at job.uid old) book.rows.items (done_at job.uid old) book.done.items (counts job.uid)
+        (more ∙ ap (λ pods. rows_at job.uid old ++ new_rows job.spec (rows_at job.uid old) pods) pods_are)
+        (joins ∙ ap (λ pods. join (done_at job.uid old) (indexes_in (new_rows job.spec (rows_at job.uid old) pods))) pods_are)
+
+    by : (b : Bool) → same_uid job.uid j ≡ b → IsCount (items (cond b (Some book) (at same_uid mid j))) (indexes (cond b (Some book) (at same_uid mid j))) (cond b (entered job (pods_of j (upto seen (reverse log))) seen version (ledgers j)) (ledgers j))
+    by true s =
+        subst (λ x. IsCount book.rows.items book.done.items (entered job (pods_of x (upto seen (reverse log))) seen version (ledgers x))) (same_uid-eq job.uid j s) own
+    by false s = subst (λ o. IsCount (items o) (indexes o) (ledgers j)) (sym (others j s)) (counts j)
+
+-- What stands at a place is the first of the list from there on.
+pub drop-found : {X : Type 0} (xs : List X) (i n : ℕ) (x : X) → i + 1 ≡ n → slice_get xs i ≡ Some x → drop i xs ≡ x ∷ drop n xs
+drop-found xs i n x next found =
+    drop_more xs i x (slice_get_within xs i x found)
+    ∙ ap (λ y. y ∷ drop (i + 1) xs) (get_or_from_slice_get xs i x x found)
+    ∙ ap (λ k. x ∷ drop k xs) next
+
+-- The totals of one more book.
+pub tallied-more : (books rest : List (Uid × Book)) (uid : Uid) (book : Book) (old new : List (Uid × Verdicts)) (v : Verdicts) → books ≡ (uid, book) ∷ rest → v ≡ totals_of book
+    → Sets same_uid old new uid (Some v)
+    → ((j : Uid) → at same_uid old j ≡ option_map totals_of (at same_uid rest j))
+    → (j : Uid) → at same_uid new j ≡ option_map totals_of (at same_uid books j)
+tallied-more books rest uid book old new v is total sets before j =
+    sets j ∙ ap (λ b. cond b (Some v) (at same_uid old j)) (same_uid-either_way uid j) ∙ by (same_uid j uid)
+    ∙ ap (λ bs. option_map totals_of (at same_uid bs j)) (sym is)
+  where
+    by : (b : Bool) → cond b (Some v) (at same_uid old j) ≡ option_map totals_of (cond b (Some book) (at same_uid rest j))
+    by true = ap Some total
+    by false = before j
+
+module _ (past : List Deed) (log : List Entry) (books : List (Uid × Book)) (counts : AreCounts (λ j. ledger_of j past (reverse log)) books) where
+  -- The book of a Job is that of its ledger.
+  own_count : (j : Uid) (book : Book) → at same_uid books j ≡ Some book → IsCount book.rows.items book.done.items (ledger_of j past (reverse log))
+  own_count j book there =
+      subst (λ (o : Option Book). IsCount (option_map_or (λ (b : Book). b.rows.items) o []) (option_map_or (λ (b : Book). b.done.items) o []) (ledger_of j past (reverse log))) there (counts j)
+
+  -- No book has more rows or indexes than a total can say.
+  pub books-few : ((j : Uid) → IsDistinct same_uid (map (λ (r : Record). r.pod.uid) (ledger_of j past (reverse log)).records)) → length log < 2 ^ 32 → AreFew books
+  books-few once few j book there =
+      let kept = own_count j book there in
+      (few_rows j past log (2 ^ 32) book.rows.items book.done.items kept (once j) few book.rows.items refl, few_kept j past log (2 ^ 32) book.rows.items book.done.items kept (once j) few)
+
+  -- The verdicts of each Job.
+  pub verdicts-each : (rows : List (Uid × Verdicts)) → ((j : Uid) → at same_uid rows j ≡ option_map totals_of (at same_uid books j)) → (j : Uid) → verdicts_at j rows ≡ verdicts_of (ledger_of j past (reverse log))
+  verdicts-each rows are j =
+      ap (λ (o : Option Verdicts). option_map_or (λ (v : Verdicts). v) o (record { succeeded = 0; failed = 0; indexes = 0 })) (are j) ∙ by (at same_uid books j) (counts j)
+    where
+      by : (o : Option Book) → IsCount (option_map_or (λ (b : Book). b.rows.items) o []) (option_map_or (λ (b : Book). b.done.items) o []) (ledger_of j past (reverse log))
+          → option_map_or (λ (v : Verdicts). v) (option_map totals_of o) (record { succeeded = 0; failed = 0; indexes = 0 }) ≡ verdicts_of (ledger_of j past (reverse log))
+      by None kept = verdicts_are (ledger_of j past (reverse log)) [] [] [] 0 0 0 kept refl refl refl refl
+      by (Some book) kept =
+          verdicts_are (ledger_of j past (reverse log)) book.rows.items book.rows.items book.done.items (totals_of book).succeeded (totals_of book).failed (totals_of book).indexes kept refl refl refl refl

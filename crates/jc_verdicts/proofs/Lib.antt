@@ -1,0 +1,9 @@
+pub mod VerdictPods
+pub mod VerdictSteps
+pub mod VerdictRows
+pub mod VerdictEvents
+pub mod VerdictFacts
+pub mod BookFacts
+pub mod PlaceLists
+pub mod TouchFacts
+pub mod PlaceSteps

@@ -1,0 +1,24 @@
+use Rattle.std.proofs.Common.{IfSome, sym, ap, ◌∙◌, subst}
+use Rattle.std.specs.List.{list_any}
+use Rattle.jc_ranges.specs.Sets.{IsIncreasing}
+use Rattle.jc_types.specs.Keys.{same_uid}
+use Rattle.jc_verdicts.specs.Books.{IsSoundBook}
+use Rattle.jc_verdicts.specs.Verdicts.{has_row}
+use Rattle.jc_verdicts.proofs.TouchFacts.{seen-first}
+use Rattle.jc_verdicts.proofs.books.taken.Goals as goal
+
+-- The book that is taken is sound, as each is.
+pub returns-in-Some-clause-sound : goal.returns-in-Some-clause-sound
+returns-in-Some-clause-sound c =
+    λ log all.
+    subst (λ o. IfSome o (λ book. IsSoundBook c.args.uid log book)) (sym c.swap_remove.ensures.value ∙ c.in-Some.is) (all c.args.uid)
+
+-- An empty book is sound.
+pub returns-in-None-clause-sound : goal.returns-in-None-clause-sound
+returns-in-None-clause-sound c =
+    λ log all.
+    record {
+      seen = seen-first c.args.uid log c.empty.result.pods c.empty.result.at c.empty.ensures.pods c.empty.ensures.at;
+      order = subst IsIncreasing (sym c.empty.ensures.done) tt;
+      uids = λ u. ap (list_any (same_uid u)) c.empty.ensures.known ∙ ap (λ rows. has_row rows u) (sym c.empty.ensures.rows);
+    }

@@ -1,0 +1,13 @@
+use Rattle.std.proofs.Common.{◌∙◌}
+use Rattle.jc_verdicts.proofs.PlaceSteps.{owners-put, pods-put}
+use Rattle.jc_verdicts.proofs.places.pod_put.Goals as goal
+
+-- The owners are told.
+pub returns : goal.returns
+returns c =
+    λ older long are.
+    record {
+      pods = pods-put older c.args.place long c.args.places.now.pods.entries are.pods c.args.pod.now c.in_ok-before.before c.note.new.lists.entries c.note_other.new.lists.entries (c.in_ok-before.ensures.old ∙ are.owners c.args.pod.now.uid) c.in_ok-note.ensures c.in_ok-note_other.ensures;
+      jobs = are.jobs;
+      owners = owners-put older c.args.places.now.owners.entries c.insert.new.self.entries c.args.pod.now are.owners c.in_ok-before.ensures.updates.0;
+    }

@@ -1,0 +1,7 @@
+use Rattle.std.proofs.Common.{refl}
+use Rattle.jc_verdicts.proofs.TouchFacts.{seen-first}
+use Rattle.jc_verdicts.proofs.seen.begin_of.Goals as goal
+
+-- The pods are dropped.
+pub returns-then-count-at-clause-seen : goal.returns-then-count-at-clause-seen
+returns-then-count-at-clause-seen c = λ owner log before. seen-first owner log c.clear.new.self 0 c.clear.ensures refl

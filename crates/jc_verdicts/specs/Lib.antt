@@ -1,0 +1,4 @@
+pub mod Places
+pub mod Verdicts
+pub mod Starts
+pub mod Books
