@@ -1,7 +1,9 @@
 pub mod AccountFacts
+pub mod IndexFacts
 pub mod JudgementFacts
 pub mod ListedFacts
 pub mod Owned
 pub mod Placed
+pub mod RoomFacts
 pub mod StayingFacts
 pub mod Totals

@@ -12,8 +12,7 @@ use Rattle.jc_states.specs.UidLists.{Ascends, AscendsFrom, is_in}
 use Rattle.jc_types.proofs.KeyFacts.{same_uid-either_way}
 use Rattle.jc_types.proofs.ListFacts.{filter_none, filter_same}
 use Rattle.jc_states.proofs.PodListFacts.{rises_filter}
-use Rattle.jc_account.specs.Accounts.{stayed}
-use Rattle.jc_account.specs.Judged.{has_tracked, is_staying, staying}
+use Rattle.jc_account.specs.Judged.{has_tracked, is_staying, stayed, staying}
 use Rattle.jc_account.proofs.ListedFacts.{below_none, each, none_below}
 
 -- Where no element passes both tests, those that pass one are as many as pass each, together.

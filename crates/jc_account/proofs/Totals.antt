@@ -7,6 +7,7 @@ use Rattle.jc_types.specs.declared.specifications.JobSpec.{JobSpec}
 use Rattle.jc_types.specs.declared.specifications.Mode.{Mode}
 use Rattle.jc_types.specs.declared.specifications.Mode.TheVariants.{Indexed, NonIndexed}
 use Rattle.jc_types.specs.declared.statuses.Condition.{Condition}
+use Rattle.jc_types.specs.declared.statuses.IndexCount.{IndexCount}
 use Rattle.jc_types.specs.declared.statuses.JobStatus.{JobStatus}
 use Rattle.jc_types.specs.declared.syncs.CountIn.{CountIn}
 use Rattle.jc_states.specs.Bases.{own_pods}
@@ -15,8 +16,8 @@ use Rattle.jc_failpol.specs.declared.outcomes.Outcome.TheVariants.{Succeeded, Fa
 use Rattle.std.proofs.lemmas.List.{length-map}
 use Rattle.std.proofs.lemmas.List.Filters.{length-filter_both}
 use Rattle.std.proofs.lemmas.List.Sums.{length-filter}
-use Rattle.jc_account.specs.Accounts.{completed_in, counted_in, counted_out, left, released_of, stayed, unreleased}
-use Rattle.jc_account.specs.Judged.{has_tracked, newly, to_release}
+use Rattle.jc_account.specs.Accounts.{completed_in, counted_in, counted_out, left, released_of, unreleased}
+use Rattle.jc_account.specs.Judged.{has_tracked, left_with, newly, stayed, to_release}
 use Rattle.jc_account.specs.Modes.{gain, listing, succeeded_after}
 use Rattle.jc_account.proofs.Owned.{kept_and_others}
 
@@ -53,9 +54,14 @@ pub counted : (job : Job) (pods : List Pod) (r : CountIn) (spec : JobSpec) (ss s
     → r.releases ≡ uids_of (to_release job (own_pods job pods))
     → ((some : List Pod) → ns ≡ uids_of some → r.new_succeeded ≡ gain spec.mode some job.status.completed completed)
     → r.new_failed ≡ length nf
+    → r.failed_indexes ≡ []
+    → r.index_failures ≡ []
+    → r.judged_failed ≡ nf
+    → r.left_succeeded ≡ length (left_with job (own_pods job pods) Succeeded)
+    → r.left_failed ≡ length (left_with job (own_pods job pods) Failed)
     → r ≡ counted_in job pods
 unfolding counted_in
-counted job pods r spec ss sf ns nf completed total at is_ss is_sf is_ns is_nf is_set raised_s listed_s listed_f in_s raised_f set releases new_s new_f =
+counted job pods r spec ss sf ns nf completed total at is_ss is_sf is_ns is_nf is_set raised_s listed_s listed_f in_s raised_f set releases new_s new_f none_i none_f judged left_s left_f =
     let own = own_pods job pods in
     let s = newly job own Succeeded in
     let f = newly job own Failed in
@@ -83,6 +89,11 @@ counted job pods r spec ss sf ns nf completed total at is_ss is_sf is_ns is_nf i
       releases = releases i;
       new_succeeded = e6 i;
       new_failed = e7 i;
+      failed_indexes = none_i i;
+      index_failures = none_f i;
+      judged_failed = (judged ∙ is_nf) i;
+      left_succeeded = left_s i;
+      left_failed = left_f i;
     }
 
 -- Those that are released and those that are not are all.
@@ -118,12 +129,14 @@ counted_apart status released r us uf is_us is_uf is sum_s sum_f =
     })
 
 -- A status whose unchanged members are equal.
-pub same_members : (status : JobStatus) (succeeded failed : ℕ) (us vs uf vf : List Uid) {completed : List ℕ} {conditions : List Condition}
-    → completed ≡ status.completed → us ≡ vs → uf ≡ vf → conditions ≡ status.conditions
+pub same_members : (status : JobStatus) (succeeded failed : ℕ) (us vs uf vf : List Uid) {completed failed_indexes : List ℕ} {index_failures : List IndexCount} {conditions : List Condition}
+    → completed ≡ status.completed → failed_indexes ≡ status.failed_indexes → index_failures ≡ status.index_failures → us ≡ vs → uf ≡ vf → conditions ≡ status.conditions
     → record status {
       succeeded = succeeded;
       failed = failed;
       completed = completed;
+      failed_indexes = failed_indexes;
+      index_failures = index_failures;
       uncounted_succeeded = us;
       uncounted_failed = uf;
       conditions = conditions;
@@ -133,11 +146,13 @@ pub same_members : (status : JobStatus) (succeeded failed : ℕ) (us vs uf vf : 
       uncounted_succeeded = vs;
       uncounted_failed = vf;
     }
-same_members status succeeded failed us vs uf vf set same_s same_f same_conditions =
+same_members status succeeded failed us vs uf vf set failing counts same_s same_f same_conditions =
     λ i. record status {
       succeeded = succeeded;
       failed = failed;
       completed = set i;
+      failed_indexes = failing i;
+      index_failures = counts i;
       uncounted_succeeded = same_s i;
       uncounted_failed = same_f i;
       conditions = same_conditions i;
@@ -157,13 +172,13 @@ pub merge-few : (uids more : List Uid) → length (merge uids more) ≤ length u
 merge-few uids [] = omega arith
 merge-few uids (u ∷ more) = omega (arith, with_uid-few u (merge uids more), merge-few uids more)
 
--- Total and list of the successes stay small: without indexes they rise by the pods at most, and an Indexed
--- Job lists none.
-pub successes_fit : (mode : Mode) (total succeeded stays new listed pods before were : ℕ)
+-- Total and list of the successes stay small, with those that are left over: without indexes they rise by the pods at
+-- most, and an Indexed Job lists none.
+pub successes_fit : (mode : Mode) (total succeeded stays new listed left pods before were : ℕ)
     → (mode ≡ NonIndexed → succeeded ≡ total) → (mode ≡ Indexed → succeeded ≤ 100000) → (mode ≡ Indexed → were ≡ 0)
-    → total + stays ≡ before + were → listed ≤ stays + new → (mode ≡ Indexed → listed ≡ stays) → stays ≤ were → new ≤ pods
-    → before + were + pods < 2 ^ 64 → succeeded + listed < 2 ^ 64
-successes_fit NonIndexed total succeeded stays new listed pods before were plain small none sum few same shorter fresh fits =
+    → total + stays ≡ before + were → listed ≤ stays + new → (mode ≡ Indexed → listed ≡ stays) → stays ≤ were → new + left ≤ pods → pods < 2 ^ 31
+    → before + were + pods < 2 ^ 64 → succeeded + listed + left < 2 ^ 64
+successes_fit NonIndexed total succeeded stays new listed left pods before were plain small none sum few same shorter fresh some fits =
     omega (arith, plain refl, sum, few, fresh, fits)
-successes_fit Indexed total succeeded stays new listed pods before were plain small none sum few same shorter fresh fits =
-    omega (arith, small refl, none refl, same refl, shorter)
+successes_fit Indexed total succeeded stays new listed left pods before were plain small none sum few same shorter fresh some fits =
+    omega (arith, small refl, none refl, same refl, shorter, fresh, some)

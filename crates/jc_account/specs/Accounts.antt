@@ -1,31 +1,27 @@
 -- What a sync counts in and out (KEP-2307). A UID is listed once its pod is judged, in the list of its
 -- outcome then, and leaves the list for the total once the pod has lost its finalizer. `own` are the Job's
 -- own pods among those that the sync sees.
---     stayed own uids              the listed UIDs that stay: of tracked pods
 --     left own uids                how many leave
 --     is_stayed job pods uids u    the listed UID stays
 --     new_uids job pods outcome    the UIDs of the pods that are judged now with this outcome
 --     ShareNone uids others        no UID is in both lists
 --     completed_in job own         the completed indexes afterwards
---     counted_in job pods          lists, totals and set afterwards, the pods to release, and what is new
+--     counted_in job pods          lists, totals and set afterwards, the pods to release, what is new, and what is left
 --     counted_out status released  the status once the released pods have lost their finalizer
 --     SameButCounts old new        the statuses differ in totals and lists of uncounted UIDs alone
-use Rattle.std.specs.Prelude.{◌≡◌, ℕ, ◌+◌, Bool, false, not, ◌&&◌, List, length, filter, count_by}
+use Rattle.std.specs.Prelude.{◌≡◌, ℕ, ◌+◌, Bool, false, not, ◌&&◌, List, [], length, filter, count_by, unwrap_or}
 use Rattle.jc_types.specs.declared.numbers.Uid.{Uid}
 use Rattle.jc_types.specs.declared.objects.Job.{Job}
 use Rattle.jc_types.specs.declared.objects.Pod.{Pod}
 use Rattle.jc_types.specs.declared.statuses.JobStatus.{JobStatus}
 use Rattle.jc_types.specs.declared.syncs.CountIn.{CountIn}
 use Rattle.jc_states.specs.Bases.{own_pods}
+use Rattle.jc_states.specs.Conditions.{has_end}
 use Rattle.jc_states.specs.UidLists.{is_in, merge, uids_of}
 use Rattle.jc_failpol.specs.declared.outcomes.Outcome.{Outcome}
 use Rattle.jc_failpol.specs.declared.outcomes.Outcome.TheVariants.{Succeeded, Failed}
-use Rattle.jc_account.specs.Judged.{has_tracked, newly, to_release}
+use Rattle.jc_account.specs.Judged.{has_tracked, left_with, newly, stayed, to_release}
 use Rattle.jc_account.specs.Modes.{completed_after, gain, listing, succeeded_after}
-
--- The listed UIDs that stay, whatever has become of their pods but for the finalizer.
-abbrev pub stayed : List Pod → List Uid → List Uid
-stayed own uids = filter (has_tracked own) uids
 
 -- How many listed UIDs leave: their pod is not tracked, or not there.
 abbrev pub left : List Pod → List Uid → ℕ
@@ -45,9 +41,11 @@ ShareNone uids others = (u : Uid) → (is_in u uids && is_in u others) ≡ false
 
 -- The completed indexes afterwards.
 abbrev pub completed_in : Job → List Pod → List ℕ
-completed_in job own = completed_after job.spec.mode job.status.completed (newly job own Succeeded)
+completed_in job own =
+    completed_after job.spec.mode (has_end job.status.conditions) (unwrap_or job.spec.completions 0) job.status.completed
+    (newly job own Succeeded)
 
--- What is counted in, of the Job's own pods.
+-- What is counted in, of the Job's own pods. What is said of failed indexes is filled in afterwards.
 abbrev pub counted_of : Job → List Pod → CountIn
 counted_of job own = record {
   uncounted_succeeded =
@@ -58,9 +56,14 @@ counted_of job own = record {
       (completed_in job own);
   failed = job.status.failed + left own job.status.uncounted_failed;
   completed = completed_in job own;
+  failed_indexes = [];
+  index_failures = [];
   releases = uids_of (to_release job own);
   new_succeeded = gain job.spec.mode (newly job own Succeeded) job.status.completed (completed_in job own);
   new_failed = length (newly job own Failed);
+  judged_failed = uids_of (newly job own Failed);
+  left_succeeded = length (left_with job own Succeeded);
+  left_failed = length (left_with job own Failed);
 }
 
 -- What is counted in, of all pods that the sync sees.

@@ -1,3 +1,4 @@
+pub mod Rooms
 pub mod Judged
 pub mod Judgements
 pub mod Modes

@@ -2,11 +2,13 @@
 -- succeeded pods, by their UIDs; an Indexed Job counts completed indexes.
 --     indexes_of pods                    the indexes of the pods
 --     listing mode newly                 the UIDs that join the list of uncounted successes
---     completed_after mode set newly     the completed indexes afterwards
+--     kept_indexes ended n set           the completed indexes that stay, where n completions are wanted
+--     indexes_below n pods               the indexes of the pods that are below n
+--     completed_after mode ended n set newly    the completed indexes afterwards
 --     succeeded_after mode total set     the succeeded total afterwards
 --     gained before after                how many indexes a set has that the other has not
 --     gain mode newly before after       how many successes are counted in now
-use Rattle.std.specs.Prelude.{ℕ, not, List, [], length, count_by}
+use Rattle.std.specs.Prelude.{ℕ, nat_lt, Bool, not, List, [], filter, length, count_by, if◌then◌else◌}
 use Rattle.std.specs.List.{filter_map}
 use Rattle.jc_ranges.specs.Sets.{has}
 use Rattle.jc_types.specs.declared.numbers.Uid.{Uid}
@@ -24,11 +26,21 @@ abbrev pub listing : Mode → List Pod → List Uid
 listing NonIndexed pods = uids_of pods
 listing Indexed pods = []
 
--- The completed indexes with those of the newly judged successes. The set only grows as long as the number
--- of completions stays; where that number may fall, members that are not below it leave the set here.
-abbrev pub completed_after : Mode → List ℕ → List Pod → List ℕ
-completed_after NonIndexed completed pods = completed
-completed_after Indexed completed pods = join completed (indexes_of pods)
+-- The completed indexes that stay: those below the completions. Once the Job has ended all stay.
+abbrev pub kept_indexes : Bool → ℕ → List ℕ → List ℕ
+kept_indexes ended completions completed =
+    if ended then completed else filter (λ n. nat_lt n completions) completed
+
+-- The indexes of the pods that are below the completions.
+abbrev pub indexes_below : ℕ → List Pod → List ℕ
+indexes_below completions pods = filter (λ n. nat_lt n completions) (indexes_of pods)
+
+-- The completed indexes that stay, with those of the newly judged successes that are below the completions: where
+-- fewer completions are wanted than before, the set may shrink.
+abbrev pub completed_after : Mode → Bool → ℕ → List ℕ → List Pod → List ℕ
+completed_after NonIndexed ended completions completed pods = completed
+completed_after Indexed ended completions completed pods =
+    join (kept_indexes ended completions completed) (indexes_below completions pods)
 
 -- The total with those that left the list; of an Indexed Job, how many indexes are completed.
 abbrev pub succeeded_after : Mode → ℕ → List ℕ → ℕ

@@ -1,23 +1,26 @@
 //! Counting in and counting out.
 
-ghost use Rattle.std.specs.Prelude.{◌≡◌, ◌+◌, ◌<◌, ◌≤◌, ◌^◌, All, IfOk, IfSome, IsSome, List, length, slice_index};
+ghost use Rattle.std.specs.Prelude.{◌≡◌, ◌+◌, ◌<◌, ◌≤◌, ◌^◌, All, IfOk, IfSome, IsSome, List, length};
 ghost use Rattle.jc_ranges.specs.declared.bounds.TheConstants.{GREATEST_INDEX};
 ghost use Rattle.jc_types.specs.declared.objects.Pod.{Pod};
 ghost use Rattle.jc_types.specs.declared.specifications.Mode.TheVariants.{Indexed, NonIndexed};
 ghost use Rattle.jc_states.specs.Indexes.{HasSmallIndex};
 ghost use Rattle.jc_states.specs.Bases.{IsTidy, TotalsFit};
+ghost use Rattle.jc_states.specs.PodLists.{IsRising};
 ghost use Rattle.jc_types.specs.Counts.{counts};
 ghost use Rattle.jc_states.specs.UidLists.{merge, uids_of};
 ghost use Rattle.jc_account.specs.Accounts.{counted_in, counted_out};
-ghost use Rattle.jc_account.specs.Modes.{gain, gained, listing, succeeded_after};
+ghost use Rattle.jc_account.specs.Modes.{gain, listing, succeeded_after};
 
+use crate::indexes::gained;
 use crate::judgements::judge;
 use crate::listed::stayed;
 use crate::releases::releases;
+use crate::rooms::{count_staying, room_beside};
 use crate::uids::{merged, unreleased};
 use jc_ranges::Ranges;
 use jc_states::Basis;
-use jc_types::{Copied, CountIn, Job, JobStatus, Mode, Pod, Uids, Want};
+use jc_types::{Copied, CountIn, IndexCounts, Job, JobStatus, Mode, Pod, Uids, Want};
 use std::alloc::Global;
 
 // A total with those that left its list.
@@ -40,30 +43,6 @@ fn with_successes(alloc: Global, mode: Mode, uids: &Uids, newly: &Uids) -> Resul
         Mode::NonIndexed => merged(alloc, uids.as_slice(), newly.as_slice()),
         Mode::Indexed => uids.copy(),
     }
-}
-
-// The member of a set at a place in increasing order.
-fn member_at(set: &Ranges, place: u32) -> u32
-    requires { place < length set.now }
-    ensures { result ≡ slice_index set.now place }
-{
-    match set.member(place) {
-        Some(n) => n,
-        None => unreachable!(),
-    }
-}
-
-// How many members of a set the set before it had not.
-fn gained(before: &Ranges, after: &Ranges) -> u32
-    ensures { result ≡ gained before.now after.now }
-{
-    let mut count = 0;
-    for place in 0..after.len() {
-        if !before.contains(member_at(after, place)) {
-            count += 1;
-        }
-    }
-    count
 }
 
 // How many successes are counted in now: pods, or of an Indexed Job indexes.
@@ -97,19 +76,20 @@ fn succeeded(mode: Mode, total: u64, completed: &Ranges) -> u64
 fn count_job(alloc: Global, job: &Job, pods: &[Pod]) -> Result<CountIn, Want>
     requires tidy { IsTidy job.now pods.now }
     requires totals { TotalsFit job.now pods.now }
+    requires rising { IsRising pods.now }
     requires indexes { All HasSmallIndex pods.now }
     requires few { length pods.now < 2 ^ 31 }
     ensures counted { IfOk result (λ r. r ≡ counted_in job.now pods.now) }
-    ensures failed_fits { IfOk result (λ r. r.failed + length r.uncounted_failed < 2 ^ 64) }
-    ensures succeeded_fits { IfOk result (λ r.
-        r.succeeded + length r.uncounted_succeeded < 2 ^ 64) }
+    ensures failed_fits { IfOk result (λ r. (counts r).0 < 2 ^ 64) }
+    ensures succeeded_fits { IfOk result (λ r. (counts r).1 < 2 ^ 64) }
     ensures few_failed { IfOk result (λ r. r.new_failed ≤ length pods.now) }
 {
     let mode = job.spec.mode;
     let status = &job.status;
     let stayed_succeeded = stayed(alloc, job, pods, status.uncounted_succeeded.as_slice())?;
     let stayed_failed = stayed(alloc, job, pods, status.uncounted_failed.as_slice())?;
-    let newly = judge(alloc, job, pods)?;
+    let room = room_beside(count_staying(job, pods));
+    let newly = judge(alloc, job, pods, room)?;
     let total = raised(
         status.succeeded,
         &status.uncounted_succeeded,
@@ -122,7 +102,12 @@ fn count_job(alloc: Global, job: &Job, pods: &[Pod]) -> Result<CountIn, Want>
         failed: raised(status.failed, &status.uncounted_failed, &stayed_failed),
         new_succeeded: gain(mode, &newly.succeeded, &status.completed, &newly.completed),
         new_failed: newly.failed.len() as u32,
-        releases: releases(alloc, job, pods)?,
+        failed_indexes: Ranges::new(alloc),
+        index_failures: IndexCounts::new(alloc),
+        left_succeeded: newly.left_succeeded,
+        left_failed: newly.left_failed,
+        releases: releases(alloc, job, pods, newly.first_left)?,
+        judged_failed: newly.failed,
         completed: newly.completed,
     })
 }
@@ -131,10 +116,12 @@ fn count_job(alloc: Global, job: &Job, pods: &[Pod]) -> Result<CountIn, Want>
 ///
 /// A UID of the Job's two lists of uncounted pods whose pod is no longer tracked, or no longer there,
 /// leaves its list and raises its total. A tracked pod of the Job that has succeeded or failed and is in
-/// neither list is judged: its UID joins the list of its outcome. A success of an Indexed Job joins no
-/// list: its index joins the completed ones, whose number is the succeeded total. A UID that is listed
-/// as failed stays so whatever its pod comes to. The finalizer is to go from each tracked pod of the
-/// Job that has ended or is listed.
+/// neither list is to be judged: its UID joins the list of its outcome. A success of an Indexed Job joins
+/// no list: its index joins the completed ones, whose number is the succeeded total. The lists hold at
+/// most 500 UIDs: of the pods that would join them those with the least UIDs are judged, and the rest are
+/// left over. A UID that is listed as failed stays so whatever its pod comes to. The finalizer is to go
+/// from each tracked pod of the Job that is listed, or has ended and is not left over. Of failed indexes
+/// nothing is said yet.
 ///
 /// # Errors
 /// `Want` where there is no memory for the lists.
@@ -183,6 +170,8 @@ pub fn count_out(alloc: Global, status: &JobStatus, released: &Uids) -> Result<J
         succeeded: raised(status.succeeded, &status.uncounted_succeeded, &succeeded),
         failed: raised(status.failed, &status.uncounted_failed, &failed),
         completed: status.completed.copy()?,
+        failed_indexes: status.failed_indexes.copy()?,
+        index_failures: status.index_failures.copy()?,
         uncounted_succeeded: succeeded,
         uncounted_failed: failed,
         start: status.start,

@@ -1,40 +1,51 @@
 //! Which pods of a Job a sync judges, and what as.
 
-ghost use Rattle.std.specs.Prelude.{◌≡◌, ◌≤◌, All, IfOk, length};
+ghost use Rattle.std.specs.Prelude.{◌≡◌, ◌+◌, ◌<◌, ◌≤◌, ◌^◌, All, IfOk, filter, length, nat_lt, unwrap_or};
 ghost use Rattle.jc_states.specs.Bases.{own_pods};
+ghost use Rattle.jc_states.specs.Conditions.{has_end};
 ghost use Rattle.jc_states.specs.Indexes.{HasSmallIndex};
+ghost use Rattle.jc_states.specs.PodLists.{IsRising};
 ghost use Rattle.jc_states.specs.UidLists.{join};
 ghost use Rattle.jc_failpol.specs.declared.outcomes.Outcome.TheVariants.{Failed, Succeeded};
 ghost use Rattle.jc_account.specs.Accounts.{completed_in, new_uids};
-ghost use Rattle.jc_account.specs.Judged.{is_judged_now};
+ghost use Rattle.jc_account.specs.Judged.{is_candidate, left_with, room as room_of};
 ghost use Rattle.jc_account.specs.Judgements.{completed_judged, HasSmall, indexes_judged, judgement_of};
-ghost use Rattle.jc_account.specs.Judgements.{index_judged, judgements, uids_judged};
+ghost use Rattle.jc_account.specs.Judgements.{first_left, index_judged, judgements, rows_beyond, rows_with, rows_within, uids_judged};
 
+use crate::indexes::kept_indexes;
+use crate::rooms::{first_beyond, is_fit};
 use jc_failpol::{Outcome, is_same_outcome, is_verdict, outcome};
 use jc_ranges::Ranges;
-use jc_states::{is_listed, is_own};
+use jc_states::{has_end, is_listed, is_own};
 use jc_types::{Job, Mode, Pod, Uid, Uids, Want};
 use std::alloc::Global;
 
-// What is judged of a pod: its outcome, under its UID, and its index.
+/// What is judged of a pod: its outcome, under its UID, and its index.
 #[derive(Clone, Copy, Drop)]
-pub(crate) struct Judgement {
+pub struct Judgement {
+    /// The pod.
     pub uid: Uid,
+    /// What it is judged.
     pub outcome: Outcome,
+    /// Its completion index.
     pub index: Option<u32>,
 }
 
-// What a sync judges: the UIDs of the pods that are newly judged, and the completed indexes with theirs.
+// What a sync judges: the UIDs of the pods that are newly judged, the completed indexes with theirs, and
+// how many pods are left over, with the first UID for which there is no room.
 #[derive(Drop)]
 pub(crate) struct Verdicts {
     pub succeeded: Uids,
     pub failed: Uids,
     pub completed: Ranges,
+    pub left_succeeded: u32,
+    pub left_failed: u32,
+    pub first_left: Option<Uid>,
 }
 
-// Whether the Job's own pod is judged now.
-fn is_judged_now(job: &Job, pod: &Pod) -> bool
-    ensures { result ≡ is_judged_now job.now pod.now }
+// Whether the Job's own pod is to be judged.
+pub(crate) fn is_candidate(job: &Job, pod: &Pod) -> bool
+    ensures { result ≡ is_candidate job.now pod.now }
 {
     pod.tracked && is_verdict(outcome(&job.spec, pod)) && !is_listed(&job.status, pod.uid)
 }
@@ -50,13 +61,13 @@ fn judgement_of(job: &Job, pod: &Pod) -> Judgement
     }
 }
 
-// What is judged now of the Job's own pods.
+// What would be judged of the Job's own pods that are to be judged.
 fn judgements(alloc: Global, job: &Job, pods: &[Pod]) -> Result<Vec<Judgement>, Want>
     ensures { IfOk result (λ rows. rows.items ≡ judgements job.now (own_pods job.now pods.now)) }
 {
     pods.iter()
         .filter(|pod| is_own(job, pod))
-        .filter(|pod| is_judged_now(job, pod))
+        .filter(|pod| is_candidate(job, pod))
         .map(|pod| judgement_of(job, pod))
         .collect(alloc)
 }
@@ -85,48 +96,104 @@ fn index_judged(row: &Judgement) -> Option<u32>
     }
 }
 
-// The set of indexes with those of the successes.
-fn with_indexes(completed: &Ranges, rows: &[Judgement]) -> Result<Ranges, Want>
+// The set of indexes with those of the successes that are below the completions.
+fn with_indexes(kept: Ranges, completions: u32, rows: &[Judgement]) -> Result<Ranges, Want>
     requires { All HasSmall rows.now }
-    ensures { IfOk result (λ set. set ≡ join completed.now (indexes_judged rows.now)) }
+    ensures { IfOk result (λ set.
+        set ≡ join kept (filter (λ n. nat_lt n completions) (indexes_judged rows.now))) }
 {
-    let mut set = completed.copy()?;
+    let mut set = kept;
     for place in (0..rows.len()).rev() {
         if let Some(index) = index_judged(&rows[place]) {
-            set.insert(index)?;
+            if index < completions {
+                set.insert(index)?;
+            }
         }
     }
     Ok(set)
 }
 
 // The completed indexes afterwards: those of a Job that is not Indexed stay as they are.
-fn completed(mode: Mode, before: &Ranges, rows: &[Judgement]) -> Result<Ranges, Want>
+fn completed(alloc: Global, job: &Job, rows: &[Judgement]) -> Result<Ranges, Want>
     requires { All HasSmall rows.now }
-    ensures { IfOk result (λ set. set ≡ completed_judged mode before.now rows.now) }
+    ensures { IfOk result (λ set.
+        set ≡ completed_judged job.now.spec.mode (has_end job.now.status.conditions)
+        (unwrap_or job.now.spec.completions 0) job.now.status.completed rows.now) }
 {
-    match mode {
+    let before = &job.status.completed;
+    match job.spec.mode {
         Mode::NonIndexed => before.copy(),
-        Mode::Indexed => with_indexes(before, rows),
+        Mode::Indexed => {
+            let completions = job.spec.completions.unwrap_or(0);
+            let ended = has_end(&job.status.conditions);
+            let kept = kept_indexes(alloc, ended, completions, before)?;
+            with_indexes(kept, completions, rows)
+        }
     }
 }
 
-// What the sync judges of the Job's pods.
+/// The rows of the pods for which there is room.
+///
+/// # Errors
+/// `Want` where there is no memory for them.
+pub fn rows_within(
+    alloc: Global,
+    mode: Mode,
+    first: Option<Uid>,
+    rows: &[Judgement],
+) -> Result<Vec<Judgement>, Want>
+    ensures { IfOk result (λ judged. judged.items ≡ rows_within mode first rows.now) }
+{
+    rows.iter()
+        .copied()
+        .filter(|row| is_fit(mode, first, row.outcome, row.uid))
+        .collect(alloc)
+}
+
+// How many of the pods for which there is no room have this outcome.
+fn count_beyond(mode: Mode, first: Option<Uid>, rows: &[Judgement], want: Outcome) -> u32
+    requires { length rows.now < 2 ^ 31 }
+    ensures { result ≡ length (rows_with want (rows_beyond mode first rows.now)) }
+{
+    rows.iter()
+        .filter(|row| !is_fit(mode, first, row.outcome, row.uid))
+        .filter(|row| is_same_outcome(row.outcome, want))
+        .count() as u32
+}
+
+// What the sync judges of the Job's pods, where so many UIDs may join the lists.
 //
 // # Errors
 // `Want` where there is no memory for it.
-pub(crate) fn judge(alloc: Global, job: &Job, pods: &[Pod]) -> Result<Verdicts, Want>
-    requires { All HasSmallIndex pods.now }
+pub(crate) fn judge(alloc: Global, job: &Job, pods: &[Pod], room: usize) -> Result<Verdicts, Want>
+    requires rising { IsRising pods.now }
+    requires indexes { All HasSmallIndex pods.now }
+    requires few { length pods.now < 2 ^ 31 }
+    requires room { room ≡ room_of job.now (own_pods job.now pods.now) }
     ensures succeeded { IfOk result (λ r. r.succeeded ≡ new_uids job.now pods.now Succeeded) }
     ensures failed { IfOk result (λ r. r.failed ≡ new_uids job.now pods.now Failed) }
     ensures completed { IfOk result (λ r.
         r.completed ≡ completed_in job.now (own_pods job.now pods.now)) }
-    ensures few_succeeded { IfOk result (λ r. length r.succeeded ≤ length pods.now) }
-    ensures few_failed { IfOk result (λ r. length r.failed ≤ length pods.now) }
+    ensures left_succeeded { IfOk result (λ r.
+        r.left_succeeded ≡ length (left_with job.now (own_pods job.now pods.now) Succeeded)) }
+    ensures left_failed { IfOk result (λ r.
+        r.left_failed ≡ length (left_with job.now (own_pods job.now pods.now) Failed)) }
+    ensures first_left { IfOk result (λ r.
+        r.first_left ≡ first_left job.now (own_pods job.now pods.now)) }
+    ensures few_succeeded { IfOk result (λ r.
+        length r.succeeded + r.left_succeeded ≤ length pods.now) }
+    ensures few_failed { IfOk result (λ r. length r.failed + r.left_failed ≤ length pods.now) }
 {
+    let mode = job.spec.mode;
     let rows = judgements(alloc, job, pods)?;
+    let first_left = first_beyond(mode, rows.as_slice(), room);
+    let judged = rows_within(alloc, mode, first_left, rows.as_slice())?;
     Ok(Verdicts {
-        succeeded: uids_judged(alloc, rows.as_slice(), Outcome::Succeeded)?,
-        failed: uids_judged(alloc, rows.as_slice(), Outcome::Failed)?,
-        completed: completed(job.spec.mode, &job.status.completed, rows.as_slice())?,
+        succeeded: uids_judged(alloc, judged.as_slice(), Outcome::Succeeded)?,
+        failed: uids_judged(alloc, judged.as_slice(), Outcome::Failed)?,
+        completed: completed(alloc, job, judged.as_slice())?,
+        left_succeeded: count_beyond(mode, first_left, rows.as_slice(), Outcome::Succeeded),
+        left_failed: count_beyond(mode, first_left, rows.as_slice(), Outcome::Failed),
+        first_left,
     })
 }

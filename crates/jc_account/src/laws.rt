@@ -1,44 +1,57 @@
 //! Laws on what is counted. Each function is empty: what it ensures holds of every Job and all pods, and
 //! its callers may cite it. `own` are the Job's own pods among those that a sync sees.
 
-ghost use Rattle.std.specs.Prelude.{◌≡◌, ◌+◌, ◌≤◌, ◌&&◌, ◌||◌, [], List, ℕ, false, length, not, true};
+ghost use Rattle.std.specs.Prelude.{◌≡◌, ◌+◌, ◌<◌, ◌≤◌, ◌&&◌, ◌||◌, [], All, List, ℕ, false, filter, length, nat_lt, not, true, unwrap_or};
 ghost use Rattle.std.specs.List.{list_any};
 ghost use Rattle.jc_ranges.specs.Sets.{has};
+ghost use Rattle.jc_types.specs.declared.limits.TheConstants.{MOST_UNCOUNTED};
 ghost use Rattle.jc_types.specs.declared.numbers.Uid.{Uid};
 ghost use Rattle.jc_types.specs.declared.objects.Job.{Job};
 ghost use Rattle.jc_types.specs.declared.objects.Pod.{Pod};
 ghost use Rattle.jc_types.specs.declared.specifications.Mode.TheVariants.{Indexed, NonIndexed};
 ghost use Rattle.jc_types.specs.declared.statuses.JobStatus.{JobStatus};
 ghost use Rattle.jc_states.specs.Bases.{own_pods};
+ghost use Rattle.jc_states.specs.Conditions.{has_end};
 ghost use Rattle.jc_types.specs.Keys.{same_uid};
 ghost use Rattle.jc_states.specs.PodLists.{IsRising};
 ghost use Rattle.jc_states.specs.UidLists.{Ascends, is_in, uids_of};
 ghost use Rattle.jc_failpol.specs.declared.outcomes.Outcome.{Outcome};
 ghost use Rattle.jc_failpol.specs.declared.outcomes.Outcome.TheVariants.{Failed, Succeeded};
-ghost use Rattle.jc_account.specs.Accounts.{counted_in, counted_out, is_stayed, left, new_uids, SameButCounts, ShareNone, stayed};
+ghost use Rattle.jc_account.specs.Accounts.{counted_in, counted_out, is_stayed, left, new_uids, SameButCounts, ShareNone};
 ghost use Rattle.jc_states.specs.Listed.{is_listed};
-ghost use Rattle.jc_account.specs.Judged.{has_come_to, has_tracked, has_verdict, is_to_release, judged_now, newly, staying};
+ghost use Rattle.jc_account.specs.Judged.{fits, has_come_to, has_tracked, has_verdict, is_to_release, judged_now, left_over, left_with};
+ghost use Rattle.jc_account.specs.Judged.{newly, room, stayed, staying};
+ghost use Rattle.jc_account.specs.Rooms.{takes_room};
 ghost use Rattle.jc_failpol.specs.Outcomes.{is_verdict};
 ghost use Rattle.jc_account.specs.Modes.{gained};
 ghost use Rattle.jc_states.specs.Indexes.{has_index};
 
 /// The newly judged pods: a UID is among them exactly where a tracked own pod that has succeeded or
-/// failed has it and it is not listed. Those of one outcome are those of them that have this outcome,
-/// and their UIDs ascend where the pods do. The pods that stay are those that are listed and tracked, as
-/// many as UIDs that stay in the two lists.
+/// failed has it, it is not listed and there is room for the pod; where there is none the pod is left
+/// over. Those of one outcome are those of them that have this outcome, and their UIDs ascend where the
+/// pods do. Of those that are to be judged as many are judged as there is room for, if so many there are.
+/// The pods that stay are those that are listed and tracked, as many as UIDs that stay in the two lists.
 pub fn newly_judged_are_filters()
     ensures judged { (u : Uid) (job : Job) (own : List Pod)
         → is_in u (uids_of (judged_now job own))
         ≡ (not (is_listed job.status u)
-        && list_any (λ pod. has_verdict job pod && same_uid pod.uid u) own) }
+        && list_any (λ pod. (has_verdict job pod && fits job own pod) && same_uid pod.uid u) own) }
+    ensures left { (u : Uid) (job : Job) (own : List Pod)
+        → is_in u (uids_of (left_over job own))
+        ≡ (not (is_listed job.status u)
+        && list_any (λ pod. (has_verdict job pod && not (fits job own pod)) && same_uid pod.uid u) own) }
     ensures member { (u : Uid) (job : Job) (own : List Pod) (outcome : Outcome)
         → is_verdict outcome ≡ true → is_in u (uids_of (newly job own outcome))
         ≡ (not (is_listed job.status u)
-        && list_any (λ pod. has_come_to job outcome pod && same_uid pod.uid u) own) }
+        && list_any (λ pod. (has_come_to job outcome pod && fits job own pod) && same_uid pod.uid u)
+        own) }
     ensures none { (job : Job) (own : List Pod) (outcome : Outcome)
         → is_verdict outcome ≡ false → newly job own outcome ≡ [] }
     ensures order { (job : Job) (pods : List Pod) (outcome : Outcome)
         → IsRising pods → Ascends (new_uids job pods outcome) }
+    ensures few { (job : Job) (pods : List Pod) → IsRising pods
+        → length (filter (takes_room job.spec) (judged_now job (own_pods job pods)))
+        ≤ room job (own_pods job pods) }
     ensures staying { (u : Uid) (job : Job) (own : List Pod)
         → is_in u (uids_of (staying job own)) ≡ (is_listed job.status u && has_tracked own u) }
     ensures staying_length { (job : Job) (pods : List Pod)
@@ -51,7 +64,7 @@ pub fn newly_judged_are_filters()
 {}
 
 /// The two lists afterwards: what stays and what is newly judged, and nothing else. A success of an
-/// Indexed Job joins no list.
+/// Indexed Job joins no list. Together they hold at most as many as they may, if they did before.
 pub fn lists_are_counted_in()
     ensures failed { (u : Uid) (job : Job) (pods : List Pod)
         → is_in u (counted_in job pods).uncounted_failed
@@ -83,10 +96,18 @@ pub fn lists_are_counted_in()
         → (is_in u job.status.uncounted_succeeded && is_in u job.status.uncounted_failed) ≡ false
         → (is_in u (counted_in job pods).uncounted_succeeded
         && is_in u (counted_in job pods).uncounted_failed) ≡ false }
+    ensures few { (job : Job) (pods : List Pod) → IsRising pods
+        → Ascends job.status.uncounted_succeeded → Ascends job.status.uncounted_failed
+        → ShareNone job.status.uncounted_succeeded job.status.uncounted_failed
+        → length job.status.uncounted_succeeded + length job.status.uncounted_failed
+        ≤ MOST_UNCOUNTED
+        → length (counted_in job pods).uncounted_succeeded
+        + length (counted_in job pods).uncounted_failed ≤ MOST_UNCOUNTED }
 {}
 
 /// The totals afterwards: each is raised by those that left its list, so that total and list together
 /// rise by those that are newly judged. The succeeded total of an Indexed Job is the size of its set.
+/// What is left over is counted beside them; of an Indexed Job no success is.
 pub fn totals_are_counted_in()
     ensures stay_or_leave { (own : List Pod) (uids : List Uid)
         → length (stayed own uids) + left own uids ≡ length uids }
@@ -114,27 +135,43 @@ pub fn totals_are_counted_in()
     ensures new_indexes { (job : Job) (pods : List Pod) → job.spec.mode ≡ Indexed
         → (counted_in job pods).new_succeeded
         ≡ gained job.status.completed (counted_in job pods).completed }
+    ensures judged_failed { (job : Job) (pods : List Pod)
+        → (counted_in job pods).judged_failed ≡ new_uids job pods Failed }
     ensures few_failed { (job : Job) (pods : List Pod)
         → (counted_in job pods).new_failed ≤ length pods }
+    ensures left_failed { (job : Job) (pods : List Pod)
+        → (counted_in job pods).left_failed ≡ length (left_with job (own_pods job pods) Failed) }
+    ensures left_succeeded { (job : Job) (pods : List Pod)
+        → (counted_in job pods).left_succeeded
+        ≡ length (left_with job (own_pods job pods) Succeeded) }
+    ensures left_indexed { (job : Job) (pods : List Pod)
+        → job.spec.mode ≡ Indexed → (counted_in job pods).left_succeeded ≡ 0 }
 {}
 
-/// The completed indexes afterwards: those of an Indexed Job with the indexes of its newly judged
-/// successes. The set of a Job that is not Indexed stays as it is.
+/// The completed indexes afterwards: those of an Indexed Job that stay, with the indexes below its
+/// completions of its newly judged successes. Where the Job has not ended, those stay that are below its
+/// completions. The set of a Job that is not Indexed stays as it is.
 pub fn indexes_are_counted_in()
     ensures indexed { (n : ℕ) (job : Job) (pods : List Pod) → job.spec.mode ≡ Indexed
         → has n (counted_in job pods).completed
-        ≡ (has n job.status.completed
-        || list_any (has_index n) (newly job (own_pods job pods) Succeeded)) }
+        ≡ ((has n job.status.completed
+        && (has_end job.status.conditions || nat_lt n (unwrap_or job.spec.completions 0)))
+        || (nat_lt n (unwrap_or job.spec.completions 0)
+        && list_any (has_index n) (newly job (own_pods job pods) Succeeded))) }
+    ensures below { (job : Job) (pods : List Pod) → job.spec.mode ≡ Indexed
+        → has_end job.status.conditions ≡ false
+        → All (λ n. n < unwrap_or job.spec.completions 0) (counted_in job pods).completed }
     ensures plain { (job : Job) (pods : List Pod) → job.spec.mode ≡ NonIndexed
         → (counted_in job pods).completed ≡ job.status.completed }
 {}
 
-/// The pods to release: the tracked own pods that have ended or are listed. Their UIDs ascend where the
-/// pods do, and each UID that is listed afterwards is among them.
+/// The pods to release: the tracked own pods that are listed, or have ended and are not left over. Their
+/// UIDs ascend where the pods do, and each UID that is listed afterwards is among them.
 pub fn releases_hold_the_lists()
     ensures member { (u : Uid) (job : Job) (pods : List Pod)
         → is_in u (counted_in job pods).releases
-        ≡ list_any (λ pod. is_to_release job pod && same_uid pod.uid u) (own_pods job pods) }
+        ≡ list_any (λ pod. is_to_release job (own_pods job pods) pod && same_uid pod.uid u)
+        (own_pods job pods) }
     ensures order { (job : Job) (pods : List Pod)
         → IsRising pods → Ascends (counted_in job pods).releases }
     ensures failed { (u : Uid) (job : Job) (pods : List Pod)

@@ -5,8 +5,7 @@ ghost use Rattle.std.specs.List.{list_any};
 ghost use Rattle.jc_types.specs.Keys.{same_uid};
 ghost use Rattle.jc_states.specs.Bases.{is_own, own_pods};
 ghost use Rattle.jc_states.specs.Pods.{is_tracked};
-ghost use Rattle.jc_account.specs.Accounts.{stayed};
-ghost use Rattle.jc_account.specs.Judged.{has_tracked, is_tracked_as};
+ghost use Rattle.jc_account.specs.Judged.{has_tracked, is_tracked_as, stayed};
 
 use jc_states::is_own;
 use jc_types::{Job, Pod, Uid, Uids, Want};

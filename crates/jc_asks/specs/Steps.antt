@@ -70,14 +70,21 @@ answered_to log now flight WriteFirst = written_gives log flight (planned flight
 answered_to log now flight (ReleasePod u) = release_gives log u
 answered_to log now flight WriteSecond = written_gives log flight (planned flight.basis).second
 
--- The store's reply, as it answers a sync.
+-- The store's reply, as it answers a sync. A reply of no request is none.
 abbrev pub as_answer : Reply → Answer
 as_answer (reply.Created u v) = answer.Created u v
 as_answer (reply.Written v) = answer.Written v
 as_answer (reply.Unchanged v) = answer.Unchanged v
 as_answer (reply.Released v) = answer.Released v
+as_answer (reply.Removed v) = answer.Removed v
 as_answer (reply.Conflict v) = answer.Conflict v
 as_answer reply.NotFound = answer.NotFound
+as_answer reply.AlreadyExists = answer.AlreadyExists
+as_answer (reply.Immutable field) = answer.Immutable field
+as_answer (reply.Invalid field) = answer.Invalid field
+as_answer (reply.Final phase) = answer.Final phase
+as_answer (reply.BadStep from to) = answer.BadStep from to
+as_answer (reply.NoContainer name) = answer.NoContainer name
 as_answer reply.NotTracked = answer.NotTracked
 as_answer other = answer.Unavailable
 

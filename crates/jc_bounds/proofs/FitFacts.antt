@@ -13,6 +13,8 @@ use Rattle.jc_types.specs.declared.objects.Pod.{Pod}
 use Rattle.jc_types.specs.declared.runs.Shape.{Shape}
 use Rattle.jc_types.specs.declared.specifications.Replacement.TheVariants.{FailedOnly}
 use Rattle.jc_states.specs.declared.bases.Basis.{Basis}
+use Rattle.jc_log.specs.Acts as does
+use Rattle.jc_log.specs.Acts.{Act}
 use Rattle.jc_log.specs.Requests.{grown}
 use Rattle.jc_states.specs.Bases.{is_own, own_pods}
 use Rattle.jc_log.specs.Deeds.{Deed}
@@ -29,7 +31,7 @@ use Rattle.jc_asks.specs.declared.asks.Ask.TheVariants.{MakePod}
 use Rattle.jc_asks.specs.Steps.{make_gives}
 use Rattle.jc_bounds.specs.Requests.{next_by_kind, ask_gives}
 use Rattle.jc_history.specs.Diaries.{moment, notes}
-use Rattle.jc_history.specs.Legal.{IsLegal}
+use Rattle.jc_history.specs.Legal.{IsLegal, IsOfShape}
 use Rattle.jc_history.specs.Notes.{Note}
 use Rattle.jc_history.specs.Registers.{made, register}
 use Rattle.jc_history.specs.Replies.{gives, log_given}
@@ -41,6 +43,8 @@ use Rattle.jc_bounds.proofs.BoundFacts.{legal-bounded}
 use Rattle.jc_plan.proofs.PlanBounds.{creates-fit, creates-fit_ending}
 use Rattle.std.proofs.lemmas.Bool.{and_parts}
 use Rattle.jc_bounds.proofs.Turns.{Began, Finished, Noted, Restarted, Still, Stepped, Stopped, Turn, Wrote, turn}
+use Rattle.jc_bounds.proofs.StepperFacts.{newest_worker, stepper}
+use Rattle.jc_history.proofs.LegalFacts.{notes-next}
 use Rattle.jc_bounds.proofs.WorkFacts.{bit, count-entry, count-since, put-few, some_is}
 
 -- ---- what a pod loses for good
@@ -187,19 +191,21 @@ no-more e log h = let l = ap length h in absurd (omega (arith, l))
 pub head-of : (e f : Entry) (log : List Entry) → (e ∷ log) ≡ (f ∷ log) → e ≡ f
 head-of e f log h = ap (λ (l : List Entry). elim l [ [] ↦ e | x ∷ xs ↦ x ]) h
 
-module _ (now : ℕ) (log : List Entry) (old : List Note) (legal : Legal log) (h : IsBounded log old) (pod : Pod) (new-born : life pod.uid log ≡ Never) where
+module _ (shape : Shape) (act : Act) (of_shape : IsOfShape shape act) (now : ℕ) (log : List Entry) (old : List Note) (legal : Legal log) (h : IsBounded log old) (pod : Pod) (new-born : life pod.uid log ≡ Never) where
   works : is_work pod.owner (PodPut pod) log ≡ true
   works = ap (λ l. same_key pod.owner pod.owner && is_never l) new-born ∙ ap (λ t. t && true) (same_key-itself pod.owner)
 
-  asked-fits : (w : ℕ) (b : Basis) (ask : Ask) → register w old ≡ Some b → next_by_kind (planned b) (made w old) ≡ Some ask → (ask_gives log now b (made w old) ask).entry ≡ Some (PodPut pod) → IsMade log old pod
-  asked-fits w b ask r next e = by (is_make ask) refl
+  asked-fits : (w : ℕ) (b : Basis) (ask : Ask) → act ≡ does.Step 0 w → register w old ≡ Some b → next_by_kind (planned b) (made w old) ≡ Some ask → (ask_gives log now b (made w old) ask).entry ≡ Some (PodPut pod) → IsMade shape act log old pod
+  asked-fits w b ask step r next e = by (is_make ask) refl
     where
-      makes : (a : Ask) → next_by_kind (planned b) (made w old) ≡ Some a → is_make a ≡ true → (ask_gives log now b (made w old) a).entry ≡ Some (PodPut pod) → IsMade log old pod
+      makes : (a : Ask) → next_by_kind (planned b) (made w old) ≡ Some a → is_make a ≡ true → (ask_gives log now b (made w old) a).entry ≡ Some (PodPut pod) → IsMade shape act log old pod
       makes (MakePod index) next t e = of b.job refl e
         where
-          of : (o : Option Job) → b.job ≡ o → (make_gives log index now o).entry ≡ Some (PodPut pod) → IsMade log old pod
+          of : (o : Option Job) → b.job ≡ o → (make_gives log index now o).entry ≡ Some (PodPut pod) → IsMade shape act log old pod
           of (Some job) there e = record {
             worker = w;
+            within = (subst (IsOfShape shape) step of_shape).1;
+            step = step;
             basis = b;
             job = job;
             begun = r;
@@ -211,28 +217,28 @@ module _ (now : ℕ) (log : List Entry) (old : List Note) (legal : Legal log) (h
           of None there e = absurd (true≢false (sym (ap is_some e)))
       makes other next t e = absurd (true≢false (sym t))
 
-      by : (t : Bool) → is_make ask ≡ t → IsMade log old pod
+      by : (t : Bool) → is_make ask ≡ t → IsMade shape act log old pod
       by true t = makes ask next t e
       by false t = absurd (true≢false (sym works ∙ subst (λ x. IfSome x (λ e. (k : Key) → is_birth k e log ≡ false)) e (ask-makes log now b (made w old) ask t) pod.owner))
 
-  pub turn-fits : (log' : List Entry) (new : List Note) → log' ≡ PodPut pod ∷ log → Turn now log old log' new → IsMade log old pod
-  turn-fits log' new g (Still l n) = absurd (no-more (PodPut pod) log (sym g ∙ l))
-  turn-fits log' new g (Restarted l n) = absurd (no-more (PodPut pod) log (sym g ∙ l))
-  turn-fits log' new g (Noted note l n news) = absurd (no-more (PodPut pod) log (sym g ∙ l))
-  turn-fits log' new g (Wrote e l n idle) = absurd (true≢false (sym works ∙ ap (λ x. is_work pod.owner x log) (head-of (PodPut pod) e log (sym g ∙ l)) ∙ idle pod.owner))
-  turn-fits log' new g (Began w k j p jobs pods fresh free l n) = absurd (no-more (PodPut pod) log (sym g ∙ l))
-  turn-fits log' new g (Stepped w b ask given o r next answer from l n) = asked-fits w b ask r next (sym from ∙ entry-of o (sym g ∙ l))
+  pub turn-fits : (log' : List Entry) (new : List Note) → log' ≡ PodPut pod ∷ log → ((w : ℕ) → length old < length new → newest_worker new ≡ Some w → act ≡ does.Step 0 w) → Turn now log old log' new → IsMade shape act log old pod
+  turn-fits log' new g acts (Still l n) = absurd (no-more (PodPut pod) log (sym g ∙ l))
+  turn-fits log' new g acts (Restarted l n) = absurd (no-more (PodPut pod) log (sym g ∙ l))
+  turn-fits log' new g acts (Noted note l n news) = absurd (no-more (PodPut pod) log (sym g ∙ l))
+  turn-fits log' new g acts (Wrote e l n idle) = absurd (true≢false (sym works ∙ ap (λ x. is_work pod.owner x log) (head-of (PodPut pod) e log (sym g ∙ l)) ∙ idle pod.owner))
+  turn-fits log' new g acts (Began w k j p jobs pods fresh free l n) = absurd (no-more (PodPut pod) log (sym g ∙ l))
+  turn-fits log' new g acts (Stepped w b ask given o r next answer from l n) = asked-fits w b ask (acts w (let long = ap length n in omega (arith, long)) (ap newest_worker n)) r next (sym from ∙ entry-of o (sym g ∙ l))
     where
       entry-of : (o : Option Entry) → (PodPut pod ∷ log) ≡ grown log o → o ≡ Some (PodPut pod)
       entry-of None x = absurd (no-more (PodPut pod) log x)
       entry-of (Some e) x = ap Some (sym (head-of (PodPut pod) e log x))
-  turn-fits log' new g (Stopped w b ask given o end r next from lost l n) = by o from (sym g ∙ l)
+  turn-fits log' new g acts (Stopped w b ask given o end r next from lost l n) = by o from (sym g ∙ l)
     where
-      by : (o : Option Entry) → (o ≡ None) ⊎ (o ≡ (ask_gives log now b (made w old) ask).entry) → (PodPut pod ∷ log) ≡ grown log o → IsMade log old pod
+      by : (o : Option Entry) → (o ≡ None) ⊎ (o ≡ (ask_gives log now b (made w old) ask).entry) → (PodPut pod ∷ log) ≡ grown log o → IsMade shape act log old pod
       by None f x = absurd (no-more (PodPut pod) log x)
       by (Some e) (inl f) x = absurd (true≢false (ap is_some f))
-      by (Some e) (inr f) x = asked-fits w b ask r next (sym f ∙ ap Some (sym (head-of (PodPut pod) e log x)))
-  turn-fits log' new g (Finished w b r l n) = absurd (no-more (PodPut pod) log (sym g ∙ l))
+      by (Some e) (inr f) x = asked-fits w b ask (acts w (let long = ap length n in omega (arith, long)) (ap newest_worker n)) r next (sym f ∙ ap Some (sym (head-of (PodPut pod) e log x)))
+  turn-fits log' new g acts (Finished w b r l n) = absurd (no-more (PodPut pod) log (sym g ∙ l))
 
 pub legal-before : (shape : Shape) (past : List Deed) (d : Deed) → Legal (log_given shape (d ∷ past)) → Legal (log_given shape past)
 unfolding log_given
@@ -244,8 +250,11 @@ legal-before shape past d all = by (gives shape past (log_given shape past) d.ac
 
 -- **Each pod that is made fits.**
 pub legal-fits : (shape : Shape) (past : List Deed) (d : Deed) (pod : Pod) → shape.controllers ≡ 1 → IsLegal shape (d ∷ past) → Legal (log_given shape (d ∷ past))
-    → log_given shape (d ∷ past) ≡ PodPut pod ∷ log_given shape past → life pod.uid (log_given shape past) ≡ Never → IsMade (log_given shape past) (notes shape 0 past (log_given shape past)) pod
+    → log_given shape (d ∷ past) ≡ PodPut pod ∷ log_given shape past → life pod.uid (log_given shape past) ≡ Never → IsMade shape d.act (log_given shape past) (notes shape 0 past (log_given shape past)) pod
 legal-fits shape past d pod one h legal grows born =
     let before = legal-before shape past d legal in
-    turn-fits (moment shape past) (log_given shape past) (notes shape 0 past (log_given shape past)) before (legal-bounded shape past one h.1 (Stored-from_legal (log_given shape past) before)) pod born
-    (log_given shape (d ∷ past)) (notes shape 0 (d ∷ past) (log_given shape (d ∷ past))) grows (turn shape past d one h)
+    turn-fits shape d.act h.0.within (moment shape past) (log_given shape past) (notes shape 0 past (log_given shape past)) before (legal-bounded shape past one h.1 (Stored-from_legal (log_given shape past) before)) pod born
+    (log_given shape (d ∷ past)) (notes shape 0 (d ∷ past) (log_given shape (d ∷ past))) grows
+    (subst (λ new. (w : ℕ) → length (notes shape 0 past (log_given shape past)) < length new → newest_worker new ≡ Some w → d.act ≡ does.Step 0 w) (sym (notes-next shape 0 past d h.1))
+    (stepper d.act d.reply (moment shape past) (log_given shape (d ∷ past)) (notes shape 0 past (log_given shape past))))
+    (turn shape past d one h)

@@ -1,15 +1,18 @@
 -- The log of a legal history of one controller is legal, and its Jobs are neat.
-use Rattle.std.proofs.Common.{◌≡◌, ℕ, zero, suc, ◌+◌, ◌-◌, ◌==◌, nat_lt, Bool, true, false, cond, not, ◌&&◌, List, [], ◌∷◌, length, Option, Some, None, IfSome, is_some, refl, sym, ap, ◌∙◌, subst, true≢false, arith}
+use Rattle.std.proofs.Common.{◌≡◌, ℕ, zero, suc, ◌+◌, ◌-◌, ◌==◌, nat_lt, Bool, true, false, cond, not, ◌&&◌, List, [], ◌∷◌, length, map, Option, Some, None, IfSome, is_some, refl, sym, ap, ◌∙◌, subst, true≢false, arith}
 use Rattle.jc_log.specs.Acts as does
 use Rattle.jc_account.specs.Accounts.{counted_in, counted_out, released_of}
 use Rattle.jc_account.proofs.AccountFacts.{empty-in, indexed-total}
 use Rattle.jc_log.proofs.HasJobFacts.{put_upto, there_put}
 use Rattle.jc_ledger.specs.Flights.{IsBasisOf}
+use Rattle.jc_perindex.specs.Failures.{failing_by, failing_in, failures_by, failures_in, newly_failed}
+use Rattle.jc_perindex.proofs.Raised.{raised-ascends}
 use Rattle.jc_plan.specs.Plans.{planned}
 use Rattle.jc_plan.specs.Statuses.{first_value, second_value}
-use Rattle.jc_plan.proofs.ValueFacts.{first-completed, first-succeeded, first-succeeded_list, second-completed, second-lists_none, second-succeeded}
+use Rattle.jc_plan.proofs.ValueFacts.{first-completed, first-failed_indexes, first-index_failures, first-succeeded, first-succeeded_list, second-completed, second-failed_indexes, second-index_failures, second-lists_none, second-succeeded}
 use Rattle.jc_log.specs.StoredAnswers.{StaysStored}
 use Rattle.jc_log.proofs.RequestFacts.{create_job-stored, create_pod-stored, delete_job-stored, let_go-stored, mark_pod-stored, release-stored, report_phase-stored, update_spec-stored, write_status-stored}
+use Rattle.jc_ranges.specs.Sets.{IsIncreasing}
 use Rattle.jc_types.specs.declared.actions.Fault.{Fault}
 use Rattle.jc_types.specs.declared.actions.Fault.TheVariants.{Drop, Lose}
 use Rattle.jc_types.specs.declared.actions.PhaseChange.{PhaseChange}
@@ -25,9 +28,11 @@ use Rattle.jc_types.specs.declared.replies.Reply.TheVariants as reply
 use Rattle.jc_types.specs.declared.replies.Request.{Request}
 use Rattle.jc_types.specs.declared.runs.Shape.{Shape}
 use Rattle.jc_types.specs.declared.specifications.Mode.TheVariants.{Indexed}
+use Rattle.jc_types.specs.declared.statuses.IndexCount.{IndexCount}
 use Rattle.jc_types.specs.declared.statuses.JobStatus.{JobStatus}
 use Rattle.jc_states.specs.declared.bases.Basis.{Basis}
-use Rattle.jc_log.specs.Requests.{Answered, create_job_gives, delete_job_gives, empty_status, grown, mark_pod_gives, refused, release_gives, report_phase_gives, update_spec_gives}
+use Rattle.jc_states.specs.Bases.{own_pods}
+use Rattle.jc_log.specs.Requests.{Answered, create_job_gives, delete_job_gives, empty_status, grown, mark_pod_gives, refused, release_gives, report_phase_gives, update_spec_gives, with_status}
 use Rattle.jc_log.specs.Acts.{Act}
 use Rattle.jc_log.specs.Deeds.{Deed}
 use Rattle.jc_types.specs.Keys.{same_key, same_uid}
@@ -69,38 +74,83 @@ abbrev pub IsNeatEntry : Entry → Type 0
 IsNeatEntry (JobPut job) = IsNeat job
 IsNeatEntry other = Unit {0}
 
--- Neat by mode, lists and totals.
-same-neat : (old new : Job) → new.spec.mode ≡ old.spec.mode → new.status ≡ old.status → IsNeat old → IsNeat new
-same-neat old new mode status h = record {
+-- The failures of each index stand in ascending index.
+abbrev Climbs : List IndexCount → Type 0
+Climbs counts = IsIncreasing (map (λ (count : IndexCount). count.index) counts)
+
+-- Neat by mode, limit and status.
+same-neat : (old new : Job) → new.spec.mode ≡ old.spec.mode → new.spec.per_index ≡ old.spec.per_index → new.status ≡ old.status → IsNeat old → IsNeat new
+same-neat old new mode limit status h = record {
   none = λ m. ap (λ (s : JobStatus). s.uncounted_succeeded) status ∙ h.none (sym mode ∙ m);
   size = λ m. ap (λ (s : JobStatus). s.succeeded) status ∙ h.size (sym mode ∙ m) ∙ ap (λ (s : JobStatus). length s.completed) (sym status);
+  failing = λ n. let f = h.failing (sym limit ∙ n) in (ap (λ (s : JobStatus). s.failed_indexes) status ∙ f.0, ap (λ (s : JobStatus). s.index_failures) status ∙ f.1);
+  ascending = subst (λ (s : JobStatus). Climbs s.index_failures) (sym status) h.ascending;
 }
 
 empty-neat : (job : Job) → job.status ≡ empty_status → IsNeat job
 empty-neat job e = record {
   none = λ m. ap (λ (s : JobStatus). s.uncounted_succeeded) e;
   size = λ m. ap (λ (s : JobStatus). s.succeeded) e ∙ ap (λ (s : JobStatus). length s.completed) (sym e);
+  failing = λ n. (ap (λ (s : JobStatus). s.failed_indexes) e, ap (λ (s : JobStatus). s.index_failures) e);
+  ascending = subst (λ (s : JobStatus). Climbs s.index_failures) (sym e) tt;
 }
 
 not-false : (b : Bool) → not b ≡ false → b ≡ true
 not-false true h = refl
 not-false false h = absurd (true≢false h)
 
-first-neat : (job : Job) (b : Basis) → IsNeat job → job.spec.mode ≡ Indexed → ((first_value job b).uncounted_succeeded ≡ []) × ((first_value job b).succeeded ≡ length (first_value job b).completed)
-first-neat job b h m = (
-  first-succeeded_list job b ∙ empty-in job b.pods m (h.none m),
-  first-succeeded job b ∙ indexed-total job b.pods m ∙ ap length (sym (first-completed job b)),
-)
+-- ---- what a sync says of failed indexes
 
-second-neat : (job : Job) (b : Basis) → IsNeat job → job.spec.mode ≡ Indexed → ((second_value job b).uncounted_succeeded ≡ []) × ((second_value job b).succeeded ≡ length (second_value job b).completed)
+no-limit : (job : Job) (completed : List ℕ) (own : List Pod) (uids : List Uid) → job.spec.per_index ≡ None → (failing_in job completed own uids ≡ []) × (failures_in job own uids ≡ [])
+unfolding failing_in failures_in
+no-limit job completed own uids none =
+    (ap (λ limit. failing_by limit job completed (newly_failed own uids)) none, ap (λ limit. failures_by limit job (newly_failed own uids)) none)
+
+failures-climb : (job : Job) (own : List Pod) (uids : List Uid) → Climbs job.status.index_failures → Climbs (failures_in job own uids)
+unfolding failures_in
+failures-climb job own uids up = by job.spec.per_index
+  where
+    by : (limit : Option ℕ) → Climbs (failures_by limit job (newly_failed own uids))
+    by None = tt
+    by (Some limit) = raised-ascends job.spec.failure job.status.index_failures up (newly_failed own uids)
+
+-- ---- the statuses of a sync
+
+-- The Job with the status.
+abbrev given_status : Job → JobStatus → Job
+given_status job status = record job { status = status }
+
+first-neat : (job : Job) (b : Basis) → IsNeat job → IsNeat (given_status job (first_value job b))
+first-neat job b h = record {
+  none = λ m. first-succeeded_list job b ∙ empty-in job b.pods m (h.none m);
+  size = λ m. first-succeeded job b ∙ indexed-total job b.pods m ∙ ap length (sym (first-completed job b));
+  failing = λ n.
+      let none = no-limit job (counted_in job b.pods).completed (own_pods job b.pods) (counted_in job b.pods).judged_failed n in
+      (first-failed_indexes job b ∙ none.0, first-index_failures job b ∙ none.1);
+  ascending = subst Climbs (sym (first-index_failures job b)) (failures-climb job (own_pods job b.pods) (counted_in job b.pods).judged_failed h.ascending);
+}
+
+second-size : (job : Job) (b : Basis) → IsNeat job → job.spec.mode ≡ Indexed → (second_value job b).succeeded ≡ length (second_value job b).completed
 unfolding counted_out
-second-neat job b h m =
-    let f = first-neat job b h m in
-    let none : released_of (counted_in job b.pods).releases (first_value job b).uncounted_succeeded ≡ 0 = ap (released_of (counted_in job b.pods).releases) f.0 in
+second-size job b h m =
+    let f = first-neat job b h in
+    let none : released_of (counted_in job b.pods).releases (first_value job b).uncounted_succeeded ≡ 0 = ap (released_of (counted_in job b.pods).releases) (f.none m) in
     let out : (second_value job b).succeeded ≡ (first_value job b).succeeded + released_of (counted_in job b.pods).releases (first_value job b).uncounted_succeeded = second-succeeded job b in
     let same = ap length (first-completed job b ∙ sym (second-completed job b)) in
-    let size = f.1 in
-    ((second-lists_none job b).1, omega (arith, none, out, same, size))
+    let size = f.size m in
+    omega (arith, none, out, same, size)
+
+second-neat : (job : Job) (b : Basis) → IsNeat job → IsNeat (given_status job (second_value job b))
+second-neat job b h =
+    let f = first-neat job b h in
+    record {
+      none = λ m. (second-lists_none job b).1;
+      size = second-size job b h;
+      failing = λ n.
+          let none = f.failing n in
+          (second-failed_indexes job b ∙ sym (first-failed_indexes job b) ∙ none.0, second-index_failures job b ∙ sym (first-index_failures job b) ∙ none.1);
+      ascending = subst Climbs (first-index_failures job b ∙ sym (second-index_failures job b)) f.ascending;
+    }
 
 module _ (log : List Entry) (legal : Legal log) (neat : AreNeat log) where
   stored : Stored log
@@ -124,7 +174,7 @@ module _ (log : List Entry) (legal : Legal log) (neat : AreNeat log) where
 
       by : (o : Option Job) → job_in job.key log ≡ o → CanJob log o job → has_new_status job o ≡ false → IsNeat job
       by None is can s = empty-neat job (sym ((status-exact empty_status job.status).0 (not-false (same_status empty_status job.status) s)))
-      by (Some old) is can s = same-neat old job can.mode (sym ((status-exact old.status job.status).0 (not-false (same_status old.status job.status) s))) (neat-now job.key old is)
+      by (Some old) is can s = same-neat old job can.mode can.per_index (sym ((status-exact old.status job.status).0 (not-false (same_status old.status job.status) s))) (neat-now job.key old is)
 
   quiet-good : (a : Answered) → StaysStored log a → Quiet log a → IfSome a.entry (λ e. Allowed log e × IsNeatEntry e)
   quiet-good a s q = by a.entry s q
@@ -155,19 +205,22 @@ module _ (log : List Entry) (legal : Legal log) (neat : AreNeat log) where
     ask-stored WriteFirst = written-stored (planned b).first
     ask-stored WriteSecond = written-stored (planned b).second
 
-    -- The Job that is written has the mode of the one that was seen.
-    same-mode : (seen : Job) → b.job ≡ Some seen → (current : Job) → job_in seen.key log ≡ Some current → current.uid ≡ seen.uid → current.spec.mode ≡ seen.spec.mode
-    same-mode seen there current cur uid =
+    -- The Job that is written has the mode and the limit of the one that was seen.
+    abbrev Kept : Job → Job → Type 0
+    Kept seen current = (current.spec.mode ≡ seen.spec.mode) × (current.spec.per_index ≡ seen.spec.per_index)
+
+    same-spec : (seen : Job) → b.job ≡ Some seen → (current : Job) → job_in seen.key log ≡ Some current → current.uid ≡ seen.uid → Kept seen current
+    same-spec seen there current cur uid =
         let whole = upto-all (length log) log (omega arith) in
-        let kept = job_kept_to (λ j. j.spec.mode ≡ seen.spec.mode) (λ old new step e. step.mode ∙ e) b.key b.jobs_at.0 (length log) log stored is.jobs_at seen (sym is.job ∙ there) refl in
-        subst (KeptJob seen.uid (λ j. j.spec.mode ≡ seen.spec.mode)) (ap (job_in b.key) whole ∙ ap (λ k. job_in k log) (sym (seen-key log b is seen there)) ∙ cur) kept (ap (λ u. same_uid u seen.uid) uid ∙ same_uid-itself seen.uid)
+        let kept = job_kept_to (Kept seen) (λ old new step e. (step.mode ∙ e.0, step.per_index ∙ e.1)) b.key b.jobs_at.0 (length log) log stored is.jobs_at seen (sym is.job ∙ there) (refl, refl) in
+        subst (KeptJob seen.uid (Kept seen)) (ap (job_in b.key) whole ∙ ap (λ k. job_in k log) (sym (seen-key log b is seen there)) ∙ cur) kept (ap (λ u. same_uid u seen.uid) uid ∙ same_uid-itself seen.uid)
 
     seen-neat : (seen : Job) → b.job ≡ Some seen → IsNeat seen
     seen-neat seen there = neat b.jobs_at.0 b.key seen (sym is.job ∙ there)
 
-    status-good : (seen : Job) → b.job ≡ Some seen → (status : JobStatus) (e : Entry) → Writes log e → IsStatus log seen status e → (seen.spec.mode ≡ Indexed → (status.uncounted_succeeded ≡ []) × (status.succeeded ≡ length status.completed)) → Allowed log e × IsNeatEntry e
+    status-good : (seen : Job) → b.job ≡ Some seen → (status : JobStatus) (e : Entry) → Writes log e → IsStatus log seen status e → IsNeat (given_status seen status) → Allowed log e × IsNeatEntry e
     status-good seen there status e w s good = subst (λ x. Writes log x → Allowed log x × IsNeatEntry x) (sym s.is)
-        (λ w. let mode = same-mode seen there s.current s.there s.uid in (record { writes = w; owned = tt }, record { none = λ m. (good (sym mode ∙ m)).0; size = λ m. (good (sym mode ∙ m)).1 })) w
+        (λ w. let kept = same-spec seen there s.current s.there s.uid in (record { writes = w; owned = tt }, same-neat (given_status seen status) (with_status log s.current status) kept.0 kept.1 refl good)) w
 
     ask-good : (ask : Ask) → IfSome (ask_gives log now b some ask).entry (λ e. Allowed log e × IsNeatEntry e)
     ask-good ask = by (ask_gives log now b some ask).entry (ask-stored ask) (appends log now b some (seen-key log b is) ask)
@@ -185,9 +238,9 @@ module _ (log : List Entry) (legal : Legal log) (neat : AreNeat log) where
               tt,
             )) w
         one e w (First seen status a there first s) =
-            status-good seen there status e w s (λ m. let v = changed-is seen.status (first_value seen b) status (sym (plan-first b seen there) ∙ first) in subst (λ (x : JobStatus). (x.uncounted_succeeded ≡ []) × (x.succeeded ≡ length x.completed)) v (first-neat seen b (seen-neat seen there) m))
+            status-good seen there status e w s (let v = changed-is seen.status (first_value seen b) status (sym (plan-first b seen there) ∙ first) in subst (λ x. IsNeat (given_status seen x)) v (first-neat seen b (seen-neat seen there)))
         one e w (Second seen status a there second s) =
-            status-good seen there status e w s (λ m. let v = changed-is (first_value seen b) (second_value seen b) status (sym (plan-second b seen there) ∙ second) in subst (λ (x : JobStatus). (x.uncounted_succeeded ≡ []) × (x.succeeded ≡ length x.completed)) v (second-neat seen b (seen-neat seen there) m))
+            status-good seen there status e w s (let v = changed-is (first_value seen b) (second_value seen b) status (sym (plan-second b seen there) ∙ second) in subst (λ x. IsNeat (given_status seen x)) v (second-neat seen b (seen-neat seen there)))
 
         by : (o : Option Entry) → Stored (grown log o) → IfSome o (Appends log (planned b) b.job ask) → IfSome o (λ e. Allowed log e × IsNeatEntry e)
         by None s h = tt

@@ -4,6 +4,7 @@ pub mod Turns
 pub mod NoteFacts
 pub mod AskEntries
 pub mod BoundFacts
+pub mod StepperFacts
 pub mod FitFacts
 pub mod OrderFacts
 pub mod EntryFacts

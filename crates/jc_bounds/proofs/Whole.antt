@@ -30,7 +30,7 @@ module _ (shape : Shape) where
   pub final : (deeds : List Deed) → shape.controllers ≡ 1 → IsLegal shape deeds → IsFinal (log_given shape deeds) (notes shape 0 deeds (log_given shape deeds))
   final deeds one h = let l = legal-log shape deeds one h in legal-final shape deeds one h (Stored-from_legal (log_given shape deeds) l.0) l.1
 
-  pub fits : (past : List Deed) (d : Deed) (pod : Pod) → shape.controllers ≡ 1 → IsLegal shape (d ∷ past) → log_given shape (d ∷ past) ≡ PodPut pod ∷ log_given shape past → life pod.uid (log_given shape past) ≡ Never → IsMade (log_given shape past) (notes shape 0 past (log_given shape past)) pod
+  pub fits : (past : List Deed) (d : Deed) (pod : Pod) → shape.controllers ≡ 1 → IsLegal shape (d ∷ past) → log_given shape (d ∷ past) ≡ PodPut pod ∷ log_given shape past → life pod.uid (log_given shape past) ≡ Never → IsMade shape d.act (log_given shape past) (notes shape 0 past (log_given shape past)) pod
   fits past d pod one h = legal-fits shape past d pod one h (legal-log shape (d ∷ past) one h).0
 
   pub keeps : (past : List Deed) (d : Deed) → shape.controllers ≡ 1 → IsLegal shape (d ∷ past) → (k : Key) (job : Job) → job_in k (log_given shape past) ≡ Some job → has_end job.status.conditions ≡ true → IsLeftAlone (log_given shape past) (log_given shape (d ∷ past)) k job

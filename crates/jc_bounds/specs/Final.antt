@@ -64,6 +64,7 @@ pub record IsFinal (log : List Entry) (notes : List Note) : Type 0 where
   pub finished : (k : Key) → IsFinishedAt log k
   pub flights : (w : ℕ) (b : Basis) → register w notes ≡ Some b → IsWinding log (made w notes) b
 
--- At each version the total of each Indexed Job is the number of its completed indexes.
+-- At each version the total of each Indexed Job is the number of its completed indexes, and what is said of failed
+-- indexes is in order.
 abbrev pub AreNeat : List Entry → Type 0
 AreNeat log = (n : ℕ) (k : Key) (job : Job) → job_in k (upto n log) ≡ Some job → IsNeat job

@@ -19,7 +19,7 @@ use Rattle.jc_bounds.specs.Kept.{IsLeftAlone, IsShut, StatusesStand}
 pub record KeepsBounds (shape : Shape) (past : List Deed) (d : Deed) : Type 0 where
   pub fits : (pod : Pod) → log_given shape (d ∷ past) ≡ PodPut pod ∷ log_given shape past
       → life pod.uid (log_given shape past) ≡ Never
-      → IsMade (log_given shape past) (diary shape 0 past) pod
+      → IsMade shape d.act (log_given shape past) (diary shape 0 past) pod
   pub left : (k : Key) (job : Job) → job_in k (log_given shape past) ≡ Some job
       → has_end job.status.conditions ≡ true
       → IsLeftAlone (log_given shape past) (log_given shape (d ∷ past)) k job

@@ -43,7 +43,7 @@ pub fn logs_tell_of_work()
 {}
 
 /// The log of a legal history of one controller is legal, and at each version the total of an
-/// Indexed Job is the number of its completed indexes.
+/// Indexed Job is the number of its completed indexes, and the failures of each index ascend by index.
 pub fn legal_histories_have_legal_logs()
     ensures legal { (shape : Shape) (deeds : List Deed)
         → shape.controllers ≡ 1 → IsLegal shape deeds → Legal (log_given shape deeds) }
@@ -60,7 +60,8 @@ pub fn histories_are_bounded()
 {}
 
 /// No more pods run at once than the Job's parallelism says (batch/v1): each pod that comes into
-/// the log is made by a sync whose Job has fewer active pods with a finalizer than may run at once;
+/// the log is made by the step of a worker whose sync's Job has fewer active pods with a finalizer than
+/// may run at once;
 /// where pods are replaced only once they have ended (KEP-3939), fewer that are open. So it is also
 /// where the reply to the creation is lost.
 pub fn pods_that_are_made_fit()
@@ -68,7 +69,7 @@ pub fn pods_that_are_made_fit()
         → shape.controllers ≡ 1 → IsLegal shape (d ∷ past)
         → log_given shape (d ∷ past) ≡ PodPut pod ∷ log_given shape past
         → life pod.uid (log_given shape past) ≡ Never
-        → IsMade (log_given shape past) (diary shape 0 past) pod }
+        → IsMade shape d.act (log_given shape past) (diary shape 0 past) pod }
 {}
 
 /// What keeps a Job that has ended as it is: its status is at rest and its pods are closed, and a

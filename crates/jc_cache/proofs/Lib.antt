@@ -1,2 +1,2 @@
-mod CacheFacts
+pub mod CacheFacts
 mod ListedFacts

@@ -20,24 +20,27 @@ use Rattle.jc_failpol.specs.declared.outcomes.Outcome.TheVariants as outcome
 use Rattle.jc_failpol.specs.Outcomes.{outcome_of}
 use Rattle.jc_failpol.specs.Rules.{action_of}
 use Rattle.jc_failpol.specs.FailJob.{is_failure, is_fail_job, policy_fails_job, fails_job}
-use Rattle.jc_finish.specs.Decisions.{is_failed_by_pod, is_past_limit, is_overdue, is_policy_met, is_complete, first_line, decided}
+use Rattle.jc_finish.specs.Decisions.{is_failed_by_indexes, is_failed_by_pod, is_past_limit, is_past_most, is_overdue, is_policy_met, is_complete, first_line, decided}
 use Rattle.jc_finish.specs.Settled.{is_target_kind}
 
--- The first of five reasons that holds.
-abbrev chosen : Bool → Bool → Bool → Bool → Bool → Option (CondKind × Reason)
-chosen a b c d e =
+-- The first of seven reasons that holds.
+abbrev chosen : Bool → Bool → Bool → Bool → Bool → Bool → Bool → Option (CondKind × Reason)
+chosen a b c d e f g =
     cond a (Some (FailureTarget, reason.PodFailurePolicy)) (cond b (Some (FailureTarget, reason.BackoffLimitExceeded))
-    (cond c (Some (FailureTarget, reason.DeadlineExceeded)) (cond d (Some (SuccessCriteriaMet, reason.SuccessPolicy))
-    (cond e (Some (SuccessCriteriaMet, reason.CompletionsReached)) None))))
+    (cond c (Some (FailureTarget, reason.DeadlineExceeded)) (cond d (Some (FailureTarget, reason.MaxFailedIndexesExceeded))
+    (cond e (Some (FailureTarget, reason.FailedIndexes)) (cond f (Some (SuccessCriteriaMet, reason.SuccessPolicy))
+    (cond g (Some (SuccessCriteriaMet, reason.CompletionsReached)) None))))))
 
 -- It is a target.
-chosen-kind : (a b c d e : Bool) (target : CondKind × Reason) → chosen a b c d e ≡ Some target → is_target_kind target.0 ≡ true
-chosen-kind true b c d e target h = cc
-chosen-kind false true c d e target h = cc
-chosen-kind false false true d e target h = cc
-chosen-kind false false false true e target h = cc
-chosen-kind false false false false true target h = cc
-chosen-kind false false false false false target h = cc
+chosen-kind : (a b c d e f g : Bool) (target : CondKind × Reason) → chosen a b c d e f g ≡ Some target → is_target_kind target.0 ≡ true
+chosen-kind true b c d e f g target h = cc
+chosen-kind false true c d e f g target h = cc
+chosen-kind false false true d e f g target h = cc
+chosen-kind false false false true e f g target h = cc
+chosen-kind false false false false true f g target h = cc
+chosen-kind false false false false false true g target h = cc
+chosen-kind false false false false false false true target h = cc
+chosen-kind false false false false false false false target h = cc
 
 module _ (counted : CountIn) (now : ℕ) (job : Job) (own : List Pod) where
   -- Nothing is decided where a target stands.
@@ -51,7 +54,7 @@ module _ (counted : CountIn) (now : ℕ) (job : Job) (own : List Pod) where
       by : (b : Bool) → has_target job.status.conditions ≡ b → cond b None (first_line counted now job own) ≡ Some target → (is_target_kind target.0 ≡ true) × (has_target job.status.conditions ≡ false)
       by true t g = cc
       by false t g =
-          (chosen-kind (is_failed_by_pod job.spec own) (is_past_limit (counts counted).0 job.spec own) (is_overdue now job.spec job.status) (is_policy_met job.spec.success counted.completed) (is_complete (counts counted).1 job.spec own) target g, t)
+          (chosen-kind (is_failed_by_pod job.spec own) (is_past_limit (counts counted).0 job.spec own) (is_overdue now job.spec job.status) (is_past_most job.spec.max_failed counted.failed_indexes) (is_failed_by_indexes job.spec.completions counted.completed counted.failed_indexes own) (is_policy_met job.spec.success counted.completed) (is_complete (counts counted).1 job.spec own) target g, t)
 
   -- A pod for which the failure policy fails the Job: a target stands, or this is decided.
   pub failure_decides : is_failed_by_pod job.spec own ≡ true → (has_target job.status.conditions ≡ true) ⊎ (decided counted now job own ≡ Some (FailureTarget, reason.PodFailurePolicy))
@@ -59,17 +62,19 @@ module _ (counted : CountIn) (now : ℕ) (job : Job) (own : List Pod) where
     where
       by : (b : Bool) → (b ≡ true) ⊎ (cond b None (first_line counted now job own) ≡ Some (FailureTarget, reason.PodFailurePolicy))
       by true = inl refl
-      by false = inr (ap (λ b. chosen b (is_past_limit (counts counted).0 job.spec own) (is_overdue now job.spec job.status) (is_policy_met job.spec.success counted.completed) (is_complete (counts counted).1 job.spec own)) h)
+      by false = inr (ap (λ b. chosen b (is_past_limit (counts counted).0 job.spec own) (is_overdue now job.spec job.status) (is_past_most job.spec.max_failed counted.failed_indexes) (is_failed_by_indexes job.spec.completions counted.completed counted.failed_indexes own) (is_policy_met job.spec.success counted.completed) (is_complete (counts counted).1 job.spec own)) h)
 
 -- The first reason that holds, by what it reads of the counts alone.
-abbrev decided_by : ℕ → ℕ → List ℕ → ℕ → Job → List Pod → Option (CondKind × Reason)
-decided_by failed succeeded completed now job own =
+abbrev decided_by : ℕ → ℕ → List ℕ → List ℕ → ℕ → Job → List Pod → Option (CondKind × Reason)
+decided_by failed succeeded completed failed_indexes now job own =
     cond (has_target job.status.conditions) None
-    (chosen (is_failed_by_pod job.spec own) (is_past_limit failed job.spec own) (is_overdue now job.spec job.status) (is_policy_met job.spec.success completed) (is_complete succeeded job.spec own))
+    (chosen (is_failed_by_pod job.spec own) (is_past_limit failed job.spec own) (is_overdue now job.spec job.status)
+    (is_past_most job.spec.max_failed failed_indexes) (is_failed_by_indexes job.spec.completions completed failed_indexes own)
+    (is_policy_met job.spec.success completed) (is_complete succeeded job.spec own))
 
--- Where two counts and the completed indexes agree, the same is decided.
-pub decided_same : (old new : CountIn) (now : ℕ) (job : Job) (own : List Pod) → (counts old).0 ≡ (counts new).0 → (counts old).1 ≡ (counts new).1 → old.completed ≡ new.completed → decided old now job own ≡ decided new now job own
-decided_same old new now job own failed succeeded completed = λ i. decided_by (failed i) (succeeded i) (completed i) now job own
+-- Where two counts, the completed and the failed indexes agree, the same is decided.
+pub decided_same : (old new : CountIn) (now : ℕ) (job : Job) (own : List Pod) → (counts old).0 ≡ (counts new).0 → (counts old).1 ≡ (counts new).1 → old.completed ≡ new.completed → old.failed_indexes ≡ new.failed_indexes → decided old now job own ≡ decided new now job own
+decided_same old new now job own failed succeeded completed failing = λ i. decided_by (failed i) (succeeded i) (completed i) (failing i) now job own
 
 -- A tracked pod for which the failure policy fails the Job.
 pub found_by_pod : (spec : JobSpec) (own : List Pod) (pod : Pod) → Contains own pod → is_tracked pod ≡ true → fails_job spec pod ≡ true → is_failed_by_pod spec own ≡ true

@@ -3,7 +3,7 @@
 ghost use Rattle.std.specs.Prelude.{◌≡◌, ◌+◌, ◌<◌, ◌^◌, length, nat_le};
 ghost use Rattle.jc_states.specs.Bases.{own_pods};
 ghost use Rattle.jc_types.specs.Counts.{counts as counts_of};
-ghost use Rattle.jc_finish.specs.Decisions.{decided, decision_of, first_line, is_complete, is_enough, is_failed_by_pod, is_overdue, is_past_limit, is_policy_met, restarts_on_failure};
+ghost use Rattle.jc_finish.specs.Decisions.{decided, decision_of, first_line, is_complete, is_enough, is_failed_by_indexes, is_failed_by_pod, is_overdue, is_past_limit, is_past_most, is_policy_met, restarts_on_failure};
 
 use crate::restarts::is_exceeded;
 use crate::start::start_of;
@@ -63,6 +63,27 @@ fn is_deadline_over(now: Moment, spec: &JobSpec, status: &JobStatus) -> bool
     }
 }
 
+// Whether more indexes have failed than may fail.
+fn is_past_most(most: Option<u32>, failed_indexes: &Ranges) -> bool
+    ensures { result ≡ is_past_most most failed_indexes.now }
+{
+    match most {
+        None => false,
+        Some(most) => failed_indexes.len() > most,
+    }
+}
+
+// Whether an index has failed, no pod is active, and each index is completed or has failed.
+fn is_failed_by_indexes(job: &Job, pods: &Pods, counted: &CountIn) -> bool
+    ensures { result ≡ is_failed_by_indexes job.now.spec.completions counted.now.completed
+        counted.now.failed_indexes (own_pods job.now pods.now) }
+{
+    let completed = counted.completed.len();
+    let failed = counted.failed_indexes.len();
+    failed > 0
+        && (!has_active(job, pods) && completed + failed >= job.spec.completions.unwrap_or(0))
+}
+
 // Whether the completed indexes meet a rule of the success policy.
 fn is_success_policy_met(policy: &Option<SuccessPolicy>, completed: &Ranges) -> bool
     ensures { result ≡ is_policy_met policy.now completed.now }
@@ -101,6 +122,10 @@ fn first_reason(
         Some((CondKind::FailureTarget, Reason::BackoffLimitExceeded))
     } else if is_deadline_over(now, &*job.spec, &job.status) {
         Some((CondKind::FailureTarget, Reason::DeadlineExceeded))
+    } else if is_past_most(job.spec.max_failed, &counted.failed_indexes) {
+        Some((CondKind::FailureTarget, Reason::MaxFailedIndexesExceeded))
+    } else if is_failed_by_indexes(job, pods, counted) {
+        Some((CondKind::FailureTarget, Reason::FailedIndexes))
     } else if is_success_policy_met(&job.spec.success, &counted.completed) {
         Some((CondKind::SuccessCriteriaMet, Reason::SuccessPolicy))
     } else if !has_active(job, pods) && has_enough(job.spec.completions, succeeded) {
@@ -123,15 +148,18 @@ fn decide_job(now: Moment, job: &Job, pods: &Pods, counted: &CountIn) -> Option<
 }
 
 /// What settles how the basis's Job will end, as a condition and its reason (batch/v1, KEP-3329,
-/// KEP-3998). None where a target stands already, and where none of these holds; the first that holds
+/// KEP-3850, KEP-3998). None where a target stands already, and where none of these holds; the first that holds
 /// decides:
 ///
 /// 1. The failure policy fails the Job for a tracked pod that has failed.
 /// 2. The failed count is above the backoff limit; or, where containers restart on failure, the restarts
 ///    of all containers of all open pods reach the limit, under the limit 0 the first one.
 /// 3. The Job is not suspended, and its deadline has come.
-/// 4. The completed indexes meet a rule of the success policy.
-/// 5. No pod is active, and the succeeded count has reached the completions; where no completions are
+/// 4. More indexes have failed than may fail.
+/// 5. An index has failed, no pod is active, and completed and failed indexes are together as many as
+///    completions are wanted.
+/// 6. The completed indexes meet a rule of the success policy.
+/// 7. No pod is active, and the succeeded count has reached the completions; where no completions are
 ///    given, one success is enough.
 ///
 /// `counted` are the sync's counts over the same basis.

@@ -41,6 +41,11 @@ spec_is_valid number pods i some few = record {
   indexed = λ e. search (rules);
   failure = λ e. absurd (search (rules, e));
   success = λ e. absurd (search (rules, e));
+  per_index = tt;
+  max_failed = tt;
+  by_index = λ e. absurd (search (rules, e));
+  beside = λ e. absurd (search (rules, e));
+  fail_index = λ e. tt;
 }
 
 pub keys_are_apart : (i j : ℕ) → i < 2 ^ 32 → j < 2 ^ 32 → job_key i ≡ job_key j → i ≡ j

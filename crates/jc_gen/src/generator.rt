@@ -63,6 +63,8 @@ fn job_spec(alloc: Global, number: u32, pods: u32, i: u32) -> Result<JobSpec, Wa
         mode: job_mode(number, i),
         suspend: false,
         backoff_limit: 6,
+        per_index: None,
+        max_failed: None,
         deadline: None,
         replacement: Replacement::TerminatingOrFailed,
         failure: None,

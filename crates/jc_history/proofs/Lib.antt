@@ -14,3 +14,4 @@ pub mod RequestFacts
 pub mod ActFacts
 pub mod FollowFacts
 pub mod SamplePlays
+pub mod IndexPlays

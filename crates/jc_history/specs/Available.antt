@@ -58,11 +58,11 @@ step_event notes c w = if is_some (register w notes) then sys.Step c w ∷ [] el
 abbrev pub step_events : List Note → ℕ → ℕ → List Sys
 step_events notes workers c = flat_map (step_event notes c) (below workers)
 
--- A begin of the least free worker, where the next begin starts a sync.
 -- The least worker without a sync.
 abbrev pub free_worker : List Note → ℕ → Option ℕ
 free_worker notes workers = find (λ w. is_none (register w notes)) (below workers)
 
+-- A begin of the least free worker, where the next begin starts a sync.
 abbrev pub begin_events : List Note → List Entry → ℕ → ℕ → List Sys
 begin_events notes log workers c =
     if may_begin notes log then option_to_list (option_map (λ w. sys.Begin c w) (free_worker notes workers)) else []

@@ -7,7 +7,7 @@ use Rattle.jc_types.specs.declared.replies.Field.TheVariants.{Completions}
 use Rattle.jc_types.specs.declared.replies.Reply.{Reply}
 use Rattle.jc_types.specs.declared.replies.Reply.TheVariants as reply
 use Rattle.jc_types.specs.declared.replies.Request.TheVariants as request
-use Rattle.jc_history.specs.Samples.{uid_of, version_at, sample_start, job_created, written_at, sync_begun, pod_made, pod_marked, pod_released, status_written, status_refused}
+use Rattle.jc_history.specs.Samples.{uid_of, version_at, sample_start, job_created, written_at, sync_begun, pod_made, pod_marked, pod_let_go, pod_released, status_written, status_refused}
 
 -- A pod succeeds and is counted.
 unfoldable pub one_pod_replies : List Reply
@@ -80,6 +80,31 @@ indexes_replies =
     ∷ reply.Ended ∷ written_at 8 ∷ written_at 9 ∷ written_at 10 ∷ sync_begun 10 10 ∷ status_written 11
     ∷ pod_released 3 12 ∷ pod_released 5 13 ∷ pod_released 6 14 ∷ reply.Ended ∷ written_at 15
     ∷ sync_begun 15 15 ∷ status_written 16 ∷ pod_released 4 17 ∷ reply.Ended ∷ []
+
+-- An Indexed Job of five indexes has three, then five again; six are not as many as may run at once.
+unfoldable pub elastic_replies : List Reply
+elastic_replies =
+    job_created 1 1 ∷ sync_begun 1 1 ∷ pod_made (Some 0) 2 2 ∷ pod_made (Some 1) 3 3
+    ∷ pod_made (Some 2) 4 4 ∷ pod_made (Some 3) 5 5 ∷ pod_made (Some 4) 6 6 ∷ status_written 7
+    ∷ reply.Ended ∷ written_at 8 ∷ written_at 9 ∷ sync_begun 9 9 ∷ status_written 10
+    ∷ pod_released 3 11 ∷ pod_released 6 12 ∷ reply.Ended ∷ written_at 13 ∷ sync_begun 13 13
+    ∷ pod_let_go 5 14 ∷ pod_marked 5 15 ∷ status_written 16 ∷ reply.Ended ∷ written_at 17
+    ∷ sync_begun 17 17 ∷ pod_made (Some 3) 7 18 ∷ pod_made (Some 4) 8 19 ∷ status_written 20
+    ∷ reply.Ended ∷ reply.Immutable Completions ∷ []
+
+-- One of two indexes fails, and the other succeeds.
+unfoldable pub failed_index_replies : List Reply
+failed_index_replies =
+    job_created 1 1 ∷ sync_begun 1 1 ∷ pod_made (Some 0) 2 2 ∷ pod_made (Some 1) 3 3 ∷ status_written 4
+    ∷ reply.Ended ∷ written_at 5 ∷ written_at 6 ∷ sync_begun 6 6 ∷ status_written 7 ∷ pod_released 2 8
+    ∷ pod_released 3 9 ∷ status_written 10 ∷ reply.Ended ∷ []
+
+-- An exit code fails its index, and no index may fail.
+unfoldable pub unfailing_replies : List Reply
+unfailing_replies =
+    job_created 1 1 ∷ sync_begun 1 1 ∷ pod_made (Some 0) 2 2 ∷ status_written 3 ∷ reply.Ended
+    ∷ written_at 4 ∷ sync_begun 4 4 ∷ status_written 5 ∷ pod_released 2 6 ∷ status_written 7
+    ∷ reply.Ended ∷ []
 
 -- Two controllers make a pod each of one index.
 unfoldable pub one_index_twice_replies : List Reply

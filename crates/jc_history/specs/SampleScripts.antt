@@ -7,7 +7,7 @@ use Rattle.jc_types.specs.declared.objects.Kind.TheVariants.{Jobs, Pods}
 use Rattle.jc_types.specs.declared.objects.Phase.TheVariants.{Pending, Running, Failed}
 use Rattle.jc_types.specs.declared.specifications.Mode.TheVariants.{Indexed}
 use Rattle.jc_types.specs.declared.specifications.Replacement.TheVariants.{FailedOnly}
-use Rattle.jc_history.specs.Samples.{disrupted_end, ignoring_spec, good_end, restarting_spec, uid_of, version_at, key_named, pi_key, sample_spec, failing_spec, succeeding_spec, no_change, phase_change, exited, exited_main, exited_side, restarted_main, sample_script}
+use Rattle.jc_history.specs.Samples.{disrupted_end, ignoring_spec, limited_spec, unfailing_spec, good_end, restarting_spec, uid_of, version_at, key_named, pi_key, sample_spec, failing_spec, succeeding_spec, no_change, phase_change, exited, exited_main, exited_side, restarted_main, sample_script}
 
 -- A pod succeeds and is counted.
 unfoldable pub one_pod_script : Script
@@ -81,6 +81,29 @@ indexes_script =
     act.Create pi_key (record sample_spec { parallelism = 5; completions = Some 5; mode = Indexed })
     ∷ act.Sync 0 0 ∷ act.Finish (uid_of 3) (pos 0) ∷ act.Finish (uid_of 5) (pos 0)
     ∷ act.Finish (uid_of 6) (pos 0) ∷ act.Sync 0 0 ∷ act.Finish (uid_of 4) (pos 0) ∷ act.Sync 0 0 ∷ [])
+
+-- An Indexed Job of five indexes has three, then five again; six are not as many as may run at once.
+unfoldable pub elastic_script : Script
+elastic_script =
+    sample_script (
+    act.Create pi_key (record sample_spec { parallelism = 5; completions = Some 5; mode = Indexed })
+    ∷ act.Sync 0 0 ∷ act.Finish (uid_of 3) (pos 0) ∷ act.Finish (uid_of 6) (pos 0) ∷ act.Sync 0 0
+    ∷ act.Update pi_key None (record no_change { parallelism = Some 3; completions = Some 3 })
+    ∷ act.Sync 0 0
+    ∷ act.Update pi_key None (record no_change { parallelism = Some 5; completions = Some 5 })
+    ∷ act.Sync 0 0 ∷ act.Update pi_key None (record no_change { completions = Some 6 }) ∷ [])
+
+-- One of two indexes fails, and the other succeeds.
+unfoldable pub failed_index_script : Script
+failed_index_script =
+    sample_script (act.Create pi_key (limited_spec 0) ∷ act.Sync 0 0 ∷ act.Finish (uid_of 2) (pos 1)
+    ∷ act.Finish (uid_of 3) (pos 0) ∷ act.Sync 0 0 ∷ [])
+
+-- An exit code fails its index, and no index may fail.
+unfoldable pub unfailing_script : Script
+unfailing_script =
+    sample_script (act.Create pi_key unfailing_spec ∷ act.Sync 0 0 ∷ act.Finish (uid_of 2) (pos 3)
+    ∷ act.Sync 0 0 ∷ [])
 
 -- Two controllers make a pod each of one index.
 unfoldable pub one_index_twice_script : Script

@@ -5,10 +5,12 @@
 --     succeeding_spec                                an Indexed one with a deadline and a success policy
 --     restarting_spec                                one whose pods restart their container
 --     ignoring_spec                                  one that does not count disrupted pods
+--     limited_spec                                   an Indexed one with a limit for each index
 --     sample_script actions                          a script of one lane
 --     usual_shape, two_controllers, narrow_window    the shapes
 --     told_replies script shape                      what the play was answered, but to lists and deliveries
 --     told_counts, told_conditions, told_indexes     the status of `d/pi` afterwards
+--     told_failed                                    what that status says of failed indexes
 --     told_verdicts script shape uid                 what the ledger has then judged of the Job
 use Rattle.std.specs.Prelude.{ℕ, pos, Bool, true, false, List, [], ◌∷◌, map, filter, Option, Some, None}
 use Rattle.std.specs.Option.{option_map}
@@ -23,7 +25,7 @@ use Rattle.jc_types.specs.declared.numbers.Version.{Version}
 use Rattle.jc_types.specs.declared.objects.Job.{Job}
 use Rattle.jc_types.specs.declared.objects.Key.{Key}
 use Rattle.jc_types.specs.declared.objects.Phase.{Phase}
-use Rattle.jc_types.specs.declared.policies.Action.TheVariants.{FailJob, Ignore}
+use Rattle.jc_types.specs.declared.policies.Action.TheVariants.{FailIndex, FailJob, Ignore}
 use Rattle.jc_types.specs.declared.policies.Operator.TheVariants.{Within}
 use Rattle.jc_types.specs.declared.policies.Requirement.TheVariants.{Conditions, ExitCodes}
 use Rattle.jc_types.specs.declared.policies.Truth.TheVariants.{True}
@@ -39,6 +41,7 @@ use Rattle.jc_types.specs.declared.specifications.Replacement.TheVariants.{Termi
 use Rattle.jc_types.specs.declared.specifications.Restart.TheVariants.{Never, OnFailure}
 use Rattle.jc_types.specs.declared.statuses.CondKind.{CondKind}
 use Rattle.jc_types.specs.declared.statuses.Condition.{Condition}
+use Rattle.jc_types.specs.declared.statuses.IndexCount.{IndexCount}
 use Rattle.jc_types.specs.declared.statuses.Reason.{Reason}
 use Rattle.jc_log.specs.Log.{job_in}
 use Rattle.jc_ledger.specs.Ledger.{ledger_of}
@@ -77,6 +80,8 @@ sample_spec = record {
   mode = NonIndexed;
   suspend = false;
   backoff_limit = 6;
+  per_index = None;
+  max_failed = None;
   deadline = None;
   replacement = TerminatingOrFailed;
   failure = None;
@@ -123,6 +128,25 @@ ignoring_spec = record sample_spec {
       action = Ignore;
       requirement = Conditions (record { kind = disruption; truth = True } ∷ []);
     } ∷ [];
+  });
+}
+
+-- Two indexes, each with a limit of its own.
+abbrev pub limited_spec : ℕ → JobSpec
+limited_spec limit = record sample_spec {
+  parallelism = 2;
+  completions = Some 2;
+  mode = Indexed;
+  per_index = Some limit;
+}
+
+-- Exit code 3 fails the index of the pod, and no index may fail.
+abbrev pub unfailing_spec : JobSpec
+unfailing_spec = record (limited_spec 1) {
+  parallelism = 1;
+  max_failed = Some 0;
+  failure = Some (record {
+    rules = record { action = FailIndex; requirement = ExitCodes None Within (pos 3 ∷ []) } ∷ [];
   });
 }
 
@@ -197,6 +221,9 @@ pod_made index uid version = reply.Stepped (request.CreatePod index) (answer.Cre
 abbrev pub pod_marked : ℕ → ℕ → Reply
 pod_marked uid version = reply.Stepped (request.MarkPod (uid_of uid)) (answer.Written (version_at version))
 
+abbrev pub pod_let_go : ℕ → ℕ → Reply
+pod_let_go uid version = reply.Stepped (request.LetGo (uid_of uid)) (answer.Released (version_at version))
+
 abbrev pub pod_released : ℕ → ℕ → Reply
 pod_released uid version = reply.Stepped (request.Release (uid_of uid)) (answer.Released (version_at version))
 
@@ -237,6 +264,16 @@ both_true target end reason = (target, true, reason) ∷ (end, true, reason) ∷
 abbrev pub told_indexes : Script → Shape → Option (List ℕ)
 told_indexes script shape =
     option_map (λ (job : Job). job.status.completed) (job_in pi_key (whole_play script shape).log)
+
+-- The indexes that its status has as failed, and the failures of each index.
+abbrev pub told_failed : Script → Shape → Option (List ℕ × List IndexCount)
+told_failed script shape =
+    option_map (λ (job : Job). (job.status.failed_indexes, job.status.index_failures))
+    (job_in pi_key (whole_play script shape).log)
+
+-- An index has failed once, and by the failure policy or not.
+abbrev pub failed_once : ℕ → Bool → IndexCount
+failed_once n fail = record { index = n; failures = 1; fail = fail }
 
 -- What the ledger has judged of the Job of the UID: successes, failures and indexes.
 abbrev pub told_verdicts : Script → Shape → ℕ → Verdicts

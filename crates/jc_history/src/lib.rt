@@ -12,5 +12,6 @@ pub use laws::{
     who_waits_is_in_line,
 };
 pub use samples::{
-    lost_events_play, policies_play, refusals_play, settling_plays, several_pods_play,
+    changed_indexes_play, lost_events_play, policies_play, refusals_play, settling_plays,
+    several_pods_play,
 };

@@ -6,9 +6,9 @@ ghost use Rattle.jc_types.specs.declared.runs.Past.{Past};
 ghost use Rattle.jc_types.specs.declared.statuses.CondKind.TheVariants.{Complete, Failed, FailureTarget, SuccessCriteriaMet, Suspended};
 ghost use Rattle.jc_types.specs.declared.statuses.Reason.TheVariants as reason;
 ghost use Rattle.jc_history.specs.Play.{whole_play};
-ghost use Rattle.jc_history.specs.SampleReplies.{backoff_limit_replies, conflict_replies, deadline_replies, dropped_creation_replies, failing_exit_replies, indexes_replies, lagging_cache_replies, late_let_go_replies, lost_creation_replies, lost_status_replies, made_again_replies, marked_pod_replies, one_index_twice_replies, one_pod_replies, refusals_replies, replacement_replies, restart_replies, restarted_container_replies, suspension_replies, window_replies};
-ghost use Rattle.jc_history.specs.SampleScripts.{backoff_limit_script, conflict_script, deadline_script, dropped_creation_script, failing_exit_script, indexes_script, lagging_cache_script, late_let_go_script, lost_creation_script, lost_status_script, made_again_script, marked_pod_script, one_index_twice_script, one_pod_script, refusals_script, replacement_script, restart_script, restarted_container_script, suspension_script, window_script, settling_script, ignoring_script};
-ghost use Rattle.jc_history.specs.Samples.{narrow_window, sample_shape, told_conditions, told_counts, told_indexes, told_replies, told_verdicts, verdict_counts, both_true, two_controllers, usual_shape};
+ghost use Rattle.jc_history.specs.SampleReplies.{elastic_replies, failed_index_replies, unfailing_replies, backoff_limit_replies, conflict_replies, deadline_replies, dropped_creation_replies, failing_exit_replies, indexes_replies, lagging_cache_replies, late_let_go_replies, lost_creation_replies, lost_status_replies, made_again_replies, marked_pod_replies, one_index_twice_replies, one_pod_replies, refusals_replies, replacement_replies, restart_replies, restarted_container_replies, suspension_replies, window_replies};
+ghost use Rattle.jc_history.specs.SampleScripts.{elastic_script, failed_index_script, unfailing_script, backoff_limit_script, conflict_script, deadline_script, dropped_creation_script, failing_exit_script, indexes_script, lagging_cache_script, late_let_go_script, lost_creation_script, lost_status_script, made_again_script, marked_pod_script, one_index_twice_script, one_pod_script, refusals_script, replacement_script, restart_script, restarted_container_script, suspension_script, window_script, settling_script, ignoring_script};
+ghost use Rattle.jc_history.specs.Samples.{failed_once, narrow_window, sample_shape, told_conditions, told_counts, told_failed, told_indexes, told_replies, told_verdicts, verdict_counts, both_true, two_controllers, usual_shape};
 
 /// Restarts, lagging caches, conflicts and requests that are not answered, each at the worst moment.
 pub fn lost_events_play()
@@ -87,6 +87,27 @@ pub fn several_pods_play()
         ≡ verdict_counts 2 0 1 }
     ensures made_again_verdicts { told_verdicts made_again_script two_controllers 3
         ≡ verdict_counts 0 0 0 }
+{}
+
+/// Indexed Jobs whose number of indexes changes, and limits for each index (KEP-3715, KEP-3850).
+pub fn changed_indexes_play()
+    ensures elastic { told_replies elastic_script usual_shape ≡ elastic_replies }
+    ensures elastic_counts { told_counts elastic_script usual_shape ≡ Some (1, 0) }
+    ensures elastic_completed { told_indexes elastic_script usual_shape ≡ Some (1 ∷ []) }
+    ensures elastic_verdicts { told_verdicts elastic_script usual_shape 1 ≡ verdict_counts 2 0 1 }
+    ensures failed_index { told_replies failed_index_script usual_shape ≡ failed_index_replies }
+    ensures failed_index_counts { told_counts failed_index_script usual_shape ≡ Some (1, 1) }
+    ensures failed_index_conditions { told_conditions failed_index_script usual_shape
+        ≡ Some (both_true FailureTarget Failed reason.FailedIndexes) }
+    ensures failed_index_failed { told_failed failed_index_script usual_shape
+        ≡ Some (0 ∷ [], failed_once 0 false ∷ []) }
+    ensures failed_index_verdicts { told_verdicts failed_index_script usual_shape 1
+        ≡ verdict_counts 1 1 1 }
+    ensures unfailing { told_replies unfailing_script usual_shape ≡ unfailing_replies }
+    ensures unfailing_conditions { told_conditions unfailing_script usual_shape
+        ≡ Some (both_true FailureTarget Failed reason.MaxFailedIndexesExceeded) }
+    ensures unfailing_failed { told_failed unfailing_script usual_shape
+        ≡ Some (0 ∷ [], failed_once 0 true ∷ []) }
 {}
 
 /// What is refused, and a cache that has fallen out of the window.

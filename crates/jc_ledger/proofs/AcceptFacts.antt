@@ -121,7 +121,8 @@ ledger_of-accepted j d past log s a appended basis within =
 pub ties-accepted : (d : Deed) (past : List Deed) (log : List Entry) (s : StatusWrite) (made : Job)
     → IsAccepted d past log s → appends d past ≡ true → IsBasisOf log s.flight.basis → AllWithin (length log) past
     → s.job.uid ≡ made.uid
-    → Puts made log (ledger_of made.uid past log) s.job (pods_of made.uid (upto s.flight.basis.pods_at.0 log)) s.flight.basis.pods_at.0 s.current s.new
+    → Puts made log (ledger_of made.uid past log) (entered s.job (pods_of made.uid (upto s.flight.basis.pods_at.0 log)) s.flight.basis.pods_at.0 (suc (length log)) (ledger_of made.uid past log))
+    s.job (pods_of made.uid (upto s.flight.basis.pods_at.0 log)) s.flight.basis.pods_at.0 s.current s.new
     → ((j : Uid) → Ties (made_as j log) log (ledger_of j past log))
     → (j : Uid) → Ties (made_as j (JobPut s.new ∷ log)) (JobPut s.new ∷ log) (ledger_of j (d ∷ past) (JobPut s.new ∷ log))
 ties-accepted d past log s made a appended basis within uid p jobs j = by (same_uid s.job.uid j) refl
@@ -140,7 +141,7 @@ ties-accepted d past log s made a appended basis within uid p jobs j = by (same_
         ∙ cond-true (same_uid s.job.uid made.uid) after old (ap (λ v. same_uid v made.uid) uid ∙ same_uid-itself made.uid) in
         subst (Ties (made_as made.uid (JobPut s.new ∷ log)) (JobPut s.new ∷ log)) (sym is)
         (ties_from (JobPut s.new ∷ log) after made (made_as-more made.uid (JobPut s.new) log made p.is_made)
-        (ties_put made log old s.job pods at s.current s.new p))
+        (ties_put made log old after s.job pods at s.current s.new p))
 
     by : (b : Bool) → same_uid s.job.uid j ≡ b → Ties (made_as j (JobPut s.new ∷ log)) (JobPut s.new ∷ log) (ledger_of j (d ∷ past) (JobPut s.new ∷ log))
     by true e =
@@ -157,7 +158,8 @@ ties-accepted d past log s made a appended basis within uid p jobs j = by (same_
 -- All that ties, once it is shown of the Job that is put and of the syncs under way.
 pub tied_accepted : (d : Deed) (past : List Deed) (log : List Entry) (flights next : List Flight) (s : StatusWrite) (made : Job)
     → Tied past log flights → IsAccepted d past log s → IsBasisOf log s.flight.basis → s.job.uid ≡ made.uid
-    → Puts made log (ledger_of made.uid past log) s.job (pods_of made.uid (upto s.flight.basis.pods_at.0 log)) s.flight.basis.pods_at.0 s.current s.new
+    → Puts made log (ledger_of made.uid past log) (entered s.job (pods_of made.uid (upto s.flight.basis.pods_at.0 log)) s.flight.basis.pods_at.0 (suc (length log)) (ledger_of made.uid past log))
+    s.job (pods_of made.uid (upto s.flight.basis.pods_at.0 log)) s.flight.basis.pods_at.0 s.current s.new
     → Each (Flies (JobPut s.new ∷ log)) next → Tied (d ∷ past) (JobPut s.new ∷ log) next
 tied_accepted d past log flights next s made t a basis uid puts flying =
     let g = grow d past (JobPut s.new) log flights t a.written in
@@ -168,7 +170,7 @@ tied_accepted d past log flights next s made t a basis uid puts flying =
       within = g.within;
       jobs = jobs;
       numbered = PodsHaveIndexes-more (JobPut s.new) log t.numbered (PodsHaveIndexes-job (JobPut s.new) log g.legal refl (PodsHaveIndexes-now log t.numbered));
-      totals = totals_more d past (JobPut s.new) log g.legal t.within jobs t.totals;
+      totals = totals_more d past (JobPut s.new) log g.legal jobs t.totals;
       once = once_more (JobPut s.new) past log flights t;
       taken = (TakesWell-none d past (JobPut s.new ∷ log) (ap (λ (r : Reply). taking_of (request_of r)) a.reply), g.taken);
       flying = flying;

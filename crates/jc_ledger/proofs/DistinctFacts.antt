@@ -12,13 +12,14 @@ use Rattle.jc_log.specs.Log.{upto, pods_in, pods_of}
 use Rattle.jc_states.specs.PodLists.{RisesFrom}
 use Rattle.jc_states.specs.Pods.{is_tracked}
 use Rattle.jc_states.specs.UidLists.{is_in, AscendsFrom, uids_of}
-use Rattle.jc_types.proofs.ListFacts.{Each-weaker, Each-passes, Each-map}
+use Rattle.jc_types.proofs.ListFacts.{Each-filter, Each-weaker, Each-passes, Each-map}
 use Rattle.jc_log.proofs.PodFacts.{pods_in-rises}
 use Rattle.jc_states.proofs.PodListFacts.{rises_filter}
 use Rattle.jc_states.proofs.UidListFacts.{uids_of-ascends}
 use Rattle.jc_failpol.specs.Outcomes.{is_verdict, outcome_of}
 use Rattle.jc_account.specs.Judged.{is_fresh}
-use Rattle.jc_ledger.specs.Ledger.{Record, record_of, judged_uids, has_record, chosen, recorded, entered, Judging, judging_of, judged_by, Ledger, ledger_of}
+use Rattle.jc_account.specs.Rooms.{has_room}
+use Rattle.jc_ledger.specs.Ledger.{Record, record_of, judged_uids, has_record, space, fresh, chosen, recorded, entered, Judging, judging_of, judged_by, Ledger, ledger_of}
 
 -- ---- lists of UIDs
 
@@ -98,13 +99,16 @@ fresh_new job records pod h =
 distinct_entered : (job : Job) (pods : List Pod) (seen at : ℕ) (ledger : Ledger) → RisesFrom 0 pods → IsDistinct same_uid (judged_uids ledger.records)
     → IsDistinct same_uid (judged_uids (entered job pods seen at ledger).records)
 distinct_entered job pods seen at ledger rises d =
+    let unjudged = fresh job ledger.records pods in
     let few = chosen job ledger.records pods in
+    let picks = has_room job.spec (space job ledger.records pods) unjudged in
+    let test = is_fresh job.spec (has_record ledger.records) in
     subst (IsDistinct same_uid) (sym (judged_uids-more job seen at ledger.records few))
     (distinct_append (judged_uids ledger.records) (uids_of few) d
-    (ascends_distinct 0 (uids_of few) (uids_of-ascends 0 few (rises_filter 0 (is_fresh job.spec (has_record ledger.records)) pods rises)))
+    (ascends_distinct 0 (uids_of few) (uids_of-ascends 0 few (rises_filter 0 picks unjudged (rises_filter 0 test pods rises))))
     (Each-map (λ (pod : Pod). pod.uid) (λ u. is_in u (judged_uids ledger.records) ≡ false) few
-    (Each-weaker (λ pod. is_fresh job.spec (has_record ledger.records) pod ≡ true) (λ pod. is_in pod.uid (judged_uids ledger.records) ≡ false) (λ pod h. fresh_new job ledger.records pod h) few
-    (Each-passes (is_fresh job.spec (has_record ledger.records)) pods))))
+    (Each-weaker (λ pod. test pod ≡ true) (λ pod. is_in pod.uid (judged_uids ledger.records) ≡ false) (λ pod h. fresh_new job ledger.records pod h) few
+    (Each-filter (λ pod. test pod ≡ true) picks unjudged (Each-passes test pods)))))
 
 -- So does any deed.
 distinct_judged : (j : Uid) (log : List Entry) (judging : Option Judging) (ledger : Ledger) → IsDistinct same_uid (judged_uids ledger.records)

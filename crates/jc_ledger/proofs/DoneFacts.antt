@@ -2,20 +2,21 @@
 use Rattle.std.proofs.Common.{◌≡◌, ℕ, zero, suc, ◌<◌, ◌≤◌, Bool, true, false, cond, eqb, ltb, ◌||◌, List, [], ◌∷◌, length, get_or, filter, Option, Some, None, refl, sym, ap, ◌∙◌, arith, true≢false}
 use Rattle.std.specs.Prelude.{IfSome}
 use Rattle.std.specs.List.{AllByRecursion as Each, cons_option}
-use Rattle.std.proofs.lemmas.Bool.{eqb-true, ltb-true, or_left}
+use Rattle.std.proofs.lemmas.Bool.{eqb-true, ltb-true}
 use Rattle.jc_ranges.specs.Sets.{IsIncreasing, has, with_member}
 use Rattle.jc_ranges.proofs.Order.{each_weaker, increasing_append, present}
 use Rattle.jc_types.specs.declared.numbers.Uid.{Uid}
 use Rattle.jc_types.specs.declared.objects.Entry.{Entry}
+use Rattle.jc_types.specs.declared.objects.Job.{Job}
 use Rattle.jc_types.specs.declared.objects.Pod.{Pod}
 use Rattle.jc_log.specs.Deeds.{Deed}
 use Rattle.jc_types.specs.Keys.{same_uid}
 use Rattle.jc_log.specs.Log.{pods_of, upto}
+use Rattle.jc_states.specs.Conditions.{has_end}
 use Rattle.jc_states.specs.UidLists.{join}
-use Rattle.jc_types.proofs.ListFacts.{Each-filter, Each-passes, Each-weaker}
-use Rattle.jc_states.proofs.UidListFacts.{has-join}
+use Rattle.jc_types.proofs.ListFacts.{Each-append, Each-filter, Each-passes, Each-weaker}
 use Rattle.jc_account.specs.Modes.{indexes_of}
-use Rattle.jc_ledger.specs.Ledger.{Ledger, Judging, chosen, successes, entered, judged_by, judging_of, ledger_of}
+use Rattle.jc_ledger.specs.Ledger.{is_within, kept, within, Ledger, Judging, successes, entered, judged_by, judging_of, ledger_of}
 
 -- ---- joins increase
 
@@ -47,6 +48,14 @@ pub increases_join : (xs more : List ℕ) → IsIncreasing xs → IsIncreasing (
 increases_join xs [] s = s
 increases_join xs (n ∷ more) s = increases_with n (join xs more) (increases_join xs more s)
 
+-- What stays of them keeps the order.
+pub increases_kept : (job : Job) (xs : List ℕ) → IsIncreasing xs → IsIncreasing (kept job xs)
+increases_kept job xs s = by (has_end job.status.conditions)
+  where
+    by : (b : Bool) → IsIncreasing (cond b xs (within job.spec xs))
+    by true = s
+    by false = increases_filter (is_within job.spec) xs s
+
 -- The indexes that a ledger has done increase.
 pub done-increases : (j : Uid) (deeds : List Deed) (log : List Entry) → IsIncreasing (ledger_of j deeds log).done
 done-increases j [] log = tt
@@ -58,8 +67,30 @@ done-increases j (d ∷ past) log = by (judging_of d past log) (ledger_of j past
       where
         either : (b : Bool) → IsIncreasing (cond b (entered judging.job (pods_of j (upto judging.seen log)) judging.seen judging.at ledger) ledger).done
         either true =
-            increases_join ledger.done (indexes_of (successes judging.job (chosen judging.job ledger.records (pods_of j (upto judging.seen log))))) s
+            let job = judging.job in
+            increases_join (kept job ledger.done) (within job.spec (indexes_of (successes job ledger.records (pods_of j (upto judging.seen log))))) (increases_kept job ledger.done s)
         either false = s
+
+-- ---- what each index has
+
+-- With a member more.
+each_with : (P : ℕ → Type 0) (n : ℕ) (xs : List ℕ) → P n → Each P xs → Each P (with_member n xs)
+each_with P n xs h all =
+    Each-append P (filter (λ x. ltb x n) xs) (n ∷ filter (λ x. ltb n x) xs) (Each-filter P (λ x. ltb x n) xs all) (h, Each-filter P (λ x. ltb n x) xs all)
+
+-- With others that join.
+pub each_join : (P : ℕ → Type 0) (xs more : List ℕ) → Each P xs → Each P more → Each P (join xs more)
+each_join P xs [] all rest = all
+each_join P xs (n ∷ more) all rest = each_with P n (join xs more) rest.0 (each_join P xs more all rest.1)
+
+-- What the index of each pod has, if it has one, each of their indexes has.
+pub indexes-each : (P : ℕ → Type 0) (pods : List Pod) → Each (λ pod. IfSome pod.index P) pods → Each P (indexes_of pods)
+indexes-each P [] all = tt
+indexes-each P (pod ∷ pods) all = by pod.index all.0 (indexes-each P pods all.1)
+  where
+    by : (index : Option ℕ) → IfSome index P → Each P (indexes_of pods) → Each P (cons_option index (indexes_of pods))
+    by None h rest = rest
+    by (Some n) h rest = (h, rest)
 
 -- ---- what is there may join
 
@@ -81,34 +112,3 @@ pub join-known : (xs more : List ℕ) → IsIncreasing xs → Each (λ n. has n 
 join-known xs [] s all = refl
 join-known xs (n ∷ more) s all =
     ap (with_member n) (join-known xs more s all.1) ∙ with_known n xs s all.0
-
--- An index that is known changes nothing, whatever joins besides.
-join_one : (xs more : List ℕ) (index : Option ℕ) → IsIncreasing xs → IfSome index (λ n. has n xs ≡ true) → join xs (cons_option index more) ≡ join xs more
-join_one xs more None s h = refl
-join_one xs more (Some n) s h =
-    with_known n (join xs more) (increases_join xs more s) (has-join n xs more ∙ or_left (has n xs) (has n more) h)
-
--- One more index after equal ones.
-join_more : (xs some more : List ℕ) (index : Option ℕ) → join xs some ≡ join xs more → join xs (cons_option index some) ≡ join xs (cons_option index more)
-join_more xs some more None e = e
-join_more xs some more (Some n) e = ap (with_member n) e
-
--- Two tests say the same of a pod, or its index, if it has one, is known.
-pub data Alike (xs : List ℕ) (one other : Bool) (index : Option ℕ) : Type 0 where
-  Same : one ≡ other → Alike xs one other index
-  Known : IfSome index (λ n. has n xs ≡ true) → Alike xs one other index
-
--- Indexes of pods by tests that are so alike join to the same.
-pub join-alike : (xs : List ℕ) (one other : Pod → Bool) (pods : List Pod) → IsIncreasing xs → Each (λ pod. Alike xs (one pod) (other pod) pod.index) pods
-    → join xs (indexes_of (filter one pods)) ≡ join xs (indexes_of (filter other pods))
-join-alike xs one other [] s all = refl
-join-alike xs one other (pod ∷ pods) s all = by (one pod) (other pod) all.0 (join-alike xs one other pods s all.1)
-  where
-    by : (a b : Bool) → Alike xs a b pod.index → join xs (indexes_of (filter one pods)) ≡ join xs (indexes_of (filter other pods))
-        → join xs (indexes_of (cond a (pod ∷ filter one pods) (filter one pods))) ≡ join xs (indexes_of (cond b (pod ∷ filter other pods) (filter other pods)))
-    by true true alike e = join_more xs (indexes_of (filter one pods)) (indexes_of (filter other pods)) pod.index e
-    by false false alike e = e
-    by true false (Same q) e = absurd (true≢false q)
-    by true false (Known k) e = join_one xs (indexes_of (filter one pods)) pod.index s k ∙ e
-    by false true (Same q) e = absurd (true≢false (sym q))
-    by false true (Known k) e = e ∙ sym (join_one xs (indexes_of (filter other pods)) pod.index s k)

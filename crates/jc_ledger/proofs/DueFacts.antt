@@ -1,8 +1,8 @@
 -- Why a sync may take a finalizer: of a pod that its Job had to release, of an orphan, of one that it lets go.
-use Rattle.std.proofs.Common.{◌≡◌, ◌≢◌, inl, inr, ℕ, suc, ◌≤◌, ◌==◌, Bool, true, false, not, ◌&&◌, ◌||◌, List, ◌∷◌, ◌++◌, length, find, Option, Some, None, is_some, IfSome, refl, sym, ap, ◌∙◌, subst, arith, eq-eqb, true≢false}
+use Rattle.std.proofs.Common.{◌≡◌, ◌≢◌, ◌⊎◌, inl, inr, ℕ, suc, ◌≤◌, ◌==◌, Bool, true, false, not, ◌&&◌, ◌||◌, List, ◌∷◌, ◌++◌, length, find, Option, Some, None, is_some, IfSome, refl, sym, ap, ◌∙◌, subst, arith, eq-eqb, true≢false}
 use Rattle.std.specs.List.{list_any}
 use Rattle.std.specs.Option.{option_map_or}
-use Rattle.std.proofs.lemmas.Bool.{and_parts, and_from, or_cases, or_right, not_from_false, not-true, both_ways}
+use Rattle.std.proofs.lemmas.Bool.{and_parts, and_from, or_cases, or_left, or_right, not_from_false, not-true, both_ways}
 use Rattle.jc_ranges.specs.Sets.{has}
 use Rattle.jc_types.specs.declared.numbers.Uid.{Uid}
 use Rattle.jc_types.specs.declared.numbers.Version.{Version}
@@ -16,7 +16,7 @@ use Rattle.jc_types.specs.declared.specifications.Mode.TheVariants.{NonIndexed, 
 use Rattle.jc_types.specs.declared.statuses.JobStatus.{JobStatus}
 use Rattle.jc_states.specs.Owners.{is_foreign}
 use Rattle.jc_states.specs.Bases.{is_own, own_pods}
-use Rattle.jc_states.specs.Conditions.{has_target}
+use Rattle.jc_states.specs.Conditions.{has_end, has_target}
 use Rattle.jc_log.specs.Deeds.{Deed}
 use Rattle.jc_types.specs.Keys.{same_uid}
 use Rattle.jc_log.specs.Log.{upto, entry_at, job_in, is_job_of, is_born, life, Life, Never, Live, Gone}
@@ -36,21 +36,23 @@ use Rattle.jc_failpol.specs.FailJob.{is_failure, policy_fails_job, fails_job}
 use Rattle.jc_failpol.specs.Outcomes.{is_verdict, outcome_of, outcome_place, same_outcome}
 use Rattle.jc_failpol.proofs.Settled.{ignored_stays, end_stays}
 use Rattle.jc_states.specs.Listed.{is_listed}
-use Rattle.jc_account.specs.Judged.{has_come_to, is_new, newly, is_to_release, has_tracked}
+use Rattle.jc_account.specs.Judged.{fits, has_come_to, is_left_over, is_new, newly, is_to_release, has_tracked}
 use Rattle.jc_states.specs.Indexes.{has_index}
 use Rattle.jc_account.proofs.JudgementFacts.{newly-is}
-use Rattle.jc_account.proofs.AccountFacts.{newly-member, failed-in, succeeded-in, indexes-in}
+use Rattle.jc_account.proofs.AccountFacts.{failed-in, succeeded-in, indexes-in}
+use Rattle.jc_account.proofs.ListedFacts.{among_passing}
 use Rattle.jc_ledger.specs.declared.flights.Flight.{Flight}
 use Rattle.jc_ledger.specs.EventKinds.{FinalizerWrite, Releases, Orphans, LetsGo}
 use Rattle.jc_ledger.specs.Flights.{IsSent, Flies}
-use Rattle.jc_ledger.specs.Ledger.{Record, record_of, ledger_of}
-use Rattle.jc_ledger.specs.Once.{IsJudged, PutBefore, Cause, WasJudged, IsIgnored, WasActive, WasCompleted}
+use Rattle.jc_ledger.specs.Ledger.{is_within, Record, record_of, ledger_of}
+use Rattle.jc_ledger.specs.Once.{IsJudged, PutBefore, Cause, WasJudged, IsIgnored, WasActive, NeedsNone, needs_none}
 use Rattle.jc_ledger.specs.Tied.{made_as, IsListing, IsSound, TiesJob, Tied}
 use Rattle.jc_ledger.proofs.DuePods.{IsDue, due_from}
 use Rattle.jc_ledger.proofs.FrameFacts.{AllFly-one, PodsHaveIndexes-now}
 use Rattle.jc_ledger.proofs.MadeFacts.{outcome-step, fails_job-step, made_as-uid, made_as-upto, made_as-born, WasMadeUnder, has_job-was_made, put-step}
 use Rattle.jc_ledger.proofs.OwnFacts.{basis-rises, found_any}
 use Rattle.jc_ledger.proofs.PutFacts.{ties_of}
+use Rattle.jc_ledger.proofs.RoomFacts.{is_newly, kept_fits, to_release_cases}
 use Rattle.jc_log.proofs.LastingFacts.{step_to, step_on}
 use Rattle.jc_ledger.proofs.SeenFacts.{Saw, saw, active_alive, succeeded_phase, fails_early}
 use Rattle.jc_ledger.proofs.TakenFacts.{Justly}
@@ -61,7 +63,7 @@ use Rattle.jc_ledger.proofs.TakenFacts.{Justly}
 pub record Due (past : List Deed) (log : List Entry) (flight : Flight) (job : Job) (seen now : Pod) (made : Job) : Type 0 where
   pub stored : Stored log
   pub ties : TiesJob made log (ledger_of made.uid past log)
-  pub due : IsDue job seen
+  pub due : IsDue job flight.basis.pods seen
   pub uid : job.uid ≡ made.uid
   pub job_step : JobStep made job
   pub entry : entry_at job.version.0 log ≡ Some (JobPut job)
@@ -103,7 +105,7 @@ due_of d past log front back job f t r now there made is_made = record {
     flies : Flies log f.flight
     flies = AllFly-one log front back f.flight t.flying
 
-    due : IsDue job f.seen
+    due : IsDue job f.flight.basis.pods f.seen
     due = due_from job f.flight.basis.pods f.seen (basis-rises log f.flight.basis flies.basis) r.taken.is_seen r.due
 
     seen_then : Saw log f.flight.basis f.seen
@@ -171,45 +173,64 @@ listed_ended past log flight job seen now made due h =
     at = let before = sound.before in let by_then = h.by_then in let reached = due.reached in omega (arith, before, by_then, reached)
 
 -- A pod that was to be released had ended.
-pub seen_ended : (past : List Deed) (log : List Entry) (flight : Flight) (job : Job) (seen now : Pod) (made : Job) → Due past log flight job seen now made
-    → is_to_release job seen ≡ true → outcome_of made.spec seen ≢ Alive
-seen_ended past log flight job seen now made due h =
-    elim (or_cases (not (same_outcome (outcome_of job.spec seen) Alive)) (is_listed job.status seen.uid)
-    (and_parts (is_tracked seen) (not (same_outcome (outcome_of job.spec seen) Alive) || is_listed job.status seen.uid) h).1) [
-      | inl n ↦ λ alive. both_ways (same_outcome (outcome_of job.spec seen) Alive) (not-true (same_outcome (outcome_of job.spec seen) Alive) n) (ap (λ o. same_outcome o Alive) (outcome-step made job seen due.job_step ∙ alive))
+pub seen_ended : (past : List Deed) (log : List Entry) (flight : Flight) (job : Job) (seen now : Pod) (made : Job) → Due past log flight job seen now made → outcome_of made.spec seen ≢ Alive
+seen_ended past log flight job seen now made due =
+    elim (to_release_cases job (own_pods job flight.basis.pods) seen due.due.ends) [
+      | inl n ↦
+          λ alive.
+          both_ways (same_outcome (outcome_of job.spec seen) Alive) (not-true (same_outcome (outcome_of job.spec seen) Alive) n.0)
+          (ap (λ o. same_outcome o Alive) (outcome-step made job seen due.job_step ∙ alive))
       | inr l ↦ listed_ended past log flight job seen now made due (listed_recorded (ledger_of made.uid past log).records job.version.0 job.status seen.uid (due.ties.listed job.version.0 job due.entry due.uid) l)
     ]
 
 -- ---- what is judged
 
 -- A pod that is tracked, has come to this and is not listed is new.
-new_one : (job : Job) (outcome : Outcome) (seen : Pod) → seen.tracked ≡ true → outcome_of job.spec seen ≡ outcome → has_come_to job outcome seen ≡ true
-new_one job outcome seen tracked is =
-    and_from (is_tracked seen) (same_outcome (outcome_of job.spec seen) outcome) tracked
-    (ap (λ o. same_outcome o outcome) is ∙ eq-eqb (outcome_place outcome) (outcome_place outcome) refl)
+new_one : (job : Job) (outcome : Outcome) (seen : Pod) → seen.tracked ≡ true → outcome_of job.spec seen ≡ outcome → is_listed job.status seen.uid ≡ false → is_new job outcome seen ≡ true
+new_one job outcome seen tracked is unlisted =
+    and_from (has_come_to job outcome seen) (not (is_listed job.status seen.uid))
+    (and_from (is_tracked seen) (same_outcome (outcome_of job.spec seen) outcome) tracked
+    (ap (λ o. same_outcome o outcome) is ∙ eq-eqb (outcome_place outcome) (outcome_place outcome) refl))
+    (not_from_false (is_listed job.status seen.uid) unlisted)
 
--- It is among those that are judged.
+-- If it is to be released it is judged now.
+newly_one : (job : Job) (outcome : Outcome) (own : List Pod) (seen : Pod) → is_verdict outcome ≡ true → is_to_release job own seen ≡ true
+    → outcome_of job.spec seen ≡ outcome → is_listed job.status seen.uid ≡ false → is_newly job own outcome seen ≡ true
+newly_one job outcome own seen verdict due is unlisted =
+    let tracked = (and_parts (is_tracked seen) ((not (same_outcome (outcome_of job.spec seen) Alive) && not (is_left_over job own seen)) || is_listed job.status seen.uid) due).0 in
+    and_from (is_new job outcome seen) (fits job own seen) (new_one job outcome seen tracked is unlisted) (by tracked (to_release_cases job own seen due))
+  where
+    by : seen.tracked ≡ true → ((not (same_outcome (outcome_of job.spec seen) Alive) ≡ true) × (is_left_over job own seen ≡ false)) ⊎ (is_listed job.status seen.uid ≡ true) → fits job own seen ≡ true
+    by tracked (inl n) =
+        kept_fits job own seen
+        (and_from (is_tracked seen) (is_verdict (outcome_of job.spec seen) && not (is_listed job.status seen.uid)) tracked
+        (and_from (is_verdict (outcome_of job.spec seen)) (not (is_listed job.status seen.uid)) (ap is_verdict is ∙ verdict) (not_from_false (is_listed job.status seen.uid) unlisted)))
+        n.1
+    by tracked (inr l) = absurd (true≢false (sym l ∙ unlisted))
+
+-- A pod that is judged now is among those that are.
 newly_in : (job : Job) (outcome : Outcome) (pods : List Pod) (seen : Pod) → is_verdict outcome ≡ true → find (λ (p : Pod). same_uid p.uid seen.uid) pods ≡ Some seen → is_own job seen ≡ true
-    → has_come_to job outcome seen ≡ true → is_listed job.status seen.uid ≡ false → is_in seen.uid (uids_of (newly job (own_pods job pods) outcome)) ≡ true
-newly_in job outcome pods seen verdict found own come unlisted =
-    newly-member seen.uid job (own_pods job pods) outcome verdict
-    ∙ and_from (not (is_listed job.status seen.uid)) (list_any (λ p. has_come_to job outcome p && same_uid p.uid seen.uid) (own_pods job pods)) (not_from_false (is_listed job.status seen.uid) unlisted)
-    (any_filter (λ p. has_come_to job outcome p && same_uid p.uid seen.uid) (is_own job) pods
-    ∙ found_any (λ p. same_uid p.uid seen.uid) (λ p. is_own job p && (has_come_to job outcome p && same_uid p.uid seen.uid)) pods seen found
-    (and_from (is_own job seen) (has_come_to job outcome seen && same_uid seen.uid seen.uid) own
-    (and_from (has_come_to job outcome seen) (same_uid seen.uid seen.uid) come (same_uid-itself seen.uid))))
+    → is_newly job (own_pods job pods) outcome seen ≡ true → is_in seen.uid (uids_of (newly job (own_pods job pods) outcome)) ≡ true
+newly_in job outcome pods seen verdict found own new =
+    let test = is_newly job (own_pods job pods) outcome in
+    ap (λ ps. is_in seen.uid (uids_of ps)) (newly-is job (own_pods job pods) outcome verdict)
+    ∙ among_passing seen.uid test (own_pods job pods)
+    ∙ any_filter (λ p. test p && same_uid p.uid seen.uid) (is_own job) pods
+    ∙ found_any (λ p. same_uid p.uid seen.uid) (λ p. is_own job p && (test p && same_uid p.uid seen.uid)) pods seen found
+    (and_from (is_own job seen) (test seen && same_uid seen.uid seen.uid) own
+    (and_from (test seen) (same_uid seen.uid seen.uid) new (same_uid-itself seen.uid)))
 
 -- So is its index.
 index_in : (job : Job) (pods : List Pod) (seen : Pod) (n : ℕ) → find (λ (p : Pod). same_uid p.uid seen.uid) pods ≡ Some seen → is_own job seen ≡ true
-    → has_come_to job Succeeded seen ≡ true → is_listed job.status seen.uid ≡ false → seen.index ≡ Some n → list_any (has_index n) (newly job (own_pods job pods) Succeeded) ≡ true
-index_in job pods seen n found own come unlisted index =
+    → is_newly job (own_pods job pods) Succeeded seen ≡ true → seen.index ≡ Some n → list_any (has_index n) (newly job (own_pods job pods) Succeeded) ≡ true
+index_in job pods seen n found own new index =
+    let test = is_newly job (own_pods job pods) Succeeded in
     ap (list_any (has_index n)) (newly-is job (own_pods job pods) Succeeded refl)
-    ∙ any_filter (has_index n) (is_new job Succeeded) (own_pods job pods)
-    ∙ any_filter (λ p. is_new job Succeeded p && has_index n p) (is_own job) pods
-    ∙ found_any (λ p. same_uid p.uid seen.uid) (λ p. is_own job p && (is_new job Succeeded p && has_index n p)) pods seen found
-    (and_from (is_own job seen) (is_new job Succeeded seen && has_index n seen) own
-    (and_from (is_new job Succeeded seen) (has_index n seen)
-    (and_from (has_come_to job Succeeded seen) (not (is_listed job.status seen.uid)) come (not_from_false (is_listed job.status seen.uid) unlisted))
+    ∙ any_filter (has_index n) test (own_pods job pods)
+    ∙ any_filter (λ p. test p && has_index n p) (is_own job) pods
+    ∙ found_any (λ p. same_uid p.uid seen.uid) (λ p. is_own job p && (test p && has_index n p)) pods seen found
+    (and_from (is_own job seen) (test seen && has_index n seen) own
+    (and_from (test seen) (has_index n seen) new
     (ap (λ o. option_map_or (λ index. index == n) o false) index ∙ eq-eqb n n refl)))
 
 -- ---- the cause
@@ -223,20 +244,16 @@ due_cause d past log job f now made r due = by_list (is_listed job.status f.seen
     own : is_own job f.seen ≡ true
     own = due.due.own
 
-    ended : is_to_release job f.seen ≡ true
-    ended = due.due.ends
-
-    tracked : f.seen.tracked ≡ true
-    tracked = (and_parts (is_tracked f.seen) (not (same_outcome (outcome_of job.spec f.seen) Alive) || is_listed job.status f.seen.uid) ended).0
-
     sent_at : f.flight.sends.0 ≤ length log
     sent_at = (entry_at-place f.flight.sends.0 log (JobPut due.sent.put) due.sent.is_put).1
 
     listing : IsListing (ledger_of made.uid past log).records f.flight.sends.0 due.sent.put.status
     listing = due.ties.listed f.flight.sends.0 due.sent.put due.sent.is_put (due.sent.uid ∙ due.uid)
 
-    come : (outcome : Outcome) → outcome_of made.spec f.seen ≡ outcome → has_come_to job outcome f.seen ≡ true
-    come outcome is = new_one job outcome f.seen tracked (outcome-step made job f.seen due.job_step ∙ is)
+    new : (outcome : Outcome) → is_verdict outcome ≡ true → is_listed job.status f.seen.uid ≡ false → outcome_of made.spec f.seen ≡ outcome
+        → is_newly job (own_pods job f.flight.basis.pods) outcome f.seen ≡ true
+    new outcome verdict unlisted is =
+        newly_one job outcome (own_pods job f.flight.basis.pods) f.seen verdict due.due.ends (outcome-step made job f.seen due.job_step ∙ is) unlisted
 
     judged : (outcome : Outcome) → IsJudged (ledger_of made.uid past log).records f.seen.uid outcome f.flight.sends.0 → Cause made (ledger_of made.uid past log).records (suc (length log)) (f.entry ∷ log) false now
     judged outcome h =
@@ -248,7 +265,7 @@ due_cause d past log job f now made r due = by_list (is_listed job.status f.seen
         ∙ ap (is_in f.seen.uid) r.counted.uncounted_failed
         ∙ failed-in f.seen.uid job f.flight.basis.pods
         ∙ or_right (is_in f.seen.uid job.status.uncounted_failed && has_tracked (own_pods job f.flight.basis.pods) f.seen.uid) (is_in f.seen.uid (uids_of (newly job (own_pods job f.flight.basis.pods) Failed)))
-        (newly_in job Failed f.flight.basis.pods f.seen refl r.taken.is_seen own (come Failed is) unlisted)
+        (newly_in job Failed f.flight.basis.pods f.seen refl r.taken.is_seen own (new Failed refl unlisted is))
 
     succeeded : is_listed job.status f.seen.uid ≡ false → outcome_of made.spec f.seen ≡ Succeeded → made.spec.mode ≡ NonIndexed → is_in f.seen.uid due.sent.put.status.uncounted_succeeded ≡ true
     succeeded unlisted is mode =
@@ -256,35 +273,55 @@ due_cause d past log job f now made r due = by_list (is_listed job.status f.seen
         ∙ ap (is_in f.seen.uid) r.counted.uncounted_succeeded
         ∙ succeeded-in f.seen.uid job f.flight.basis.pods (due.job_step.mode ∙ mode)
         ∙ or_right (is_in f.seen.uid job.status.uncounted_succeeded && has_tracked (own_pods job f.flight.basis.pods) f.seen.uid) (is_in f.seen.uid (uids_of (newly job (own_pods job f.flight.basis.pods) Succeeded)))
-        (newly_in job Succeeded f.flight.basis.pods f.seen refl r.taken.is_seen own (come Succeeded is) unlisted)
+        (newly_in job Succeeded f.flight.basis.pods f.seen refl r.taken.is_seen own (new Succeeded refl unlisted is))
 
-    completed : is_listed job.status f.seen.uid ≡ false → outcome_of made.spec f.seen ≡ Succeeded → made.spec.mode ≡ Indexed → (index : Option ℕ) → now.index ≡ index → is_some index ≡ true
-        → option_map_or (λ n. has n due.sent.put.status.completed) index false ≡ true
-    completed unlisted is mode None at some = absurd (true≢false (sym some))
-    completed unlisted is mode (Some n) at some =
+    completed : is_listed job.status f.seen.uid ≡ false → outcome_of made.spec f.seen ≡ Succeeded → made.spec.mode ≡ Indexed → (n : ℕ) → now.index ≡ Some n → is_within job.spec n ≡ true
+        → has n due.sent.put.status.completed ≡ true
+    completed unlisted is mode n at below =
         ap (λ (s : JobStatus). has n s.completed) due.sent.status
         ∙ ap (has n) r.counted.completed
         ∙ indexes-in n job f.flight.basis.pods (due.job_step.mode ∙ mode)
-        ∙ or_right (has n job.status.completed) (list_any (has_index n) (newly job (own_pods job f.flight.basis.pods) Succeeded))
-        (index_in job f.flight.basis.pods f.seen n r.taken.is_seen own (come Succeeded is) unlisted (sym due.step.index ∙ at))
+        ∙ or_right (has n job.status.completed && (has_end job.status.conditions || is_within job.spec n)) (is_within job.spec n && list_any (has_index n) (newly job (own_pods job f.flight.basis.pods) Succeeded))
+        (and_from (is_within job.spec n) (list_any (has_index n) (newly job (own_pods job f.flight.basis.pods) Succeeded)) below
+        (index_in job f.flight.basis.pods f.seen n r.taken.is_seen own (new Succeeded refl unlisted is) (sym due.step.index ∙ at)))
+
+    -- A Job that was put and that says of the index that its success needs no count.
+    put_at : (v : ℕ) (put : Job) (n : ℕ) → now.index ≡ Some n → entry_at v log ≡ Some (JobPut put) → put.uid ≡ made.uid
+        → (has n put.status.completed || not (is_within put.spec n)) ≡ true → PutBefore (λ job. needs_none job now ≡ true) made.uid (suc (length log)) (f.entry ∷ log)
+    put_at v put n at is uid holds =
+        let place = entry_at-place v log (JobPut put) is in
+        record {
+          version = v;
+          before = omega (arith, place.1);
+          put = put;
+          is_put = entry_at-stays v f.entry (JobPut put) log is;
+          uid = uid;
+          holds = ap (λ (o : Option ℕ). option_map_or (λ i. has i put.status.completed || not (is_within put.spec i)) o false) at ∙ holds;
+        }
+
+    -- The index is completed where it is below the number that the sync saw; else that Job says so.
+    counted_by : is_listed job.status f.seen.uid ≡ false → outcome_of made.spec f.seen ≡ Succeeded → made.spec.mode ≡ Indexed → (index : Option ℕ) → now.index ≡ index → is_some index ≡ true
+        → PutBefore (λ put. needs_none put now ≡ true) made.uid (suc (length log)) (f.entry ∷ log)
+    counted_by unlisted is mode None at some = absurd (true≢false (sym some))
+    counted_by unlisted is mode (Some n) at some = by (is_within job.spec n) refl
+      where
+        by : (b : Bool) → is_within job.spec n ≡ b → PutBefore (λ put. needs_none put now ≡ true) made.uid (suc (length log)) (f.entry ∷ log)
+        by true below =
+            put_at f.flight.sends.0 due.sent.put n at due.sent.is_put (due.sent.uid ∙ due.uid)
+            (or_left (has n due.sent.put.status.completed) (not (is_within due.sent.put.spec n)) (completed unlisted is mode n at below))
+        by false past =
+            put_at job.version.0 job n at due.entry due.uid
+            (or_right (has n job.status.completed) (not (is_within job.spec n)) (not_from_false (is_within job.spec n) past))
 
     by_mode : is_listed job.status f.seen.uid ≡ false → outcome_of made.spec f.seen ≡ Succeeded → (m : Mode) → made.spec.mode ≡ m
         → Cause made (ledger_of made.uid past log).records (suc (length log)) (f.entry ∷ log) false now
     by_mode unlisted is NonIndexed mode = judged Succeeded (listing.succeeded f.seen.uid (succeeded unlisted is mode))
     by_mode unlisted is Indexed mode =
         let phase = succeeded_phase made.spec f.seen is in
-        WasCompleted mode (due.step.phase (ap is_final phase) ∙ phase)
-        (record {
-          version = f.flight.sends.0;
-          before = omega (arith, sent_at);
-          put = due.sent.put;
-          is_put = entry_at-stays f.flight.sends.0 f.entry (JobPut due.sent.put) log due.sent.is_put;
-          uid = due.sent.uid ∙ due.uid;
-          holds = completed unlisted is mode now.index refl (due.numbered mode);
-        })
+        NeedsNone mode (due.step.phase (ap is_final phase) ∙ phase) (counted_by unlisted is mode now.index refl (due.numbered mode))
 
     by_outcome : is_listed job.status f.seen.uid ≡ false → (o : Outcome) → outcome_of made.spec f.seen ≡ o → Cause made (ledger_of made.uid past log).records (suc (length log)) (f.entry ∷ log) false now
-    by_outcome unlisted Alive is = absurd (seen_ended past log f.flight job f.seen now made due ended is)
+    by_outcome unlisted Alive is = absurd (seen_ended past log f.flight job f.seen now made due is)
     by_outcome unlisted Succeeded is = by_mode unlisted is made.spec.mode refl
     by_outcome unlisted Failed is = judged Failed (listing.failed f.seen.uid (failed unlisted is))
     by_outcome unlisted Ignored is = IsIgnored (ignored_stays made.spec.replacement made.spec.failure due.ties.waits f.seen now due.step is)
@@ -301,7 +338,7 @@ pub due_target : (d : Deed) (past : List Deed) (log : List Entry) (job : Job) (f
     → fails_job made.spec now ≡ true → PutBefore (λ put. has_target put.status.conditions ≡ true) made.uid (suc (length log)) (f.entry ∷ log)
 due_target d past log job f now made r due fails =
     let place = entry_at-place f.flight.sends.0 log (JobPut due.sent.put) due.sent.is_put in
-    let ended = seen_ended past log f.flight job f.seen now made due due.due.ends in
+    let ended = seen_ended past log f.flight job f.seen now made due in
     let early = fails_early made.spec f.seen now due.ties.waits due.step ended fails in
     record {
       version = f.flight.sends.0;

@@ -21,29 +21,29 @@ use Rattle.jc_account.proofs.ListedFacts.{among_passing}
 use Rattle.jc_ledger.proofs.OwnFacts.{found_any}
 
 -- A pod that is among those to release is the Job's, and is to be released.
-pub record IsDue (job : Job) (seen : Pod) : Type 0 where
+pub record IsDue (job : Job) (pods : List Pod) (seen : Pod) : Type 0 where
   pub own : is_own job seen ≡ true
-  pub ends : is_to_release job seen ≡ true
+  pub ends : is_to_release job (own_pods job pods) seen ≡ true
 
 -- So is one whose UID is among theirs, as the sync saw it.
 pub due_from : (job : Job) (pods : List Pod) (seen : Pod) → IsRising pods → find (λ (p : Pod). same_uid p.uid seen.uid) pods ≡ Some seen
-    → is_in seen.uid (counted_in job pods).releases ≡ true → IsDue job seen
+    → is_in seen.uid (counted_in job pods).releases ≡ true → IsDue job pods seen
 due_from job pods seen rises found due =
     let own = own_pods job pods in
     let One = λ (p : Pod). pod_among p.uid pods ≡ Some p in
     let Own = λ (p : Pod). is_own job p ≡ true in
     let all : Each (λ p. One p × Own p) own = Each-both One Own own (Each-filter One (is_own job) pods (rises-found 0 pods rises)) (Each-passes (is_own job) pods) in
-    let one : Found (λ p. One p × Own p) (is_to_release job) seen.uid =
-    some_in (λ p. One p × Own p) (is_to_release job) seen.uid own all (among_passing seen.uid (is_to_release job) own ∙ sym (release-member seen.uid job pods) ∙ due) in
+    let one : Found (λ p. One p × Own p) (is_to_release job own) seen.uid =
+    some_in (λ p. One p × Own p) (is_to_release job own) seen.uid own all (among_passing seen.uid (is_to_release job own) own ∙ sym (release-member seen.uid job pods) ∙ due) in
     let same : one.pod ≡ seen = same_Some one.pod seen (sym one.has.0 ∙ ap (λ (u : Uid). pod_among u pods) one.uid ∙ found) in
-    record { own = ap (is_own job) (sym same) ∙ one.has.1; ends = ap (is_to_release job) (sym same) ∙ one.passes }
+    record { own = ap (is_own job) (sym same) ∙ one.has.1; ends = ap (is_to_release job own) (sym same) ∙ one.passes }
 
 -- And conversely.
 pub due_in : (job : Job) (pods : List Pod) (seen : Pod) → find (λ (p : Pod). same_uid p.uid seen.uid) pods ≡ Some seen
-    → is_own job seen ≡ true → is_to_release job seen ≡ true → is_in seen.uid (counted_in job pods).releases ≡ true
+    → is_own job seen ≡ true → is_to_release job (own_pods job pods) seen ≡ true → is_in seen.uid (counted_in job pods).releases ≡ true
 due_in job pods seen found own ends =
     release-member seen.uid job pods
-    ∙ any_filter (λ p. is_to_release job p && same_uid p.uid seen.uid) (is_own job) pods
-    ∙ found_any (λ p. same_uid p.uid seen.uid) (λ p. is_own job p && (is_to_release job p && same_uid p.uid seen.uid)) pods seen found
-    (and_from (is_own job seen) (is_to_release job seen && same_uid seen.uid seen.uid) own
-    (and_from (is_to_release job seen) (same_uid seen.uid seen.uid) ends (same_uid-itself seen.uid)))
+    ∙ any_filter (λ p. is_to_release job (own_pods job pods) p && same_uid p.uid seen.uid) (is_own job) pods
+    ∙ found_any (λ p. same_uid p.uid seen.uid) (λ p. is_own job p && (is_to_release job (own_pods job pods) p && same_uid p.uid seen.uid)) pods seen found
+    (and_from (is_own job seen) (is_to_release job (own_pods job pods) seen && same_uid seen.uid seen.uid) own
+    (and_from (is_to_release job (own_pods job pods) seen) (same_uid seen.uid seen.uid) ends (same_uid-itself seen.uid)))

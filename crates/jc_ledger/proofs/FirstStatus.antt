@@ -1,5 +1,5 @@
 -- The law on a first status: all that ties goes over.
-use Rattle.std.proofs.Common.{◌≡◌, ◌≤◌, List, ◌∷◌, ◌++◌, Option, Some, None, is_some, refl, sym, ap, ◌∙◌, subst, true≢false}
+use Rattle.std.proofs.Common.{◌≡◌, suc, ◌≤◌, List, ◌∷◌, ◌++◌, length, Option, Some, None, is_some, refl, sym, ap, ◌∙◌, subst, true≢false}
 use Rattle.std.specs.Prelude.{IfSome}
 use Rattle.jc_types.specs.declared.objects.Entry.{Entry}
 use Rattle.jc_types.specs.declared.objects.Entry.TheVariants.{JobPut}
@@ -12,10 +12,9 @@ use Rattle.jc_log.proofs.WriteFacts.{Stored-from_legal}
 use Rattle.jc_ledger.specs.declared.flights.Flight.{Flight}
 use Rattle.jc_ledger.specs.EventKinds.{StatusWrite, WritesFirst, with_written}
 use Rattle.jc_ledger.specs.Flights.{IsSent, Flies}
-use Rattle.jc_ledger.specs.Ledger.{ledger_of}
+use Rattle.jc_ledger.specs.Ledger.{entered, ledger_of}
 use Rattle.jc_ledger.specs.Tied.{Tied}
 use Rattle.jc_ledger.proofs.AcceptFacts.{IsOneJob, one_job, tied_accepted}
-use Rattle.jc_ledger.proofs.DoneFacts.{done-increases}
 use Rattle.jc_ledger.proofs.FirstFacts.{IsFirst, first_puts}
 use Rattle.jc_ledger.proofs.FrameFacts.{AllFly-more, AllFly-one, AllFly-put, Flies-more, grow}
 use Rattle.jc_ledger.proofs.OwnFacts.{own-is, basis-rises}
@@ -52,7 +51,6 @@ first-of d past log flights s one t flies legal w =
       };
       legal = legal;
       is_made = one.is_made;
-      increases = done-increases one.made.uid past log;
       own = own-is log s.flight.basis s.job t.legal flies.basis w.accepted.seen ∙ ap (λ j. pods_of j (upto y log)) one.job_step.uid;
       rises = basis-rises log s.flight.basis flies.basis;
       within = flies.basis.pods_at;
@@ -91,8 +89,9 @@ first_written d past log front back s t w =
     let one = one_job d past log s a g.legal flies.basis in
     let y = s.flight.basis.pods_at.0 in
     let ledger = ledger_of one.made.uid past log in
-    let puts : Puts one.made log ledger s.job (pods_of one.made.uid (upto y log)) y s.current s.new =
-    subst (λ (there : Job). Puts one.made log ledger s.job (pods_of one.made.uid (upto y log)) y there s.new)
+    let after = entered s.job (pods_of one.made.uid (upto y log)) y (suc (length log)) ledger in
+    let puts : Puts one.made log ledger after s.job (pods_of one.made.uid (upto y log)) y s.current s.new =
+    subst (λ (there : Job). Puts one.made log ledger after s.job (pods_of one.made.uid (upto y log)) y there s.new)
     (current-seen d past log s one flies w)
     (first_puts one.made log ledger s.job s.flight.basis.pods y s.new (first-of d past log flights s one t flies g.legal w)) in
     tied_accepted d past log flights (front ++ with_written s.flight s.new ∷ back) s one.made t a flies.basis one.job_step.uid puts

@@ -27,8 +27,7 @@ use Rattle.jc_ledger.specs.declared.flights.Flight.{Flight}
 use Rattle.jc_ledger.specs.EventKinds.{IsWritten, pod_of}
 use Rattle.jc_ledger.specs.Flights.{IsBasisOf, IsSent, Flies}
 use Rattle.jc_ledger.specs.Ledger.{Record, Ledger, ledger_of}
-use Rattle.jc_ledger.specs.Once.{Taking, taking_of, PutBefore, Cause, WasJudged, IsIgnored, WasActive, WasCompleted, IsJustified}
-use Rattle.jc_states.specs.Indexes.{is_completed}
+use Rattle.jc_ledger.specs.Once.{Taking, taking_of, PutBefore, Cause, WasJudged, IsIgnored, WasActive, NeedsNone, needs_none, IsJustified}
 use Rattle.jc_ledger.specs.Syncs.{reach, request_of, appends}
 use Rattle.jc_ledger.specs.Tied.{made_as, made_after, IsSound, IsCurrent, TiesJob, Ties, HasIndexIn, PodsHaveIndexes, TakesWell, AllWell, IsWithin, IsReached, Tied}
 use Rattle.jc_ledger.proofs.LedgerFacts.{AllWithin, AllWithin-more, reach-is, ledger_of-more}
@@ -161,19 +160,20 @@ IsCurrent-more k e log ledger job legal is c = record {
   succeeded = c.succeeded;
   completed = c.completed;
   seen = c.seen;
+  by_index = c.by_index;
 }
 
 -- What ties the ledger of a Job stays where the entry does not put the Job.
 pub TiesJob-more : (made : Job) (e : Entry) (log : List Entry) (ledger : Ledger) → Legal (e ∷ log) → puts_other made.uid e ≡ true → TiesJob made log ledger → TiesJob made (e ∷ log) ledger
 TiesJob-more made e log ledger legal other t = record {
   waits = t.waits;
+  limited = t.limited;
   sound = λ u r found. IsSound-more made e log r (t.sound u r found);
   tidy = λ v job is uid. t.tidy v job (put_older made.uid v e log job other is uid) uid;
   listed = λ v job is uid. t.listed v job (put_older made.uid v e log job other is uid) uid;
   now = λ job is uid.
       let there = job_older made.uid made.key e log job other is uid in
       IsCurrent-more made.key e log ledger job legal.1 there (t.now job there uid);
-  indexes = t.indexes;
 }
 
 -- What ties a ledger to the log stays where the entry does not put its Job.
@@ -276,8 +276,8 @@ Cause-more : (job : Job) (records : List Record) (w : ℕ) (e : Entry) (log : Li
 Cause-more job records w e log lets_go pod (WasJudged r is at) = WasJudged r is at
 Cause-more job records w e log lets_go pod (IsIgnored is) = IsIgnored is
 Cause-more job records w e log lets_go pod (WasActive goes active) = WasActive goes active
-Cause-more job records w e log lets_go pod (WasCompleted mode phase before) =
-    WasCompleted mode phase (PutBefore-more (λ put. is_completed put.status.completed pod ≡ true) job.uid w e log before)
+Cause-more job records w e log lets_go pod (NeedsNone mode phase before) =
+    NeedsNone mode phase (PutBefore-more (λ put. needs_none put pod ≡ true) job.uid w e log before)
 
 -- What was justified stays so.
 pub IsJustified-more : (job : Job) (records : List Record) (w : ℕ) (e : Entry) (log : List Entry) (lets_go : Bool) (pod : Pod) → IsJustified job records w log lets_go pod → IsJustified job records w (e ∷ log) lets_go pod

@@ -1,13 +1,17 @@
 -- A Job is created, updated or deleted, and a pod is written.
-use Rattle.std.proofs.Common.{◌≡◌, ℕ, suc, ◌+◌, ◌≤◌, Bool, true, false, ◌&&◌, List, [], ◌∷◌, ◌++◌, length, Option, Some, None, is_some, refl, sym, ap, ◌∙◌, subst, arith, true≢false}
+use Rattle.std.proofs.Common.{IsSome, ◌≡◌, ℕ, suc, ◌+◌, ◌≤◌, Bool, true, false, ◌&&◌, List, [], ◌∷◌, length, map, Option, Some, None, is_some, refl, sym, ap, ◌∙◌, subst, arith, true≢false}
 use Rattle.std.proofs.lemmas.Bool.{cond-true, not_from_false}
 use Rattle.std.proofs.lemmas.List.{append-nil}
 use Rattle.std.proofs.lemmas.Option.{same_Some}
+use Rattle.jc_ranges.specs.Sets.{IsIncreasing}
+use Rattle.jc_types.specs.declared.limits.TheConstants.{MOST_UNCOUNTED}
 use Rattle.jc_types.specs.declared.numbers.Uid.{Uid}
 use Rattle.jc_types.specs.declared.objects.Entry.{Entry}
 use Rattle.jc_types.specs.declared.objects.Entry.TheVariants.{JobPut, JobGone, PodPut, PodGone}
 use Rattle.jc_types.specs.declared.objects.Job.{Job}
 use Rattle.jc_types.specs.declared.objects.Pod.{Pod}
+use Rattle.jc_types.specs.declared.statuses.IndexCount.{IndexCount}
+use Rattle.jc_types.specs.declared.specifications.Mode.TheVariants.{Indexed}
 use Rattle.jc_types.specs.declared.statuses.JobStatus.{JobStatus}
 use Rattle.jc_log.specs.Deeds.{Deed}
 use Rattle.jc_types.specs.Keys.{same_uid}
@@ -19,14 +23,14 @@ use Rattle.jc_log.proofs.BirthFacts.{fresh_unborn}
 use Rattle.jc_types.proofs.KeyFacts.{same_uid-eq, same_uid-itself}
 use Rattle.jc_log.proofs.PlaceFacts.{job_in-entry, job_in-within}
 use Rattle.jc_log.proofs.WriteFacts.{lost_on, Stored-from_legal}
-use Rattle.jc_failpol.specs.declared.outcomes.Outcome.{Outcome}
 use Rattle.jc_failpol.specs.Policies.{WaitsForEnd}
 use Rattle.jc_failpol.specs.declared.outcomes.Outcome.TheVariants.{Succeeded, Failed}
 use Rattle.jc_states.specs.Listed.{is_listed}
 use Rattle.jc_ledger.specs.declared.flights.Flight.{Flight}
 use Rattle.jc_ledger.specs.EventKinds.{IsWritten, IsPlain, IsEmpty, CreatesJob, UpdatesJob, DeletesJob, pod_of, WritesPod}
-use Rattle.jc_ledger.specs.Ledger.{Record, record_of, judged_as, Ledger, entered, ledger_of}
-use Rattle.jc_ledger.specs.Once.{is_listable, taking_of}
+use Rattle.jc_ledger.specs.Ledger.{fails_of, Record, record_of, Ledger, ledger_of}
+use Rattle.jc_account.specs.Rooms.{joins_list}
+use Rattle.jc_ledger.specs.Once.{SaysFails, taking_of}
 use Rattle.jc_ledger.specs.Syncs.{request_of}
 use Rattle.jc_ledger.specs.Tied.{made_as, made_after, HasSoundLists, IsListing, IsCurrent, TiesJob, Ties, PodsHaveIndexes, TakesWell, Tied}
 use Rattle.jc_ledger.proofs.FrameFacts.{AllFly-more, puts_other, Ties-more, PodsHaveIndexes-job, PodsHaveIndexes-pod, PodsHaveIndexes-more, PodsHaveIndexes-now, grow}
@@ -36,7 +40,7 @@ use Rattle.jc_ledger.proofs.MadeFacts.{made_as-more, made_as-unborn, put-was_mad
 use Rattle.jc_ledger.proofs.OnceFacts.{once_more}
 use Rattle.jc_ledger.proofs.PutFacts.{Puts, Placed, Here, Below, job_in-newest, placed, ties_put, ties_of, ties_from}
 use Rattle.jc_ledger.proofs.QuietFacts.{IfSome-absent}
-use Rattle.jc_ledger.proofs.RecordFacts.{IsJudged-more}
+use Rattle.jc_ledger.proofs.RecordFacts.{IsJudged-later}
 use Rattle.jc_ledger.proofs.TotalFacts.{totals_more}
 
 -- ---- a deed that appended an entry, is no write of a status and takes no finalizer
@@ -62,7 +66,7 @@ tied_plain d past e log flights t w p jobs numbered =
       within = g.within;
       jobs = all;
       numbered = PodsHaveIndexes-more e log t.numbered (numbered g.legal);
-      totals = totals_more d past e log g.legal t.within all t.totals;
+      totals = totals_more d past e log g.legal all t.totals;
       once = once_more e past log flights t;
       taken = (TakesWell-none d past (e ∷ log) p.taking, g.taken);
       flying = AllFly-more e log flights g.legal t.flying;
@@ -82,7 +86,7 @@ tied_job d past log flights job t w p own =
 
 -- The empty ledger.
 abbrev pub blank : Ledger
-blank = record { records = []; done = [] }
+blank = record { records = []; done = []; failed = [] }
 
 -- Nothing is found in it.
 nothing_found : (u : Uid) (r : Record) → record_of u [] ≡ Some r → ⊥
@@ -98,9 +102,11 @@ HasSoundLists-new job e = record {
   failed = subst Ascends (sym e.uncounted_failed) tt;
   succeeded = subst Ascends (sym e.uncounted_succeeded) tt;
   apart = λ u. ap (λ b. b && is_in u job.status.uncounted_failed) (in_empty u job.status.uncounted_succeeded e.uncounted_succeeded);
+  few = omega (arith, ap (λ (l : List Uid). length l) e.uncounted_succeeded, ap (λ (l : List Uid). length l) e.uncounted_failed);
   none = λ m. e.uncounted_succeeded;
   size = λ m. e.succeeded ∙ sym (ap (λ (l : List ℕ). length l) e.completed);
   plain = λ m. e.completed;
+  counts = subst (λ counts. IsIncreasing (map (λ (count : IndexCount). count.index) counts)) (sym e.index_failures) tt;
 }
 
 -- It lists nothing.
@@ -118,8 +124,13 @@ IsCurrent-new log job e = record {
   succeeded = λ m. sum job.status.succeeded job.status.uncounted_succeeded e.succeeded e.uncounted_succeeded;
   completed = λ m. e.completed;
   seen = λ u r found. absurd (nothing_found u r found);
+  by_index = says job.spec.per_index;
 }
   where
+    says : (o : Option ℕ) → SaysFails o job blank
+    says None = (e.index_failures, e.failed_indexes)
+    says (Some limit) = (e.index_failures, e.failed_indexes)
+
     sum : (n : ℕ) (uids : List Uid) → n ≡ 0 → uids ≡ [] → n + length uids ≡ 0
     sum n uids z empty = let none : length uids ≡ 0 = ap (λ (l : List Uid). length l) empty in omega (arith, z, none)
 
@@ -134,14 +145,14 @@ job_in-put : (log : List Entry) (new job : Job) → job_in new.key (JobPut new �
 job_in-put log new job h = same_Some new job (sym (job_in-newest new.key log new refl) ∙ h)
 
 -- What ties the ledger of a new Job.
-TiesJob-new : (log : List Entry) (job : Job) → Stored log → made_as job.uid log ≡ None → WaitsForEnd job.spec → IsEmpty job.status → TiesJob job (JobPut job ∷ log) blank
-TiesJob-new log job stored none waits empty = record {
+TiesJob-new : (log : List Entry) (job : Job) → Stored log → made_as job.uid log ≡ None → WaitsForEnd job.spec → (IsSome job.spec.per_index → job.spec.mode ≡ Indexed) → IsEmpty job.status → TiesJob job (JobPut job ∷ log) blank
+TiesJob-new log job stored none waits limited empty = record {
   waits = waits;
+  limited = limited;
   sound = λ u r found. absurd (nothing_found u r found);
   tidy = λ v other put uid. tidy_at v other uid (placed v log job other put);
   listed = λ v other put uid. listed_at v other uid (placed v log job other put);
   now = λ other there uid. subst (IsCurrent (JobPut job ∷ log) blank) (job_in-put log job other there) (IsCurrent-new (JobPut job ∷ log) job empty);
-  indexes = λ m u r found. absurd (nothing_found u r found);
 }
   where
     tidy_at : (v : ℕ) (other : Job) → other.uid ≡ job.uid → Placed v log job other → HasSoundLists other
@@ -155,8 +166,8 @@ TiesJob-new log job stored none waits empty = record {
 -- A Job that was not made has an empty ledger.
 ledger-blank : (made : Option Job) (log : List Entry) (ledger : Ledger) → made ≡ None → Ties made log ledger → ledger ≡ blank
 ledger-blank made log ledger none ties =
-    let parts : (ledger.records ≡ []) × (ledger.done ≡ []) = subst (λ (o : Option Job). Ties o log ledger) none ties in
-    λ i. record { records = parts.0 i; done = parts.1 i }
+    let parts : (ledger.records ≡ []) × (ledger.done ≡ []) × (ledger.failed ≡ []) = subst (λ (o : Option Job). Ties o log ledger) none ties in
+    λ i. record { records = parts.0 i; done = parts.1 i; failed = parts.2 i }
 
 -- A new Job is made.
 made_as-new : (log : List Entry) (job : Job) → made_as job.uid log ≡ None → made_as job.uid (JobPut job ∷ log) ≡ Some job
@@ -174,7 +185,7 @@ tied_created d past log flights job t c = tied_job d past log flights job t c.wr
         let none = made_as-unborn job.uid log (fresh_unborn job.uid log stored fresh.uid) in
         let empty = ledger-blank (made_as job.uid log) log (ledger_of job.uid past log) none (t.jobs job.uid) in
         subst (λ (o : Option Job). Ties o (JobPut job ∷ log) (ledger_of job.uid past log)) (sym (made_as-new log job none))
-        (subst (TiesJob job (JobPut job ∷ log)) (sym empty) (TiesJob-new log job stored none c.waits c.empty))
+        (subst (TiesJob job (JobPut job ∷ log)) (sym empty) (TiesJob-new log job stored none c.waits c.limited c.empty))
 
 -- ---- a Job is updated
 
@@ -184,14 +195,16 @@ HasSoundLists-same old job status mode t = record {
   failed = subst (λ (st : JobStatus). Ascends st.uncounted_failed) (sym status) t.failed;
   succeeded = subst (λ (st : JobStatus). Ascends st.uncounted_succeeded) (sym status) t.succeeded;
   apart = subst (λ (st : JobStatus). (u : Uid) → (is_in u st.uncounted_succeeded && is_in u st.uncounted_failed) ≡ false) (sym status) t.apart;
+  few = subst (λ (st : JobStatus). length st.uncounted_succeeded + length st.uncounted_failed ≤ MOST_UNCOUNTED) (sym status) t.few;
   none = λ m. ap (λ (st : JobStatus). st.uncounted_succeeded) status ∙ t.none (sym mode ∙ m);
   size = λ m. subst (λ (st : JobStatus). st.succeeded ≡ length st.completed) (sym status) (t.size (sym mode ∙ m));
   plain = λ m. ap (λ (st : JobStatus). st.completed) status ∙ t.plain (sym mode ∙ m);
+  counts = subst (λ (st : JobStatus). IsIncreasing (map (λ (count : IndexCount). count.index) st.index_failures)) (sym status) t.counts;
 }
 
 -- An update puts the Job and judges no pod.
 Puts-updated : (made : Job) (log : List Entry) (ledger : Ledger) (old job : Job) → Legal (JobPut job ∷ log) → made_as made.uid log ≡ Some made → TiesJob made log ledger
-    → job_in made.key log ≡ Some old → JobStep made old → JobStep old job → job.status ≡ old.status → Puts made log ledger made [] 0 old job
+    → job_in made.key log ≡ Some old → JobStep made old → JobStep old job → job.status ≡ old.status → Puts made log ledger ledger made [] 0 old job
 Puts-updated made log ledger old job legal is_made ties there was step status = record {
   legal = legal;
   is_made = is_made;
@@ -201,19 +214,21 @@ Puts-updated made log ledger old job legal is_made ties there was step status = 
   key = step.key ∙ was.key;
   seen = omega arith;
   step = JobStep-itself made;
+  records = sym (append-nil ledger.records);
   each = tt;
   tidy = HasSoundLists-same old job status step.mode (ties.tidy old.version.0 old place was.uid);
   listed = record {
-    failed = λ u h. IsJudged-more u ledger.records [] Failed old.version.0 (suc (length log)) before (listing.failed u (subst (λ (st : JobStatus). is_in u st.uncounted_failed ≡ true) status h));
-    succeeded = λ u h. IsJudged-more u ledger.records [] Succeeded old.version.0 (suc (length log)) before (listing.succeeded u (subst (λ (st : JobStatus). is_in u st.uncounted_succeeded ≡ true) status h));
+    failed = λ u h. IsJudged-later u ledger.records Failed old.version.0 (suc (length log)) before (listing.failed u (subst (λ (st : JobStatus). is_in u st.uncounted_failed ≡ true) status h));
+    succeeded = λ u h. IsJudged-later u ledger.records Succeeded old.version.0 (suc (length log)) before (listing.succeeded u (subst (λ (st : JobStatus). is_in u st.uncounted_succeeded ≡ true) status h));
   };
   lost = λ u r found listable unlisted.
       lost_on u old.version.0 log stored
-      (current.lost u r (subst (λ (rs : List Record). record_of u rs ≡ Some r) (append-nil ledger.records) found)
-      (subst (λ m. is_listable m r.outcome ≡ true) step.mode listable) (subst (λ (st : JobStatus). is_listed st u ≡ false) status unlisted));
-  failed = ap (λ (st : JobStatus). st.failed + length st.uncounted_failed) status ∙ current.failed ∙ same Failed;
-  succeeded = λ m. ap (λ (st : JobStatus). st.succeeded + length st.uncounted_succeeded) status ∙ current.succeeded (sym step.mode ∙ m) ∙ same Succeeded;
+      (current.lost u r found
+      (subst (λ m. joins_list m r.outcome ≡ true) step.mode listable) (subst (λ (st : JobStatus). is_listed st u ≡ false) status unlisted));
+  failed = ap (λ (st : JobStatus). st.failed + length st.uncounted_failed) status ∙ current.failed;
+  succeeded = λ m. ap (λ (st : JobStatus). st.succeeded + length st.uncounted_succeeded) status ∙ current.succeeded (sym step.mode ∙ m);
   completed = λ m. ap (λ (st : JobStatus). st.completed) status ∙ current.completed (sym step.mode ∙ m);
+  by_index = subst (λ (o : Option ℕ). SaysFails o job ledger) (sym step.per_index) (says old.spec.per_index current.by_index);
 }
   where
     stored : Stored log
@@ -231,15 +246,15 @@ Puts-updated made log ledger old job legal is_made ties there was step status = 
     listing : IsListing ledger.records old.version.0 old.status
     listing = ties.listed old.version.0 old place was.uid
 
+    says : (o : Option ℕ) → SaysFails o old ledger → SaysFails o job ledger
+    says None h = (ap (λ (st : JobStatus). st.index_failures) status ∙ h.0, ap (λ (st : JobStatus). st.failed_indexes) status ∙ h.1)
+    says (Some limit) h = (
+      ap (λ (st : JobStatus). st.index_failures) status ∙ h.0 ∙ ap (λ failure. fails_of failure ledger.records) (sym step.failure),
+      ap (λ (st : JobStatus). st.failed_indexes) status ∙ h.1,
+    )
+
     current : IsCurrent log ledger old
     current = ties.now old there was.uid
-
-    same : (outcome : Outcome) → length (judged_as outcome ledger.records) ≡ length (judged_as outcome (ledger.records ++ []))
-    same outcome = sym (ap (λ (rs : List Record). length (judged_as outcome rs)) (append-nil ledger.records))
-
--- A ledger to which nothing is added.
-entered-none : (made : Job) (seen at : ℕ) (ledger : Ledger) → entered made [] seen at ledger ≡ ledger
-entered-none made seen at ledger = let same = append-nil ledger.records in λ i. record { records = same i; done = ledger.done }
 
 -- A Job is updated.
 pub tied_updated : (d : Deed) (past : List Deed) (log : List Entry) (flights : List Flight) (old job : Job) → Tied past log flights → UpdatesJob d log old job → Tied (d ∷ past) (JobPut job ∷ log) flights
@@ -255,7 +270,7 @@ tied_updated d past log flights old job t up = tied_job d past log flights job t
         let ties = ties_of past log flights made t is_made in
         let there = ap (λ k. job_in k log) (sym (step.key ∙ was.step.key)) ∙ up.there in
         let puts = Puts-updated made log ledger old job legal is_made ties there was.step step up.status in
-        let more = subst (TiesJob made (JobPut job ∷ log)) (entered-none made 0 (suc (length log)) ledger) (ties_put made log ledger made [] 0 old job puts) in
+        let more = ties_put made log ledger ledger made [] 0 old job puts in
         subst (λ (u : Uid). Ties (made_as u (JobPut job ∷ log)) (JobPut job ∷ log) (ledger_of u past log)) (sym (step.uid ∙ was.step.uid))
         (ties_from (JobPut job ∷ log) ledger made (made_as-more made.uid (JobPut job) log made is_made) more)
 

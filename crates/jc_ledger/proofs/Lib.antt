@@ -1,6 +1,8 @@
 pub mod MadeFacts
 pub mod LedgerFacts
 pub mod FrameFacts
+pub mod RoomFacts
+pub mod FailFacts
 pub mod RecordFacts
 pub mod PutFacts
 pub mod DistinctFacts

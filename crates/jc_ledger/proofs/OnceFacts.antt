@@ -18,7 +18,7 @@ use Rattle.jc_log.proofs.PlaceFacts.{job_in-entry}
 use Rattle.jc_log.proofs.WriteFacts.{Follows-upto, Stored-from_legal, job_in-key}
 use Rattle.jc_ledger.specs.declared.flights.Flight.{Flight}
 use Rattle.jc_ledger.specs.Ledger.{Record, ledger_of}
-use Rattle.jc_ledger.specs.Once.{taking_of, PutBefore, Cause, WasJudged, IsIgnored, WasActive, WasCompleted, IsJustified, TakesJustly, AllJustified, CountsOnce, Once, OnceAtEach}
+use Rattle.jc_ledger.specs.Once.{taking_of, PutBefore, Cause, WasJudged, IsIgnored, WasActive, NeedsNone, IsJustified, TakesJustly, AllJustified, CountsOnce, Once, OnceAtEach}
 use Rattle.jc_ledger.specs.Syncs.{reach, request_of}
 use Rattle.jc_ledger.specs.Tied.{made_as, HasSoundLists, IsListing, IsCurrent, TiesJob, TakesWell, AllWell, IsReached, Tied}
 use Rattle.jc_ledger.proofs.DistinctFacts.{ascends_distinct}
@@ -37,7 +37,7 @@ Cause-step : (made job : Job) (records : List Record) (w : ℕ) (log : List Entr
 Cause-step made job records w log lets_go pod step (WasJudged r found before) = WasJudged r found before
 Cause-step made job records w log lets_go pod step (IsIgnored is) = IsIgnored (outcome-step made job pod step ∙ is)
 Cause-step made job records w log lets_go pod step (WasActive lets active) = WasActive lets active
-Cause-step made job records w log lets_go pod step (WasCompleted mode phase put) = WasCompleted (step.mode ∙ mode) phase (PutBefore-same _ made.uid job.uid w log (sym step.uid) put)
+Cause-step made job records w log lets_go pod step (NeedsNone mode phase put) = NeedsNone (step.mode ∙ mode) phase (PutBefore-same _ made.uid job.uid w log (sym step.uid) put)
 
 -- What is justified by a Job is justified by a step of it.
 IsJustified-step : (made job : Job) (records : List Record) (w : ℕ) (log : List Entry) (lets_go : Bool) (pod : Pod) → JobStep made job → IsJustified made records w log lets_go pod → IsJustified job records w log lets_go pod
@@ -100,11 +100,13 @@ counts_once deeds log flights made job t a = record {
   listed_failed = listing.failed;
   listed_succeeded = listing.succeeded;
   unlisted = now.lost;
+  few = tidy.few;
   taken = AllJustified-well deeds (length log) log made job a t.reached (omega arith) t.taken;
   completed = now.completed;
   size = tidy.size;
   none = tidy.none;
   plain = tidy.plain;
+  by_index = now.by_index;
 }
   where
     is_made : made_as made.uid log ≡ Some made

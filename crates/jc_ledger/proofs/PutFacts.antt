@@ -1,5 +1,5 @@
 -- One more entry that puts the Job: an update, or a status that a sync writes and that judges the pods.
-use Rattle.std.proofs.Common.{◌≡◌, ℕ, suc, ◌+◌, ◌≤◌, ◌==◌, Bool, true, false, cond, List, [], ◌∷◌, length, map, filter, Option, Some, None, is_some, refl, sym, ap, ◌∙◌, subst, arith, eqb-true, eq-eqb, true≢false}
+use Rattle.std.proofs.Common.{◌≡◌, ℕ, suc, ◌+◌, ◌≤◌, ◌==◌, Bool, true, false, cond, List, [], ◌∷◌, ◌++◌, length, map, filter, Option, Some, None, is_some, refl, sym, ap, ◌∙◌, subst, arith, eqb-true, eq-eqb, true≢false}
 use Rattle.std.specs.Prelude.{IfSome}
 use Rattle.std.specs.List.{AllByRecursion as Each, list_any}
 use Rattle.std.specs.Option.{option_map_or}
@@ -19,18 +19,19 @@ use Rattle.jc_log.specs.Log.{upto, entry_at, job_in, life, Live, is_lost}
 use Rattle.jc_states.specs.ObjectChanges.{JobStep}
 use Rattle.jc_log.specs.Writes.{Legal}
 use Rattle.jc_types.proofs.KeyFacts.{same_key-itself}
-use Rattle.jc_types.proofs.ListFacts.{Each-weaker, Each-both}
+use Rattle.jc_types.proofs.ListFacts.{Each-weaker}
 use Rattle.jc_log.proofs.LogFacts.{upto-fixed, upto-all}
-use Rattle.jc_states.proofs.UidListFacts.{has-join}
 use Rattle.jc_failpol.specs.declared.outcomes.Outcome.TheVariants.{Succeeded, Failed}
-use Rattle.jc_failpol.specs.Outcomes.{is_verdict, outcome_of, same_outcome}
+use Rattle.jc_failpol.specs.declared.outcomes.Outcome.{Outcome}
+use Rattle.jc_failpol.specs.Outcomes.{is_verdict, outcome_of}
 use Rattle.jc_states.specs.Listed.{is_listed}
 use Rattle.jc_states.specs.Indexes.{has_index}
 use Rattle.jc_account.specs.Modes.{indexes_of}
 use Rattle.jc_account.proofs.ListedFacts.{has-indexes}
 use Rattle.jc_ledger.specs.declared.flights.Flight.{Flight}
-use Rattle.jc_ledger.specs.Ledger.{Record, record_of, recorded, chosen, judged_as, Ledger, successes, entered, ledger_of}
-use Rattle.jc_ledger.specs.Once.{is_listable}
+use Rattle.jc_ledger.specs.Ledger.{Record, record_of, recorded, chosen, judged_as, Ledger, ledger_of}
+use Rattle.jc_account.specs.Rooms.{joins_list}
+use Rattle.jc_ledger.specs.Once.{IsJudged, SaysFails}
 use Rattle.jc_ledger.specs.Tied.{made_as, HasSoundLists, IsSound, IsListing, IsCurrent, TiesJob, Ties, Tied}
 use Rattle.jc_ledger.proofs.FrameFacts.{IsSound-more}
 use Rattle.jc_ledger.proofs.MadeFacts.{outcome-step}
@@ -44,8 +45,9 @@ pub record IsChosen (made : Job) (log : List Entry) (records : List Record) (see
   pub verdict : is_verdict (outcome_of made.spec pod) ≡ true
   pub fresh : is_some (record_of pod.uid records) ≡ false
 
--- The entry puts `new` over `current`, and judges pods. Its sync saw `job` and these pods of it.
-pub record Puts (made : Job) (log : List Entry) (ledger : Ledger) (job : Job) (pods : List Pod) (seen_at : ℕ) (current new : Job) : Type 0 where
+-- The entry puts `new` over `current`, judges pods, and leaves the ledger as `after`. Its sync saw `job` and these
+-- pods of it.
+pub record Puts (made : Job) (log : List Entry) (ledger after : Ledger) (job : Job) (pods : List Pod) (seen_at : ℕ) (current new : Job) : Type 0 where
   pub legal : Legal (JobPut new ∷ log)
   pub is_made : made_as made.uid log ≡ Some made
   pub ties : TiesJob made log ledger
@@ -54,15 +56,16 @@ pub record Puts (made : Job) (log : List Entry) (ledger : Ledger) (job : Job) (p
   pub key : new.key ≡ made.key
   pub seen : seen_at ≤ length log
   pub step : JobStep made job
+  pub records : after.records ≡ ledger.records ++ map (recorded job seen_at (suc (length log))) (chosen job ledger.records pods)
   pub each : Each (IsChosen made log ledger.records seen_at) (chosen job ledger.records pods)
   pub tidy : HasSoundLists new
-  pub listed : IsListing (entered job pods seen_at (suc (length log)) ledger).records (suc (length log)) new.status
-  pub lost : (u : Uid) (r : Record) → record_of u (entered job pods seen_at (suc (length log)) ledger).records ≡ Some r → is_listable new.spec.mode r.outcome ≡ true
+  pub listed : IsListing after.records (suc (length log)) new.status
+  pub lost : (u : Uid) (r : Record) → record_of u after.records ≡ Some r → joins_list new.spec.mode r.outcome ≡ true
       → is_listed new.status u ≡ false → is_lost (life u log) ≡ true
-  pub failed : new.status.failed + length new.status.uncounted_failed ≡ length (judged_as Failed (entered job pods seen_at (suc (length log)) ledger).records)
-  pub succeeded : new.spec.mode ≡ NonIndexed
-      → new.status.succeeded + length new.status.uncounted_succeeded ≡ length (judged_as Succeeded (entered job pods seen_at (suc (length log)) ledger).records)
-  pub completed : new.spec.mode ≡ Indexed → new.status.completed ≡ (entered job pods seen_at (suc (length log)) ledger).done
+  pub failed : new.status.failed + length new.status.uncounted_failed ≡ length (judged_as Failed after.records)
+  pub succeeded : new.spec.mode ≡ NonIndexed → new.status.succeeded + length new.status.uncounted_succeeded ≡ length (judged_as Succeeded after.records)
+  pub completed : new.spec.mode ≡ Indexed → new.status.completed ≡ after.done
+  pub by_index : SaysFails new.spec.per_index new after
 
 -- ---- places
 
@@ -118,25 +121,22 @@ index_in test pods =
 
 -- ---- the entry
 
--- A pod that the write judges; its index, where it has succeeded, is among those that the ledger is given.
-abbrev IsEntered : Job → List Entry → Ledger → Job → List Pod → ℕ → Pod → Type 0
-IsEntered made log ledger job pods seen pod =
-    IsChosen made log ledger.records seen pod × (same_outcome (outcome_of job.spec pod) Succeeded ≡ true → IfSome pod.index (λ n. has n (indexes_of (successes job pods)) ≡ true))
-
-module _ (made : Job) (log : List Entry) (ledger : Ledger) (job : Job) (pods : List Pod) (seen : ℕ) (current new : Job) (p : Puts made log ledger job pods seen current new) where
+module _ (made : Job) (log : List Entry) (ledger after : Ledger) (job : Job) (pods : List Pod) (seen : ℕ) (current new : Job) (p : Puts made log ledger after job pods seen current new) where
   -- The pods that the write judges.
   abbrev judges : List Pod
   judges = chosen job ledger.records pods
 
-  -- The records and the set after the write.
-  abbrev after : Ledger
-  after = entered job pods seen (suc (length log)) ledger
-
   -- A record is an old one, or that of a pod that the write judges.
-  found : (u : Uid) (r : Record) → record_of u after.records ≡ Some r → Found (IsEntered made log ledger job judges seen) u ledger.records job seen (suc (length log)) r
+  found : (u : Uid) (r : Record) → record_of u after.records ≡ Some r → Found (IsChosen made log ledger.records seen) u ledger.records job seen (suc (length log)) r
   found u r h =
-      record_of-found (IsEntered made log ledger job judges seen) u ledger.records job seen (suc (length log)) judges r
-      (Each-both (IsChosen made log ledger.records seen) (λ pod. same_outcome (outcome_of job.spec pod) Succeeded ≡ true → IfSome pod.index (λ n. has n (indexes_of (successes job judges)) ≡ true)) judges p.each (index_in (λ pod. same_outcome (outcome_of job.spec pod) Succeeded) judges)) h
+      record_of-found (IsChosen made log ledger.records seen) u ledger.records job seen (suc (length log)) judges r p.each
+      (ap (record_of u) (sym p.records) ∙ h)
+
+  -- What was judged stays so.
+  pub kept_judged : (u : Uid) (outcome : Outcome) (v : ℕ) → IsJudged ledger.records u outcome v → IsJudged after.records u outcome v
+  kept_judged u outcome v j =
+      subst (λ (rs : List Record). IsJudged rs u outcome v) (sym p.records)
+      (IsJudged-more u ledger.records (map (recorded job seen (suc (length log))) judges) outcome v v (omega arith) j)
 
   -- The record of a pod that the write judges is sound.
   sound_new : (pod : Pod) → IsChosen made log ledger.records seen pod → IsSound made (JobPut new ∷ log) (recorded job seen (suc (length log)) pod)
@@ -154,20 +154,9 @@ module _ (made : Job) (log : List Entry) (ledger : Ledger) (job : Job) (pods : L
       }
 
   -- Each record is sound.
-  sound_found : (u : Uid) (r : Record) → Found (IsEntered made log ledger job judges seen) u ledger.records job seen (suc (length log)) r → IsSound made (JobPut new ∷ log) r
+  sound_found : (u : Uid) (r : Record) → Found (IsChosen made log ledger.records seen) u ledger.records job seen (suc (length log)) r → IsSound made (JobPut new ∷ log) r
   sound_found u r (Old e) = IsSound-more made (JobPut new) log r (p.ties.sound u r e)
-  sound_found u r (New none pod uid has is) = subst (IsSound made (JobPut new ∷ log)) (sym is) (sound_new pod has.0)
-
-  -- The index of each success is in the set.
-  index_found : made.spec.mode ≡ Indexed → (u : Uid) (r : Record) → r.outcome ≡ Succeeded → Found (IsEntered made log ledger job judges seen) u ledger.records job seen (suc (length log)) r
-      → IfSome r.pod.index (λ n. has n after.done ≡ true)
-  index_found mode u r s (Old e) =
-      IfSome_then r.pod.index (p.ties.indexes mode u r e s)
-      (λ n h. has-join n ledger.done (indexes_of (successes job judges)) ∙ or_left (has n ledger.done) (has n (indexes_of (successes job judges))) h)
-  index_found mode u r s (New none pod uid both is) =
-      subst (λ (x : Record). IfSome x.pod.index (λ n. has n after.done ≡ true)) (sym is)
-      (IfSome_then pod.index (both.1 (ap (λ o. same_outcome o Succeeded) (ap (λ (x : Record). x.outcome) (sym is) ∙ s)))
-      (λ n h. has-join n ledger.done (indexes_of (successes job judges)) ∙ or_right (has n ledger.done) (has n (indexes_of (successes job judges))) h))
+  sound_found u r (New none pod uid has is) = subst (IsSound made (JobPut new ∷ log)) (sym is) (sound_new pod has)
 
   -- Of the Job as it is put all is known.
   current_new : IsCurrent (JobPut new ∷ log) after new
@@ -179,6 +168,7 @@ module _ (made : Job) (log : List Entry) (ledger : Ledger) (job : Job) (pods : L
         failed = p.failed;
         succeeded = p.succeeded;
         completed = p.completed;
+        by_index = p.by_index;
         seen = λ u r h. (let within = (sound_found u r (found u r h)).within in omega (arith, version, within));
       }
 
@@ -199,20 +189,20 @@ module _ (made : Job) (log : List Entry) (ledger : Ledger) (job : Job) (pods : L
   listed_placed v other uid (Below e) =
       let old = p.ties.listed v other e uid in
       record {
-        failed = λ u h. IsJudged-more u ledger.records (map (recorded job seen (suc (length log))) judges) Failed v v (omega arith) (old.failed u h);
-        succeeded = λ u h. IsJudged-more u ledger.records (map (recorded job seen (suc (length log))) judges) Succeeded v v (omega arith) (old.succeeded u h);
+        failed = λ u h. kept_judged u Failed v (old.failed u h);
+        succeeded = λ u h. kept_judged u Succeeded v (old.succeeded u h);
       }
 
 -- What ties the ledger goes over.
-pub ties_put : (made : Job) (log : List Entry) (ledger : Ledger) (job : Job) (pods : List Pod) (seen : ℕ) (current new : Job)
-    → Puts made log ledger job pods seen current new → TiesJob made (JobPut new ∷ log) (entered job pods seen (suc (length log)) ledger)
-ties_put made log ledger job pods seen current new p = record {
+pub ties_put : (made : Job) (log : List Entry) (ledger after : Ledger) (job : Job) (pods : List Pod) (seen : ℕ) (current new : Job)
+    → Puts made log ledger after job pods seen current new → TiesJob made (JobPut new ∷ log) after
+ties_put made log ledger after job pods seen current new p = record {
   waits = p.ties.waits;
-  sound = λ u r h. sound_found made log ledger job pods seen current new p u r (found made log ledger job pods seen current new p u r h);
-  tidy = λ v other e uid. tidy_placed made log ledger job pods seen current new p v other uid (placed v log new other e);
-  listed = λ v other e uid. listed_placed made log ledger job pods seen current new p v other uid (placed v log new other e);
-  now = λ other h uid. now_new made log ledger job pods seen current new p other h;
-  indexes = λ mode u r h s. index_found made log ledger job pods seen current new p mode u r s (found made log ledger job pods seen current new p u r h);
+  limited = p.ties.limited;
+  sound = λ u r h. sound_found made log ledger after job pods seen current new p u r (found made log ledger after job pods seen current new p u r h);
+  tidy = λ v other e uid. tidy_placed made log ledger after job pods seen current new p v other uid (placed v log new other e);
+  listed = λ v other e uid. listed_placed made log ledger after job pods seen current new p v other uid (placed v log new other e);
+  now = λ other h uid. now_new made log ledger after job pods seen current new p other h;
 }
 
 -- The ledger of a Job that was made is tied.

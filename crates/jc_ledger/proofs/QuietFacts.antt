@@ -24,10 +24,9 @@ use Rattle.jc_log.proofs.WriteFacts.{Follows-upto, Stored-from_legal}
 use Rattle.jc_ledger.specs.declared.flights.Flight.{Flight}
 use Rattle.jc_ledger.specs.EventKinds.{IsQuiet, Begins, FindsNothing, with_released}
 use Rattle.jc_ledger.specs.Flights.{IsSent, Flies}
-use Rattle.jc_ledger.specs.Ledger.{Ledger}
 use Rattle.jc_ledger.specs.Once.{taking_of}
 use Rattle.jc_ledger.specs.Syncs.{reach, request_of, appends}
-use Rattle.jc_ledger.specs.Tied.{made_as, Ties, TotalsWithin, TakesWell, IsReached, Tied}
+use Rattle.jc_ledger.specs.Tied.{made_as, Ties, TakesWell, IsReached, Tied}
 use Rattle.jc_ledger.proofs.FrameFacts.{AllFly-put, AllFly-add, AllFly-drop, AllFly-one}
 use Rattle.jc_ledger.proofs.LedgerFacts.{reach-is, ledger_of-still}
 use Rattle.jc_ledger.proofs.OnceFacts.{once_tied}
@@ -59,7 +58,7 @@ tied_start = record {
   legal = tt;
   reached = refl;
   within = tt;
-  jobs = λ j. (refl, refl);
+  jobs = λ j. (refl, refl, refl);
   numbered = λ v u pod h. absurd (true≢false (ap is_unborn h));
   totals = λ v job h. absurd (true≢false (sym (ap is_some h)));
   taken = tt;
@@ -99,7 +98,7 @@ tied_quiet d past log flights t q =
       within = (q.within, t.within);
       jobs = λ j. subst (Ties (made_as j log) log) (sym (ledger_of-still j d past log still)) (t.jobs j);
       numbered = t.numbered;
-      totals = λ v job is. subst (λ (l : Ledger). TotalsWithin (length l.records) job) (sym (ledger_of-still job.uid d past log still)) (t.totals v job is);
+      totals = t.totals;
       once = once_tied past log flights t;
       taken = (TakesWell-still d past log still, t.taken);
       flying = t.flying;

@@ -3,7 +3,7 @@ use Rattle.std.proofs.Common.{◌≡◌, ℕ, ◌+◌, ◌≤◌, Bool, true, fa
 use Rattle.std.specs.List.{AllByRecursion as Each}
 use Rattle.std.specs.Option.{option_or}
 use Rattle.std.proofs.lemmas.Bool.{cond-true, cond-false}
-use Rattle.std.proofs.lemmas.List.{length-append, length-map}
+use Rattle.std.proofs.lemmas.List.{length-append, length-map, map-append}
 use Rattle.std.proofs.lemmas.List.Elements.{filter-append}
 use Rattle.std.proofs.lemmas.List.Folds.{find-append}
 use Rattle.jc_types.specs.declared.numbers.Uid.{Uid}
@@ -14,8 +14,9 @@ use Rattle.jc_states.specs.UidLists.{is_in, uids_of}
 use Rattle.jc_types.proofs.KeyFacts.{same_uid-eq}
 use Rattle.jc_types.proofs.ListFacts.{filter-map}
 use Rattle.jc_failpol.specs.declared.outcomes.Outcome.{Outcome}
+use Rattle.jc_failpol.specs.declared.outcomes.Outcome.TheVariants.{Failed}
 use Rattle.jc_failpol.specs.Outcomes.{outcome_of, same_outcome}
-use Rattle.jc_ledger.specs.Ledger.{Record, record_of, recorded, judged_as}
+use Rattle.jc_ledger.specs.Ledger.{Record, failed_pods, record_of, recorded, judged_as}
 use Rattle.jc_ledger.specs.Once.{IsJudged}
 
 -- A record stays that of its UID.
@@ -35,6 +36,17 @@ IsJudged-more u records more outcome v w le j =
     record {
       found = j.found;
       is_found = record_of-old u records more j.found j.is_found;
+      as_such = j.as_such;
+      by_then = omega (arith, by_then, le);
+    }
+
+-- And so at later versions.
+pub IsJudged-later : (u : Uid) (records : List Record) (outcome : Outcome) (v w : ℕ) → v ≤ w → IsJudged records u outcome v → IsJudged records u outcome w
+IsJudged-later u records outcome v w le j =
+    let by_then = j.by_then in
+    record {
+      found = j.found;
+      is_found = j.is_found;
       as_such = j.as_such;
       by_then = omega (arith, by_then, le);
     }
@@ -130,3 +142,17 @@ judged_as-more outcome records job seen at pods =
     ap length (filter-append test records more)
     ∙ length-append (judged_as outcome records) (judged_as outcome more)
     ∙ ap (λ n. length (judged_as outcome records) + n) (ap length (filter-map (recorded job seen at) test pods) ∙ length-map come (recorded job seen at))
+
+-- The pods that were judged Failed after a write.
+pub failed_pods-more : (records : List Record) (job : Job) (seen at : ℕ) (pods : List Pod)
+    → failed_pods (records ++ map (recorded job seen at) pods) ≡ failed_pods records ++ filter (λ pod. same_outcome (outcome_of job.spec pod) Failed) pods
+failed_pods-more records job seen at pods =
+    let test = λ (r : Record). same_outcome r.outcome Failed in
+    let more = map (recorded job seen at) pods in
+    ap (map (λ (r : Record). r.pod)) (filter-append test records more)
+    ∙ map-append (λ (r : Record). r.pod) (judged_as Failed records) (judged_as Failed more)
+    ∙ ap (λ ps. failed_pods records ++ ps) (ap (map (λ (r : Record). r.pod)) (filter-map (recorded job seen at) test pods) ∙ unmade (filter (λ pod. same_outcome (outcome_of job.spec pod) Failed) pods))
+  where
+    unmade : (ps : List Pod) → map (λ (r : Record). r.pod) (map (recorded job seen at) ps) ≡ ps
+    unmade [] = refl
+    unmade (p ∷ ps) = ap (λ rest. p ∷ rest) (unmade ps)

@@ -101,7 +101,7 @@ tied_taken d past log front back next asked f lets_go t taken other taking just 
   numbered =
       PodsHaveIndexes-more f.entry log t.numbered
       (PodsHaveIndexes-pod f.entry log f.pod grown.legal taken.is_pod (λ never. absurd (known (ap (λ u. life u log) (sym taken.uid) ∙ never))) (PodsHaveIndexes-now log t.numbered));
-  totals = totals_more d past f.entry log grown.legal t.within jobs t.totals;
+  totals = totals_more d past f.entry log grown.legal jobs t.totals;
   once = once_more f.entry past log (front ++ f.flight ∷ back) t;
   taken = (takes_well d past f.entry log (front ++ f.flight ∷ back) f.pod f.seen.uid lets_go t grown taken.written taken.is_pod (ap (λ r. taking_of (request_of r)) taken.reply ∙ taking) just, grown.taken);
   flying =

@@ -10,11 +10,12 @@
 --     WritesPod                   a pod is made, or changed but for its finalizer by a sync
 --     Begins                      a sync begins
 --     FindsNothing                a release finds no pod that has the finalizer
+--     filled_in job pods          what a sync counts in, with the failures of each index
 --     CountsIn job pods status    the status counts in what the sync saw
 --     CountsOut before u status   the status counts out the released pods
 --     WritesFirst, WritesSecond   the two writes of a status
 --     Releases, Orphans, LetsGo   the finalizer of a pod is taken
-use Rattle.std.specs.Prelude.{◌≡◌, ◌+◌, ◌≤◌, true, false, List, [], ◌∷◌, ◌++◌, length, find, Option, Some, None, IfSome}
+use Rattle.std.specs.Prelude.{◌≡◌, ◌+◌, ◌≤◌, true, false, List, [], ◌∷◌, ◌++◌, length, find, Option, Some, None, IfSome, IsSome}
 use Rattle.jc_types.specs.declared.numbers.Uid.{Uid}
 use Rattle.jc_types.specs.declared.objects.Entry.{Entry}
 use Rattle.jc_types.specs.declared.objects.Entry.TheVariants.{JobPut, JobGone, PodPut, PodGone}
@@ -24,9 +25,11 @@ use Rattle.jc_types.specs.declared.replies.Answer.{Answer}
 use Rattle.jc_types.specs.declared.replies.Reply.TheVariants.{Stepped}
 use Rattle.jc_types.specs.declared.replies.Request.{Request}
 use Rattle.jc_types.specs.declared.replies.Request.TheVariants as request
+use Rattle.jc_types.specs.declared.specifications.Mode.TheVariants.{Indexed}
 use Rattle.jc_types.specs.declared.statuses.JobStatus.{JobStatus}
 use Rattle.jc_states.specs.declared.bases.Basis.{Basis}
 use Rattle.jc_types.specs.declared.syncs.CountIn.{CountIn}
+use Rattle.jc_states.specs.Bases.{own_pods}
 use Rattle.jc_states.specs.Owners.{is_foreign}
 use Rattle.jc_states.specs.Conditions.{has_target}
 use Rattle.jc_log.specs.Deeds.{Deed}
@@ -38,6 +41,7 @@ use Rattle.jc_log.specs.Writes.{Allowed}
 use Rattle.jc_failpol.specs.Policies.{WaitsForEnd}
 use Rattle.jc_failpol.specs.FailJob.{fails_job}
 use Rattle.jc_account.specs.Accounts.{counted_in, counted_out}
+use Rattle.jc_perindex.specs.Failures.{filled_counts}
 use Rattle.jc_ledger.specs.declared.flights.Flight.{Flight}
 use Rattle.jc_ledger.specs.Flights.{known, IsBasisOf}
 use Rattle.jc_ledger.specs.Ledger.{is_status}
@@ -72,6 +76,8 @@ pub record IsEmpty (status : JobStatus) : Type 0 where
   pub uncounted_succeeded : status.uncounted_succeeded ≡ []
   pub uncounted_failed : status.uncounted_failed ≡ []
   pub completed : status.completed ≡ []
+  pub index_failures : status.index_failures ≡ []
+  pub failed_indexes : status.failed_indexes ≡ []
 
 -- A Job is made.
 pub record CreatesJob (d : Deed) (log : List Entry) (job : Job) : Type 0 where
@@ -80,6 +86,7 @@ pub record CreatesJob (d : Deed) (log : List Entry) (job : Job) : Type 0 where
   pub absent : job_in job.key log ≡ None
   pub empty : IsEmpty job.status
   pub waits : WaitsForEnd job.spec
+  pub limited : IsSome job.spec.per_index → job.spec.mode ≡ Indexed
 
 -- A Job is updated: its status stays.
 pub record UpdatesJob (d : Deed) (log : List Entry) (old job : Job) : Type 0 where
@@ -139,10 +146,16 @@ pub record Counts (counted : CountIn) (status : JobStatus) : Type 0 where
   pub succeeded : status.succeeded ≡ counted.succeeded
   pub failed : status.failed ≡ counted.failed
   pub completed : status.completed ≡ counted.completed
+  pub index_failures : status.index_failures ≡ counted.index_failures
+  pub failed_indexes : status.failed_indexes ≡ counted.failed_indexes
+
+-- What a sync counts in, with the failures of each index.
+abbrev pub filled_in : Job → List Pod → CountIn
+filled_in job pods = filled_counts job (own_pods job pods) (counted_in job pods)
 
 -- The status counts in what the sync saw.
 abbrev pub CountsIn : Job → List Pod → JobStatus → Type 0
-CountsIn job pods status = Counts (counted_in job pods) status
+CountsIn job pods status = Counts (filled_in job pods) status
 
 -- The status counts out the released pods.
 pub record CountsOut (before : JobStatus) (released : List Uid) (status : JobStatus) : Type 0 where
@@ -152,6 +165,8 @@ pub record CountsOut (before : JobStatus) (released : List Uid) (status : JobSta
   pub succeeded : status.succeeded ≡ (counted_out before released).succeeded
   pub failed : status.failed ≡ (counted_out before released).failed
   pub completed : status.completed ≡ before.completed
+  pub index_failures : status.index_failures ≡ before.index_failures
+  pub failed_indexes : status.failed_indexes ≡ before.failed_indexes
 
 -- ---- statuses that syncs write
 

@@ -1,16 +1,20 @@
 -- What it means that a history counts each pod once (KEP-2307).
 --     IsJudged records u outcome v    the pod of the UID was judged so, by a write of version v or before
---     is_listable mode outcome        a pod that was judged so is listed as long as it is tracked
 --     Taking, taking_of request       a request that takes a finalizer
 --     PutBefore P j w log             a Job of the UID was put before version w, and P holds of it
+--     needs_none job pod              its index is completed, or not below the number of completions
 --     Cause ..                        why a sync may take the finalizer of a pod
 --     IsJustified ..                  it may, and the Job's target stands where the pod fails the Job
 --     AllJustified job deeds log      each finalizer that a sync took of the Job's pods
+--     SaysFails limit job ledger      the status says of failures by index what the ledger says
 --     CountsOnce deeds log job        the Job's status counts each pod once
 --     Once deeds log                  that of each Job that is there
 --     OnceAtEach deeds log            after each of the deeds, so it was then
-use Rattle.std.specs.Prelude.{◌≡◌, ℕ, ◌+◌, ◌<◌, ◌≤◌, Bool, true, false, ◌&&◌, List, [], ◌∷◌, length, Option, Some, None, IfSome}
+use Rattle.std.specs.Prelude.{◌≡◌, ℕ, ◌+◌, ◌<◌, ◌≤◌, Bool, true, false, not, ◌&&◌, ◌||◌, List, [], ◌∷◌, length, Option, Some, None, IfSome}
 use Rattle.std.specs.List.{IsDistinct}
+use Rattle.std.specs.Option.{option_map_or}
+use Rattle.jc_ranges.specs.Sets.{has}
+use Rattle.jc_types.specs.declared.limits.TheConstants.{MOST_UNCOUNTED}
 use Rattle.jc_types.specs.declared.numbers.Uid.{Uid}
 use Rattle.jc_types.specs.declared.objects.Entry.{Entry}
 use Rattle.jc_types.specs.declared.objects.Entry.TheVariants.{JobPut}
@@ -20,21 +24,20 @@ use Rattle.jc_types.specs.declared.objects.Phase.TheVariants as phase
 use Rattle.jc_types.specs.declared.objects.Pod.{Pod}
 use Rattle.jc_types.specs.declared.replies.Request.{Request}
 use Rattle.jc_types.specs.declared.replies.Request.TheVariants as request
-use Rattle.jc_types.specs.declared.specifications.Mode.{Mode}
 use Rattle.jc_types.specs.declared.specifications.Mode.TheVariants.{NonIndexed, Indexed}
 use Rattle.jc_states.specs.Conditions.{has_target}
 use Rattle.jc_log.specs.Deeds.{Deed}
 use Rattle.jc_types.specs.Keys.{same_uid}
 use Rattle.jc_log.specs.Log.{upto, entry_at, job_in, life, Live, is_lost}
 use Rattle.jc_states.specs.Pods.{is_active}
-use Rattle.jc_states.specs.Indexes.{is_completed}
 use Rattle.jc_states.specs.UidLists.{is_in}
 use Rattle.jc_failpol.specs.declared.outcomes.Outcome.{Outcome}
 use Rattle.jc_failpol.specs.declared.outcomes.Outcome.TheVariants.{Succeeded, Failed, Ignored}
-use Rattle.jc_failpol.specs.Outcomes.{outcome_of, same_outcome}
+use Rattle.jc_failpol.specs.Outcomes.{outcome_of}
 use Rattle.jc_failpol.specs.FailJob.{fails_job}
 use Rattle.jc_states.specs.Listed.{is_listed}
-use Rattle.jc_ledger.specs.Ledger.{Record, record_of, judged_as, ledger_of}
+use Rattle.jc_account.specs.Rooms.{joins_list}
+use Rattle.jc_ledger.specs.Ledger.{fails_of, is_within, Ledger, Record, record_of, judged_as, ledger_of}
 use Rattle.jc_ledger.specs.Syncs.{reach, request_of, appends}
 
 -- The pod of the UID was judged with the outcome, by a write of this version or a smaller one.
@@ -43,11 +46,6 @@ pub record IsJudged (records : List Record) (u : Uid) (outcome : Outcome) (v : �
   pub is_found : record_of u records ≡ Some found
   pub as_such : found.outcome ≡ outcome
   pub by_then : found.at ≤ v
-
--- A pod that was judged so is listed as long as it is tracked. Successes of an Indexed Job join no list.
-abbrev pub is_listable : Mode → Outcome → Bool
-is_listable NonIndexed outcome = true
-is_listable Indexed outcome = same_outcome outcome Failed
 
 -- ---- finalizers that syncs took
 
@@ -71,9 +69,14 @@ pub record PutBefore (P : Job → Type 0) (j : Uid) (w : ℕ) (log : List Entry)
   pub uid : put.uid ≡ j
   pub holds : P put
 
+-- The index of the pod is completed, or not below the number of completions: its success needs no count.
+abbrev pub needs_none : Job → Pod → Bool
+needs_none job pod =
+    option_map_or (λ index. has index job.status.completed || not (is_within job.spec index)) pod.index false
+
 -- Why a sync may take the finalizer of the pod of the Job, by an entry of version w: the pod was judged
--- before; it has failed and is ignored; it was active and is let go; or it has succeeded, and its index was
--- completed before.
+-- before; it has failed and is ignored; it was active and is let go; or it has succeeded, and at some version
+-- before its index was completed, or was not below the number of completions.
 pub data Cause (job : Job) (records : List Record) (w : ℕ) (log : List Entry) (lets_go : Bool)
     (pod : Pod) : Type 0
   where
@@ -81,8 +84,8 @@ pub data Cause (job : Job) (records : List Record) (w : ℕ) (log : List Entry) 
         → Cause job records w log lets_go pod
     IsIgnored : outcome_of job.spec pod ≡ Ignored → Cause job records w log lets_go pod
     WasActive : lets_go ≡ true → is_active pod ≡ true → Cause job records w log lets_go pod
-    WasCompleted : job.spec.mode ≡ Indexed → pod.phase ≡ phase.Succeeded
-        → PutBefore (λ put. is_completed put.status.completed pod ≡ true) job.uid w log
+    NeedsNone : job.spec.mode ≡ Indexed → pod.phase ≡ phase.Succeeded
+        → PutBefore (λ put. needs_none put pod ≡ true) job.uid w log
         → Cause job records w log lets_go pod
 
 -- A sync may take the finalizer of the pod, and where the pod fails the Job a target stood before.
@@ -106,10 +109,20 @@ AllJustified job (d ∷ past) log = TakesJustly job d past log × AllJustified j
 
 -- ---- what is counted once
 
+-- The status says of failures by index what the ledger says; of a Job without a limit for each it says
+-- nothing.
+abbrev pub SaysFails : Option ℕ → Job → Ledger → Type 0
+SaysFails None job ledger =
+    (job.status.index_failures ≡ []) × (job.status.failed_indexes ≡ [])
+SaysFails (Some limit) job ledger =
+    (job.status.index_failures ≡ fails_of job.spec.failure ledger.records)
+    × (job.status.failed_indexes ≡ ledger.failed)
+
 -- The Job's status counts each pod once. Each total with its list is the number of the pods that the
 -- ledger judged so; an Indexed Job's completed indexes are the ledger's. The listed UIDs are distinct and
 -- were judged as their list says; a judged pod that is not listed had lost its finalizer when the status
--- was written, since the entry of the Job's version is the Job's own. Each finalizer was taken justly.
+-- was written, since the entry of the Job's version is the Job's own. The two lists stay short. Each
+-- finalizer was taken justly. The failures by index are the ledger's.
 pub record CountsOnce (deeds : List Deed) (log : List Entry) (job : Job) : Type 0 where
   pub failed : job.status.failed + length job.status.uncounted_failed
       ≡ length (judged_as Failed (ledger_of job.uid deeds log).records)
@@ -125,14 +138,16 @@ pub record CountsOnce (deeds : List Deed) (log : List Entry) (job : Job) : Type 
   pub listed_succeeded : (u : Uid) → is_in u job.status.uncounted_succeeded ≡ true
       → IsJudged (ledger_of job.uid deeds log).records u Succeeded job.version.0
   pub unlisted : (u : Uid) (r : Record) → record_of u (ledger_of job.uid deeds log).records ≡ Some r
-      → is_listable job.spec.mode r.outcome ≡ true → is_listed job.status u ≡ false
+      → joins_list job.spec.mode r.outcome ≡ true → is_listed job.status u ≡ false
       → is_lost (life u (upto job.version.0 log)) ≡ true
+  pub few : length job.status.uncounted_succeeded + length job.status.uncounted_failed ≤ MOST_UNCOUNTED
   pub taken : AllJustified job deeds log
   pub completed : job.spec.mode ≡ Indexed
       → job.status.completed ≡ (ledger_of job.uid deeds log).done
   pub size : job.spec.mode ≡ Indexed → job.status.succeeded ≡ length job.status.completed
   pub none : job.spec.mode ≡ Indexed → job.status.uncounted_succeeded ≡ []
   pub plain : job.spec.mode ≡ NonIndexed → job.status.completed ≡ []
+  pub by_index : SaysFails job.spec.per_index job (ledger_of job.uid deeds log)
 
 -- Each Job that is there counts each of its pods once.
 abbrev pub Once : List Deed → List Entry → Type 0

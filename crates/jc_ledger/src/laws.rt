@@ -45,8 +45,8 @@ pub fn pods_are_judged_once()
 
 /// What a sync may be planned from holds at every version, since its caches may lag behind: each pod of
 /// an Indexed Job has an index, and each total of a Job with its list is at most the number of the
-/// records of its ledger.
+/// entries, and so are the failures of each index.
 pub fn each_version_can_be_planned()
     ensures indexes { (w : World) → IsTied w → (v : ℕ) → PodsHaveIndexes (upto v w.log) }
-    ensures totals { (w : World) → IsTied w → TotalsAreWithin w.deeds w.log }
+    ensures totals { (w : World) → IsTied w → TotalsAreWithin w.log }
 {}

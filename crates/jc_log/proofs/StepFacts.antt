@@ -46,6 +46,7 @@ same_rest old version status new e = record {
   replacement = ap (λ j. j.spec.replacement) e;
   failure = ap (λ j. j.spec.failure) e;
   success = ap (λ j. j.spec.success) e;
+  per_index = ap (λ j. j.spec.per_index) e;
   template = ap (λ j. j.spec.template) e;
 }
 
@@ -67,6 +68,7 @@ spec_step old version change base changed shared new from by same e =
       replacement = ap (λ j. j.spec.replacement) e ∙ ap (λ s. s.replacement) is;
       failure = ap (λ j. j.spec.failure) e ∙ ap (λ s. s.failure) is;
       success = ap (λ j. j.spec.success) e ∙ ap (λ s. s.success) is;
+      per_index = ap (λ j. j.spec.per_index) e ∙ ap (λ s. s.per_index) is;
       template = ap (λ j. j.spec.template) e ∙ ap (λ s. s.template) is;
     }
 

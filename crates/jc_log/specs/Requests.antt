@@ -28,6 +28,8 @@ use Rattle.jc_types.specs.declared.replies.Field.TheVariants.{Completions, Paral
 use Rattle.jc_types.specs.declared.replies.Reply.{Reply}
 use Rattle.jc_types.specs.declared.replies.Reply.TheVariants.{Created, Written, Unchanged, Released, Removed, Conflict, NotFound, AlreadyExists, Immutable, Invalid, Final, BadStep, NoContainer, NotTracked}
 use Rattle.jc_types.specs.declared.specifications.JobSpec.{JobSpec}
+use Rattle.jc_types.specs.declared.specifications.Mode.{Mode}
+use Rattle.jc_types.specs.declared.specifications.Mode.TheVariants.{NonIndexed, Indexed}
 use Rattle.jc_types.specs.declared.specifications.Template.{Template}
 use Rattle.jc_types.specs.declared.statuses.JobStatus.{JobStatus}
 use Rattle.jc_types.specs.Keys.{same_uid}
@@ -71,6 +73,8 @@ empty_status = record {
   succeeded = 0;
   failed = 0;
   completed = [];
+  failed_indexes = [];
+  index_failures = [];
   uncounted_succeeded = [];
   uncounted_failed = [];
   start = None;
@@ -100,8 +104,8 @@ abbrev pub create_job_gives : List Entry → Key → JobSpec → Moment → Answ
 create_job_gives log key spec now = create_job_at log key spec now (job_in key log)
 
 -- Update a Job's specification: the members that are given take the place of the old ones.
--- `completions` cannot be changed, and the limits of the numbers are those of a valid
--- specification.
+-- `completions` can be changed of an Indexed Job alone, and only together with `parallelism`. The
+-- limits of the numbers are those of a valid specification.
 
 -- A number is given, and it is not the old one.
 abbrev pub is_given_else : Option ℕ → Option ℕ → Bool
@@ -113,10 +117,27 @@ abbrev pub is_above : ℕ → Option ℕ → Bool
 is_above limit None = false
 is_above limit (Some given) = nat_lt limit given
 
+-- The Job has the mode Indexed.
+abbrev pub is_indexed : Mode → Bool
+is_indexed NonIndexed = false
+is_indexed Indexed = true
+
+-- The given completions may take the place of others: the Job is Indexed, and after the change as many
+-- pods may run at once.
+abbrev pub is_elastic : JobSpec → SpecChange → Bool
+is_elastic spec change =
+    is_indexed spec.mode
+    && same_option nat_eq change.completions (Some (unwrap_or change.parallelism spec.parallelism))
+
+-- The completions are given, differ and may not change.
+abbrev pub is_immutable : JobSpec → SpecChange → Bool
+is_immutable spec change =
+    is_given_else change.completions spec.completions && not (is_elastic spec change)
+
 -- The reply by which the change is refused, if it is.
 abbrev pub update_refusal : JobSpec → SpecChange → Option Reply
 update_refusal spec change =
-    if is_given_else change.completions spec.completions then Some (Immutable Completions)
+    if is_immutable spec change then Some (Immutable Completions)
     else if is_above GREATEST_PARALLELISM change.parallelism then Some (Invalid Parallelism)
     else if is_above GREATEST_LIMIT change.backoff_limit then Some (Invalid BackoffLimit)
     else if is_above GREATEST_LIMIT change.deadline then Some (Invalid Deadline)

@@ -42,13 +42,13 @@ creatable-numbered target job own counted =
     (Each-weaker (Numbers job.spec.mode limit) (IsIndexFor job) (λ index h. record { numbered = h.0; below = h.1 }) (creatable target job own counted)
     (none_or (target || job.spec.suspend)
     (new_pods-numbered job.spec.mode (job_lacks job own counted) limit frees
-    (Each-filter (λ i. i < limit) (is_free counted.completed (keepers job.spec.replacement own)) (range_with_len 0 limit) (below-range 0 limit limit (omega arith))))))
+    (Each-filter (λ i. i < limit) (is_free counted (keepers job.spec.replacement own)) (range_with_len 0 limit) (below-range 0 limit limit (omega arith))))))
   where
     limit : ℕ
     limit = unwrap_or job.spec.completions 0
 
     frees : List ℕ
-    frees = free limit counted.completed (keepers job.spec.replacement own)
+    frees = free limit counted (keepers job.spec.replacement own)
 
     none_or : (b : Bool) → Each (Numbers job.spec.mode limit) (new_pods job.spec.mode (job_lacks job own counted) frees) → Each (Numbers job.spec.mode limit) (cond b [] (new_pods job.spec.mode (job_lacks job own counted) frees))
     none_or true h = tt

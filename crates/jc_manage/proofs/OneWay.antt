@@ -1,5 +1,5 @@
 -- Pods that are let go are active tracked ones, and none of them is marked at once.
-use Rattle.std.proofs.Common.{◌≡◌, ◌≢◌, ℕ, zero, suc, ◌<◌, ◌≤◌, Bool, true, false, cond, not, ◌&&◌, ◌||◌, List, [], ◌∷◌, filter, length, get_or, refl, sym, ap, subst, ◌∙◌, arith, true≢false, ⊎_elim}
+use Rattle.std.proofs.Common.{◌≡◌, ◌≢◌, ℕ, zero, suc, ◌<◌, ◌≤◌, Bool, true, false, cond, not, ◌&&◌, ◌||◌, List, [], ◌∷◌, filter, length, get_or, refl, sym, ap, subst, ◌∙◌, arith, true≢false, ⊎_elim, unwrap_or}
 use Rattle.std.specs.List.{All, AllByRecursion as Each, AllPairs, Contains}
 use Rattle.std.proofs.lemmas.Bool.{cases_lt, cases_eq, false_from_ne_true}
 use Rattle.std.proofs.lemmas.List.Elements.{All-from_recursion, recursion_from_All, All-contains_itself}
@@ -12,7 +12,7 @@ use Rattle.jc_types.proofs.ListFacts.{Each-both, Each-filter, Each-map, Each-pas
 use Rattle.jc_states.proofs.UidListFacts.{Found, some_in}
 use Rattle.jc_manage.specs.Creations.{job_wants}
 use Rattle.jc_manage.specs.SeenPods.{IsSeen}
-use Rattle.jc_manage.specs.LetGoes.{going, is_let_go, is_to_mark, let_goes, marks, seen}
+use Rattle.jc_manage.specs.LetGoes.{going, is_let_go, is_needless, is_to_mark, let_goes, marks, seen}
 
 -- A pod of these, active and tracked.
 abbrev IsOne : List Pod → Pod → Type 0
@@ -30,7 +30,7 @@ module _ (own : List Pod) where
   going-each P target job counted h = by target job.spec.suspend h
     where
       test : Pod → Bool
-      test = is_let_go job.spec.mode counted.completed (job_wants job own counted) (tracked_active_pods own)
+      test = is_let_go job.spec.mode (is_needless (unwrap_or job.spec.completions 0) counted) (job_wants job own counted) (tracked_active_pods own)
 
       by : (t s : Bool) → (t ≡ false → Each P (tracked_active_pods own)) → Each P (cond t [] (cond s (tracked_active_pods own) (filter test (tracked_active_pods own))))
       by true s g = tt

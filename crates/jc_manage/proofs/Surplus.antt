@@ -13,7 +13,6 @@ use Rattle.jc_states.specs.Pods.{is_pending}
 use Rattle.jc_types.specs.Equality.{same_bool}
 use Rattle.jc_manage.specs.declared.ranks.Rank.{Rank}
 use Rattle.jc_manage.specs.declared.ranks.Rank.TheVariants.{Running, Pending}
-use Rattle.jc_states.specs.Indexes.{is_completed}
 use Rattle.jc_manage.specs.LetGoes.{is_earlier, is_spare, remaining, goes_before, is_one_of, is_let_go}
 use Rattle.jc_manage.specs.Ranks.{has_older, is_spare_by, rank_of, is_below_rank, goes_by}
 
@@ -39,37 +38,37 @@ count-ranks : (mode : Mode) (p : Pod) (pods : List Pod) → count_by (λ other. 
 count-ranks mode p pods =
     count-map (rank_of mode) (λ other. is_below_rank (rank_of mode p) other) pods ∙ (λ i. count_by (λ q. before-is mode p q i) pods)
 
-module _ (mode : Mode) (completed : List ℕ) (tracked : List Pod) (holder : ℕ → Option Uid) (told : mode ≡ Indexed → (index uid : ℕ) → has_older (holder index) uid ≡ list_any (is_earlier index uid) tracked) where
+module _ (mode : Mode) (needless : ℕ → Bool) (tracked : List Pod) (holder : ℕ → Option Uid) (told : mode ≡ Indexed → (index uid : ℕ) → has_older (holder index) uid ≡ list_any (is_earlier index uid) tracked) where
   -- The oldest holders tell which pods are spare.
-  spare-is : (p : Pod) → is_spare_by mode completed holder p ≡ is_spare mode completed tracked p
+  spare-is : (p : Pod) → is_spare_by mode needless holder p ≡ is_spare mode needless tracked p
   spare-is p = by mode refl
     where
       at : mode ≡ Indexed → (index : Option ℕ) → option_map_or (λ n. has_older (holder n) p.uid.0) index false ≡ option_map_or (λ n. list_any (is_earlier n p.uid.0) tracked) index false
       at indexed None = refl
       at indexed (Some n) = told indexed n p.uid.0
 
-      by : (m : Mode) → mode ≡ m → is_spare_by m completed holder p ≡ is_spare m completed tracked p
+      by : (m : Mode) → mode ≡ m → is_spare_by m needless holder p ≡ is_spare m needless tracked p
       by NonIndexed same = refl
-      by Indexed same = ap (λ b. is_completed completed p || b) (at same p.index)
+      by Indexed same = ap (λ b. option_map_or needless p.index false || b) (at same p.index)
 
-  remaining-is : filter (λ p. not (is_spare_by mode completed holder p)) tracked ≡ remaining mode completed tracked
-  remaining-is = filter_agree (λ p. not (is_spare_by mode completed holder p)) (λ p. not (is_spare mode completed tracked p)) (λ p. ap not (spare-is p)) tracked
+  remaining-is : filter (λ p. not (is_spare_by mode needless holder p)) tracked ≡ remaining mode needless tracked
+  remaining-is = filter_agree (λ p. not (is_spare_by mode needless holder p)) (λ p. not (is_spare mode needless tracked p)) (λ p. ap not (spare-is p)) tracked
 
-  module _ (ranks : List Rank) (staying wanted : ℕ) (least : Option Rank) (listed : ranks ≡ map (rank_of mode) (filter (λ p. not (is_spare_by mode completed holder p)) tracked)) (stay : staying ≡ wanted)
+  module _ (ranks : List Rank) (staying wanted : ℕ) (least : Option Rank) (listed : ranks ≡ map (rank_of mode) (filter (λ p. not (is_spare_by mode needless holder p)) tracked)) (stay : staying ≡ wanted)
       (sorted : (rank : Rank) → nat_lt (count_by (λ other. is_below_rank rank other) ranks) (length ranks - staying) ≡ option_map_or (λ other. not (is_below_rank rank other)) least false) where
-    ranked : ranks ≡ map (rank_of mode) (remaining mode completed tracked)
+    ranked : ranks ≡ map (rank_of mode) (remaining mode needless tracked)
     ranked = listed ∙ ap (map (rank_of mode)) remaining-is
 
     -- A pod is too many where its rank is not below the least.
-    first-is : (p : Pod) → option_map_or (λ other. not (is_below_rank (rank_of mode p) other)) least false ≡ is_one_of (length (remaining mode completed tracked) - wanted) mode (remaining mode completed tracked) p
+    first-is : (p : Pod) → option_map_or (λ other. not (is_below_rank (rank_of mode p) other)) least false ≡ is_one_of (length (remaining mode needless tracked) - wanted) mode (remaining mode needless tracked) p
     first-is p =
         sym (sorted (rank_of mode p))
         ∙ ap (λ rs. nat_lt (count_by (λ other. is_below_rank (rank_of mode p) other) rs) (length rs - staying)) ranked
-        ∙ ap (λ n. nat_lt n (length (map (rank_of mode) (remaining mode completed tracked)) - staying)) (count-ranks mode p (remaining mode completed tracked))
-        ∙ ap (λ n. nat_lt (count_by (λ q. goes_before mode q p) (remaining mode completed tracked)) (n - staying)) (length-map (remaining mode completed tracked) (rank_of mode))
-        ∙ ap (λ n. nat_lt (count_by (λ q. goes_before mode q p) (remaining mode completed tracked)) (length (remaining mode completed tracked) - n)) stay
+        ∙ ap (λ n. nat_lt n (length (map (rank_of mode) (remaining mode needless tracked)) - staying)) (count-ranks mode p (remaining mode needless tracked))
+        ∙ ap (λ n. nat_lt (count_by (λ q. goes_before mode q p) (remaining mode needless tracked)) (n - staying)) (length-map (remaining mode needless tracked) (rank_of mode))
+        ∙ ap (λ n. nat_lt (count_by (λ q. goes_before mode q p) (remaining mode needless tracked)) (length (remaining mode needless tracked) - n)) stay
 
-    pub going-same : filter (goes_by mode completed holder least) tracked ≡ filter (is_let_go mode completed wanted tracked) tracked
+    pub going-same : filter (goes_by mode needless holder least) tracked ≡ filter (is_let_go mode needless wanted tracked) tracked
     going-same =
-        filter_agree (goes_by mode completed holder least) (is_let_go mode completed wanted tracked)
-        (λ p. ap (λ b. b || option_map_or (λ other. not (is_below_rank (rank_of mode p) other)) least false) (spare-is p) ∙ ap (λ b. is_spare mode completed tracked p || b) (first-is p)) tracked
+        filter_agree (goes_by mode needless holder least) (is_let_go mode needless wanted tracked)
+        (λ p. ap (λ b. b || option_map_or (λ other. not (is_below_rank (rank_of mode p) other)) least false) (spare-is p) ∙ ap (λ b. is_spare mode needless tracked p || b) (first-is p)) tracked

@@ -4,7 +4,8 @@
 --     holds pods n                        one of the pods has the index n
 --     keeps_own job n pod                 the pod is the Job's own, and keeps the index n
 --     keepers replacement own             the pods that keep their index from new ones
---     free replacement .. own             the indexes that a new pod may have, in order
+--     is_settled_index counted n          the index is completed, or it has failed
+--     free completions counted kept       the indexes that a new pod may have, in order
 --     new_pods mode n free                the indexes of n new pods; none for pods without one
 --     IsIndexFor job index                a new pod of the Job may have the index
 --     creatable target job own counted    what the Job would make at once
@@ -28,10 +29,11 @@ use Rattle.jc_moment.specs.Range.{as_moment}
 use Rattle.jc_manage.specs.Backoffs.{is_held_back}
 
 -- How many active pods there should be, where a are active. With completions: as many as may run at once, and no
--- more than are left to succeed. Without: as many as may run at once, and once one has succeeded no new one.
-abbrev pub wanted : ℕ → Option ℕ → ℕ → ℕ → ℕ
-wanted parallelism (Some completions) succeeded a = min parallelism (completions - succeeded)
-wanted parallelism None succeeded a = if succeeded == 0 then parallelism else a
+-- more than are left to succeed, without the indexes that have failed. Without: as many as may run at once, and once
+-- one has succeeded no new one.
+abbrev pub wanted : ℕ → Option ℕ → ℕ → ℕ → ℕ → ℕ
+wanted parallelism (Some completions) succeeded failed a = min parallelism (completions - succeeded - failed)
+wanted parallelism None succeeded failed a = if succeeded == 0 then parallelism else a
 
 -- How many pods are to be made, where a are active and m are ending. An ending pod counts until it has ended where
 -- pods are replaced only then.
@@ -42,7 +44,8 @@ lacking FailedOnly wanted a m = wanted - a - m
 -- How many active tracked pods the Job should have.
 abbrev pub job_wants : Job → List Pod → CountIn → ℕ
 job_wants job own counted =
-    wanted job.spec.parallelism job.spec.completions (counts counted).1 (length (tracked_active_pods own))
+    wanted job.spec.parallelism job.spec.completions (counts counted).1 (length counted.failed_indexes)
+    (length (tracked_active_pods own))
 
 -- How many pods the Job is to make.
 abbrev pub job_lacks : Job → List Pod → CountIn → ℕ
@@ -67,13 +70,17 @@ keeps_own job n pod = is_own job pod && (keeps job.spec.replacement pod && has_i
 abbrev pub keepers : Replacement → List Pod → List Pod
 keepers replacement own = filter (keeps replacement) own
 
--- A new pod may have the index: it is not completed, and no pod keeps it.
-abbrev pub is_free : List ℕ → List Pod → ℕ → Bool
-is_free completed kept n = not (has n completed) && not (holds kept n)
+-- The index is settled: it is completed, or it has failed.
+abbrev pub is_settled_index : CountIn → ℕ → Bool
+is_settled_index counted n = has n counted.completed || has n counted.failed_indexes
+
+-- A new pod may have the index: it is not settled, and no pod keeps it.
+abbrev pub is_free : CountIn → List Pod → ℕ → Bool
+is_free counted kept n = not (is_settled_index counted n) && not (holds kept n)
 
 -- The indexes below `completions` that a new pod may have, in order.
-abbrev pub free : ℕ → List ℕ → List Pod → List ℕ
-free completions completed kept = filter (is_free completed kept) (range_with_len 0 completions)
+abbrev pub free : ℕ → CountIn → List Pod → List ℕ
+free completions counted kept = filter (is_free counted kept) (range_with_len 0 completions)
 
 -- The indexes of n new pods, where these are free: the least of them, and as many as there are. Pods of a Job that
 -- is not Indexed have none.
@@ -91,7 +98,7 @@ abbrev pub creatable : Bool → Job → List Pod → CountIn → List (Option �
 creatable target job own counted =
     if target || job.spec.suspend then []
     else new_pods job.spec.mode (job_lacks job own counted)
-    (free (unwrap_or job.spec.completions 0) counted.completed (keepers job.spec.replacement own))
+    (free (unwrap_or job.spec.completions 0) counted (keepers job.spec.replacement own))
 
 -- Of what would be made at once, nothing before the opening.
 abbrev pub creates : Option ℕ → ℕ → List (Option ℕ) → List (Option ℕ)

@@ -1,15 +1,16 @@
 -- Which pods a Job stops (batch/v1, KEP-2307, KEP-2214). `own` are the Job's own pods, `tracked` those of them that
 -- are active and tracked.
 --     marks target own                    the pods that are marked for deletion at once
---     is_spare mode completed tracked p   the index of the pod is completed, or another holds it by right
---     remaining mode completed tracked    those that are not spare
+--     is_needless completions counted n   no pod of the index is of use: it is settled, or past the completions
+--     is_spare mode needless tracked p    the pod's index is one of these, or another holds it by right
+--     remaining mode needless tracked     those that are not spare
 --     goes_before mode q p                where there are too many, q goes before p
 --     is_one_of n mode pods p             p is one of the first n of the pods to go
 --     own_tracked job pods                the Job's own pods that are active and tracked
---     surplus mode completed wanted tracked    those of them that are spare or too many
+--     surplus mode needless wanted tracked    those of them that are spare or too many
 --     seen_uids rows                      the UIDs of pods that were seen
 --     let_goes ..                         the pods whose finalizer goes first, each with its version
-use Rattle.std.specs.Prelude.{ℕ, ◌-◌, nat_lt, Bool, true, false, not, ◌&&◌, ◌||◌, if◌then◌else◌, List, [], map, filter, length, count_by, Option, Some, None}
+use Rattle.std.specs.Prelude.{ℕ, ◌-◌, nat_le, nat_lt, Bool, true, false, not, ◌&&◌, ◌||◌, if◌then◌else◌, List, [], map, filter, length, count_by, Option, Some, None, unwrap_or}
 use Rattle.std.specs.List.{list_any}
 use Rattle.std.specs.Option.{option_map_or}
 use Rattle.jc_types.specs.declared.numbers.Uid.{Uid}
@@ -23,8 +24,8 @@ use Rattle.jc_states.specs.Bases.{own_pods}
 use Rattle.jc_states.specs.Pods.{is_active, is_tracked, is_pending, tracked_active_pods}
 use Rattle.jc_types.specs.Equality.{same_bool}
 use Rattle.jc_states.specs.UidLists.{uids_of}
-use Rattle.jc_states.specs.Indexes.{has_index, is_completed}
-use Rattle.jc_manage.specs.Creations.{job_wants}
+use Rattle.jc_states.specs.Indexes.{has_index}
+use Rattle.jc_manage.specs.Creations.{is_settled_index, job_wants}
 
 -- The Job's own pods that are active and tracked.
 abbrev pub own_tracked : Job → List Pod → List Pod
@@ -45,13 +46,17 @@ is_earlier index uid q = has_index index q && nat_lt q.uid.0 uid
 abbrev pub is_doubled : List Pod → Pod → Bool
 is_doubled tracked p = option_map_or (λ index. list_any (is_earlier index p.uid.0) tracked) p.index false
 
--- The pod of an Indexed Job is of no use: its index is completed, or an older pod holds it.
-abbrev pub is_spare : Mode → List ℕ → List Pod → Pod → Bool
-is_spare NonIndexed completed tracked p = false
-is_spare Indexed completed tracked p = is_completed completed p || is_doubled tracked p
+-- No pod of the index is of use: it is completed or has failed, or it is not below the completions.
+abbrev pub is_needless : ℕ → CountIn → ℕ → Bool
+is_needless completions counted n = is_settled_index counted n || nat_le completions n
 
-abbrev pub remaining : Mode → List ℕ → List Pod → List Pod
-remaining mode completed tracked = filter (λ p. not (is_spare mode completed tracked p)) tracked
+-- The pod of an Indexed Job is of no use: none of its index is, or an older pod holds it.
+abbrev pub is_spare : Mode → (ℕ → Bool) → List Pod → Pod → Bool
+is_spare NonIndexed needless tracked p = false
+is_spare Indexed needless tracked p = option_map_or needless p.index false || is_doubled tracked p
+
+abbrev pub remaining : Mode → (ℕ → Bool) → List Pod → List Pod
+remaining mode needless tracked = filter (λ p. not (is_spare mode needless tracked p)) tracked
 
 -- The first index is below the second; none is below each.
 abbrev pub is_below : Option ℕ → Option ℕ → Bool
@@ -73,14 +78,14 @@ is_one_of n mode pods p = nat_lt (count_by (λ q. goes_before mode q p) pods) n
 
 -- The pod goes, where so many are wanted: it is spare, or one of the first to go of those that are not and are too
 -- many.
-abbrev pub is_let_go : Mode → List ℕ → ℕ → List Pod → Pod → Bool
-is_let_go mode completed wanted tracked p =
-    is_spare mode completed tracked p
-    || is_one_of (length (remaining mode completed tracked) - wanted) mode (remaining mode completed tracked) p
+abbrev pub is_let_go : Mode → (ℕ → Bool) → ℕ → List Pod → Pod → Bool
+is_let_go mode needless wanted tracked p =
+    is_spare mode needless tracked p
+    || is_one_of (length (remaining mode needless tracked) - wanted) mode (remaining mode needless tracked) p
 
 -- Those that go, where so many are wanted.
-abbrev pub surplus : Mode → List ℕ → ℕ → List Pod → List Pod
-surplus mode completed wanted tracked = filter (is_let_go mode completed wanted tracked) tracked
+abbrev pub surplus : Mode → (ℕ → Bool) → ℕ → List Pod → List Pod
+surplus mode needless wanted tracked = filter (is_let_go mode needless wanted tracked) tracked
 
 -- A pod as it was seen.
 abbrev pub seen : Pod → Uid × Version
@@ -92,7 +97,9 @@ abbrev pub going : Bool → Job → List Pod → CountIn → List Pod
 going target job own counted =
     if target then []
     else if job.spec.suspend then tracked_active_pods own
-    else surplus job.spec.mode counted.completed (job_wants job own counted) (tracked_active_pods own)
+    else
+    surplus job.spec.mode (is_needless (unwrap_or job.spec.completions 0) counted) (job_wants job own counted)
+    (tracked_active_pods own)
 
 abbrev pub let_goes : Bool → Job → List Pod → CountIn → List (Uid × Version)
 let_goes target job own counted = map seen (going target job own counted)

@@ -1,6 +1,6 @@
 -- What the steps of the computation give.
 --     has_older holder uid     the holder of an index has a UID below that one
---     is_spare_by mode completed holder p    the pod is spare, by the oldest holder of each index
+--     is_spare_by mode needless holder p    the pod is spare, by the oldest holder of each index
 --     Rank, rank_of mode p     the place of a pod in the order in which pods go
 --     is_below_rank a b        the pod of rank b goes before the one of rank a
 --     AreOldest tracked holder    the holders of the indexes are the oldest of these pods
@@ -19,7 +19,6 @@ use Rattle.jc_states.specs.Pods.{is_pending}
 use Rattle.jc_manage.specs.declared.ranks.Rank.{Rank}
 use Rattle.jc_manage.specs.declared.ranks.Rank.TheVariants.{Index, Running, Pending}
 use Rattle.jc_manage.specs.LetGoes.{is_below, is_earlier, seen}
-use Rattle.jc_states.specs.Indexes.{is_completed}
 
 -- The holder of an index, where there is one, has a UID below that one.
 abbrev pub has_older : Option Uid → ℕ → Bool
@@ -27,10 +26,10 @@ has_older None uid = false
 has_older (Some holder) uid = nat_lt holder.0 uid
 
 -- The pod of an Indexed Job is spare, where these are the oldest holders of the indexes.
-abbrev pub is_spare_by : Mode → List ℕ → (ℕ → Option Uid) → Pod → Bool
-is_spare_by NonIndexed completed holder p = false
-is_spare_by Indexed completed holder p =
-    is_completed completed p || option_map_or (λ index. has_older (holder index) p.uid.0) p.index false
+abbrev pub is_spare_by : Mode → (ℕ → Bool) → (ℕ → Option Uid) → Pod → Bool
+is_spare_by NonIndexed needless holder p = false
+is_spare_by Indexed needless holder p =
+    option_map_or needless p.index false || option_map_or (λ index. has_older (holder index) p.uid.0) p.index false
 
 -- The rank of a pod.
 abbrev pub rank_of : Mode → Pod → Rank
@@ -54,9 +53,9 @@ abbrev pub is_last : Option Rank → Rank → Bool
 is_last least rank = option_map_or (λ other. not (is_below_rank rank other)) least false
 
 -- The pod goes: it is spare, or its rank is not below the least of those that go.
-abbrev pub goes_by : Mode → List ℕ → (ℕ → Option Uid) → Option Rank → Pod → Bool
-goes_by mode completed holder least p =
-    is_spare_by mode completed holder p || is_last least (rank_of mode p)
+abbrev pub goes_by : Mode → (ℕ → Bool) → (ℕ → Option Uid) → Option Rank → Pod → Bool
+goes_by mode needless holder least p =
+    is_spare_by mode needless holder p || is_last least (rank_of mode p)
 
 -- The holders of the indexes are the oldest of these pods.
 abbrev pub AreOldest : List Pod → (ℕ → Option Uid) → Type 0
@@ -64,11 +63,11 @@ AreOldest tracked holder =
     (index uid : ℕ) → has_older (holder index) uid ≡ list_any (is_earlier index uid) tracked
 
 -- The ranks of those that are not spare.
-abbrev pub ranks_in : Mode → List ℕ → (ℕ → Option Uid) → List Pod → List Rank
-ranks_in mode completed holder tracked =
-    map (λ pod. rank_of mode pod) (filter (λ pod. not (is_spare_by mode completed holder pod)) tracked)
+abbrev pub ranks_in : Mode → (ℕ → Bool) → (ℕ → Option Uid) → List Pod → List Rank
+ranks_in mode needless holder tracked =
+    map (λ pod. rank_of mode pod) (filter (λ pod. not (is_spare_by mode needless holder pod)) tracked)
 
 -- Those that go, as they were seen.
-abbrev pub gone_by : Mode → List ℕ → (ℕ → Option Uid) → Option Rank → List Pod → List (Uid × Version)
-gone_by mode completed holder least tracked =
-    map (λ pod. seen pod) (filter (λ pod. goes_by mode completed holder least pod) tracked)
+abbrev pub gone_by : Mode → (ℕ → Bool) → (ℕ → Option Uid) → Option Rank → List Pod → List (Uid × Version)
+gone_by mode needless holder least tracked =
+    map (λ pod. seen pod) (filter (λ pod. goes_by mode needless holder least pod) tracked)

@@ -2,24 +2,26 @@
 
 ghost use Rattle.std.specs.Prelude.{◌≡◌, ◌==◌, ◌<◌, ◌^◌, ◌&&◌, ◌||◌, ◌∷◌, ◌++◌, [], ℕ, IfOk, None, OnOk, Some, false, filter, get_or, if◌then◌else◌, length, map, nat_lt, not, replicate, take, unwrap_or};
 ghost use Rattle.std.specs.List.{range_with_len};
-ghost use Rattle.jc_ranges.specs.Sets.{has};
 ghost use Rattle.jc_states.specs.Indexes.{has_index};
 ghost use Rattle.jc_states.specs.Bases.{is_own, own_pods};
 ghost use Rattle.jc_types.specs.Counts.{counts as counts_of};
-ghost use Rattle.jc_manage.specs.Creations.{creatable, free, holds, job_lacks, job_wants, keepers, keeps, keeps_own, lacking, wanted};
+ghost use Rattle.jc_manage.specs.Creations.{creatable, free, holds, is_settled_index, job_lacks, job_wants, keepers, keeps, keeps_own, lacking, wanted};
 
-use jc_ranges::Ranges;
 use jc_states::{Pods, count_ending, count_tracked_active, is_active, is_ending, is_own};
 use jc_types::{CountIn, Indexes, Job, JobSpec, Mode, Pod, Replacement, Want, counts};
 use std::alloc::Global;
 
-// How many active pods there should be, where so many have succeeded and so many are active.
-fn wanted(spec: &JobSpec, succeeded: u64, active: u64) -> u64
-    ensures { result ≡ wanted spec.now.parallelism spec.now.completions succeeded active }
+// How many active pods there should be, where so many have succeeded, so many indexes have failed and so
+// many are active.
+fn wanted(spec: &JobSpec, succeeded: u64, failed: u64, active: u64) -> u64
+    ensures { result ≡ wanted spec.now.parallelism spec.now.completions succeeded failed active }
 {
     let parallelism = u64::from(spec.parallelism);
     match spec.completions {
-        Some(completions) => parallelism.min(u64::from(completions).saturating_sub(succeeded)),
+        Some(completions) => {
+            let left = u64::from(completions).saturating_sub(succeeded);
+            parallelism.min(left.saturating_sub(failed))
+        }
         None => { if succeeded == 0 { parallelism } else { active } }
     }
 }
@@ -41,7 +43,13 @@ pub(crate) fn job_wants(job: &Job, pods: &Pods, counted: &CountIn) -> u64
     ensures { result ≡ job_wants job.now (own_pods job.now pods.now) counted.now }
 {
     let (_, succeeded) = counts(counted);
-    wanted(&job.spec, succeeded, count_tracked_active(job, pods) as u64)
+    let failed = u64::from(counted.failed_indexes.len());
+    wanted(
+        &job.spec,
+        succeeded,
+        failed,
+        count_tracked_active(job, pods) as u64,
+    )
 }
 
 // How many pods the Job is to make.
@@ -119,21 +127,28 @@ fn kept_indexes(alloc: Global, job: &Job, pods: &[Pod], completions: u32) -> Res
     Ok(kept)
 }
 
-// Adds the index, where it is neither completed nor kept and there are not so many yet.
+// Whether the index is completed or has failed.
+pub(crate) fn is_settled_index(counted: &CountIn, index: u32) -> bool
+    ensures { result ≡ is_settled_index counted.now index }
+{
+    counted.completed.contains(index) || counted.failed_indexes.contains(index)
+}
+
+// Adds the index, where it is neither settled nor kept and there are not so many yet.
 fn offer(
     indexes: &mut Indexes,
     index: u32,
-    completed: &Ranges,
+    counted: &CountIn,
     kept: &[bool],
     most: u64,
 ) -> Result<(), Want>
     ensures { OnOk result (indexes.new ≡ (
-        if not (has index completed.now) && not (get_or kept.now index false)
+        if not (is_settled_index counted.now index) && not (get_or kept.now index false)
         then (if nat_lt (length indexes.old) most
         then indexes.old ++ Some index ∷ [] else indexes.old)
         else indexes.old)) }
 {
-    if completed.contains(index) || is_set(kept, index) {
+    if is_settled_index(counted, index) || is_set(kept, index) {
         return Ok(());
     }
     if (indexes.len() as u64) < most {
@@ -142,16 +157,16 @@ fn offer(
     Ok(())
 }
 
-// The least indexes below `completions` that are neither completed nor kept, and at most so many.
+// The least indexes below `completions` that are neither settled nor kept, and at most so many.
 fn free_indexes(
     alloc: Global,
     completions: u32,
-    completed: &Ranges,
+    counted: &CountIn,
     kept: &[bool],
     most: u64,
 ) -> Result<Indexes, Want>
     ensures { IfOk result (λ indexes. indexes ≡ map (λ n. Some n) (take most
-        (filter (λ n. not (has n completed.now) && not (get_or kept.now n false))
+        (filter (λ n. not (is_settled_index counted.now n) && not (get_or kept.now n false))
         (range_with_len 0 completions)))) }
 {
     let mut indexes = Indexes::new(alloc);
@@ -160,7 +175,7 @@ fn free_indexes(
         if indexes.len() as u64 == most {
             return Ok(indexes);
         }
-        offer(&mut indexes, index, completed, kept, most)?;
+        offer(&mut indexes, index, counted, kept, most)?;
     }
     Ok(indexes)
 }
@@ -181,11 +196,11 @@ fn least_free(
     alloc: Global,
     job: &Job,
     pods: &[Pod],
-    completed: &Ranges,
+    counted: &CountIn,
     most: u64,
 ) -> Result<Indexes, Want>
     ensures { IfOk result (λ indexes. indexes ≡ map (λ n. Some n) (take most
-        (free (unwrap_or job.now.spec.completions 0) completed.now
+        (free (unwrap_or job.now.spec.completions 0) counted.now
         (keepers job.now.spec.replacement (own_pods job.now pods.now))))) }
 {
     if most == 0 {
@@ -193,7 +208,7 @@ fn least_free(
     }
     let completions = job.spec.completions.unwrap_or(0);
     let kept = kept_indexes(alloc, job, pods, completions)?;
-    free_indexes(alloc, completions, completed, kept.as_slice(), most)
+    free_indexes(alloc, completions, counted, kept.as_slice(), most)
 }
 
 // What the Job would make at once, if nothing held it back.
@@ -218,6 +233,6 @@ pub(crate) fn creatable(
     let lacking = job_lacks(job, pods, counted);
     match job.spec.mode {
         Mode::NonIndexed => without_index(alloc, lacking),
-        Mode::Indexed => least_free(alloc, job, pods.as_slice(), &counted.completed, lacking),
+        Mode::Indexed => least_free(alloc, job, pods.as_slice(), counted, lacking),
     }
 }

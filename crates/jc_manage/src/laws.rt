@@ -2,7 +2,6 @@
 //! and its callers may cite it.
 
 ghost use Rattle.std.specs.Prelude.{◌≡◌, ◌≢◌, ◌⊎◌, ◌+◌, ◌-◌, ◌<◌, ◌≤◌, ℕ, All, AllPairs, Bool, IsSome, List, None, Option, Some, false, length};
-ghost use Rattle.jc_ranges.specs.Sets.{has};
 ghost use Rattle.jc_types.specs.declared.objects.Job.{Job};
 ghost use Rattle.jc_types.specs.declared.objects.Pod.{Pod};
 ghost use Rattle.jc_types.specs.declared.specifications.Replacement.TheVariants.{FailedOnly};
@@ -12,7 +11,7 @@ ghost use Rattle.jc_states.specs.PodLists.{IsRising};
 ghost use Rattle.jc_states.specs.Pods.{ending_pods, tracked_active_pods};
 ghost use Rattle.jc_states.specs.UidLists.{Ascends, is_in};
 ghost use Rattle.jc_manage.specs.Backoffs.{backoff_after};
-ghost use Rattle.jc_manage.specs.Creations.{creatable, creates, free, holds, IsIndexFor, job_lacks, job_wants, wanted};
+ghost use Rattle.jc_manage.specs.Creations.{creatable, creates, free, holds, is_settled_index, IsIndexFor, job_lacks, job_wants, wanted};
 ghost use Rattle.jc_manage.specs.LetGoes.{let_goes, marks, seen_uids};
 ghost use Rattle.jc_manage.specs.SeenPods.{IsSeen};
 
@@ -33,11 +32,11 @@ pub fn creations_stay_within_bounds()
     ensures ending { (job : Job) (own : List Pod) (counted : CountIn)
         → job.spec.replacement ≡ FailedOnly → job_lacks job own counted
         ≡ job_wants job own counted - length (tracked_active_pods own) - length (ending_pods own) }
-    ensures completions { (parallelism completions succeeded a : ℕ)
-        → wanted parallelism (Some completions) succeeded a ≤ parallelism }
-    ensures queue { (parallelism succeeded a : ℕ)
-        → (wanted parallelism None succeeded a ≡ parallelism)
-        ⊎ (wanted parallelism None succeeded a ≡ a) }
+    ensures completions { (parallelism completions succeeded failed a : ℕ)
+        → wanted parallelism (Some completions) succeeded failed a ≤ parallelism }
+    ensures queue { (parallelism succeeded failed a : ℕ)
+        → (wanted parallelism None succeeded failed a ≡ parallelism)
+        ⊎ (wanted parallelism None succeeded failed a ≡ a) }
     ensures fit { (target : Bool) (job : Job) (own : List Pod) (counted : CountIn)
         → 0 < length (creatable target job own counted)
         → length (creatable target job own counted) + length (tracked_active_pods own)
@@ -56,12 +55,12 @@ pub fn creations_are_numbered()
         → All (IsIndexFor job) made → All (IsIndexFor job) (creates opening now made) }
 {}
 
-/// An index that is free is not completed, and no pod keeps it.
+/// An index that is free is neither completed nor has it failed, and no pod keeps it.
 pub fn free_indexes_are_free()
-    ensures completed { (completions : ℕ) (completed : List ℕ) (kept : List Pod)
-        → All (λ n. has n completed ≡ false) (free completions completed kept) }
-    ensures kept { (completions : ℕ) (completed : List ℕ) (kept : List Pod)
-        → All (λ n. holds kept n ≡ false) (free completions completed kept) }
+    ensures settled { (completions : ℕ) (counted : CountIn) (kept : List Pod)
+        → All (λ n. is_settled_index counted n ≡ false) (free completions counted kept) }
+    ensures kept { (completions : ℕ) (counted : CountIn) (kept : List Pod)
+        → All (λ n. holds kept n ≡ false) (free completions counted kept) }
 {}
 
 /// The pods that are let go are active tracked ones of the Job, at their versions, and none of them is

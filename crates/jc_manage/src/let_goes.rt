@@ -1,6 +1,6 @@
 //! Which pods a Job stops.
 
-ghost use Rattle.std.specs.Prelude.{◌≡◌, ◌<◌, ◌^◌, ◌&&◌, ◌||◌, ℕ, IfOk, OnOk, false, map, nat_eq};
+ghost use Rattle.std.specs.Prelude.{◌≡◌, ◌<◌, ◌^◌, ◌&&◌, ◌||◌, ℕ, IfOk, OnOk, false, map, nat_eq, unwrap_or};
 ghost use Rattle.std.specs.Option.{option_map_or};
 ghost use Rattle.std.specs.HashMap.{get};
 ghost use Rattle.jc_types.specs.declared.specifications.Mode.TheVariants.{Indexed};
@@ -8,15 +8,14 @@ ghost use Rattle.jc_states.specs.Bases.{is_own, own_pods};
 ghost use Rattle.jc_types.specs.Counts.{counts as counts_of};
 ghost use Rattle.jc_states.specs.Pods.{is_tracked_active};
 ghost use Rattle.jc_manage.specs.Creations.{job_wants};
-ghost use Rattle.jc_manage.specs.LetGoes.{is_earlier, is_to_mark, let_goes, marks, own_tracked, seen, surplus};
+ghost use Rattle.jc_manage.specs.LetGoes.{is_earlier, is_needless, is_to_mark, let_goes, marks, own_tracked, seen, surplus};
 ghost use Rattle.jc_manage.specs.Ranks.{AreOldest, goes_by, gone_by, has_older, is_spare_by, ranks_in};
 
-use crate::creations::job_wants;
+use crate::creations::{is_settled_index, job_wants};
 use crate::lists::list_of;
 use crate::ranks::{Rank, is_below, least_to_go, rank_of};
-use jc_ranges::Ranges;
-use jc_states::{Pods, is_active, is_completed, is_own, is_tracked_active};
-use jc_types::{CountIn, Job, Mode, Pod, PodVersions, Uid, Uids, Version, Want};
+use jc_states::{Pods, is_active, is_own, is_tracked_active};
+use jc_types::{CountIn, Job, JobSpec, Mode, Pod, PodVersions, Uid, Uids, Version, Want};
 use std::alloc::Global;
 use std::collections::HashMap;
 
@@ -117,14 +116,35 @@ fn is_doubled(holders: &HashMap<u32, Uid>, pod: &Pod) -> bool
     }
 }
 
-// Whether the pod is spare, where these are the oldest holders of the indexes.
-fn is_spare(mode: Mode, completed: &Ranges, holders: &HashMap<u32, Uid>, pod: &Pod) -> bool
-    ensures { result
-        ≡ is_spare_by mode completed.now (λ index. get nat_eq holders.now index) pod.now }
+// Whether no pod of the index is of use, where so many completions are wanted.
+fn is_needless(completions: u32, counted: &CountIn, index: u32) -> bool
+    ensures { result ≡ is_needless completions counted.now index }
 {
-    match mode {
+    is_settled_index(counted, index) || completions <= index
+}
+
+// Whether the pod has an index of which none is of use.
+fn has_needless_index(completions: u32, counted: &CountIn, pod: &Pod) -> bool
+    ensures { result ≡ option_map_or (is_needless completions counted.now) pod.now.index false }
+{
+    match pod.index {
+        None => false,
+        Some(index) => is_needless(completions, counted, index),
+    }
+}
+
+// Whether the pod is spare, where these are the oldest holders of the indexes.
+fn is_spare(spec: &JobSpec, counted: &CountIn, holders: &HashMap<u32, Uid>, pod: &Pod) -> bool
+    ensures { result ≡ is_spare_by spec.now.mode
+        (is_needless (unwrap_or spec.now.completions 0) counted.now)
+        (λ index. get nat_eq holders.now index) pod.now }
+{
+    match spec.mode {
         Mode::NonIndexed => false,
-        Mode::Indexed => is_completed(completed, pod) || is_doubled(holders, pod),
+        Mode::Indexed => {
+            has_needless_index(spec.completions.unwrap_or(0), counted, pod)
+                || is_doubled(holders, pod)
+        }
     }
 }
 
@@ -133,39 +153,41 @@ fn ranks_of(
     alloc: Global,
     job: &Job,
     pods: &[Pod],
-    completed: &Ranges,
+    counted: &CountIn,
     holders: &HashMap<u32, Uid>,
 ) -> Result<Vec<Rank>, Want>
     ensures { IfOk result (λ ranks. ranks.items
-        ≡ ranks_in job.now.spec.mode completed.now (λ index. get nat_eq holders.now index)
-        (own_tracked job.now pods.now)) }
+        ≡ ranks_in job.now.spec.mode
+        (is_needless (unwrap_or job.now.spec.completions 0) counted.now)
+        (λ index. get nat_eq holders.now index) (own_tracked job.now pods.now)) }
 {
     let mode = job.spec.mode;
     pods.iter()
         .filter(|pod| is_own(job, pod))
         .filter(|pod| is_tracked_active(pod))
-        .filter(|pod| !is_spare(mode, completed, holders, pod))
+        .filter(|pod| !is_spare(&job.spec, counted, holders, pod))
         .map(|pod| rank_of(mode, pod))
         .collect(alloc)
 }
 
 // Whether the pod goes, where these are the oldest holders of the indexes and the least rank that goes.
 fn goes(
-    mode: Mode,
-    completed: &Ranges,
+    spec: &JobSpec,
+    counted: &CountIn,
     holders: &HashMap<u32, Uid>,
     least: Option<Rank>,
     pod: &Pod,
 ) -> bool
-    ensures { result
-        ≡ goes_by mode completed.now (λ index. get nat_eq holders.now index) least pod.now }
+    ensures { result ≡ goes_by spec.now.mode
+        (is_needless (unwrap_or spec.now.completions 0) counted.now)
+        (λ index. get nat_eq holders.now index) least pod.now }
 {
-    if is_spare(mode, completed, holders, pod) {
+    if is_spare(spec, counted, holders, pod) {
         return true;
     }
     match least {
         None => false,
-        Some(least) => !is_below(rank_of(mode, pod), least),
+        Some(least) => !is_below(rank_of(spec.mode, pod), least),
     }
 }
 
@@ -181,19 +203,19 @@ fn going(
     alloc: Global,
     job: &Job,
     pods: &[Pod],
-    completed: &Ranges,
+    counted: &CountIn,
     holders: &HashMap<u32, Uid>,
     least: Option<Rank>,
 ) -> Result<Vec<(Uid, Version)>, Want>
     ensures { IfOk result (λ going. going.items
-        ≡ gone_by job.now.spec.mode completed.now (λ index. get nat_eq holders.now index) least
-        (own_tracked job.now pods.now)) }
+        ≡ gone_by job.now.spec.mode
+        (is_needless (unwrap_or job.now.spec.completions 0) counted.now)
+        (λ index. get nat_eq holders.now index) least (own_tracked job.now pods.now)) }
 {
-    let mode = job.spec.mode;
     pods.iter()
         .filter(|pod| is_own(job, pod))
         .filter(|pod| is_tracked_active(pod))
-        .filter(|pod| goes(mode, completed, holders, least, pod))
+        .filter(|pod| goes(&job.spec, counted, holders, least, pod))
         .map(|pod| seen(pod))
         .collect(alloc)
 }
@@ -208,15 +230,16 @@ fn surplus(
     requires failed { (counts_of counted.now).0 < 2 ^ 64 }
     requires succeeded { (counts_of counted.now).1 < 2 ^ 64 }
     ensures { IfOk result (λ going. going.items
-        ≡ map seen (surplus job.now.spec.mode counted.now.completed
+        ≡ map seen (surplus job.now.spec.mode
+        (is_needless (unwrap_or job.now.spec.completions 0) counted.now)
         (job_wants job.now (own_pods job.now pods.now) counted.now)
         (own_tracked job.now pods.now))) }
 {
     let listed = pods.as_slice();
     let holders = holders_of(alloc, job, listed)?;
-    let ranks = ranks_of(alloc, job, listed, &counted.completed, &holders)?;
+    let ranks = ranks_of(alloc, job, listed, counted, &holders)?;
     let least = least_to_go(ranks, job_wants(job, pods, counted));
-    going(alloc, job, listed, &counted.completed, &holders, least)
+    going(alloc, job, listed, counted, &holders, least)
 }
 
 // All active tracked pods.

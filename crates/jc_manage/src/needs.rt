@@ -77,15 +77,15 @@ fn wants_of(
 /// counted; `target` says that the Job's end is settled, before this sync or by it.
 ///
 /// Pods are made as far as active tracked ones are lacking: with completions as many as may run at once,
-/// and no more than are left to succeed; without, as many as may run at once until one has succeeded.
+/// and no more than are left to succeed, without indexes that have failed; without, as many as may run at once until one has succeeded.
 /// Under the replacement policy `FailedOnly` a pod that is marked and still open is replaced only once it
 /// has ended. An Indexed Job makes pods for its least free indexes. After failures in a row no pod is
 /// made before 10 seconds after the last, twice as many after each further one, and at most 360; a
 /// success ends the row.
 ///
 /// Active pods without the finalizer are marked. Active tracked pods are let go where the Job is
-/// suspended, where another pod of smaller UID holds their index or it is completed, and where they are
-/// too many: those of the greatest indexes, or pending ones before those that run and then those of the
+/// suspended, where another pod of smaller UID holds their index, where that is completed, has failed or is
+/// not below the completions, and where they are too many: those of the greatest indexes, or pending ones before those that run and then those of the
 /// greatest UIDs. Where the Job's end is settled all its active pods are marked, and none is made or let
 /// go.
 ///

@@ -15,6 +15,10 @@ use Rattle.jc_json.specs.Place.{path_to, path_at}
 use Rattle.jc_json.specs.Field.{Refusal, wrong_type, out_of_range, ◌>>=◌, member_of, unless_null, within, bounded_number, items_in, list_of, may_be, optional_number, optional_list, optional_object, needed_text, needed_list}
 use Rattle.jc_types.specs.declared.limits.TheConstants.{GREATEST_COMPLETIONS, GREATEST_LIMIT, GREATEST_PARALLELISM, MOST_CONTAINERS}
 use Rattle.jc_types.specs.declared.objects.Key.{Key}
+use Rattle.jc_types.specs.declared.policies.Action.{Action}
+use Rattle.jc_types.specs.declared.policies.Action.TheVariants.{FailIndex}
+use Rattle.jc_types.specs.declared.policies.FailurePolicy.{FailurePolicy}
+use Rattle.jc_types.specs.declared.policies.FailureRule.{FailureRule}
 use Rattle.jc_types.specs.declared.specifications.JobSpec.{JobSpec}
 use Rattle.jc_types.specs.declared.specifications.Mode.{Mode}
 use Rattle.jc_types.specs.declared.specifications.Mode.TheVariants.{NonIndexed, Indexed}
@@ -23,17 +27,21 @@ use Rattle.jc_types.specs.declared.specifications.Replacement.TheVariants.{Termi
 use Rattle.jc_types.specs.declared.specifications.Restart.{Restart}
 use Rattle.jc_types.specs.declared.specifications.Restart.TheVariants.{Never, OnFailure}
 use Rattle.jc_types.specs.declared.specifications.Template.{Template}
-use Rattle.jc_states.specs.ValidSpecs.{IsSuccessCount, IsValidSpec}
+use Rattle.jc_states.specs.ValidSpecs.{FailsNoIndex, IsSuccessCount, IsValidSpec}
 use Rattle.jc_manifest.specs.declared.counts.Counts.{Counts}
+use Rattle.jc_manifest.specs.declared.index_limits.IndexLimits.{IndexLimits}
+use Rattle.jc_manifest.specs.declared.manifests.Head.{Head}
 use Rattle.jc_manifest.specs.declared.refusals.ManifestFault.{ManifestFault}
-use Rattle.jc_manifest.specs.Counts.{is_indexed, completions_or, indexed_row, parallelism_in, completions_in, mode_in, counts_refusal, counts_in}
-use Rattle.jc_manifest.specs.FailurePolicies.{never_restarts, given_failure_refusal, failure_refusal, failure_rules_in, failure_in}
-use Rattle.jc_manifest.specs.Limits.{limits_in}
+use Rattle.jc_log.specs.Requests.{is_indexed}
+use Rattle.jc_manifest.specs.Counts.{is_mode, completions_of, completions_or, indexed_row, numbers_refusal, parallelism_in, completions_in, mode_in, counts_refusal, counts_in}
+use Rattle.jc_manifest.specs.FailurePolicies.{is_fail_index, action_in, action_refusal, failure_rule_refusal, failure_rule_in, failure_rule_row, failure_rules_from, failure_rules_refusal, given_failure_refusal, failure_refusal, failure_rules_in, failure_in}
+use Rattle.jc_manifest.specs.IndexLimits.{index_limits_refusal, index_limits_in, is_by_index, has_indexes_to_limit, by_index_refusal}
+use Rattle.jc_manifest.specs.Limits.{managed_row, usual_backoff, limits_in}
 use Rattle.jc_manifest.specs.Manifests.{is_early, replacement_in, replacement_refusal, head_refusal, head_in, policies_refusal, policies_in, spec_refusal, spec_in, metadata_part_refusal, spec_part_refusal, manifest_refusal, key_of, spec_of}
 use Rattle.jc_manifest.specs.Metadata.{type_refusal}
-use Rattle.jc_manifest.specs.Rows.{Row, Reads, rule_row, passes, number_in, object_in, rows_of_given, given_in, text_row, object_row}
-use Rattle.jc_manifest.specs.SuccessPolicies.{completions_of, count_in, success_rule_in, success_rules_from, success_rules_in, given_success_refusal, success_refusal, success_in}
-use Rattle.jc_manifest.specs.Templates.{init_count, list_in, given_list_in, are_right_many, containers_refusal, is_among, is_new_label, name_row, container_name, names_row, names_in, all_names_refusal, all_containers_refusal, pod_refusal, names_of_both, all_names_in, template_in_pod, pod_path, pod_spec_in, template_refusal, template_in}
+use Rattle.jc_manifest.specs.Rows.{Row, Reads, each, rule_row, passes, number_in, object_in, rows_of_given, given_in, text_row, given_text_row, object_row}
+use Rattle.jc_manifest.specs.SuccessPolicies.{count_in, success_rule_in, success_rules_from, success_rules_in, given_success_refusal, success_refusal, success_in}
+use Rattle.jc_manifest.specs.Templates.{never_restarts, restart_in, restart_refusal, init_count, list_in, given_list_in, are_right_many, containers_refusal, is_among, is_new_label, name_row, container_name, names_row, names_in, all_names_refusal, all_containers_refusal, pod_refusal, names_of_both, all_names_in, template_in_pod, pod_path, pod_spec_in, template_refusal, template_in}
 use Rattle.jc_manifest.specs.Words.{is_label}
 
 -- ---- rows that refuse nothing
@@ -56,6 +64,13 @@ given_rows : {A : Type 0} (f : Data → A) (read : Result (Option Data) Refusal)
 given_rows f (Ok None) rows e some = absurd (true≢false (sym some))
 given_rows f (Ok (Some d)) rows e some = (d, e)
 given_rows f (Err refusal) rows e some = absurd (true≢false (sym some))
+
+-- what each object that passes says holds of what is said, where it is given
+given_holds : {A : Type 0} (P : A → Type 0) (f : Data → A) (read : Result (Option Data) Refusal) (rows : Data → Row)
+    → ((d : Data) → rows d ≡ None → P (f d)) → rows_of_given read rows ≡ None → IfSome (option_map f (result_unwrap_or read None)) P
+given_holds P f (Ok None) rows holds e = tt
+given_holds P f (Ok (Some d)) rows holds e = holds d e
+given_holds P f (Err refusal) rows holds e = tt
 
 left : (a b : Bool) → (a && b) ≡ true → a ≡ true
 left true b e = refl
@@ -193,9 +208,9 @@ record IsValidTemplate (template : Template) : Type 0 where
 none_differ : Distinct []
 none_differ i j d less within = absurd (omega arith)
 
-pod_valid : (path : List ℕ) (pod : Data) → pod_refusal path pod ≡ None → IsValidTemplate (template_in_pod path pod)
+pod_valid : (by_index : Bool) (path : List ℕ) (pod : Data) → pod_refusal by_index path pod ≡ None → IsValidTemplate (template_in_pod path pod)
 unfolding pod_refusal template_in_pod all_containers_refusal all_names_refusal all_names_in names_of_both containers_refusal list_in
-pod_valid path pod e =
+pod_valid by_index path pod e =
     let containers : List Data = list_in path pod (codes "containers") in
     let inits : List Data = given_list_in path pod (codes "initContainers") in
     let at : List ℕ = path_to path (codes "containers") in
@@ -218,9 +233,9 @@ pod_valid path pod e =
       distinct = subst (λ front. Distinct (front ++ names_in init_at 0 inits)) (append-nil (names_in at 0 containers)) all;
     }
 
-template_valid : (path : List ℕ) (spec : Data) → template_refusal path spec ≡ None → IsValidTemplate (template_in path spec)
+template_valid : (by_index : Bool) (path : List ℕ) (spec : Data) → template_refusal by_index path spec ≡ None → IsValidTemplate (template_in path spec)
 unfolding template_refusal template_in
-template_valid path spec e = pod_valid (pod_path path) (pod_spec_in path spec) (parts _ _ (parts _ _ (parts _ _ e).1).1).0
+template_valid by_index path spec e = pod_valid by_index (pod_path path) (pod_spec_in path spec) (parts _ _ (parts _ _ (parts _ _ e).1).1).0
 
 -- ---- policies
 
@@ -228,12 +243,68 @@ never : (restart : Restart) → never_restarts restart ≡ true → restart ≡ 
 never Never e = refl
 never OnFailure e = absurd (true≢false (sym e))
 
-failure_valid : (template : Template) (path : List ℕ) (spec : Data) → failure_refusal template path spec ≡ None → IsSome (failure_in path spec)
+either : (b : Bool) (restart : Restart) → (not b || never_restarts restart) ≡ true → b ≡ true → restart ≡ Never
+either true restart e is = never restart e
+either false restart e is = absurd (true≢false (sym is))
+
+-- where failures are limited by index, no container is restarted
+pod_by_index : (by_index : Bool) (path : List ℕ) (pod : Data) → pod_refusal by_index path pod ≡ None → by_index ≡ true
+    → (template_in_pod path pod).restart ≡ Never
+unfolding pod_refusal restart_refusal template_in_pod
+pod_by_index by_index path pod e is =
+    either by_index (restart_in path pod) (kept _ 33 _ (parts _ _ (parts _ _ (parts _ _ e).0).1).0) is
+
+template_by_index : (by_index : Bool) (path : List ℕ) (spec : Data) → template_refusal by_index path spec ≡ None → by_index ≡ true
+    → (template_in path spec).restart ≡ Never
+unfolding template_refusal template_in
+template_by_index by_index path spec e =
+    pod_by_index by_index (pod_path path) (pod_spec_in path spec) (parts _ _ (parts _ _ (parts _ _ e).1).1).0
+
+failure_valid : (by_index : Bool) (template : Template) (path : List ℕ) (spec : Data) → failure_refusal by_index template path spec ≡ None → IsSome (failure_in path spec)
     → template.restart ≡ Never
 unfolding failure_refusal failure_in given_failure_refusal
-failure_valid template path spec e some =
+failure_valid by_index template path spec e some =
     let policy = given_rows (failure_rules_in (path_to path (codes "podFailurePolicy"))) (optional_object path (codes "podFailurePolicy") spec) _ e some in
     never template.restart (kept _ 13 _ (parts _ _ policy.1).0)
+
+apart_from_fail_index : (action : Action) → not (is_fail_index action) ≡ true → action ≢ FailIndex
+apart_from_fail_index action e = λ same. true≢false (sym e ∙ ap (λ a. not (is_fail_index a)) same)
+
+-- where failures are not limited by index, no rule fails one
+action_fails_none : (path : List ℕ) (rule : Data) → action_refusal false path rule ≡ None → action_in path rule ≢ FailIndex
+unfolding action_refusal
+action_fails_none path rule e = apart_from_fail_index (action_in path rule) (kept _ 27 _ (parts _ _ (parts _ _ e).1).0)
+
+row_fails_none : (names : List (List ℕ)) (path : List ℕ) (place : ℕ) (rule : Data) → failure_rule_row false names path place rule ≡ None
+    → (failure_rule_in (path_at path place) rule).action ≢ FailIndex
+unfolding failure_rule_row failure_rule_refusal failure_rule_in
+row_fails_none names path place rule e = action_fails_none (path_at path place) rule (parts _ _ e).0
+
+rules_fail_none : (names : List (List ℕ)) (path : List ℕ) (place : ℕ) (ds : List Data) → each (failure_rule_row false names path) place ds ≡ None
+    → All (λ (rule : FailureRule). rule.action ≢ FailIndex) (failure_rules_from path place ds)
+rules_fail_none names path place [] e = All-nil (λ (rule : FailureRule). rule.action ≢ FailIndex)
+rules_fail_none names path place (d ∷ ds) e =
+    let rows = parts (failure_rule_row false names path place d) _ e in
+    All-cons (λ (rule : FailureRule). rule.action ≢ FailIndex) (failure_rule_in (path_at path place) d) (failure_rules_from path (place + 1) ds)
+    (row_fails_none names path place d rows.0) (rules_fail_none names path (place + 1) ds rows.1)
+
+policy_fails_none : (template : Template) (path : List ℕ) (policy : Data) → given_failure_refusal false template path policy ≡ None
+    → FailsNoIndex (failure_rules_in path policy)
+unfolding given_failure_refusal failure_rules_refusal failure_rules_in
+policy_fails_none template path policy e =
+    let rules = parts _ _ (parts _ _ (parts _ _ e).1).0 in
+    rules_fail_none (template.containers ++ template.inits) (path_to path (codes "rules")) 0 (list_in path policy (codes "rules"))
+    (parts _ _ (parts _ _ rules.1).1).0
+
+failure_fails_none : (limit : Option ℕ) (template : Template) (path : List ℕ) (spec : Data) → failure_refusal (is_some limit) template path spec ≡ None
+    → limit ≡ None → IfSome (failure_in path spec) FailsNoIndex
+unfolding failure_refusal failure_in
+failure_fails_none (Some limit) template path spec e none = absurd (cc (none))
+failure_fails_none None template path spec e none =
+    given_holds (λ (policy : FailurePolicy). FailsNoIndex policy) (failure_rules_in (path_to path (codes "podFailurePolicy")))
+    (optional_object path (codes "podFailurePolicy") spec)
+    (given_failure_refusal false template (path_to path (codes "podFailurePolicy")))
+    (policy_fails_none template (path_to path (codes "podFailurePolicy"))) e
 
 late : (b : Bool) (replacement : Replacement) → not (b && is_early replacement) ≡ true → b ≡ true → replacement ≡ FailedOnly
 late true TerminatingOrFailed e is = absurd (true≢false (sym e))
@@ -283,31 +354,99 @@ indexed_valid : (path : List ℕ) (mode : Mode) (completions : Option ℕ) → i
 unfolding indexed_row
 indexed_valid path mode completions e is = has_completions mode completions (kept _ 6 _ e) is
 
+-- limits of indexes stand with an Indexed Job
+limit_indexed : (counts : Counts) (limits : IndexLimits) → has_indexes_to_limit counts limits ≡ true → is_by_index limits ≡ true
+    → counts.mode ≡ Indexed
+limit_indexed counts limits e is = by (is_by_index limits) e is
+  where
+    by : (b : Bool) → (not b || is_indexed counts.mode) ≡ true → b ≡ true → counts.mode ≡ Indexed
+    by true h is = is_indexed_mode counts.mode h
+    by false h is = absurd (true≢false (sym is))
+
+-- a number of failed indexes stands beside a limit of each
+most_beside : (most : Option ℕ) (test : ℕ → Bool) (b : Bool) → option_map_or (λ n. b && test n) most true ≡ true → IsSome most → b ≡ true
+most_beside None test b e some = absurd (true≢false (sym some))
+most_beside (Some n) test b e some = left b (test n) e
+
+by_index_valid : (path : List ℕ) (counts : Counts) (limits : IndexLimits) → by_index_refusal path counts limits ≡ None
+    → (is_by_index limits ≡ true → counts.mode ≡ Indexed) × (IsSome limits.max_failed → is_by_index limits ≡ true)
+unfolding by_index_refusal
+by_index_valid path counts limits e =
+    let rows = parts _ _ e in (
+      limit_indexed counts limits (kept _ 31 _ rows.0),
+      most_beside limits.max_failed (λ n. nat_le n (completions_of counts)) (is_by_index limits) (kept _ 32 _ (parts _ _ rows.1).0),
+    )
+
+usual_fits : (by_index : Bool) → usual_backoff by_index ≤ GREATEST_LIMIT
+usual_fits true = omega arith
+usual_fits false = omega arith
+
+-- what is kept of the head, and of the policies
+record IsKeptHead (path : List ℕ) (spec : Data) : Type 0 where
+  modes : indexed_row path (mode_in path spec) (completions_in path spec) ≡ None
+  by_index : by_index_refusal path (counts_in path spec) (index_limits_in path spec) ≡ None
+
+head_kept : (path : List ℕ) (spec : Data) → head_refusal path spec ≡ None → IsKeptHead path spec
+unfolding head_refusal counts_refusal
+head_kept path spec e =
+    let managed = parts (managed_row path spec) _ e in
+    let limits = parts (index_limits_refusal path spec) _ managed.1 in
+    let counts = parts (counts_refusal path spec) _ limits.1 in
+    let numbers = parts (numbers_refusal path spec) _ counts.0 in
+    let mode = parts (given_text_row path spec (codes "completionMode") 5 is_mode) _ numbers.1 in
+    record {
+      modes = (parts (indexed_row path (mode_in path spec) (completions_in path spec)) None mode.1).0;
+      by_index = (parts (by_index_refusal path (counts_in path spec) (index_limits_in path spec)) _ counts.1).0;
+    }
+
+record AreKeptPolicies (by_index : Bool) (counts : Counts) (template : Template) (path : List ℕ) (spec : Data) : Type 0 where
+  failure : failure_refusal by_index template path spec ≡ None
+  replacement : replacement_refusal (is_some (failure_in path spec)) path spec ≡ None
+  success : success_refusal counts path spec ≡ None
+
+policies_kept : (head : Head) (template : Template) (path : List ℕ) (spec : Data) → policies_refusal head template path spec ≡ None
+    → AreKeptPolicies (is_by_index head.index_limits) head.counts template path spec
+unfolding policies_refusal
+policies_kept head template path spec e =
+    let failure = parts (failure_refusal (is_by_index head.index_limits) template path spec) _ e in
+    let replacement = parts (replacement_refusal (is_some (failure_in path spec)) path spec) _ failure.1 in
+    record {
+      failure = failure.0;
+      replacement = replacement.0;
+      success = (parts (success_refusal head.counts path spec) None replacement.1).0;
+    }
+
 spec_valid : (path : List ℕ) (spec : Data) → spec_refusal path spec ≡ None → IsValidSpec (spec_in path spec)
-unfolding spec_refusal spec_in head_refusal head_in policies_refusal policies_in counts_refusal counts_in limits_in parallelism_in completions_in success_in
+unfolding spec_refusal spec_in head_in policies_in counts_in index_limits_in limits_in parallelism_in completions_in success_in
 spec_valid path spec e =
-    let rows = parts _ _ e in
-    let later = parts _ _ rows.1 in
-    let policies = parts _ _ (parts _ _ later.1).0 in
-    let others = parts _ _ policies.1 in
-    let counts = parts _ _ (parts _ _ rows.0).1 in
-    let indexed = parts _ _ (parts _ _ (parts _ _ counts.0).1).1 in
-    let template = template_valid path spec later.0 in
+    let limits : IndexLimits = index_limits_in path spec in
+    let rows = parts (head_refusal path spec) _ e in
+    let later = parts (template_refusal (is_by_index limits) path spec) _ rows.1 in
+    let last = parts (policies_refusal (head_in path spec) (template_in path spec) path spec) None later.1 in
+    let head = head_kept path spec rows.0 in
+    let policies = policies_kept (head_in path spec) (template_in path spec) path spec last.0 in
+    let by_index = by_index_valid path (counts_in path spec) limits head.by_index in
+    let template = template_valid (is_by_index limits) path spec later.0 in
     record {
       parallelism = or_fits _ 1 GREATEST_PARALLELISM (number_fits path spec (codes "parallelism") GREATEST_PARALLELISM) (omega arith);
       completions = completions_fit _ _ (number_fits path spec (codes "completions") GREATEST_COMPLETIONS);
-      backoff_limit = or_fits _ 6 GREATEST_LIMIT (number_fits path spec (codes "backoffLimit") GREATEST_LIMIT) (omega arith);
+      backoff_limit = or_fits _ (usual_backoff (is_by_index limits)) GREATEST_LIMIT (number_fits path spec (codes "backoffLimit") GREATEST_LIMIT) (usual_fits (is_by_index limits));
       deadline = number_fits path spec (codes "activeDeadlineSeconds") GREATEST_LIMIT;
       counts = policy_counted (completions_of (counts_in path spec)) (path_to path (codes "successPolicy")) (given_in path spec (codes "successPolicy"));
       some = template.some;
       few = template.few;
       distinct = template.distinct;
-      indexed = indexed_valid path (mode_in path spec) (completions_in path spec) indexed.0;
+      indexed = indexed_valid path (mode_in path spec) (completions_in path spec) head.modes;
       failure = λ some. (
-        failure_valid (template_in path spec) path spec policies.0 some,
-        replacement_valid (is_some (failure_in path spec)) path spec others.0 some,
+        failure_valid (is_by_index limits) (template_in path spec) path spec policies.failure some,
+        replacement_valid (is_some (failure_in path spec)) path spec policies.replacement some,
       );
-      success = success_valid (counts_in path spec) path spec (parts _ _ others.1).0;
+      success = success_valid (counts_in path spec) path spec policies.success;
+      per_index = number_fits path spec (codes "backoffLimitPerIndex") GREATEST_LIMIT;
+      max_failed = number_fits path spec (codes "maxFailedIndexes") GREATEST_COMPLETIONS;
+      by_index = λ some. (by_index.0 some, template_by_index (is_by_index limits) path spec later.0 some);
+      beside = by_index.1;
+      fail_index = failure_fails_none limits.per_index (template_in path spec) path spec policies.failure;
     }
 
 -- the specification of an accepted manifest is valid

@@ -4,9 +4,11 @@ use Rattle.std.specs.Prelude.{unwrap_or}
 use Rattle.serde_json.specs.Data.{Data}
 use Rattle.jc_types.specs.declared.limits.TheConstants.{GREATEST_COMPLETIONS, GREATEST_LIMIT, GREATEST_PARALLELISM}
 use Rattle.jc_manifest.specs.declared.counts.Numbers.{Numbers}
+use Rattle.jc_manifest.specs.declared.index_limits.IndexLimits.{IndexLimits}
 use Rattle.jc_manifest.specs.declared.limits.Limits.{Limits}
 use Rattle.jc_manifest.specs.Counts.{completions_or, parallelism_in, completions_in, numbers_in}
-use Rattle.jc_manifest.specs.Limits.{suspend_in, limits_in}
+use Rattle.jc_manifest.specs.IndexLimits.{index_limits_in}
+use Rattle.jc_manifest.specs.Limits.{suspend_in, usual_backoff, limits_in}
 use Rattle.jc_manifest.specs.Rows.{number_in}
 
 -- both numbers, with their defaults
@@ -18,11 +20,19 @@ pub numbers_said : (path : List ℕ) (spec : Data) (parallelism completions : Op
 unfolding numbers_in parallelism_in completions_in
 numbers_said path spec parallelism completions running wanted p w ps cs = cc
 
+-- the limits by index
+pub index_limits_said : (path : List ℕ) (spec : Data) (per_index max_failed : Option ℕ)
+    → per_index ≡ number_in path spec (codes "backoffLimitPerIndex") GREATEST_LIMIT
+    → max_failed ≡ number_in path spec (codes "maxFailedIndexes") GREATEST_COMPLETIONS
+    → (let limits : IndexLimits = record { per_index = per_index; max_failed = max_failed } in limits ≡ index_limits_in path spec)
+unfolding index_limits_in
+index_limits_said path spec per_index max_failed ps ms = cc
+
 -- the limits, with their defaults
-pub limits_said : (path : List ℕ) (spec : Data) (suspend : Bool) (limit deadline : Option ℕ) (backoff_limit : ℕ)
-    → backoff_limit ≡ unwrap_or limit 6 → suspend ≡ suspend_in path spec
+pub limits_said : (by_index : Bool) (path : List ℕ) (spec : Data) (suspend : Bool) (limit deadline : Option ℕ) (usual backoff_limit : ℕ)
+    → usual ≡ usual_backoff by_index → backoff_limit ≡ unwrap_or limit usual → suspend ≡ suspend_in path spec
     → limit ≡ number_in path spec (codes "backoffLimit") GREATEST_LIMIT
     → deadline ≡ number_in path spec (codes "activeDeadlineSeconds") GREATEST_LIMIT
-    → (let limits : Limits = record { suspend = suspend; backoff_limit = backoff_limit; deadline = deadline } in limits ≡ limits_in path spec)
+    → (let limits : Limits = record { suspend = suspend; backoff_limit = backoff_limit; deadline = deadline } in limits ≡ limits_in by_index path spec)
 unfolding limits_in
-limits_said path spec suspend limit deadline backoff_limit b s ls ds = cc
+limits_said by_index path spec suspend limit deadline usual backoff_limit u b s ls ds = cc

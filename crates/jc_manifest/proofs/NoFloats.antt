@@ -1,5 +1,5 @@
 -- No number that is printed is a float, so the text of each printed value is exact.
-use Rattle.std.proofs.Common.{◌≡◌, ℕ, ℤ, List, map, false, Option, refl}
+use Rattle.std.proofs.Common.{◌≡◌, ℕ, ℤ, List, map, Bool, true, false, Option, refl}
 use Rattle.serde_json.specs.Data.{Data, string, boolean, Members, no_members}
 use Rattle.serde_json.specs.Written.{has_float, members_have_float}
 use Rattle.jc_types.specs.declared.actions.SpecChange.{SpecChange}
@@ -13,11 +13,12 @@ use Rattle.jc_types.specs.declared.policies.SuccessRule.{SuccessRule}
 use Rattle.jc_types.specs.declared.specifications.JobSpec.{JobSpec}
 use Rattle.jc_types.specs.declared.specifications.Template.{Template}
 use Rattle.jc_types.specs.declared.statuses.Condition.{Condition}
+use Rattle.jc_types.specs.declared.statuses.IndexCount.{IndexCount}
 use Rattle.jc_types.specs.declared.statuses.JobStatus.{JobStatus}
 use Rattle.jc_manifest.specs.Members.{number_data}
-use Rattle.jc_manifest.specs.PrintedSpecs.{rules_data, pattern_data, exit_codes_data, with_requirement, failure_rule_data, failure_data, with_success_rule, success_rule_data, success_data, with_template, template_data, with_limits, with_counts, with_policies, spec_data, with_changed_counts, with_changed_limits, change_data}
-use Rattle.jc_manifest.specs.PrintedStatuses.{moment_data, uid_data, condition_data, uncounted_data, with_pods, with_totals, with_times, with_lists, status_data}
-use Rattle.jc_manifest.proofs.CleanMembers.{with_clean, given_clean, list_clean, some_clean, exit_clean}
+use Rattle.jc_manifest.specs.PrintedSpecs.{rules_data, pattern_data, exit_codes_data, with_requirement, failure_rule_data, failure_data, with_success_rule, success_rule_data, success_data, with_template, template_data, with_limits, with_index_limits, with_counts, with_policies, spec_data, with_changed_counts, with_changed_limits, change_data}
+use Rattle.jc_manifest.specs.PrintedStatuses.{moment_data, uid_data, condition_data, uncounted_data, unless_false, index_count_data, with_pods, with_totals, with_failures, with_times, with_lists, status_data}
+use Rattle.jc_manifest.proofs.CleanMembers.{IsClean, with_clean, given_clean, list_clean, some_clean, exit_clean}
 
 -- ---- specifications
 
@@ -60,6 +61,11 @@ unfolding with_limits
 limits_clean spec ms rest =
     with_clean _ _ _ refl (with_clean _ _ _ refl (with_clean _ _ ms (given_clean number_data spec.deadline (λ n. refl)) rest))
 
+index_limits_clean : (spec : JobSpec) (ms : Members) → members_have_float ms ≡ false → members_have_float (with_index_limits spec ms) ≡ false
+unfolding with_index_limits
+index_limits_clean spec ms rest =
+    with_clean _ _ _ (given_clean number_data spec.max_failed (λ n. refl)) (with_clean _ _ ms (given_clean number_data spec.per_index (λ n. refl)) rest)
+
 counts_clean : (spec : JobSpec) (ms : Members) → members_have_float ms ≡ false → members_have_float (with_counts spec ms) ≡ false
 unfolding with_counts
 counts_clean spec ms rest =
@@ -76,7 +82,7 @@ pub spec_has_no_float : (spec : JobSpec) → has_float (spec_data spec) ≡ fals
 unfolding spec_data
 spec_has_no_float spec =
     with_clean _ _ _ (template_clean spec.template)
-    (policies_clean spec _ (counts_clean spec _ (limits_clean spec no_members refl)))
+    (policies_clean spec _ (counts_clean spec _ (index_limits_clean spec _ (limits_clean spec no_members refl))))
 
 pub change_has_no_float : (change : SpecChange) → has_float (change_data change) ≡ false
 unfolding change_data with_changed_counts with_changed_limits
@@ -92,6 +98,14 @@ change_has_no_float change =
 condition_clean : (condition : Condition) → has_float (condition_data condition) ≡ false
 unfolding condition_data
 condition_clean condition = with_clean _ _ _ refl (with_clean _ _ _ refl (with_clean _ _ _ refl (with_clean _ _ _ refl refl)))
+
+mark_clean : (b : Bool) → IsClean (unless_false b)
+mark_clean true = refl
+mark_clean false = tt
+
+index_count_clean : (count : IndexCount) → has_float (index_count_data count) ≡ false
+unfolding index_count_data
+index_count_clean count = with_clean _ _ _ refl (with_clean _ _ _ (mark_clean count.fail) (with_clean _ _ _ refl refl))
 
 uncounted_clean : (failed succeeded : List Uid) → has_float (uncounted_data failed succeeded) ≡ false
 unfolding uncounted_data
@@ -109,6 +123,12 @@ unfolding with_totals
 totals_clean status ms rest =
     with_clean _ _ _ (some_clean _ _ refl) (with_clean _ _ _ (some_clean _ _ refl) (with_clean _ _ ms (some_clean _ _ refl) rest))
 
+failures_clean : (status : JobStatus) (ms : Members) → members_have_float ms ≡ false → members_have_float (with_failures status ms) ≡ false
+unfolding with_failures
+failures_clean status ms rest =
+    with_clean _ _ _ (some_clean _ _ (list_clean index_count_data status.index_failures index_count_clean))
+    (with_clean _ _ ms (some_clean _ _ refl) rest)
+
 times_clean : (status : JobStatus) (ms : Members) → members_have_float ms ≡ false → members_have_float (with_times status ms) ≡ false
 unfolding with_times
 times_clean status ms rest =
@@ -123,4 +143,4 @@ lists_clean status ms rest =
 pub status_has_no_float : (status : JobStatus) → has_float (status_data status) ≡ false
 unfolding status_data
 status_has_no_float status =
-    lists_clean status _ (times_clean status _ (totals_clean status _ (pods_clean status no_members refl)))
+    lists_clean status _ (times_clean status _ (failures_clean status _ (totals_clean status _ (pods_clean status no_members refl))))

@@ -1,9 +1,10 @@
 -- What a specification says of its pods' number (`JobSpec` of batch/v1, KEP-2214).
-use Rattle.std.specs.Prelude.{ℕ, List, [], ◌∷◌, Bool, true, false, not, ◌&&◌, bytes_eq, codes, Option, Some, None, is_none, is_some, option_and_then, unwrap_or, if◌then◌else◌}
+use Rattle.std.specs.Prelude.{ℕ, List, [], ◌∷◌, Bool, not, ◌&&◌, bytes_eq, codes, Option, Some, None, is_none, is_some, option_and_then, unwrap_or, if◌then◌else◌}
 use Rattle.std.specs.Result.{result_unwrap_or}
 use Rattle.serde_json.specs.Data.{Data}
 use Rattle.jc_json.specs.Place.{path_to}
 use Rattle.jc_json.specs.Field.{optional_text}
+use Rattle.jc_log.specs.Requests.{is_indexed}
 use Rattle.jc_types.specs.declared.limits.TheConstants.{GREATEST_COMPLETIONS, GREATEST_PARALLELISM}
 use Rattle.jc_types.specs.declared.specifications.Mode.{Mode}
 use Rattle.jc_types.specs.declared.specifications.Mode.TheVariants.{NonIndexed, Indexed}
@@ -26,10 +27,6 @@ unfoldable pub mode_in : List ℕ → Data → Mode
 mode_in path spec =
     unwrap_or (option_and_then mode_of (result_unwrap_or (optional_text path (codes "completionMode") spec) None))
     NonIndexed
-
-abbrev pub is_indexed : Mode → Bool
-is_indexed NonIndexed = false
-is_indexed Indexed = true
 
 -- ---- completions
 
@@ -70,6 +67,10 @@ counts_refusal path spec = first_refusal
 unfoldable pub numbers_in : List ℕ → Data → Numbers
 numbers_in path spec =
     record { parallelism = parallelism_in path spec; completions = completions_in path spec }
+
+-- an Indexed Job has completions
+abbrev pub completions_of : Counts → ℕ
+completions_of counts = unwrap_or counts.completions 0
 
 unfoldable pub counts_in : List ℕ → Data → Counts
 counts_in path spec =

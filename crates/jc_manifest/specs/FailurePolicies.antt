@@ -1,5 +1,5 @@
 -- What a manifest says of a Job's pod failure policy (KEP-3329).
-use Rattle.std.specs.Prelude.{ℕ, ◌+◌, ℤ, pos, negsuc, int_lt, List, [], ◌∷◌, ◌++◌, Bool, true, false, not, ◌&&◌, nat_lt, nat_le, length, bytes_eq, codes, Option, Some, None, is_some, option_and_then, option_map, unwrap_or, if◌then◌else◌}
+use Rattle.std.specs.Prelude.{ℕ, ◌+◌, ℤ, pos, negsuc, int_lt, List, [], ◌∷◌, ◌++◌, Bool, true, false, not, ◌&&◌, ◌||◌, nat_lt, nat_le, length, bytes_eq, codes, Option, Some, None, is_some, option_and_then, option_map, unwrap_or, if◌then◌else◌}
 use Rattle.std.specs.List.{list_any}
 use Rattle.std.specs.Option.{option_map_or}
 use Rattle.std.specs.Ordering.{int_eq}
@@ -20,11 +20,9 @@ use Rattle.jc_types.specs.declared.policies.Requirement.{Requirement}
 use Rattle.jc_types.specs.declared.policies.Requirement.TheVariants.{ExitCodes, Conditions}
 use Rattle.jc_types.specs.declared.policies.Truth.{Truth}
 use Rattle.jc_types.specs.declared.policies.Truth.TheVariants.{True, False, Unknown}
-use Rattle.jc_types.specs.declared.specifications.Restart.{Restart}
-use Rattle.jc_types.specs.declared.specifications.Restart.TheVariants.{Never, OnFailure}
 use Rattle.jc_types.specs.declared.specifications.Template.{Template}
 use Rattle.jc_manifest.specs.Rows.{Row, first_refusal, each, rule_row, reads, passes, text_row, given_text_row, object_row, object_in, rows_of_given, given_in}
-use Rattle.jc_manifest.specs.Templates.{objects_row, list_in, is_among}
+use Rattle.jc_manifest.specs.Templates.{never_restarts, objects_row, list_in, is_among}
 
 -- ---- words
 
@@ -205,17 +203,22 @@ requirement_in path rule =
     else Conditions
     (patterns_from (path_to path (codes "onPodConditions")) 0 (list_in path rule (codes "onPodConditions")))
 
--- no index fails by itself: rules 14 and 27
-unfoldable pub action_refusal : List ℕ → Data → Row
-action_refusal path rule = first_refusal
+-- an index fails by itself only where failures are limited by index: rule 27
+abbrev pub action_row : Bool → List ℕ → Action → Row
+action_row by_index path action =
+    rule_row (path_to path (codes "action")) 27 (by_index || not (is_fail_index action))
+
+-- rules 14 and 27
+unfoldable pub action_refusal : Bool → List ℕ → Data → Row
+action_refusal by_index path rule = first_refusal
     (text_row path rule (codes "action") 14 is_action
-    ∷ rule_row (path_to path (codes "action")) 27 (not (is_fail_index (action_in path rule)))
+    ∷ action_row by_index path (action_in path rule)
     ∷ [])
 
--- the rule's path is `path`: rules 14 to 20
-unfoldable pub failure_rule_refusal : List (List ℕ) → List ℕ → Data → Row
-failure_rule_refusal names path rule = first_refusal
-    (action_refusal path rule
+-- the rule's path is `path`: rules 14 to 20, and 27
+unfoldable pub failure_rule_refusal : Bool → List (List ℕ) → List ℕ → Data → Row
+failure_rule_refusal by_index names path rule = first_refusal
+    (action_refusal by_index path rule
     ∷ rule_row path 15 (is_just_one (has_exit_codes rule) (has_patterns rule))
     ∷ requirement_refusal names path rule
     ∷ [])
@@ -225,8 +228,8 @@ failure_rule_in path rule = record { action = action_in path rule; requirement =
 
 -- ---- the policy
 
-unfoldable pub failure_rule_row : List (List ℕ) → List ℕ → ℕ → Data → Row
-failure_rule_row names path place rule = failure_rule_refusal names (path_at path place) rule
+unfoldable pub failure_rule_row : Bool → List (List ℕ) → List ℕ → ℕ → Data → Row
+failure_rule_row by_index names path place rule = failure_rule_refusal by_index names (path_at path place) rule
 
 abbrev pub failure_rules_from : List ℕ → ℕ → List Data → List FailureRule
 failure_rules_from path place [] = []
@@ -234,32 +237,28 @@ failure_rules_from path place (d ∷ ds) =
     failure_rule_in (path_at path place) d ∷ failure_rules_from path (place + 1) ds
 
 -- at most 20 rules: rule 12
-unfoldable pub failure_rules_refusal : List (List ℕ) → List ℕ → Data → Row
-failure_rules_refusal names path policy = first_refusal
+unfoldable pub failure_rules_refusal : Bool → List (List ℕ) → List ℕ → Data → Row
+failure_rules_refusal by_index names path policy = first_refusal
     (passes (path_to path (codes "rules")) 12 (λ rules. nat_le (length rules) 20)
     (needed_list path (codes "rules") policy)
     ∷ objects_row (path_to path (codes "rules")) (list_in path policy (codes "rules"))
-    ∷ each (failure_rule_row names (path_to path (codes "rules"))) 0 (list_in path policy (codes "rules"))
+    ∷ each (failure_rule_row by_index names (path_to path (codes "rules"))) 0 (list_in path policy (codes "rules"))
     ∷ [])
 
 unfoldable pub failure_rules_in : List ℕ → Data → FailurePolicy
 failure_rules_in path policy =
     record { rules = failure_rules_from (path_to path (codes "rules")) 0 (list_in path policy (codes "rules")) }
 
-abbrev pub never_restarts : Restart → Bool
-never_restarts Never = true
-never_restarts OnFailure = false
-
 -- only containers that are not restarted have a failure policy: rule 13. The policy's path is `path`
-unfoldable pub given_failure_refusal : Template → List ℕ → Data → Row
-given_failure_refusal template path policy = first_refusal
+unfoldable pub given_failure_refusal : Bool → Template → List ℕ → Data → Row
+given_failure_refusal by_index template path policy = first_refusal
     (rule_row path 13 (never_restarts template.restart)
-    ∷ failure_rules_refusal (template.containers ++ template.inits) path policy
+    ∷ failure_rules_refusal by_index (template.containers ++ template.inits) path policy
     ∷ [])
 
-unfoldable pub failure_refusal : Template → List ℕ → Data → Row
-failure_refusal template path spec = rows_of_given (optional_object path (codes "podFailurePolicy") spec)
-    (given_failure_refusal template (path_to path (codes "podFailurePolicy")))
+unfoldable pub failure_refusal : Bool → Template → List ℕ → Data → Row
+failure_refusal by_index template path spec = rows_of_given (optional_object path (codes "podFailurePolicy") spec)
+    (given_failure_refusal by_index template (path_to path (codes "podFailurePolicy")))
 
 unfoldable pub failure_in : List ℕ → Data → Option FailurePolicy
 failure_in path spec =

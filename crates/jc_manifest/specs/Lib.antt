@@ -1,6 +1,7 @@
 pub mod Counts
 pub mod FailurePolicies
 pub mod Faults
+pub mod IndexLimits
 pub mod IndexSets
 pub mod Limits
 pub mod Manifests

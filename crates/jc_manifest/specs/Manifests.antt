@@ -17,7 +17,8 @@ use Rattle.jc_manifest.specs.declared.manifests.Head.{Head}
 use Rattle.jc_manifest.specs.declared.manifests.Policies.{Policies}
 use Rattle.jc_manifest.specs.Counts.{counts_refusal, counts_in}
 use Rattle.jc_manifest.specs.FailurePolicies.{failure_refusal, failure_in}
-use Rattle.jc_manifest.specs.Limits.{managed_refusal, limits_refusal, limits_in}
+use Rattle.jc_manifest.specs.IndexLimits.{index_limits_refusal, index_limits_in, is_by_index, by_index_refusal}
+use Rattle.jc_manifest.specs.Limits.{managed_row, limits_refusal, limits_in}
 use Rattle.jc_manifest.specs.Metadata.{type_refusal, metadata_refusal, key_in}
 use Rattle.jc_manifest.specs.Rows.{Row, first_refusal, rule_row, given_text_row, object_row, object_in}
 use Rattle.jc_manifest.specs.SuccessPolicies.{success_refusal, success_in}
@@ -60,27 +61,33 @@ replacement_refusal has_failure path spec = first_refusal
 
 unfoldable pub head_refusal : List ℕ → Data → Row
 head_refusal path spec = first_refusal
-    (managed_refusal path spec
+    (managed_row path spec
+    ∷ index_limits_refusal path spec
     ∷ counts_refusal path spec
+    ∷ by_index_refusal path (counts_in path spec) (index_limits_in path spec)
     ∷ limits_refusal path spec
     ∷ [])
 
-unfoldable pub policies_refusal : Counts → Template → List ℕ → Data → Row
-policies_refusal counts template path spec = first_refusal
-    (failure_refusal template path spec
+unfoldable pub head_in : List ℕ → Data → Head
+head_in path spec = record {
+  counts = counts_in path spec;
+  index_limits = index_limits_in path spec;
+  limits = limits_in (is_by_index (index_limits_in path spec)) path spec;
+}
+
+unfoldable pub policies_refusal : Head → Template → List ℕ → Data → Row
+policies_refusal head template path spec = first_refusal
+    (failure_refusal (is_by_index head.index_limits) template path spec
     ∷ replacement_refusal (is_some (failure_in path spec)) path spec
-    ∷ success_refusal counts path spec
+    ∷ success_refusal head.counts path spec
     ∷ [])
 
 unfoldable pub spec_refusal : List ℕ → Data → Row
 spec_refusal path spec = first_refusal
     (head_refusal path spec
-    ∷ template_refusal path spec
-    ∷ policies_refusal (counts_in path spec) (template_in path spec) path spec
+    ∷ template_refusal (is_by_index (index_limits_in path spec)) path spec
+    ∷ policies_refusal (head_in path spec) (template_in path spec) path spec
     ∷ [])
-
-unfoldable pub head_in : List ℕ → Data → Head
-head_in path spec = record { counts = counts_in path spec; limits = limits_in path spec }
 
 unfoldable pub policies_in : Counts → List ℕ → Data → Policies
 policies_in counts path spec = record {
@@ -96,6 +103,8 @@ spec_with head template policies = record {
   mode = head.counts.mode;
   suspend = head.limits.suspend;
   backoff_limit = head.limits.backoff_limit;
+  per_index = head.index_limits.per_index;
+  max_failed = head.index_limits.max_failed;
   deadline = head.limits.deadline;
   replacement = policies.replacement;
   failure = policies.failure;

@@ -113,6 +113,10 @@ with_limits spec ms = with_json_member (codes "completionMode") (Some (string (m
     (with_json_member (codes "backoffLimit") (Some (number_data spec.backoff_limit))
     (with_json_member (codes "activeDeadlineSeconds") (option_map number_data spec.deadline) ms))
 
+unfoldable pub with_index_limits : JobSpec → Members → Members
+with_index_limits spec ms = with_json_member (codes "maxFailedIndexes") (option_map number_data spec.max_failed)
+    (with_json_member (codes "backoffLimitPerIndex") (option_map number_data spec.per_index) ms)
+
 unfoldable pub with_counts : JobSpec → Members → Members
 with_counts spec ms = with_json_member (codes "suspend") (Some (boolean spec.suspend))
     (with_json_member (codes "parallelism") (Some (number_data spec.parallelism))
@@ -125,7 +129,7 @@ with_policies spec ms = with_json_member (codes "successPolicy") (option_map suc
 
 unfoldable pub spec_data : JobSpec → Data
 spec_data spec = object (with_json_member (codes "template") (Some (template_data spec.template))
-    (with_policies spec (with_counts spec (with_limits spec no_members))))
+    (with_policies spec (with_counts spec (with_index_limits spec (with_limits spec no_members)))))
 
 -- ---- changes
 

@@ -2,7 +2,7 @@
 -- moment are left out.
 use Rattle.std.specs.Prelude.{ℕ, List, Bool, true, false, ◌==◌, ◌&&◌, codes, length, map, option_map, Option, Some, None, if◌then◌else◌}
 use Rattle.std.specs.Int.{to_be_bytes, w128}
-use Rattle.serde_json.specs.Data.{Data, string, object, Members, no_members}
+use Rattle.serde_json.specs.Data.{Data, boolean, string, object, Members, no_members}
 use Rattle.uuid.specs.Text.{hyphenated_text, lower}
 use Rattle.jc_moment.specs.Text.{moment_text}
 use Rattle.jc_ranges.specs.Texts.{ranges_text}
@@ -10,10 +10,11 @@ use Rattle.jc_types.specs.declared.numbers.Uid.{Uid}
 use Rattle.jc_types.specs.declared.statuses.CondKind.{CondKind}
 use Rattle.jc_types.specs.declared.statuses.CondKind.TheVariants.{Suspended, FailureTarget, SuccessCriteriaMet, Failed, Complete}
 use Rattle.jc_types.specs.declared.statuses.Condition.{Condition}
+use Rattle.jc_types.specs.declared.statuses.IndexCount.{IndexCount}
 use Rattle.jc_types.specs.declared.statuses.JobStatus.{JobStatus}
 use Rattle.jc_types.specs.declared.statuses.Reason.{Reason}
 use Rattle.jc_types.specs.declared.statuses.Reason.TheVariants.{BackoffLimitExceeded, DeadlineExceeded, PodFailurePolicy, SuccessPolicy, CompletionsReached, JobSuspended, JobResumed, MaxFailedIndexesExceeded, FailedIndexes}
-use Rattle.jc_manifest.specs.Members.{with_json_member, unless_zero, unless_empty}
+use Rattle.jc_manifest.specs.Members.{with_json_member, number_data, unless_zero, unless_empty}
 
 abbrev pub kind_word : CondKind → List ℕ
 kind_word Suspended = codes "Suspended"
@@ -58,6 +59,16 @@ condition_data condition = object (with_kind condition
     (with_json_member (codes "reason") (Some (string (reason_word condition.reason)))
     (with_json_member (codes "lastTransitionTime") (Some (moment_data condition.since)) no_members)))
 
+-- true, or nothing
+abbrev pub unless_false : Bool → Option Data
+unless_false b = if b then Some (boolean true) else None
+
+-- how often pods of an index have failed (KEP-3850)
+unfoldable pub index_count_data : IndexCount → Data
+index_count_data count = object (with_json_member (codes "index") (Some (number_data count.index))
+    (with_json_member (codes "fail") (unless_false count.fail)
+    (with_json_member (codes "count") (Some (number_data count.failures)) no_members)))
+
 unfoldable pub uncounted_data : List Uid → List Uid → Data
 uncounted_data failed succeeded =
     object (with_json_member (codes "succeeded") (unless_empty (map uid_data succeeded))
@@ -80,6 +91,11 @@ with_totals status ms = with_json_member (codes "succeeded") (unless_zero status
     (with_json_member (codes "failed") (unless_zero status.failed)
     (with_json_member (codes "completedIndexes") (unless_no_index status.completed) ms))
 
+unfoldable pub with_failures : JobStatus → Members → Members
+with_failures status ms =
+    with_json_member (codes "indexFailures") (unless_empty (map index_count_data status.index_failures))
+    (with_json_member (codes "failedIndexes") (unless_no_index status.failed_indexes) ms)
+
 unfoldable pub with_times : JobStatus → Members → Members
 with_times status ms = with_json_member (codes "startTime") (option_map moment_data status.start)
     (with_json_member (codes "completionTime") (option_map moment_data status.completion) ms)
@@ -91,4 +107,5 @@ with_lists status ms =
 
 unfoldable pub status_data : JobStatus → Data
 status_data status =
-    object (with_lists status (with_times status (with_totals status (with_pods status no_members))))
+    object (with_lists status (with_times status
+    (with_failures status (with_totals status (with_pods status no_members)))))

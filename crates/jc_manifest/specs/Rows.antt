@@ -3,12 +3,12 @@
 --     text_row, given_text_row, ..       the row of a member, by its form and its rule
 --     Reads, Checks, IsRefusal             an answer is the refusal, or what is said where there is none
 --     object_in, number_in               what a member says; its row refuses what does not say it
-use Rattle.std.specs.Prelude.{◌≡◌, ℕ, ◌+◌, List, [], ◌∷◌, Bool, true, Option, Some, None, Result, Ok, Err, pos, nat_abs, is_some, option_map, if◌then◌else◌}
+use Rattle.std.specs.Prelude.{◌≡◌, ℕ, ◌+◌, List, [], ◌∷◌, Bool, true, Option, Some, None, Result, Ok, Err, pos, nat_abs, option_map, if◌then◌else◌}
 use Rattle.std.specs.Option.{option_or, option_map_or}
 use Rattle.std.specs.Result.{result_unwrap_or}
 use Rattle.serde_json.specs.Data.{Data, null}
 use Rattle.jc_json.specs.Place.{path_to}
-use Rattle.jc_json.specs.Field.{Refusal, missing, wrong_type, out_of_range, member_of, needed_text, needed_object, optional_text, optional_bool, optional_number, optional_object}
+use Rattle.jc_json.specs.Field.{Refusal, missing, wrong_type, out_of_range, needed_text, needed_object, optional_text, optional_bool, optional_number, optional_object}
 use Rattle.jc_json.specs.declared.field.FieldFault.{FieldFault}
 use Rattle.jc_json.specs.declared.field.FieldFault.TheVariants as field
 use Rattle.jc_manifest.specs.declared.refusals.ManifestFault.{ManifestFault}
@@ -71,11 +71,6 @@ object_row path d name = reads (needed_object path name d)
 
 unfoldable pub given_object_row : List ℕ → Data → List ℕ → Row
 given_object_row path d name = reads (optional_object path name d)
-
--- the member must be absent
-unfoldable pub absent_row : List ℕ → Data → List ℕ → ℕ → Row
-absent_row path d name rule =
-    if is_some (member_of name d) then Some (invalid (path_to path name) rule) else None
 
 -- ---- what members say
 

@@ -1,5 +1,5 @@
 -- What a manifest says of a Job's success policy (KEP-3998).
-use Rattle.std.specs.Prelude.{ℕ, ◌+◌, pos, nat_abs, List, [], ◌∷◌, Bool, true, ◌&&◌, ◌||◌, nat_lt, nat_le, length, codes, Option, Some, None, is_some, option_and_then, option_map, unwrap_or, if◌then◌else◌}
+use Rattle.std.specs.Prelude.{ℕ, ◌+◌, pos, nat_abs, List, [], ◌∷◌, Bool, true, ◌&&◌, ◌||◌, nat_lt, nat_le, length, codes, Option, Some, None, is_some, option_and_then, option_map, if◌then◌else◌}
 use Rattle.std.specs.List.{list_all}
 use Rattle.std.specs.Option.{option_map_or}
 use Rattle.std.specs.Result.{result_unwrap_or}
@@ -10,7 +10,8 @@ use Rattle.jc_types.specs.declared.limits.TheConstants.{GREATEST_COMPLETIONS}
 use Rattle.jc_types.specs.declared.policies.SuccessPolicy.{SuccessPolicy}
 use Rattle.jc_types.specs.declared.policies.SuccessRule.{SuccessRule}
 use Rattle.jc_manifest.specs.declared.counts.Counts.{Counts}
-use Rattle.jc_manifest.specs.Counts.{is_indexed}
+use Rattle.jc_log.specs.Requests.{is_indexed}
+use Rattle.jc_manifest.specs.Counts.{completions_of}
 use Rattle.jc_manifest.specs.IndexSets.{set_of}
 use Rattle.jc_manifest.specs.Rows.{Row, first_refusal, each, rule_row, reads, passes, given_text_row, rows_of_given, given_in}
 use Rattle.jc_manifest.specs.Templates.{objects_row, list_in}
@@ -98,10 +99,6 @@ success_rules_refusal completions path policy = first_refusal
 unfoldable pub success_rules_in : ℕ → List ℕ → Data → SuccessPolicy
 success_rules_in completions path policy =
     record { rules = success_rules_from completions (path_to path (codes "rules")) 0 (list_in path policy (codes "rules")) }
-
--- an Indexed Job has completions
-abbrev pub completions_of : Counts → ℕ
-completions_of counts = unwrap_or counts.completions 0
 
 -- only an Indexed Job has a success policy: rule 21. The policy's path is `path`
 unfoldable pub given_success_refusal : Counts → List ℕ → Data → Row

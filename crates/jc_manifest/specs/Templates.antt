@@ -1,5 +1,5 @@
 -- What a manifest says of a Job's pods (`PodTemplateSpec` and `Container` of core/v1).
-use Rattle.std.specs.Prelude.{ℕ, ◌+◌, List, [], ◌∷◌, ◌++◌, Bool, not, ◌&&◌, ◌||◌, nat_lt, nat_le, length, bytes_eq, codes, Option, Some, None, is_some, option_and_then, unwrap_or, if◌then◌else◌}
+use Rattle.std.specs.Prelude.{ℕ, ◌+◌, List, [], ◌∷◌, ◌++◌, Bool, true, false, not, ◌&&◌, ◌||◌, nat_lt, nat_le, length, bytes_eq, codes, Option, Some, None, is_some, option_and_then, unwrap_or, if◌then◌else◌}
 use Rattle.std.specs.List.{list_any}
 use Rattle.std.specs.Option.{option_or, option_map_or}
 use Rattle.std.specs.Result.{result_unwrap_or}
@@ -13,7 +13,7 @@ use Rattle.jc_types.specs.declared.specifications.Restart.{Restart}
 use Rattle.jc_types.specs.declared.specifications.Restart.TheVariants.{Never, OnFailure}
 use Rattle.jc_types.specs.declared.specifications.Template.{Template}
 use Rattle.jc_manifest.specs.declared.templates.ContainerNames.{ContainerNames}
-use Rattle.jc_manifest.specs.Rows.{Row, first_refusal, each, reads, passes, text_row, object_row, object_in}
+use Rattle.jc_manifest.specs.Rows.{Row, first_refusal, each, rule_row, reads, passes, text_row, object_row, object_in}
 use Rattle.jc_manifest.specs.Words.{is_label}
 
 -- ---- restart policies
@@ -30,6 +30,22 @@ is_restart s = is_some (restart_of s)
 unfoldable pub restart_in : List ℕ → Data → Restart
 restart_in path pod =
     unwrap_or (restart_of (result_unwrap_or (needed_text path (codes "restartPolicy") pod) [])) Never
+
+abbrev pub never_restarts : Restart → Bool
+never_restarts Never = true
+never_restarts OnFailure = false
+
+-- where failures are limited by index, no container is restarted: rule 33
+abbrev pub restart_row : Bool → List ℕ → Restart → Row
+restart_row by_index path restart =
+    rule_row (path_to path (codes "restartPolicy")) 33 (not by_index || never_restarts restart)
+
+-- rules 9 and 33
+unfoldable pub restart_refusal : Bool → List ℕ → Data → Row
+restart_refusal by_index path pod = first_refusal
+    (text_row path pod (codes "restartPolicy") 9 is_restart
+    ∷ restart_row by_index path (restart_in path pod)
+    ∷ [])
 
 -- ---- lists of objects
 
@@ -109,10 +125,10 @@ all_containers_refusal path pod = first_refusal
     ∷ all_names_refusal path (list_in path pod (codes "containers")) (given_list_in path pod (codes "initContainers"))
     ∷ [])
 
--- rules 9 to 11
-unfoldable pub pod_refusal : List ℕ → Data → Row
-pod_refusal path pod = first_refusal
-    (text_row path pod (codes "restartPolicy") 9 is_restart
+-- rules 9 to 11, and 33
+unfoldable pub pod_refusal : Bool → List ℕ → Data → Row
+pod_refusal by_index path pod = first_refusal
+    (restart_refusal by_index path pod
     ∷ all_containers_refusal path pod
     ∷ [])
 
@@ -141,11 +157,11 @@ abbrev pub pod_spec_in : List ℕ → Data → Data
 pod_spec_in path spec =
     object_in (path_to path (codes "template")) (object_in path spec (codes "template")) (codes "spec")
 
-unfoldable pub template_refusal : List ℕ → Data → Row
-template_refusal path spec = first_refusal
+unfoldable pub template_refusal : Bool → List ℕ → Data → Row
+template_refusal by_index path spec = first_refusal
     (object_row path spec (codes "template")
     ∷ object_row (path_to path (codes "template")) (object_in path spec (codes "template")) (codes "spec")
-    ∷ pod_refusal (pod_path path) (pod_spec_in path spec)
+    ∷ pod_refusal by_index (pod_path path) (pod_spec_in path spec)
     ∷ [])
 
 unfoldable pub template_in : List ℕ → Data → Template

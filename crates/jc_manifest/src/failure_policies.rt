@@ -1,14 +1,14 @@
 //! What a manifest says of a Job's pod failure policy (KEP-3329).
 
-ghost use Rattle.std.specs.Prelude.{◌≡◌, ◌++◌, None, bytes_eq, IfOk, codes, if◌then◌else◌, length, map, nat_le, not, Some};
+ghost use Rattle.std.specs.Prelude.{◌≡◌, ◌++◌, None, bytes_eq, IfOk, codes, if◌then◌else◌, length, map, nat_le, Some};
 ghost use Rattle.serde_json.specs.View.{view};
 ghost use Rattle.jc_json.specs.Place.{path_to};
 ghost use Rattle.jc_manifest.specs.Rows.{Checks, Reads, each, rule_row, text_row, given_text_row, object_in};
-ghost use Rattle.jc_manifest.specs.Templates.{list_in, is_among};
-ghost use Rattle.jc_manifest.specs.FailurePolicies.{action_named, operator_of, truth_of, is_action, is_operator, is_truth, operator_in, container_in, number_at, code_row, codes_in, rises_from, has_zero, is_within, are_codes, values_refusal, exit_codes_refusal, exit_codes_in, is_type, pattern_refusal, type_in, truth_in, pattern_in, pattern_row, patterns_from, patterns_refusal, is_fail_index, action_in, action_refusal, is_no_empty_list, has_exit_codes, has_patterns, is_just_one, given_exit_codes_refusal, given_patterns_refusal, requirement_refusal, requirement_in, failure_rule_refusal, failure_rule_in, failure_rule_row, failure_rules_from, failure_rules_refusal, failure_rules_in, never_restarts, given_failure_refusal, failure_refusal, failure_in};
+ghost use Rattle.jc_manifest.specs.Templates.{never_restarts, list_in, is_among};
+ghost use Rattle.jc_manifest.specs.FailurePolicies.{action_named, operator_of, truth_of, is_action, is_operator, is_truth, operator_in, container_in, number_at, code_row, codes_in, rises_from, has_zero, is_within, are_codes, values_refusal, exit_codes_refusal, exit_codes_in, is_type, pattern_refusal, type_in, truth_in, pattern_in, pattern_row, patterns_from, patterns_refusal, is_fail_index, action_row, action_in, action_refusal, is_no_empty_list, has_exit_codes, has_patterns, is_just_one, given_exit_codes_refusal, given_patterns_refusal, requirement_refusal, requirement_in, failure_rule_refusal, failure_rule_in, failure_rule_row, failure_rules_from, failure_rules_refusal, failure_rules_in, given_failure_refusal, failure_refusal, failure_in};
 
 use crate::refusals::{ManifestFault, broken, broken_at};
-use crate::templates::{check_objects, read_object};
+use crate::templates::{check_objects, never_restarts, read_object};
 use jc_json::{Path, item_number, may_object, may_text, member, need_list, need_text};
 use jc_types::{
     Action, Codes, Copied, FailurePolicy, FailureRule, FailureRules, Name, Operator, Pattern,
@@ -341,25 +341,29 @@ fn is_fail_index(action: Action) -> bool
     }
 }
 
-// That no index fails by itself.
-fn check_action(path: &Path, action: Action) -> Result<(), ManifestFault>
-    ensures { Checks result
-        (rule_row (path_to path.now (codes "action")) 27 (not (is_fail_index action))) }
+// That an index fails by itself only where failures are limited by index.
+fn check_action(path: &Path, by_index: bool, action: Action) -> Result<(), ManifestFault>
+    ensures { Checks result (action_row by_index path.now action) }
 {
-    if is_fail_index(action) {
-        return Err(broken(path, "action", 27));
+    if by_index || !is_fail_index(action) {
+        return Ok(());
     }
-    Ok(())
+    Err(broken(path, "action", 27))
 }
 
 // What a rule does.
 #[tactic(auto, unfolding(crate::specs::FailurePolicies::action_refusal))]
-fn read_action(alloc: Global, rule: &Value, path: &Path) -> Result<Action, ManifestFault>
-    ensures { Reads (λ action. action) result (action_refusal path.now (view rule.now))
+fn read_action(
+    alloc: Global,
+    rule: &Value,
+    path: &Path,
+    by_index: bool,
+) -> Result<Action, ManifestFault>
+    ensures { Reads (λ action. action) result (action_refusal by_index path.now (view rule.now))
         (action_in path.now (view rule.now)) }
 {
     let action = read_known_action(alloc, rule, path)?;
-    check_action(path, action)?;
+    check_action(path, by_index, action)?;
     Ok(action)
 }
 
@@ -460,12 +464,13 @@ fn read_failure_rule(
     rule: &Value,
     path: &Path,
     template: &Template,
+    by_index: bool,
 ) -> Result<FailureRule, ManifestFault>
     ensures { Reads (λ rule. rule) result
-        (failure_rule_refusal (template.now.containers ++ template.now.inits) path.now (view rule.now))
+        (failure_rule_refusal by_index (template.now.containers ++ template.now.inits) path.now (view rule.now))
         (failure_rule_in path.now (view rule.now)) }
 {
-    let action = read_action(alloc, rule, path)?;
+    let action = read_action(alloc, rule, path, by_index)?;
     check_one(path, has_exit_codes(rule), has_patterns(rule))?;
     let requirement = read_requirement(alloc, rule, path, template)?;
     Ok(FailureRule {
@@ -480,14 +485,15 @@ fn read_failure_rules(
     items: &[Value],
     path: &Path,
     template: &Template,
+    by_index: bool,
 ) -> Result<FailureRules, ManifestFault>
     ensures { Reads (λ rules. rules) result
-        (each (failure_rule_row (template.now.containers ++ template.now.inits) path.now) 0 (map view items.now))
+        (each (failure_rule_row by_index (template.now.containers ++ template.now.inits) path.now) 0 (map view items.now))
         (failure_rules_from path.now 0 (map view items.now)) }
 {
     let mut rules = FailureRules::new(alloc);
     for (place, item) in items.iter().enumerate() {
-        let rule = read_failure_rule(alloc, item, &path.place(place)?, template)?;
+        let rule = read_failure_rule(alloc, item, &path.place(place)?, template, by_index)?;
         rules.push(rule)?;
     }
     Ok(rules)
@@ -499,26 +505,18 @@ fn read_failure_policy(
     policy: &Value,
     path: &Path,
     template: &Template,
+    by_index: bool,
 ) -> Result<FailurePolicy, ManifestFault>
     ensures { Reads (λ policy. policy) result
-        (failure_rules_refusal (template.now.containers ++ template.now.inits) path.now (view policy.now))
+        (failure_rules_refusal by_index (template.now.containers ++ template.now.inits) path.now (view policy.now))
         (failure_rules_in path.now (view policy.now)) }
 {
     let items = need_list(alloc, policy, path, "rules")?;
     let at = path.member("rules")?;
     check_few(items, &at, 12)?;
     check_objects(items, &at)?;
-    let rules = read_failure_rules(alloc, items, &at, template)?;
+    let rules = read_failure_rules(alloc, items, &at, template, by_index)?;
     Ok(FailurePolicy { rules })
-}
-
-fn never_restarts(restart: Restart) -> bool
-    ensures { result ≡ never_restarts restart }
-{
-    match restart {
-        Restart::Never => true,
-        Restart::OnFailure => false,
-    }
 }
 
 // That no container is restarted.
@@ -537,32 +535,35 @@ fn read_given_failure(
     policy: &Value,
     path: &Path,
     template: &Template,
+    by_index: bool,
 ) -> Result<FailurePolicy, ManifestFault>
     ensures { Reads (λ policy. policy) result
-        (given_failure_refusal template.now path.now (view policy.now))
+        (given_failure_refusal by_index template.now path.now (view policy.now))
         (failure_rules_in path.now (view policy.now)) }
 {
     check_never(path, template.restart)?;
-    let policy = read_failure_policy(alloc, policy, path, template)?;
+    let policy = read_failure_policy(alloc, policy, path, template, by_index)?;
     Ok(policy)
 }
 
-/// The pod failure policy of the Job, where it has one.
+/// The pod failure policy of the Job, where it has one; `by_index` says whether failures are limited for
+/// each index.
 #[tactic(auto, unfolding(crate::specs::FailurePolicies::failure_refusal, crate::specs::FailurePolicies::failure_in))]
 pub fn read_failure(
     alloc: Global,
     spec: &Value,
     path: &Path,
     template: &Template,
+    by_index: bool,
 ) -> Result<Option<FailurePolicy>, ManifestFault>
     ensures { Reads (λ policy. policy) result
-        (failure_refusal template.now path.now (view spec.now))
+        (failure_refusal by_index template.now path.now (view spec.now))
         (failure_in path.now (view spec.now)) }
 {
     let Some(policy) = may_object(alloc, spec, path, "podFailurePolicy")? else {
         return Ok(None);
     };
     let at = path.member("podFailurePolicy")?;
-    let policy = read_given_failure(alloc, policy, &at, template)?;
+    let policy = read_given_failure(alloc, policy, &at, template, by_index)?;
     Ok(Some(policy))
 }

@@ -3,6 +3,7 @@
 
 mod counts;
 mod failure_policies;
+mod index_limits;
 mod laws;
 mod limits;
 mod manifests;

@@ -10,6 +10,7 @@ ghost use Rattle.jc_manifest.specs.Manifests.{replacement_of, is_replacement, us
 
 use crate::counts::{Counts, read_counts};
 use crate::failure_policies::read_failure;
+use crate::index_limits::{IndexLimits, check_by_index, is_by_index, read_index_limits};
 use crate::limits::{Limits, check_managed, read_limits};
 use crate::metadata::{check_type, read_key};
 use crate::refusals::{ManifestFault, broken};
@@ -24,6 +25,7 @@ use std::alloc::Global;
 #[derive(Clone, Copy)]
 struct Head {
     counts: Counts,
+    index_limits: IndexLimits,
     limits: Limits,
 }
 
@@ -126,16 +128,17 @@ fn read_policies(
     alloc: Global,
     spec: &Value,
     path: &Path,
-    counts: &Counts,
+    head: &Head,
     template: &Template,
 ) -> Result<Policies, ManifestFault>
     ensures { Reads (λ policies. policies) result
-        (policies_refusal counts.now template.now path.now (view spec.now))
-        (policies_in counts.now path.now (view spec.now)) }
+        (policies_refusal head.now template.now path.now (view spec.now))
+        (policies_in head.now.counts path.now (view spec.now)) }
 {
-    let failure = read_failure(alloc, spec, path, template)?;
+    let by_index = is_by_index(head.index_limits);
+    let failure = read_failure(alloc, spec, path, template, by_index)?;
     let replacement = read_replacement(alloc, spec, path, failure.is_some())?;
-    let success = read_success(alloc, spec, path, counts)?;
+    let success = read_success(alloc, spec, path, &head.counts)?;
     Ok(Policies {
         failure,
         replacement,
@@ -150,9 +153,15 @@ fn read_head(alloc: Global, spec: &Value, path: &Path) -> Result<Head, ManifestF
         (head_in path.now (view spec.now)) }
 {
     check_managed(alloc, spec, path)?;
+    let index_limits = read_index_limits(alloc, spec, path)?;
     let counts = read_counts(alloc, spec, path)?;
-    let limits = read_limits(alloc, spec, path)?;
-    Ok(Head { counts, limits })
+    check_by_index(path, &counts, index_limits)?;
+    let limits = read_limits(alloc, spec, path, is_by_index(index_limits))?;
+    Ok(Head {
+        counts,
+        index_limits,
+        limits,
+    })
 }
 
 // The specification of these parts.
@@ -165,6 +174,8 @@ fn spec_with(head: Head, template: Template, policies: Policies) -> JobSpec
         mode: head.counts.mode,
         suspend: head.limits.suspend,
         backoff_limit: head.limits.backoff_limit,
+        per_index: head.index_limits.per_index,
+        max_failed: head.index_limits.max_failed,
         deadline: head.limits.deadline,
         replacement: policies.replacement,
         failure: policies.failure,
@@ -180,8 +191,8 @@ fn read_spec(alloc: Global, spec: &Value, path: &Path) -> Result<JobSpec, Manife
         (spec_in path.now (view spec.now)) }
 {
     let head = read_head(alloc, spec, path)?;
-    let template = read_template(alloc, spec, path)?;
-    let policies = read_policies(alloc, spec, path, &head.counts, &template)?;
+    let template = read_template(alloc, spec, path, is_by_index(head.index_limits))?;
+    let policies = read_policies(alloc, spec, path, &head, &template)?;
     Ok(spec_with(head, template, policies))
 }
 
@@ -220,7 +231,7 @@ fn read_manifest(alloc: Global, value: &Value, path: &Path) -> Result<(Key, JobS
 }
 
 /// The key and the specification that the manifest of a Job says, with its defaults (batch/v1, KEP-2214, KEP-3329,
-/// KEP-3939, KEP-3998). `path` is that of the manifest. Members that are not in the table of `specs/Manifests.antt`
+/// KEP-3850, KEP-3939, KEP-3998). `path` is that of the manifest. Members that are not in the table of `specs/Manifests.antt`
 /// are read over, as are those that kubectl prints beside them.
 ///
 /// # Errors

@@ -7,7 +7,7 @@ ghost use Rattle.serde_json.specs.View.{view, members_view};
 ghost use Rattle.serde_json.specs.Written.{compact_text};
 ghost use Rattle.jc_ranges.specs.Texts.{ranges_text};
 ghost use Rattle.jc_manifest.specs.Members.{texts_data, list_data};
-ghost use Rattle.jc_manifest.specs.PrintedSpecs.{mode_word, replacement_word, restart_word, action_word, operator_word, truth_word, rules_data, pattern_data, exit_codes_data, with_requirement, failure_rule_data, failure_data, with_success_rule, success_rule_data, success_data, with_template, template_data, with_limits, with_counts, with_policies, spec_data, with_changed_limits, with_changed_counts, change_data};
+ghost use Rattle.jc_manifest.specs.PrintedSpecs.{mode_word, replacement_word, restart_word, action_word, operator_word, truth_word, rules_data, pattern_data, exit_codes_data, with_requirement, failure_rule_data, failure_data, with_success_rule, success_rule_data, success_data, with_template, template_data, with_limits, with_index_limits, with_counts, with_policies, spec_data, with_changed_limits, with_changed_counts, change_data};
 
 use crate::members::{
     Members, put_bool, put_given, put_given_bool, put_given_number, put_number, put_text, put_value,
@@ -278,6 +278,15 @@ fn put_limits(members: &mut Members, alloc: Global, spec: &JobSpec) -> Result<()
     Ok(())
 }
 
+fn put_index_limits(members: &mut Members, alloc: Global, spec: &JobSpec) -> Result<(), Want>
+    ensures { OnOk result (members_view members.new.entries
+        ≡ with_index_limits spec.now (members_view members.old.entries)) }
+{
+    put_given_number(members, alloc, "backoffLimitPerIndex", spec.per_index)?;
+    put_given_number(members, alloc, "maxFailedIndexes", spec.max_failed)?;
+    Ok(())
+}
+
 fn put_counts(members: &mut Members, alloc: Global, spec: &JobSpec) -> Result<(), Want>
     ensures { OnOk result (members_view members.new.entries
         ≡ with_counts spec.now (members_view members.old.entries)) }
@@ -331,6 +340,7 @@ fn spec_value(alloc: Global, spec: &JobSpec) -> Result<Value, Want>
 {
     let mut members = Map::new(alloc);
     put_limits(&mut members, alloc, spec)?;
+    put_index_limits(&mut members, alloc, spec)?;
     put_counts(&mut members, alloc, spec)?;
     put_policies(&mut members, alloc, spec)?;
     let template = template_value(alloc, &spec.template)?;

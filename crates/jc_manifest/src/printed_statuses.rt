@@ -1,16 +1,18 @@
 //! The texts of statuses: compact JSON, members in byte order.
 
 ghost use Rattle.std.specs.Prelude.{◌≡◌, IfOk, OnOk, codes, map, option_map};
-ghost use Rattle.serde_json.specs.Data.{number, string, no_members};
+ghost use Rattle.serde_json.specs.Data.{boolean, number, string, no_members};
 ghost use Rattle.serde_json.specs.View.{view, members_view};
 ghost use Rattle.serde_json.specs.Written.{compact_text};
 ghost use Rattle.jc_manifest.specs.Members.{unless_zero, unless_empty};
-ghost use Rattle.jc_manifest.specs.PrintedStatuses.{kind_word, reason_word, status_word, moment_data, uid_data, unless_no_index, with_kind, condition_data, uncounted_data, given_uncounted, with_pods, with_totals, with_times, with_lists, status_data};
+ghost use Rattle.jc_manifest.specs.PrintedStatuses.{kind_word, reason_word, status_word, moment_data, uid_data, unless_no_index, with_kind, condition_data, uncounted_data, given_uncounted, unless_false, index_count_data, with_pods, with_totals, with_failures, with_times, with_lists, status_data};
 
-use crate::members::{Members, put_given, put_text, put_unless_zero, put_value};
+use crate::members::{
+    Members, put_given, put_given_bool, put_number, put_text, put_unless_zero, put_value,
+};
 use jc_moment::Moment;
 use jc_ranges::Ranges;
-use jc_types::{CondKind, Condition, JobStatus, Reason, Text, Uid, Want, uid_text};
+use jc_types::{CondKind, Condition, IndexCount, JobStatus, Reason, Text, Uid, Want, uid_text};
 use serde_json::{Map, Value};
 use std::alloc::Global;
 
@@ -143,6 +145,34 @@ fn given_uncounted(alloc: Global, failed: &[Uid], succeeded: &[Uid]) -> Result<O
     Ok(Some(uncounted_value(alloc, failed, succeeded)?))
 }
 
+// True, or nothing.
+fn true_or_none(truth: bool) -> Option<bool>
+    ensures { option_map boolean result ≡ unless_false truth }
+{
+    if truth { Some(true) } else { None }
+}
+
+#[tactic(auto, unfolding(crate::specs::PrintedStatuses::index_count_data))]
+fn index_count_value(alloc: Global, count: &IndexCount) -> Result<Value, Want>
+    ensures { IfOk result (λ v. view v ≡ index_count_data count.now) }
+{
+    let mut members = Map::new(alloc);
+    put_value(&mut members, alloc, "count", Value::from(count.failures))?;
+    put_given_bool(&mut members, alloc, "fail", true_or_none(count.fail))?;
+    put_number(&mut members, alloc, "index", count.index)?;
+    Ok(Value::Object(members))
+}
+
+fn index_count_values(alloc: Global, counts: &[IndexCount]) -> Result<Vec<Value>, Want>
+    ensures { IfOk result (λ values. map view values.items ≡ map index_count_data counts.now) }
+{
+    let mut values = Vec::new(alloc);
+    for count in counts {
+        values.push(index_count_value(alloc, count)?)?;
+    }
+    Ok(values)
+}
+
 #[tactic(auto, unfolding(crate::specs::PrintedStatuses::with_pods))]
 fn put_pods(members: &mut Members, alloc: Global, status: &JobStatus) -> Result<(), Want>
     ensures { OnOk result (members_view members.new.entries
@@ -162,6 +192,17 @@ fn put_totals(members: &mut Members, alloc: Global, status: &JobStatus) -> Resul
     put_given(members, alloc, "completedIndexes", completed)?;
     put_unless_zero(members, alloc, "failed", status.failed)?;
     put_unless_zero(members, alloc, "succeeded", status.succeeded)?;
+    Ok(())
+}
+
+fn put_failures(members: &mut Members, alloc: Global, status: &JobStatus) -> Result<(), Want>
+    ensures { OnOk result (members_view members.new.entries
+        ≡ with_failures status.now (members_view members.old.entries)) }
+{
+    let failed = indexes_unless_none(&status.failed_indexes)?;
+    put_given(members, alloc, "failedIndexes", failed)?;
+    let counts = index_count_values(alloc, status.index_failures.as_slice())?;
+    put_given(members, alloc, "indexFailures", list_unless_empty(counts))?;
     Ok(())
 }
 
@@ -199,13 +240,14 @@ fn status_value(alloc: Global, status: &JobStatus) -> Result<Value, Want>
     let mut members = Map::new(alloc);
     put_pods(&mut members, alloc, status)?;
     put_totals(&mut members, alloc, status)?;
+    put_failures(&mut members, alloc, status)?;
     put_times(&mut members, alloc, status)?;
     put_lists(&mut members, alloc, status)?;
     Ok(Value::Object(members))
 }
 
 /// The status as compact JSON, its members in byte order of their names. A number that is 0, an empty list, an empty
-/// set and an absent moment are left out.
+/// set, an absent moment and a mark that is not set are left out.
 ///
 /// # Errors
 ///

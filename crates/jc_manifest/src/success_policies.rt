@@ -5,9 +5,10 @@ ghost use Rattle.std.specs.Option.{option_map_or};
 ghost use Rattle.serde_json.specs.View.{view};
 ghost use Rattle.jc_json.specs.Place.{path_to};
 ghost use Rattle.jc_manifest.specs.Rows.{Checks, Reads, each, rule_row};
-ghost use Rattle.jc_manifest.specs.Counts.{is_indexed};
+ghost use Rattle.jc_log.specs.Requests.{is_indexed};
 ghost use Rattle.jc_manifest.specs.IndexSets.{set_of};
-ghost use Rattle.jc_manifest.specs.SuccessPolicies.{are_indexes, indexes_read, completions_of, indexes_row, succeeded_indexes_in, is_reachable, count_in, count_row, count_refusal, says_something, success_rule_refusal, success_rule_in, success_rule_row, success_rules_from, success_rules_refusal, success_rules_in, given_success_refusal, success_refusal, success_in};
+ghost use Rattle.jc_manifest.specs.Counts.{completions_of};
+ghost use Rattle.jc_manifest.specs.SuccessPolicies.{are_indexes, indexes_read, indexes_row, succeeded_indexes_in, is_reachable, count_in, count_row, count_refusal, says_something, success_rule_refusal, success_rule_in, success_rule_row, success_rules_from, success_rules_refusal, success_rules_in, given_success_refusal, success_refusal, success_in};
 
 use crate::counts::Counts;
 use crate::refusals::{ManifestFault, broken, broken_at};

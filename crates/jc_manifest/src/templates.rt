@@ -4,7 +4,7 @@ ghost use Rattle.std.specs.Prelude.{◌≡◌, ◌+◌, [], ◌||◌, nat_le, co
 ghost use Rattle.serde_json.specs.View.{view};
 ghost use Rattle.jc_json.specs.Place.{path_to};
 ghost use Rattle.jc_manifest.specs.Rows.{Checks, Reads, text_row, object_row, object_in};
-ghost use Rattle.jc_manifest.specs.Templates.{restart_of, is_restart, restart_in, objects_row, list_in, given_list_in, init_count, containers_refusal, inits_refusal, is_among, name_row, container_name, names_row, names_in, all_names_refusal, names_of_both, all_containers_refusal, all_names_in, pod_refusal, template_in_pod, template_refusal, template_in};
+ghost use Rattle.jc_manifest.specs.Templates.{restart_of, is_restart, restart_in, never_restarts, restart_row, restart_refusal, objects_row, list_in, given_list_in, init_count, containers_refusal, inits_refusal, is_among, name_row, container_name, names_row, names_in, all_names_refusal, names_of_both, all_containers_refusal, all_names_in, pod_refusal, template_in_pod, template_refusal, template_in};
 
 use crate::refusals::{ManifestFault, broken};
 use crate::words::is_label;
@@ -48,6 +48,43 @@ fn read_restart(alloc: Global, pod: &Value, path: &Path) -> Result<Restart, Mani
         Some(restart) => Ok(restart),
         None => Err(broken(path, "restartPolicy", 9)),
     }
+}
+
+/// Whether no container is restarted.
+pub fn never_restarts(restart: Restart) -> bool
+    ensures { result ≡ never_restarts restart }
+{
+    match restart {
+        Restart::Never => true,
+        Restart::OnFailure => false,
+    }
+}
+
+// That no container is restarted where failures are limited by index.
+fn check_restart(path: &Path, by_index: bool, restart: Restart) -> Result<(), ManifestFault>
+    ensures { Checks result (restart_row by_index path.now restart) }
+{
+    if by_index && !never_restarts(restart) {
+        return Err(broken(path, "restartPolicy", 33));
+    }
+    Ok(())
+}
+
+// What becomes of a container that exits, which is tied where failures are limited by index.
+#[tactic(auto, unfolding(crate::specs::Templates::restart_refusal))]
+fn read_fit_restart(
+    alloc: Global,
+    pod: &Value,
+    path: &Path,
+    by_index: bool,
+) -> Result<Restart, ManifestFault>
+    ensures { Reads (λ restart. restart) result
+        (restart_refusal by_index path.now (view pod.now))
+        (restart_in path.now (view pod.now)) }
+{
+    let restart = read_restart(alloc, pod, path)?;
+    check_restart(path, by_index, restart)?;
+    Ok(restart)
 }
 
 /// That each item of a list is an object.
@@ -198,11 +235,16 @@ fn read_all_containers(
 
 // What the pods are made from.
 #[tactic(auto, unfolding(crate::specs::Templates::pod_refusal, crate::specs::Templates::template_in_pod))]
-fn read_pod(alloc: Global, pod: &Value, path: &Path) -> Result<Template, ManifestFault>
-    ensures { Reads (λ template. template) result (pod_refusal path.now (view pod.now))
+fn read_pod(
+    alloc: Global,
+    pod: &Value,
+    path: &Path,
+    by_index: bool,
+) -> Result<Template, ManifestFault>
+    ensures { Reads (λ template. template) result (pod_refusal by_index path.now (view pod.now))
         (template_in_pod path.now (view pod.now)) }
 {
-    let restart = read_restart(alloc, pod, path)?;
+    let restart = read_fit_restart(alloc, pod, path, by_index)?;
     let names = read_all_containers(alloc, pod, path)?;
     Ok(Template {
         restart,
@@ -226,15 +268,20 @@ pub fn read_object<'v>(
     Ok(need_object(alloc, object, path, name)?)
 }
 
-/// What the pods of the Job are made from.
+/// What the pods of the Job are made from; `by_index` says whether failures are limited for each index.
 #[tactic(auto, unfolding(crate::specs::Templates::template_refusal, crate::specs::Templates::template_in))]
-pub fn read_template(alloc: Global, spec: &Value, path: &Path) -> Result<Template, ManifestFault>
-    ensures { Reads (λ template. template) result (template_refusal path.now (view spec.now))
+pub fn read_template(
+    alloc: Global,
+    spec: &Value,
+    path: &Path,
+    by_index: bool,
+) -> Result<Template, ManifestFault>
+    ensures { Reads (λ template. template) result (template_refusal by_index path.now (view spec.now))
         (template_in path.now (view spec.now)) }
 {
     let template = read_object(alloc, spec, path, "template")?;
     let at = path.member("template")?;
     let pod = read_object(alloc, template, &at, "spec")?;
-    let template = read_pod(alloc, pod, &at.member("spec")?)?;
+    let template = read_pod(alloc, pod, &at.member("spec")?, by_index)?;
     Ok(template)
 }

@@ -1,10 +1,10 @@
 //! What an update of a Job may change.
 
 ghost use Rattle.std.specs.Prelude.{◌≡◌, option_map};
-ghost use Rattle.jc_log.specs.Requests.{is_above, is_given_else, update_refusal};
+ghost use Rattle.jc_log.specs.Requests.{is_above, is_elastic, is_given_else, is_immutable, update_refusal};
 ghost use Rattle.jc_manifest.specs.Faults.{reply_to};
 
-use jc_types::{Field, GREATEST_LIMIT, GREATEST_PARALLELISM, JobSpec, SpecChange};
+use jc_types::{Field, GREATEST_LIMIT, GREATEST_PARALLELISM, JobSpec, Mode, SpecChange};
 
 /// Why an update is refused.
 #[derive(Clone, Copy, PartialEq, Eq, Debug)]
@@ -17,13 +17,14 @@ pub enum UpdateFault {
 
 /// Why the change may not be made to a specification; `None` where it may.
 ///
-/// `completions` can't be changed (batch/v1), so it is refused where it is given and differs. Then
-/// a parallelism above `GREATEST_PARALLELISM` is refused, and then a backoff limit or a deadline, in
-/// seconds, above `GREATEST_LIMIT`; the first in this order is named.
+/// `completions` is refused where it is given and differs, unless the Job is Indexed and the
+/// parallelism after the change equals it (elastic Indexed Jobs of batch/v1). Then a parallelism above
+/// `GREATEST_PARALLELISM` is refused, and then a backoff limit or a deadline, in seconds, above
+/// `GREATEST_LIMIT`; the first in this order is named.
 pub fn check_update(old: &JobSpec, change: &SpecChange) -> Option<UpdateFault>
     ensures { option_map reply_to result ≡ update_refusal old.now change.now }
 {
-    if is_given_else(change.completions, old.completions) {
+    if is_immutable(old, change) {
         return Some(UpdateFault::Immutable {
             field: Field::Completions,
         });
@@ -55,6 +56,24 @@ fn is_given_else(given: Option<u32>, old: Option<u32>) -> bool
         (Some(_), None) => true,
         (Some(given), Some(old)) => given != old,
     }
+}
+
+// Whether the given completions may take the place of others: the Job is Indexed, and after the change
+// as many pods may run at once.
+fn is_elastic(old: &JobSpec, change: &SpecChange) -> bool
+    ensures { result ≡ is_elastic old.now change.now }
+{
+    match (old.mode, change.completions) {
+        (Mode::NonIndexed, _) | (Mode::Indexed, None) => false,
+        (Mode::Indexed, Some(given)) => given == change.parallelism.unwrap_or(old.parallelism),
+    }
+}
+
+// Whether the completions are given, differ and may not change.
+fn is_immutable(old: &JobSpec, change: &SpecChange) -> bool
+    ensures { result ≡ is_immutable old.now change.now }
+{
+    is_given_else(change.completions, old.completions) && !is_elastic(old, change)
 }
 
 // Whether a number is given that is above the limit.

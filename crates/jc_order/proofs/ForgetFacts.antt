@@ -213,7 +213,7 @@ both k j u log its p = record { job_from = job.from; pod_from = pod.from; job_by
 
 -- ---- workers that are not of the shape
 
-never-begins : (w : ℕ) (notes : List Note) → Each (λ note. begins_for w note ≡ false) notes → register w notes ≡ None
+pub never-begins : (w : ℕ) (notes : List Note) → Each (λ note. begins_for w note ≡ false) notes → register w notes ≡ None
 never-begins w [] h = refl
 never-begins w (Began worker basis ∷ older) h = ap (λ t. unwrap_or (option_or (cond t (Some (Some basis)) None) (newest (register_told w) older)) None) h.0 ∙ never-begins w older h.1
 never-begins w (Ended worker basis end now ∷ older) h = by (worker == w) (never-begins w older h.1)
@@ -230,7 +230,7 @@ never-begins w (Faulted worker fault ∷ older) h = never-begins w older h.1
 never-begins w (Ticked now ∷ older) h = never-begins w older h.1
 
 module _ (shape : Shape) (w : ℕ) (beyond : shape.workers ≤ w) where
-  abbrev None-begins : List Note → Type 0
+  abbrev pub None-begins : List Note → Type 0
   None-begins some = Each (λ note. begins_for w note ≡ false) some
 
   other : (worker : ℕ) → worker < shape.workers → (t : Bool) → (worker == w) ≡ t → t ≡ false
@@ -277,7 +277,7 @@ module _ (shape : Shape) (w : ℕ) (beyond : shape.workers ≤ w) where
       by other = tt
   noted-none c other r now log older h = tt
 
-  notes-none : (c : ℕ) (deeds : List Deed) (log : List Entry) → IsLegal shape deeds → None-begins (notes shape c deeds log)
+  pub notes-none : (c : ℕ) (deeds : List Deed) (log : List Entry) → IsLegal shape deeds → None-begins (notes shape c deeds log)
   notes-none c [] log h = tt
   notes-none c (d ∷ past) log h = by (restarts c d.act) (notes-none c past log h.1)
     where

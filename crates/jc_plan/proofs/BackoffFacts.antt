@@ -19,7 +19,7 @@ use Rattle.jc_states.specs.Bases.{own_pods}
 use Rattle.jc_states.specs.Listed.{is_listed}
 use Rattle.jc_states.specs.UidLists.{is_in, uids_of}
 use Rattle.jc_account.specs.Accounts.{counted_in}
-use Rattle.jc_account.specs.Judged.{has_come_to, newly}
+use Rattle.jc_account.specs.Judged.{fits, has_come_to, newly}
 use Rattle.jc_account.specs.Modes.{gained}
 use Rattle.jc_account.proofs.AccountFacts.{failed-in, few-failed, new-failed, new-indexes, new-succeeded, newly-member, succeeded-in}
 use Rattle.jc_failpol.specs.declared.outcomes.Outcome.{Outcome}
@@ -49,7 +49,7 @@ none-judged job own o uids verdict listed within = by (newly job own o) refl
 
         unlisted : not (is_listed job.status p.uid) ≡ true
         unlisted =
-            (and_parts (not (is_listed job.status p.uid)) (list_any (λ pod. has_come_to job o pod && same_uid pod.uid p.uid) own)
+            (and_parts (not (is_listed job.status p.uid)) (list_any (λ pod. (has_come_to job o pod && fits job own pod) && same_uid pod.uid p.uid) own)
             (sym (newly-member p.uid job own o verdict) ∙ there)).0
 
 -- Each number of the first list is in the second, where all its members are.

@@ -1,5 +1,5 @@
 -- How many pods a sync marks, lets go and makes at most, and how many stay ready.
-use Rattle.std.proofs.Common.{◌≡◌, ℕ, ◌+◌, ◌-◌, ◌≤◌, ◌==◌, Bool, true, false, cond, not, ◌&&◌, ◌||◌, List, [], ◌∷◌, length, filter, Option, Some, None, refl, ap, ◌∙◌, arith}
+use Rattle.std.proofs.Common.{◌≡◌, ℕ, ◌+◌, ◌-◌, ◌≤◌, ◌==◌, Bool, true, false, cond, not, ◌&&◌, ◌||◌, List, [], ◌∷◌, length, filter, Option, Some, None, refl, ap, ◌∙◌, arith, unwrap_or}
 use Rattle.std.proofs.lemmas.List.{length-map}
 use Rattle.std.proofs.lemmas.List.Elements.{filter_agree}
 use Rattle.std.proofs.lemmas.List.Sums.{count_by-le-length, length-filter}
@@ -11,7 +11,7 @@ use Rattle.jc_types.specs.Counts.{counts}
 use Rattle.jc_states.specs.UidLists.{is_in}
 use Rattle.jc_states.specs.Pods.{is_active, is_marked, is_open, is_ready, is_tracked, is_ending, active_pods, ending_pods, is_tracked_active, tracked_active_pods}
 use Rattle.jc_manage.specs.Creations.{creatable, creates, job_wants, wanted}
-use Rattle.jc_manage.specs.LetGoes.{going, is_let_go, is_to_mark, let_goes, marks, seen}
+use Rattle.jc_manage.specs.LetGoes.{going, is_let_go, is_needless, is_to_mark, let_goes, marks, seen}
 use Rattle.jc_manage.specs.declared.results.Wants.{Wants}
 use Rattle.jc_plan.specs.Numbers.{is_let_go_of, keeps_on, ready_after, stopped_by}
 use Rattle.jc_manage.proofs.Bounds.{creatable-few, creates-few, lacks-few, wanted-few}
@@ -77,7 +77,7 @@ going-active false job own counted =
       arith,
       length-map (filter (is_to_mark false) own) (λ (pod : Pod). pod.uid),
       length-map (going false job own counted) seen,
-      going-few job.spec.suspend (tracked_active_pods own) (filter (is_let_go job.spec.mode counted.completed (job_wants job own counted) (tracked_active_pods own)) (tracked_active_pods own)) (filter-few (is_let_go job.spec.mode counted.completed (job_wants job own counted) (tracked_active_pods own)) (tracked_active_pods own)),
+      going-few job.spec.suspend (tracked_active_pods own) (filter (is_let_go job.spec.mode (is_needless (unwrap_or job.spec.completions 0) counted) (job_wants job own counted) (tracked_active_pods own)) (tracked_active_pods own)) (filter-few (is_let_go job.spec.mode (is_needless (unwrap_or job.spec.completions 0) counted) (job_wants job own counted) (tracked_active_pods own)) (tracked_active_pods own)),
       filters-within (is_to_mark false) is_tracked_active is_active (λ pod. apart-own (is_active pod) (is_tracked pod)) own,
     )
 
@@ -96,9 +96,9 @@ open-few own =
 
 -- ---- creations
 
-wants-few : (completions : Option ℕ) (parallelism succeeded a : ℕ) → parallelism ≤ GREATEST_PARALLELISM → wanted parallelism completions succeeded a - a ≤ GREATEST_PARALLELISM
-wants-few (Some completions) parallelism succeeded a h = omega (arith, wanted-few parallelism completions succeeded a, h)
-wants-few None parallelism succeeded a h = by (succeeded == 0)
+wants-few : (completions : Option ℕ) (parallelism succeeded failed a : ℕ) → parallelism ≤ GREATEST_PARALLELISM → wanted parallelism completions succeeded failed a - a ≤ GREATEST_PARALLELISM
+wants-few (Some completions) parallelism succeeded failed a h = omega (arith, wanted-few parallelism completions succeeded failed a, h)
+wants-few None parallelism succeeded failed a h = by (succeeded == 0)
   where
     by : (b : Bool) → cond b parallelism a - a ≤ GREATEST_PARALLELISM
     by true = omega (arith, h)
@@ -112,7 +112,7 @@ creates-bounded opening now target job own counted h =
       creates-few opening now (creatable target job own counted),
       creatable-few target job own counted,
       lacks-few job own counted,
-      wants-few job.spec.completions job.spec.parallelism (counts counted).1 (length (tracked_active_pods own)) h,
+      wants-few job.spec.completions job.spec.parallelism (counts counted).1 (length counted.failed_indexes) (length (tracked_active_pods own)) h,
     )
 
 -- ---- pods that are ready

@@ -7,3 +7,4 @@ pub mod PlanBounds
 pub mod PlanFacts
 pub mod OrderFacts
 pub mod BackoffFacts
+pub mod LeftFacts

@@ -1,7 +1,8 @@
 -- The status that a plan leaves is the next status of its Job.
-use Rattle.std.proofs.Common.{◌≡◌, ◌⊎◌, inl, inr, ◌↔◌, ℕ, ◌+◌, Bool, true, false, cond, not, ◌&&◌, ◌||◌, List, [], map, filter, length, Option, Some, None, IsSome, is_some, unwrap_or, refl, sym, ap, ◌∙◌, subst, true≢false, arith}
-use Rattle.std.specs.List.{list_any}
+use Rattle.std.proofs.Common.{◌≡◌, ◌⊎◌, inl, inr, ◌↔◌, ℕ, ◌+◌, nat_le, Bool, true, false, cond, not, ◌&&◌, ◌||◌, List, [], map, filter, length, Option, Some, None, IsSome, is_some, unwrap_or, refl, sym, ap, ◌∙◌, subst, true≢false, arith}
+use Rattle.std.specs.List.{range_with_len, list_any}
 use Rattle.std.proofs.lemmas.List.{nil_from_length}
+use Rattle.jc_ranges.specs.Sets.{has}
 use Rattle.jc_types.specs.declared.numbers.Uid.{Uid}
 use Rattle.jc_types.specs.declared.objects.Job.{Job}
 use Rattle.jc_types.specs.declared.objects.Pod.{Pod}
@@ -23,19 +24,20 @@ use Rattle.jc_types.proofs.EqualityFacts.{status-exact}
 use Rattle.jc_account.specs.Accounts.{completed_in, counted_in, counted_out}
 use Rattle.jc_account.specs.Judged.{newly}
 use Rattle.jc_account.specs.Modes.{succeeded_after}
-use Rattle.jc_account.proofs.AccountFacts.{empty-in, failed-all-out, failed-list-empty, failed-sum, failed-total, indexed-total, new-failed, succeeded-all-out, succeeded-list-empty, succeeded-sum, succeeded-total}
+use Rattle.jc_account.proofs.AccountFacts.{empty-in, failed-all-out, failed-list-empty, failed-sum, failed-total, indexed-total, left-failed, left-succeeded, new-failed, succeeded-all-out, succeeded-list-empty, succeeded-sum, succeeded-total}
 use Rattle.jc_failpol.specs.declared.outcomes.Outcome.TheVariants.{Succeeded}
 use Rattle.jc_finish.proofs.DecisionFacts.{decided_same}
 use Rattle.jc_finish.specs.Settled.{end_of, with_last}
 use Rattle.jc_finish.proofs.SettledFacts.{settled-ends, settled-not_due}
 use Rattle.jc_manage.specs.declared.results.Wants.{Wants}
 use Rattle.jc_manage.specs.Backoffs.{failures_after, last_after, opening}
-use Rattle.jc_manage.specs.Creations.{creates, free, keepers, lacking, new_pods, next, wanted}
-use Rattle.jc_manage.specs.LetGoes.{is_let_go, marks, seen}
+use Rattle.jc_manage.specs.Creations.{creates, holds, keepers, lacking, new_pods, next, wanted}
+use Rattle.jc_manage.specs.LetGoes.{marks, seen, surplus}
+use Rattle.jc_perindex.specs.Failures.{filled_counts}
 use Rattle.jc_plan.specs.Next.{next_counted, next_decided, next_status, next_wants}
 use Rattle.jc_plan.specs.Numbers.{active_after, ending_after, ready_after}
 use Rattle.jc_plan.specs.Plans.{changed, planned, planned_for}
-use Rattle.jc_plan.specs.Statuses.{completed_at, conditions_at, first_status_of, first_value, decided_in, is_first_due, is_none, is_over, is_second_due, is_settled, lists_none, second_value, wants_at, wants_in}
+use Rattle.jc_plan.specs.Statuses.{accounted, completed_at, conditions_at, first_status_of, first_value, decided_in, is_first_due, is_none, is_over, is_second_due, is_settled, leaves_none, lists_none, second_value, wants_at, wants_in}
 use Rattle.jc_plan.proofs.Targets.{IsTarget, target-kind}
 
 and-true : (b : Bool) → (b && true) ≡ b
@@ -48,27 +50,27 @@ module _ (now : ℕ) (backoff : Backoff) (job : Job) (own : List Pod) where
   abbrev backoff_by : ℕ → ℕ → Backoff
   backoff_by nf ns = record { failures = failures_after backoff.failures nf ns; last = last_after backoff.last now nf ns }
 
-  abbrev wanted_by : ℕ → ℕ
-  wanted_by s = wanted job.spec.parallelism job.spec.completions s (length (tracked_active_pods own))
+  abbrev wanted_by : ℕ → List ℕ → ℕ
+  wanted_by s failing = wanted job.spec.parallelism job.spec.completions s (length failing) (length (tracked_active_pods own))
 
-  abbrev made_by : Bool → ℕ → List ℕ → List (Option ℕ)
-  made_by target s set =
+  abbrev made_by : Bool → ℕ → List ℕ → List ℕ → List (Option ℕ)
+  made_by target s set failing =
       cond (target || job.spec.suspend) []
-      (new_pods job.spec.mode (lacking job.spec.replacement (wanted_by s) (length (tracked_active_pods own)) (length (ending_pods own)))
-      (free (unwrap_or job.spec.completions 0) set (keepers job.spec.replacement own)))
+      (new_pods job.spec.mode (lacking job.spec.replacement (wanted_by s failing) (length (tracked_active_pods own)) (length (ending_pods own)))
+      (filter (λ n. not (has n set || has n failing) && not (holds (keepers job.spec.replacement own) n)) (range_with_len 0 (unwrap_or job.spec.completions 0))))
 
-  abbrev wants_by : Bool → ℕ → List ℕ → ℕ → ℕ → Wants
-  wants_by target s set nf ns = record {
-    creates = creates (opening (backoff_by nf ns)) now (made_by target s set);
+  abbrev wants_by : Bool → ℕ → List ℕ → List ℕ → ℕ → ℕ → Wants
+  wants_by target s set failing nf ns = record {
+    creates = creates (opening (backoff_by nf ns)) now (made_by target s set failing);
     marks = marks target own;
     let_goes =
         map seen (cond target [] (cond job.spec.suspend (tracked_active_pods own)
-        (filter (is_let_go job.spec.mode set (wanted_by s) (tracked_active_pods own)) (tracked_active_pods own))));
-    next = next (opening (backoff_by nf ns)) now (made_by target s set);
+        (surplus job.spec.mode (λ n. (has n set || has n failing) || nat_le (unwrap_or job.spec.completions 0) n) (wanted_by s failing) (tracked_active_pods own))));
+    next = next (opening (backoff_by nf ns)) now (made_by target s set failing);
     backoff = backoff_by nf ns;
   }
 
-  wants-by : (target : Bool) (counted : CountIn) → wants_at now backoff target job own counted ≡ wants_by target (counts counted).1 counted.completed counted.new_failed counted.new_succeeded
+  wants-by : (target : Bool) (counted : CountIn) → wants_at now backoff target job own counted ≡ wants_by target (counts counted).1 counted.completed counted.failed_indexes counted.new_failed counted.new_succeeded
   wants-by target counted = refl
 
 -- ---- the counts agree
@@ -78,12 +80,26 @@ module _ (job : Job) (pods : List Pod) (rises : IsRising pods) (tidy : job.spec.
   unfolding counted_in
   completed-is = refl
 
+  -- The failed indexes, and the failures of each.
+  pub failing-is : (filled_counts job (own_pods job pods) (counted_in job pods)).failed_indexes ≡ (next_counted job (own_pods job pods)).failed_indexes
+  unfolding counted_in
+  failing-is = refl
+
+  pub failures-are : (filled_counts job (own_pods job pods) (counted_in job pods)).index_failures ≡ (next_counted job (own_pods job pods)).index_failures
+  unfolding counted_in
+  failures-are = refl
+
   pub gain-is : (counted_in job pods).new_succeeded ≡ (next_counted job (own_pods job pods)).new_succeeded
   unfolding counted_in
   gain-is = refl
 
   pub failed-is : (counts (counted_in job pods)).0 ≡ (counts (next_counted job (own_pods job pods))).0
-  failed-is = omega (arith, failed-sum job pods rises)
+  failed-is = omega (arith, failed-sum job pods rises, left-failed job pods)
+
+  -- As many are left over.
+  pub leaves-is : leaves_none (counted_in job pods) ≡ leaves_none (next_counted job (own_pods job pods))
+  unfolding counted_in
+  leaves-is = refl
 
   pub succeeded-is : (counts (counted_in job pods)).1 ≡ (counts (next_counted job (own_pods job pods))).1
   succeeded-is = by job.spec.mode refl
@@ -93,12 +109,14 @@ module _ (job : Job) (pods : List Pod) (rises : IsRising pods) (tidy : job.spec.
           omega (
             arith,
             succeeded-sum job pods at rises,
+            left-succeeded job pods,
             ap (λ (m : Mode). succeeded_after m (job.status.succeeded + length job.status.uncounted_succeeded + length (newly job (own_pods job pods) Succeeded)) (completed_in job (own_pods job pods))) at,
           )
       by Indexed at =
           omega (
             arith,
             indexed-total job pods at,
+            left-succeeded job pods,
             ap length (empty-in job pods at (tidy at)),
             ap length completed-is,
             ap (λ (m : Mode). succeeded_after m (job.status.succeeded + length job.status.uncounted_succeeded + length (newly job (own_pods job pods) Succeeded)) (completed_in job (own_pods job pods))) at,
@@ -107,37 +125,39 @@ module _ (job : Job) (pods : List Pod) (rises : IsRising pods) (tidy : job.spec.
 -- ---- the second status is the next
 
 -- The end of the second status is due where the Job is over.
-second-over : (target : Bool) (own : List Pod) (us uf : List Uid) → us ≡ [] → uf ≡ [] → (is_over target own && lists_none us uf) ≡ is_over target own
-second-over target own us uf e f =
-    ap (λ (vs : List Uid). is_over target own && lists_none vs uf) e ∙ ap (λ (vs : List Uid). is_over target own && lists_none [] vs) f
-    ∙ and-true (is_over target own)
+second-over : (over : Bool) (us uf : List Uid) → us ≡ [] → uf ≡ [] → (over && lists_none us uf) ≡ over
+second-over over us uf e f =
+    ap (λ (vs : List Uid). over && lists_none vs uf) e ∙ ap (λ (vs : List Uid). over && lists_none [] vs) f ∙ and-true over
 
 module _ (job : Job) (basis : Basis) (rises : IsRising basis.pods) (tidy : job.spec.mode ≡ Indexed → job.status.uncounted_succeeded ≡ []) where
   target-is : decided_in job basis ≡ next_decided basis.now job (own_pods job basis.pods)
   target-is =
-      decided_same (counted_in job basis.pods) (next_counted job (own_pods job basis.pods)) basis.now job (own_pods job basis.pods)
-      (failed-is job basis.pods rises tidy) (succeeded-is job basis.pods rises tidy) (completed-is job basis.pods rises tidy)
+      decided_same (accounted job basis) (next_counted job (own_pods job basis.pods)) basis.now job (own_pods job basis.pods)
+      (failed-is job basis.pods rises tidy) (succeeded-is job basis.pods rises tidy) (completed-is job basis.pods rises tidy) (failing-is job basis.pods rises tidy)
 
   wants-are : wants_in job basis ≡ next_wants basis.now basis.backoff job (own_pods job basis.pods)
   wants-are =
-      λ i. wants_by basis.now basis.backoff job (own_pods job basis.pods) (is_settled job (target-is i)) (succeeded-is job basis.pods rises tidy i) (completed-is job basis.pods rises tidy i) (new-failed job basis.pods i) (gain-is job basis.pods rises tidy i)
+      λ i. wants_by basis.now basis.backoff job (own_pods job basis.pods) (is_settled job (target-is i)) (succeeded-is job basis.pods rises tidy i) (completed-is job basis.pods rises tidy i) (failing-is job basis.pods rises tidy i) (new-failed job basis.pods i) (gain-is job basis.pods rises tidy i)
 
   pub second-next : second_value job basis ≡ next_status basis.now basis.backoff job (own_pods job basis.pods)
   unfolding second_value next_status counted_out
   second-next =
       let own = own_pods job basis.pods in
-      let counted = counted_in job basis.pods in
+      let counted = accounted job basis in
       let first = first_status_of basis.now job own counted (decided_in job basis) (wants_in job basis) in
       let out = counted_out first counted.releases in
+      let left_s : counted.left_succeeded ≡ (next_counted job own).left_succeeded = left-succeeded job basis.pods in
+      let left_f : counted.left_failed ≡ (next_counted job own).left_failed = left-failed job basis.pods in
       let e_us : out.uncounted_succeeded ≡ [] = succeeded-list-empty job basis.pods first refl in
       let e_uf : out.uncounted_failed ≡ [] = failed-list-empty job basis.pods first refl in
       let e_s : out.succeeded ≡ (next_counted job own).succeeded =
-      omega (arith, succeeded-all-out job basis.pods first refl, succeeded-is job basis.pods rises tidy) in
+      omega (arith, succeeded-all-out job basis.pods first refl, succeeded-is job basis.pods rises tidy, left_s) in
       let e_f : out.failed ≡ (next_counted job own).failed =
-      omega (arith, failed-all-out job basis.pods first refl, failed-is job basis.pods rises tidy) in
-      let e_due : is_second_due (is_settled job (decided_in job basis)) own out ≡ is_over (is_settled job (next_decided basis.now job own)) own =
-      second-over (is_settled job (decided_in job basis)) own out.uncounted_succeeded out.uncounted_failed e_us e_uf
-      ∙ ap (λ (g : Option (CondKind × Reason)). is_over (is_settled job g) own) target-is in
+      omega (arith, failed-all-out job basis.pods first refl, failed-is job basis.pods rises tidy, left_f) in
+      let e_due : is_second_due (is_settled job (decided_in job basis)) own counted out ≡ is_over (is_settled job (next_decided basis.now job own)) own (next_counted job own) =
+      second-over (is_over (is_settled job (decided_in job basis)) own counted) out.uncounted_succeeded out.uncounted_failed e_us e_uf
+      ∙ ap (λ (g : Option (CondKind × Reason)). is_over (is_settled job g) own counted) target-is
+      ∙ ap (λ (b : Bool). is_settled job (next_decided basis.now job own) && (not (list_any is_open own) && b)) (leaves-is job basis.pods rises tidy) in
       λ i. record {
         active = active_after (wants-are i) own;
         ready = ready_after (wants-are i) own;
@@ -145,6 +165,8 @@ module _ (job : Job) (basis : Basis) (rises : IsRising basis.pods) (tidy : job.s
         succeeded = e_s i;
         failed = e_f i;
         completed = completed-is job basis.pods rises tidy i;
+        failed_indexes = failing-is job basis.pods rises tidy i;
+        index_failures = failures-are job basis.pods rises tidy i;
         uncounted_succeeded = e_us i;
         uncounted_failed = e_uf i;
         start = first.start;
@@ -217,7 +239,7 @@ module _ (job : Job) (basis : Basis) (tidy : job.spec.mode ≡ Indexed → job.s
       nil_from_length (counted_in job basis.pods).uncounted_failed
       (omega (
         arith,
-        failed-all-out job basis.pods (first_status_of basis.now job (own_pods job basis.pods) (counted_in job basis.pods) (decided_in job basis) (wants_in job basis)) refl,
+        failed-all-out job basis.pods (first_status_of basis.now job (own_pods job basis.pods) (accounted job basis) (decided_in job basis) (wants_in job basis)) refl,
         ap (λ (s : JobStatus). s.failed) stays,
         failed-total job basis.pods,
       ))
@@ -232,7 +254,7 @@ module _ (job : Job) (basis : Basis) (tidy : job.spec.mode ≡ Indexed → job.s
           nil_from_length (counted_in job basis.pods).uncounted_succeeded
           (omega (
             arith,
-            succeeded-all-out job basis.pods (first_status_of basis.now job (own_pods job basis.pods) (counted_in job basis.pods) (decided_in job basis) (wants_in job basis)) refl,
+            succeeded-all-out job basis.pods (first_status_of basis.now job (own_pods job basis.pods) (accounted job basis) (decided_in job basis) (wants_in job basis)) refl,
             ap (λ (s : JobStatus). s.succeeded) stays,
             succeeded-total job basis.pods at,
           ))
@@ -242,20 +264,20 @@ module _ (job : Job) (basis : Basis) (tidy : job.spec.mode ≡ Indexed → job.s
   unfolding first_value second_value counted_out
   first-stays =
       let own = own_pods job basis.pods in
-      let counted = counted_in job basis.pods in
+      let counted = accounted job basis in
       let target = decided_in job basis in
       let first = first_status_of basis.now job own counted target (wants_in job basis) in
       let out = counted_out first counted.releases in
-      let over = is_over (is_settled job target) own in
+      let over = is_over (is_settled job target) own counted in
       let e_us : out.uncounted_succeeded ≡ [] = succeeded-list-empty job basis.pods first refl in
       let e_uf : out.uncounted_failed ≡ [] = failed-list-empty job basis.pods first refl in
       let e_s : first.succeeded ≡ out.succeeded = omega (arith, succeeded-all-out job basis.pods first refl, ap length succeeded-none) in
       let e_f : first.failed ≡ out.failed = omega (arith, failed-all-out job basis.pods first refl, ap length failed-none) in
-      let e_c : conditions_at basis.now job target (is_first_due (is_settled job target) own counted) ≡ conditions_at basis.now job target (is_second_due (is_settled job target) own out) =
-      same-conditions basis.now job target over (is_first_due (is_settled job target) own counted) (is_second_due (is_settled job target) own out)
+      let e_c : conditions_at basis.now job target (is_first_due (is_settled job target) own counted) ≡ conditions_at basis.now job target (is_second_due (is_settled job target) own counted out) =
+      same-conditions basis.now job target over (is_first_due (is_settled job target) own counted) (is_second_due (is_settled job target) own counted out)
       (target-kind counted basis.now job own)
-      (over-settled (is_settled job target) (not (list_any is_open own)))
-      (second-over (is_settled job target) own out.uncounted_succeeded out.uncounted_failed e_us e_uf)
+      (over-settled (is_settled job target) (not (list_any is_open own) && leaves_none counted))
+      (second-over over out.uncounted_succeeded out.uncounted_failed e_us e_uf)
       (over-settled over (is_none counted.releases && lists_none counted.uncounted_succeeded counted.uncounted_failed))
       (ap (λ (s : JobStatus). s.conditions) stays) in
       λ i. record first {

@@ -1,5 +1,5 @@
 -- The lists of a plan ascend by UID where the pods do, and its pods are found by their UIDs.
-use Rattle.std.proofs.Common.{◌≡◌, ◌⊎◌, inl, inr, Bool, true, false, true≢false, ◌&&◌, ◌||◌, List, [], ◌∷◌, filter, find, Option, Some, None, refl, sym, ap, ◌∙◌, subst}
+use Rattle.std.proofs.Common.{◌≡◌, ◌⊎◌, inl, inr, true, false, true≢false, ◌&&◌, ◌||◌, List, [], ◌∷◌, filter, find, Option, Some, None, refl, sym, ap, ◌∙◌, subst}
 use Rattle.std.specs.List.{AllByRecursion as Each, Contains, list_any}
 use Rattle.std.specs.Option.{IsSomeAnd}
 use Rattle.std.proofs.lemmas.Bool.{and_from, and_parts, or_cases, or_left}
@@ -14,9 +14,9 @@ use Rattle.jc_types.proofs.ListFacts.{any_filter, weaker_in}
 use Rattle.jc_states.specs.Bases.{is_own, own_pods}
 use Rattle.jc_states.specs.Pods.{is_tracked}
 use Rattle.jc_states.specs.PodLists.{IsRising}
-use Rattle.jc_states.specs.UidLists.{Ascends, is_in, uids_of}
+use Rattle.jc_states.specs.UidLists.{Ascends, is_in}
 use Rattle.jc_states.proofs.PodListFacts.{pod_among, rises-found, rises_filter}
-use Rattle.jc_states.proofs.UidListFacts.{Found, passes_in, some_in, uids_of-ascends}
+use Rattle.jc_states.proofs.UidListFacts.{Found, some_in, uids_of-ascends}
 use Rattle.jc_account.specs.Accounts.{counted_in}
 use Rattle.jc_account.specs.Judged.{is_to_release}
 use Rattle.jc_account.proofs.AccountFacts.{release-member}
@@ -24,7 +24,7 @@ use Rattle.jc_manage.specs.LetGoes.{seen_uids}
 use Rattle.jc_manage.proofs.Ordered.{let_goes-rise, marks-rise}
 use Rattle.jc_plan.specs.Plans.{planned}
 use Rattle.jc_plan.specs.Releases.{ReleasedPod, due_uids, is_owed, is_orphan, is_released}
-use Rattle.jc_plan.specs.Statuses.{decided_in, is_settled}
+use Rattle.jc_plan.specs.Statuses.{accounted, decided_in, is_settled}
 use Rattle.jc_plan.proofs.PlanFacts.{plan-let_goes, plan-marks, plan-releases}
 use Rattle.jc_plan.proofs.PartFacts.{planned-here}
 use Rattle.jc_plan.proofs.ValueFacts.{released-member}
@@ -57,7 +57,7 @@ module _ (basis : Basis) (rising : IsRising basis.pods) where
       by None this = subst (λ p. Ascends (seen_uids p.let_goes)) (planned-here basis None this) tt
       by (Some job) this =
           subst (λ (us : List Uid). Ascends us) (sym (ap seen_uids (plan-let_goes basis job this)))
-          (let_goes-rise (is_settled job (decided_in job basis)) job (own_pods job basis.pods) (counted_in job basis.pods) (own-rises job))
+          (let_goes-rise (is_settled job (decided_in job basis)) job (own_pods job basis.pods) (accounted job basis) (own-rises job))
 
   pub releases-ascend : Ascends (planned basis).releases
   releases-ascend =
@@ -74,21 +74,24 @@ plan-released u basis = ap (is_in u) (plan-releases basis) ∙ released-member u
 pub due-released : (u : Uid) (job : Job) (basis : Basis) → basis.job ≡ Some job → is_in u (counted_in job basis.pods).releases ≡ true → is_in u (planned basis).releases ≡ true
 due-released u job basis this h =
     plan-released u basis
-    ∙ weaker_in (λ p. is_own job p && (is_to_release job p && same_uid p.uid u)) (λ p. is_released basis p && same_uid p.uid u) basis.pods
+    ∙ weaker_in (λ p. is_own job p && (is_to_release job own p && same_uid p.uid u)) (λ p. is_released basis p && same_uid p.uid u) basis.pods
     (each basis.pods)
-    (sym (any_filter (λ p. is_to_release job p && same_uid p.uid u) (is_own job) basis.pods) ∙ sym (release-member u job basis.pods) ∙ h)
+    (sym (any_filter (λ p. is_to_release job own p && same_uid p.uid u) (is_own job) basis.pods) ∙ sym (release-member u job basis.pods) ∙ h)
   where
+    own : List Pod
+    own = own_pods job basis.pods
+
     due : List Uid
     due = due_uids basis.job basis.pods
 
-    at : (p : Pod) → (is_own job p && (is_to_release job p && same_uid p.uid u)) ≡ true → (is_released basis p && same_uid p.uid u) ≡ true
+    at : (p : Pod) → (is_own job p && (is_to_release job own p && same_uid p.uid u)) ≡ true → (is_released basis p && same_uid p.uid u) ≡ true
     at p g =
-        let parts = and_parts (is_to_release job p) (same_uid p.uid u) (and_parts (is_own job p) (is_to_release job p && same_uid p.uid u) g).1 in
+        let parts = and_parts (is_to_release job own p) (same_uid p.uid u) (and_parts (is_own job p) (is_to_release job own p && same_uid p.uid u) g).1 in
         let here : is_in p.uid due ≡ true = ap (λ v. is_in v due) (same_uid-eq p.uid u parts.1) ∙ ap (λ o. is_in u (due_uids o basis.pods)) this ∙ h in
         and_from (is_released basis p) (same_uid p.uid u)
         (or_left (is_owed due p) (is_orphan basis p) (and_from (is_tracked p) (is_in p.uid due) (and_parts (is_tracked p) _ parts.0).0 here)) parts.1
 
-    each : (pods : List Pod) → Each (λ p. (is_own job p && (is_to_release job p && same_uid p.uid u)) ≡ true → (is_released basis p && same_uid p.uid u) ≡ true) pods
+    each : (pods : List Pod) → Each (λ p. (is_own job p && (is_to_release job own p && same_uid p.uid u)) ≡ true → (is_released basis p && same_uid p.uid u) ≡ true) pods
     each [] = tt
     each (p ∷ pods) = (at p, each pods)
 

@@ -1,8 +1,10 @@
 -- The parts of a plan from what its callees give.
-use Rattle.std.proofs.Common.{◌≡◌, ℕ, ◌+◌, ◌≤◌, Option, Some, IfSome, refl, List, option_and_then, length, ap, sym, subst, ◌∙◌}
+use Rattle.std.proofs.Common.{◌≡◌, ℕ, ◌+◌, ◌≤◌, Option, Some, IfSome, Result, Ok, Err, IfOk, refl, List, option_and_then, length, ap, sym, subst, ◌∙◌}
 use Rattle.jc_types.specs.declared.limits.TheConstants.{GREATEST_PARALLELISM}
 use Rattle.jc_types.specs.declared.numbers.Uid.{Uid}
+use Rattle.std.specs.declared.alloc.AllocError.{AllocError}
 use Rattle.jc_types.specs.declared.objects.Job.{Job}
+use Rattle.jc_types.specs.declared.objects.Pod.{Pod}
 use Rattle.jc_types.specs.declared.statuses.CondKind.{CondKind}
 use Rattle.jc_types.specs.declared.statuses.JobStatus.{JobStatus}
 use Rattle.jc_types.specs.declared.statuses.Reason.{Reason}
@@ -10,14 +12,15 @@ use Rattle.jc_states.specs.declared.bases.Basis.{Basis}
 use Rattle.jc_types.specs.declared.syncs.CountIn.{CountIn}
 use Rattle.jc_states.specs.Bases.{CanPlan, own_pods}
 use Rattle.jc_states.specs.ValidSpecs.{IsValidSpec}
-use Rattle.jc_account.specs.Accounts.{counted_in, counted_out}
+use Rattle.jc_account.specs.Accounts.{counted_out}
 use Rattle.jc_finish.specs.Starts.{deadline_of, deadline_of_basis}
 use Rattle.jc_manage.specs.declared.results.Wants.{Wants}
 use Rattle.jc_manage.specs.Backoffs.{backoff_after, opening}
 use Rattle.jc_states.specs.Pods.{active_pods}
+use Rattle.jc_perindex.specs.Failures.{filled_counts}
 use Rattle.jc_plan.specs.Plans.{changed, earlier_of, planned, planned_for}
 use Rattle.jc_plan.specs.Releases.{releases_of}
-use Rattle.jc_plan.specs.Statuses.{first_status_of, first_value, decided_in, is_settled, second_after, second_value, wants_in}
+use Rattle.jc_plan.specs.Statuses.{accounted, first_status_of, first_value, decided_in, is_settled, second_after, second_value, wants_in}
 use Rattle.jc_plan.proofs.Going.{creates-bounded, going-active}
 
 -- The specification of the Job that is there is valid.
@@ -28,35 +31,35 @@ valid-at basis job this can = subst (λ (o : Option Job). IfSome o (λ j. IsVali
 pub wants-created : (job : Job) (basis : Basis) (wants : Wants) → basis.job ≡ Some job → CanPlan basis → wants ≡ wants_in job basis → length wants.creates ≤ GREATEST_PARALLELISM
 wants-created job basis wants this can e =
     subst (λ (w : Wants). length w.creates ≤ GREATEST_PARALLELISM) (sym e)
-    (creates-bounded (opening (backoff_after basis.backoff (counted_in job basis.pods) basis.now)) basis.now (is_settled job (decided_in job basis)) job (own_pods job basis.pods) (counted_in job basis.pods) (valid-at basis job this can).parallelism)
+    (creates-bounded (opening (backoff_after basis.backoff (accounted job basis) basis.now)) basis.now (is_settled job (decided_in job basis)) job (own_pods job basis.pods) (accounted job basis) (valid-at basis job this can).parallelism)
 
 -- No more pods are marked and let go than are active.
 pub wants-going : (job : Job) (basis : Basis) (wants : Wants) → wants ≡ wants_in job basis → length wants.marks + length wants.let_goes ≤ length (active_pods (own_pods job basis.pods))
 wants-going job basis wants e =
     subst (λ (w : Wants). length w.marks + length w.let_goes ≤ length (active_pods (own_pods job basis.pods))) (sym e)
-    (going-active (is_settled job (decided_in job basis)) job (own_pods job basis.pods) (counted_in job basis.pods))
+    (going-active (is_settled job (decided_in job basis)) job (own_pods job basis.pods) (accounted job basis))
 
 module _ (job : Job) (basis : Basis) (counted : CountIn) (target : Option (CondKind × Reason)) (wants : Wants) (first second : JobStatus)
-    (is_counted : counted ≡ counted_in job basis.pods) (is_decided : target ≡ decided_in job basis) (is_wanted : wants ≡ wants_in job basis)
+    (is_counted : counted ≡ accounted job basis) (is_decided : target ≡ decided_in job basis) (is_wanted : wants ≡ wants_in job basis)
     (is_first : first ≡ first_status_of basis.now job (own_pods job basis.pods) counted target wants)
-    (is_second : second ≡ second_after basis.now job (own_pods job basis.pods) target (counted_out first counted.releases)) where
+    (is_second : second ≡ second_after basis.now job (own_pods job basis.pods) counted target (counted_out first counted.releases)) where
   -- What is computed is the first status.
   pub first-is : first ≡ first_value job basis
   unfolding first_value
   first-is =
       is_first
       ∙ ap (λ (k : CountIn). first_status_of basis.now job (own_pods job basis.pods) k target wants) is_counted
-      ∙ ap (λ (g : Option (CondKind × Reason)). first_status_of basis.now job (own_pods job basis.pods) (counted_in job basis.pods) g wants) is_decided
-      ∙ ap (λ (w : Wants). first_status_of basis.now job (own_pods job basis.pods) (counted_in job basis.pods) (decided_in job basis) w) is_wanted
+      ∙ ap (λ (g : Option (CondKind × Reason)). first_status_of basis.now job (own_pods job basis.pods) (accounted job basis) g wants) is_decided
+      ∙ ap (λ (w : Wants). first_status_of basis.now job (own_pods job basis.pods) (accounted job basis) (decided_in job basis) w) is_wanted
 
   -- And the second.
   pub second-is : second ≡ second_value job basis
   unfolding first_value second_value
   second-is =
       is_second
-      ∙ ap (λ (g : Option (CondKind × Reason)). second_after basis.now job (own_pods job basis.pods) g (counted_out first counted.releases)) is_decided
-      ∙ ap (λ (f : JobStatus). second_after basis.now job (own_pods job basis.pods) (decided_in job basis) (counted_out f counted.releases)) first-is
-      ∙ ap (λ (k : CountIn). second_after basis.now job (own_pods job basis.pods) (decided_in job basis) (counted_out (first_value job basis) k.releases)) is_counted
+      ∙ ap (λ (g : Option (CondKind × Reason)). second_after basis.now job (own_pods job basis.pods) counted g (counted_out first counted.releases)) is_decided
+      ∙ ap (λ (f : JobStatus). second_after basis.now job (own_pods job basis.pods) counted (decided_in job basis) (counted_out f counted.releases)) first-is
+      ∙ ap (λ (k : CountIn). second_after basis.now job (own_pods job basis.pods) k (decided_in job basis) (counted_out (first_value job basis) k.releases)) is_counted
 
   -- All parts together are the plan.
   pub planned-is : (deadline : Option ℕ) (f s : Option JobStatus) (r : List Uid) (next : Option ℕ)
@@ -86,6 +89,11 @@ module _ (job : Job) (basis : Basis) (counted : CountIn) (target : Option (CondK
         next = e4 i;
       }
 
+-- What holds of what is counted with what is said of indexes holds of a result that is it.
+pub filled-holds : (P : CountIn → Type 0) (job : Job) (own : List Pod) (counted : CountIn) (r : Result CountIn AllocError) → IfOk r (λ k. k ≡ filled_counts job own counted) → P (filled_counts job own counted) → IfOk r P
+filled-holds P job own counted (Ok k) e p = subst P (sym e) p
+filled-holds P job own counted (Err want) e p = tt
+
 -- The plan is that for the Job that is there, or for none.
 pub planned-here : (basis : Basis) (o : Option Job) → basis.job ≡ o → planned_for basis o ≡ planned basis
 unfolding planned
@@ -98,4 +106,4 @@ plan-going job basis = wants-going job basis (wants_in job basis) refl
 -- No more pods are made than may run at once.
 pub plan-created : (job : Job) (basis : Basis) → job.spec.parallelism ≤ GREATEST_PARALLELISM → length (wants_in job basis).creates ≤ GREATEST_PARALLELISM
 plan-created job basis few =
-    creates-bounded (opening (backoff_after basis.backoff (counted_in job basis.pods) basis.now)) basis.now (is_settled job (decided_in job basis)) job (own_pods job basis.pods) (counted_in job basis.pods) few
+    creates-bounded (opening (backoff_after basis.backoff (accounted job basis) basis.now)) basis.now (is_settled job (decided_in job basis)) job (own_pods job basis.pods) (accounted job basis) few

@@ -31,7 +31,7 @@ use Rattle.jc_finish.proofs.DecisionFacts.{failing_pod, failure_decides, found_b
 use Rattle.jc_finish.proofs.SettledFacts.{settled-decided, settled-keeps, settled-not_due}
 use Rattle.jc_manage.specs.declared.results.Wants.{Wants}
 use Rattle.jc_plan.specs.Releases.{is_released, releases_of}
-use Rattle.jc_plan.specs.Statuses.{completed_at, conditions_at, first_status_of, first_value, decided_in, is_first_due, is_none, is_over, is_second_due, is_settled, lists_none, second_status_of, second_value, wants_in}
+use Rattle.jc_plan.specs.Statuses.{accounted, completed_at, conditions_at, first_status_of, first_value, decided_in, is_first_due, is_none, is_over, is_second_due, is_settled, leaves_none, lists_none, second_status_of, second_value, wants_in}
 use Rattle.jc_plan.proofs.Targets.{IsTarget, target-kind}
 
 -- ---- what is counted
@@ -57,6 +57,14 @@ module _ (job : Job) (basis : Basis) where
   unfolding first_value
   first-completed = refl
 
+  pub first-failed_indexes : (first_value job basis).failed_indexes ≡ (accounted job basis).failed_indexes
+  unfolding first_value
+  first-failed_indexes = refl
+
+  pub first-index_failures : (first_value job basis).index_failures ≡ (accounted job basis).index_failures
+  unfolding first_value
+  first-index_failures = refl
+
   pub second-failed_list : (second_value job basis).uncounted_failed ≡ (counted_out (first_value job basis) (counted_in job basis.pods).releases).uncounted_failed
   unfolding first_value second_value
   second-failed_list = refl
@@ -76,6 +84,14 @@ module _ (job : Job) (basis : Basis) where
   pub second-completed : (second_value job basis).completed ≡ (counted_in job basis.pods).completed
   unfolding second_value counted_out
   second-completed = refl
+
+  pub second-failed_indexes : (second_value job basis).failed_indexes ≡ (accounted job basis).failed_indexes
+  unfolding second_value counted_out
+  second-failed_indexes = refl
+
+  pub second-index_failures : (second_value job basis).index_failures ≡ (accounted job basis).index_failures
+  unfolding second_value counted_out
+  second-index_failures = refl
 
   pub second-lists_none : ((second_value job basis).uncounted_failed ≡ []) × ((second_value job basis).uncounted_succeeded ≡ [])
   second-lists_none = (
@@ -108,7 +124,7 @@ second-same now job own counted target wants none =
     ap (λ (r : List Uid). counted.succeeded + released_of r us) none ∙ released-none counted.succeeded us in
     let e_f : counted.failed + released_of counted.releases uf ≡ counted.failed =
     ap (λ (r : List Uid). counted.failed + released_of r uf) none ∙ released-none counted.failed uf in
-    let over = is_over (is_settled job target) own in
+    let over = is_over (is_settled job target) own counted in
     let e_due : (over && lists_none (unreleased counted.releases us) (unreleased counted.releases uf)) ≡ (over && (is_none counted.releases && lists_none us uf)) =
     ap (λ (vs : List Uid). over && lists_none vs (unreleased counted.releases uf)) e_us
     ∙ ap (λ (vs : List Uid). over && lists_none us vs) e_uf
@@ -125,7 +141,7 @@ second-same now job own counted target wants none =
 pub values-same : (job : Job) (basis : Basis) → (counted_in job basis.pods).releases ≡ [] → second_value job basis ≡ first_value job basis
 unfolding first_value second_value
 values-same job basis none =
-    second-same basis.now job (own_pods job basis.pods) (counted_in job basis.pods) (decided_in job basis) (wants_in job basis) none
+    second-same basis.now job (own_pods job basis.pods) (accounted job basis) (decided_in job basis) (wants_in job basis) none
 
 -- ---- releases
 
@@ -138,13 +154,13 @@ module _ (job : Job) (basis : Basis) (kind : CondKind) (proper : kind ≢ Suspen
   pub first-keeps : stands kind (first_value job basis).conditions ≡ true
   unfolding first_value
   first-keeps =
-      settled-keeps basis.now job.spec.suspend (decided_in job basis) (is_first_due (is_settled job (decided_in job basis)) (own_pods job basis.pods) (counted_in job basis.pods)) job.status.conditions kind proper stood
+      settled-keeps basis.now job.spec.suspend (decided_in job basis) (is_first_due (is_settled job (decided_in job basis)) (own_pods job basis.pods) (accounted job basis)) job.status.conditions kind proper stood
 
   pub second-keeps : stands kind (second_value job basis).conditions ≡ true
   unfolding second_value
   second-keeps =
       settled-keeps basis.now job.spec.suspend (decided_in job basis)
-      (is_second_due (is_settled job (decided_in job basis)) (own_pods job basis.pods) (counted_out (first_status_of basis.now job (own_pods job basis.pods) (counted_in job basis.pods) (decided_in job basis) (wants_in job basis)) (counted_in job basis.pods).releases))
+      (is_second_due (is_settled job (decided_in job basis)) (own_pods job basis.pods) (accounted job basis) (counted_out (first_status_of basis.now job (own_pods job basis.pods) (accounted job basis) (decided_in job basis) (wants_in job basis)) (accounted job basis).releases))
       job.status.conditions kind proper stood
 
 -- The end is new only where it is due.
@@ -154,28 +170,28 @@ new-due now job target false is_kind none new =
     absurd (true≢false (sym new ∙ settled-not_due now job.spec.suspend target job.status.conditions is_kind ∙ none))
 
 -- What is over has no open pod.
-over-closed : (target has rest : Bool) → ((target && not has) && rest) ≡ true → has ≡ false
-over-closed true false rest h = refl
-over-closed true true rest h = absurd (true≢false (sym h))
-over-closed false has rest h = absurd (true≢false (sym h))
+over-closed : (target has none rest : Bool) → ((target && (not has && none)) && rest) ≡ true → has ≡ false
+over-closed true false none rest h = refl
+over-closed true true none rest h = absurd (true≢false (sym h))
+over-closed false has none rest h = absurd (true≢false (sym h))
 
 module _ (job : Job) (basis : Basis) (none : has_end job.status.conditions ≡ false) where
   pub first-closed : has_end (first_value job basis).conditions ≡ true → list_any is_open (own_pods job basis.pods) ≡ false
   unfolding first_value
   first-closed new =
       let own = own_pods job basis.pods in
-      let counted = counted_in job basis.pods in
-      over-closed (is_settled job (decided_in job basis)) (list_any is_open own) (is_none counted.releases && lists_none counted.uncounted_succeeded counted.uncounted_failed)
+      let counted = accounted job basis in
+      over-closed (is_settled job (decided_in job basis)) (list_any is_open own) (leaves_none counted) (is_none counted.releases && lists_none counted.uncounted_succeeded counted.uncounted_failed)
       (new-due basis.now job (decided_in job basis) (is_first_due (is_settled job (decided_in job basis)) own counted) (target-kind counted basis.now job own) none new)
 
   pub second-closed : has_end (second_value job basis).conditions ≡ true → list_any is_open (own_pods job basis.pods) ≡ false
   unfolding second_value
   second-closed new =
       let own = own_pods job basis.pods in
-      let counted = counted_in job basis.pods in
+      let counted = accounted job basis in
       let out = counted_out (first_status_of basis.now job own counted (decided_in job basis) (wants_in job basis)) counted.releases in
-      over-closed (is_settled job (decided_in job basis)) (list_any is_open own) (lists_none out.uncounted_succeeded out.uncounted_failed)
-      (new-due basis.now job (decided_in job basis) (is_second_due (is_settled job (decided_in job basis)) own out) (target-kind counted basis.now job own) none new)
+      over-closed (is_settled job (decided_in job basis)) (list_any is_open own) (leaves_none counted) (lists_none out.uncounted_succeeded out.uncounted_failed)
+      (new-due basis.now job (decided_in job basis) (is_second_due (is_settled job (decided_in job basis)) own counted out) (target-kind counted basis.now job own) none new)
 
 -- ---- the failure policy
 
@@ -213,7 +229,7 @@ pub first-fails : (job : Job) (basis : Basis) (pod : Pod) → Contains (own_pods
 unfolding first_value
 first-fails job basis pod there tracked fails =
     let own = own_pods job basis.pods in
-    let counted = counted_in job basis.pods in
+    let counted = accounted job basis in
     settled-target basis.now job (decided_in job basis) (is_first_due (is_settled job (decided_in job basis)) own counted)
     (target-kind counted basis.now job own) (settles (failure_decides counted basis.now job own (found_by_pod job.spec own pod there tracked fails)))
   where

@@ -11,7 +11,6 @@ use Rattle.jc_types.specs.declared.objects.Job.{Job}
 use Rattle.jc_types.specs.declared.objects.Pod.{Pod}
 use Rattle.jc_states.specs.declared.bases.Basis.{Basis}
 use Rattle.jc_types.specs.Keys.{same_uid}
-use Rattle.jc_states.specs.Bases.{is_own}
 use Rattle.jc_states.specs.Owners.{is_foreign}
 use Rattle.jc_states.specs.Pods.{is_tracked}
 use Rattle.jc_states.specs.UidLists.{is_in, uids_of}

@@ -6,10 +6,13 @@
 --     completed_at ..               when the Job completed
 --     filled .. due                 the status with all these; `due` says that its end is due
 --     lists_none status             no UID is uncounted in it
+--     leaves_none counted           no pod is left over
+--     is_over settled own counted   how the Job ends is settled, no pod is open and none is left over
 --     is_first_due .., is_second_due ..  nothing is in the way of its end at the first write, at the second
+--     accounted job basis           what the sync counts in, with what is said of failed indexes
 --     first_status_of .., first_value      counted in; it may end where no finalizer of an own pod is to go
 --     second_status_of .., second_value    counted out, once these finalizers are gone
-use Rattle.std.specs.Prelude.{ℕ, Bool, true, false, not, ◌&&◌, ◌||◌, List, [], ◌∷◌, Option, Some, is_some, if◌then◌else◌}
+use Rattle.std.specs.Prelude.{ℕ, ◌+◌, ◌==◌, Bool, true, false, not, ◌&&◌, ◌||◌, List, [], ◌∷◌, Option, Some, is_some, if◌then◌else◌}
 use Rattle.std.specs.List.{list_any}
 use Rattle.jc_types.specs.declared.numbers.Uid.{Uid}
 use Rattle.jc_types.specs.declared.objects.Job.{Job}
@@ -33,6 +36,7 @@ use Rattle.jc_manage.specs.declared.results.Wants.{Wants}
 use Rattle.jc_manage.specs.Backoffs.{backoff_after, opening}
 use Rattle.jc_manage.specs.Creations.{creatable, creates, next}
 use Rattle.jc_manage.specs.LetGoes.{let_goes, marks}
+use Rattle.jc_perindex.specs.Failures.{filled_counts}
 use Rattle.jc_plan.specs.Numbers.{active_after, ending_after, ready_after}
 
 -- How the Job ends is settled: a target stands, or is decided now.
@@ -67,6 +71,8 @@ filled now job own counted target wants due = record {
   succeeded = counted.succeeded;
   failed = counted.failed;
   completed = counted.completed;
+  failed_indexes = counted.failed_indexes;
+  index_failures = counted.index_failures;
   uncounted_succeeded = counted.uncounted_succeeded;
   uncounted_failed = counted.uncounted_failed;
   start = start_of now job.spec job.status;
@@ -83,14 +89,18 @@ is_none (u ∷ uids) = false
 abbrev pub lists_none : List Uid → List Uid → Bool
 lists_none succeeded failed = is_none succeeded && is_none failed
 
--- How the Job ends is settled and none of its pods is open.
-abbrev pub is_over : Bool → List Pod → Bool
-is_over settled own = settled && not (list_any is_open own)
+-- No pod is left over for a later sync.
+abbrev pub leaves_none : CountIn → Bool
+leaves_none counted = counted.left_succeeded + counted.left_failed == 0
+
+-- How the Job ends is settled, and none of its pods is open or left over.
+abbrev pub is_over : Bool → List Pod → CountIn → Bool
+is_over settled own counted = settled && (not (list_any is_open own) && leaves_none counted)
 
 -- The end of the first status is due: the Job is over, and no UID is listed and no finalizer is to go.
 abbrev pub is_first_due : Bool → List Pod → CountIn → Bool
 is_first_due settled own counted =
-    is_over settled own && (is_none counted.releases && lists_none counted.uncounted_succeeded counted.uncounted_failed)
+    is_over settled own counted && (is_none counted.releases && lists_none counted.uncounted_succeeded counted.uncounted_failed)
 
 -- The first status: what is counted in, and the end where it is due.
 abbrev pub first_status_of : ℕ → Job → List Pod → CountIn → Option (CondKind × Reason) → Wants → JobStatus
@@ -105,41 +115,46 @@ with_due_end now job target due status = record status {
 }
 
 -- The end of the second status is due: the Job is over, and no UID is listed.
-abbrev pub is_second_due : Bool → List Pod → JobStatus → Bool
-is_second_due settled own status = is_over settled own && lists_none status.uncounted_succeeded status.uncounted_failed
+abbrev pub is_second_due : Bool → List Pod → CountIn → JobStatus → Bool
+is_second_due settled own counted status =
+    is_over settled own counted && lists_none status.uncounted_succeeded status.uncounted_failed
 
 -- The status with its end where that is due.
-abbrev pub second_after : ℕ → Job → List Pod → Option (CondKind × Reason) → JobStatus → JobStatus
-second_after now job own target status =
-    with_due_end now job target (is_second_due (is_settled job target) own status) status
+abbrev pub second_after : ℕ → Job → List Pod → CountIn → Option (CondKind × Reason) → JobStatus → JobStatus
+second_after now job own counted target status =
+    with_due_end now job target (is_second_due (is_settled job target) own counted status) status
 
 -- The second status: the first with the released UIDs counted out, and the end where it is due.
 abbrev pub second_status_of : ℕ → Job → List Pod → CountIn → Option (CondKind × Reason) → Wants → JobStatus
 second_status_of now job own counted target wants =
-    second_after now job own target (counted_out (first_status_of now job own counted target wants) counted.releases)
+    second_after now job own counted target (counted_out (first_status_of now job own counted target wants) counted.releases)
 
 -- ---- over the basis of a sync
 
+-- What the sync counts in, with the failures of each index and the indexes that have failed.
+abbrev pub accounted : Job → Basis → CountIn
+accounted job basis = filled_counts job (own_pods job basis.pods) (counted_in job basis.pods)
+
 -- What the sync decides of its Job.
 abbrev pub decided_in : Job → Basis → Option (CondKind × Reason)
-decided_in job basis = decided (counted_in job basis.pods) basis.now job (own_pods job basis.pods)
+decided_in job basis = decided (accounted job basis) basis.now job (own_pods job basis.pods)
 
 -- What the sync wants of the Job's pods.
 abbrev pub wants_in : Job → Basis → Wants
 wants_in job basis =
     wants_at basis.now basis.backoff (is_settled job (decided_in job basis)) job (own_pods job basis.pods)
-    (counted_in job basis.pods)
+    (accounted job basis)
 
 -- The first status of the Job.
 unfoldable pub first_value : Job → Basis → JobStatus
 first_value job basis =
-    first_status_of basis.now job (own_pods job basis.pods) (counted_in job basis.pods) (decided_in job basis)
+    first_status_of basis.now job (own_pods job basis.pods) (accounted job basis) (decided_in job basis)
     (wants_in job basis)
 
 -- The second status of the Job.
 unfoldable pub second_value : Job → Basis → JobStatus
 second_value job basis =
-    second_status_of basis.now job (own_pods job basis.pods) (counted_in job basis.pods) (decided_in job basis)
+    second_status_of basis.now job (own_pods job basis.pods) (accounted job basis) (decided_in job basis)
     (wants_in job basis)
 
 -- The first status with the Job's own pods counted out that are to be released.

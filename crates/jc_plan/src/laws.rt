@@ -20,6 +20,7 @@ ghost use Rattle.jc_states.specs.PodLists.{IsRising};
 ghost use Rattle.jc_states.specs.Pods.{active_pods, is_open, is_tracked};
 ghost use Rattle.jc_states.specs.UidLists.{Ascends, is_in};
 ghost use Rattle.jc_account.specs.Accounts.{counted_in};
+ghost use Rattle.jc_account.specs.Judged.{fits, left_over};
 ghost use Rattle.jc_failpol.specs.declared.outcomes.Outcome.TheVariants.{Failed};
 ghost use Rattle.jc_failpol.specs.FailJob.{fails_job};
 ghost use Rattle.jc_failpol.specs.Outcomes.{outcome_of};
@@ -32,9 +33,9 @@ ghost use Rattle.jc_plan.specs.Next.{ListsNoSuccess, next_value};
 ghost use Rattle.jc_plan.specs.Plans.{IsDated, WritesNothing, last_status, planned, planned_for};
 ghost use Rattle.jc_plan.specs.Numbers.{stopped_by};
 ghost use Rattle.jc_plan.specs.Releases.{ReleasedPod, is_released};
-ghost use Rattle.jc_plan.specs.Statuses.{first_released, first_value, second_value, wants_in};
+ghost use Rattle.jc_plan.specs.Statuses.{accounted, first_released, first_value, second_value, wants_in};
 
-/// The first status counts in: its lists, totals and set are those that the sync has counted.
+/// The first status counts in: its lists, totals and sets are those that the sync has counted.
 pub fn first_status_counts_in()
     ensures failed_list { (job : Job) (basis : Basis)
         → (first_value job basis).uncounted_failed ≡ (counted_in job basis.pods).uncounted_failed }
@@ -47,10 +48,14 @@ pub fn first_status_counts_in()
         → (first_value job basis).succeeded ≡ (counted_in job basis.pods).succeeded }
     ensures completed { (job : Job) (basis : Basis)
         → (first_value job basis).completed ≡ (counted_in job basis.pods).completed }
+    ensures failed_indexes { (job : Job) (basis : Basis)
+        → (first_value job basis).failed_indexes ≡ (accounted job basis).failed_indexes }
+    ensures index_failures { (job : Job) (basis : Basis)
+        → (first_value job basis).index_failures ≡ (accounted job basis).index_failures }
 {}
 
 /// The second status counts out: its lists and totals are those of the first without the released pods,
-/// so that its lists are empty; its set is that of the first. Where no own pod is released both are
+/// so that its lists are empty; its sets are those of the first. Where no own pod is released both are
 /// equal.
 pub fn second_status_counts_out()
     ensures failed_list { (job : Job) (basis : Basis)
@@ -64,6 +69,10 @@ pub fn second_status_counts_out()
         → (second_value job basis).succeeded ≡ (first_released job basis).succeeded }
     ensures completed { (job : Job) (basis : Basis)
         → (second_value job basis).completed ≡ (counted_in job basis.pods).completed }
+    ensures failed_indexes { (job : Job) (basis : Basis)
+        → (second_value job basis).failed_indexes ≡ (accounted job basis).failed_indexes }
+    ensures index_failures { (job : Job) (basis : Basis)
+        → (second_value job basis).index_failures ≡ (accounted job basis).index_failures }
     ensures no_failed { (job : Job) (basis : Basis)
         → (second_value job basis).uncounted_failed ≡ [] }
     ensures no_succeeded { (job : Job) (basis : Basis)
@@ -143,7 +152,7 @@ pub fn ends_are_final()
 {}
 
 /// An end follows a target, and finds nothing to do: a status in which it is new has a target, lists no UID
-/// and tells of no pod, and the plan makes none. Where it is new in the first status no own pod is to be
+/// and tells of no pod, no pod is left over, and the plan makes none. Where it is new in the first status no own pod is to be
 /// released, and the second status is the first.
 pub fn ends_leave_nothing()
     ensures first_wound { (job : Job) (basis : Basis)
@@ -204,4 +213,15 @@ pub fn creations_fit()
         ≤ job.spec.parallelism }
     ensures numbered { (job : Job) (basis : Basis)
         → All (IsIndexFor job) (wants_in job basis).creates }
+{}
+
+/// A plan that writes no status leaves no pod over for a later sync: there is room for each, since the
+/// lists of its Job are empty before and after it.
+pub fn plans_without_writes_leave_nothing()
+    ensures fits { (job : Job) (basis : Basis)
+        → basis.job ≡ Some job → IsRising basis.pods → WritesNothing (planned basis)
+        → (pod : Pod) → fits job (own_pods job basis.pods) pod ≡ true }
+    ensures none { (job : Job) (basis : Basis)
+        → basis.job ≡ Some job → IsRising basis.pods → WritesNothing (planned basis)
+        → left_over job (own_pods job basis.pods) ≡ [] }
 {}

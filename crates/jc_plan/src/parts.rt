@@ -9,8 +9,9 @@ ghost use Rattle.jc_account.specs.Accounts.{counted_in};
 ghost use Rattle.jc_finish.specs.Settled.{is_target_kind};
 ghost use Rattle.jc_finish.specs.Starts.{deadline_of};
 ghost use Rattle.jc_states.specs.Pods.{active_pods};
+ghost use Rattle.jc_perindex.specs.Failures.{filled_counts};
 ghost use Rattle.jc_plan.specs.Plans.{changed, earlier_of, planned, planned_for};
-ghost use Rattle.jc_plan.specs.Statuses.{first_value, decided_in, second_value, wants_in};
+ghost use Rattle.jc_plan.specs.Statuses.{accounted, first_value, decided_in, second_value, wants_in};
 
 use crate::plans::{Plan, Planned};
 use crate::releases::released;
@@ -19,6 +20,7 @@ use jc_account::count_in;
 use jc_finish::{decide, next_deadline};
 use jc_manage::{Wants, wants};
 use jc_moment::Moment;
+use jc_perindex::fill;
 use jc_states::Basis;
 use jc_types::{
     Arc, CondKind, Copied, CountIn, Indexes, Job, JobStatus, PodVersions, Reason, Same, Uids, Want,
@@ -71,11 +73,34 @@ fn counted_for(alloc: Global, basis: &Basis, job: &Job) -> Result<CountIn, Want>
     count_in(alloc, basis)
 }
 
+// What is counted, with the failures of each index and the indexes that have failed.
+fn filled_for(alloc: Global, basis: &Basis, job: &Job, counted: CountIn) -> Result<CountIn, Want>
+    requires this { basis.now.job ≡ Some job.now }
+    requires can { CanPlan basis.now }
+    ensures { IfOk result (λ r.
+        r ≡ filled_counts job.now (own_pods job.now basis.entry.now.pods) counted) }
+{
+    fill(alloc, basis, counted)
+}
+
+// What the sync counts in, with what is said of failed indexes.
+fn accounted_for(alloc: Global, basis: &Basis, job: &Job) -> Result<CountIn, Want>
+    requires this { basis.now.job ≡ Some job.now }
+    requires can { CanPlan basis.now }
+    ensures counted { IfOk result (λ r. r ≡ accounted job.now basis.entry.now) }
+    ensures failed_fits { IfOk result (λ r. (counts r).0 < 2 ^ 64) }
+    ensures succeeded_fits { IfOk result (λ r. (counts r).1 < 2 ^ 64) }
+    ensures few_failed { IfOk result (λ r. r.new_failed ≤ length basis.entry.now.pods) }
+{
+    let counted = counted_for(alloc, basis, job)?;
+    filled_for(alloc, basis, job, counted)
+}
+
 // What the sync decides.
 fn target_for(basis: &Basis, job: &Job, counted: &CountIn) -> Option<(CondKind, Reason)>
     requires this { basis.now.job ≡ Some job.now }
     requires few { length basis.now.pods < 2 ^ 31 }
-    requires counted { counted.now ≡ counted_in job.now basis.now.pods }
+    requires counted { counted.now ≡ accounted job.now basis.now }
     requires failed { (counts counted.now).0 < 2 ^ 64 }
     requires succeeded { (counts counted.now).1 < 2 ^ 64 }
     ensures target { result ≡ decided_in job.now basis.entry.now }
@@ -95,7 +120,7 @@ fn wants_for(
 ) -> Result<Wants, Want>
     requires this { basis.now.job ≡ Some job.now }
     requires can { CanPlan basis.now }
-    requires counted { counted.now ≡ counted_in job.now basis.now.pods }
+    requires counted { counted.now ≡ accounted job.now basis.now }
     requires target { target ≡ decided_in job.now basis.now }
     requires failed { (counts counted.now).0 < 2 ^ 64 }
     requires succeeded { (counts counted.now).1 < 2 ^ 64 }
@@ -111,11 +136,11 @@ fn planned_for(alloc: Global, basis: &Basis, job: &Job) -> Result<Planned, Want>
     requires can { CanPlan basis.now }
     ensures { IfOk result (λ r. r ≡ planned_for basis.entry.now (Some job.now)) }
 {
-    let counted = counted_for(alloc, basis, job)?;
+    let counted = accounted_for(alloc, basis, job)?;
     let target = target_for(basis, job, &counted);
     let wants = wants_for(alloc, basis, job, &counted, target)?;
     let first = first_status(alloc, basis, job, &counted, target, &wants)?;
-    let second = second_status(alloc, basis, job, &counted.releases, target, &first)?;
+    let second = second_status(alloc, basis, job, &counted, target, &first)?;
     let second = changed(&first, second);
     Ok(Planned {
         creates: wants.creates,

@@ -9,7 +9,7 @@ ghost use Rattle.jc_states.specs.Pods.{active_pods};
 ghost use Rattle.jc_finish.specs.Settled.{is_target_kind, settled_of};
 ghost use Rattle.jc_finish.specs.Starts.{start_of};
 ghost use Rattle.jc_plan.specs.Numbers.{stopped_by};
-ghost use Rattle.jc_plan.specs.Statuses.{completed_at, conditions_at, with_due_end, filled, first_status_of, is_first_due, is_none, is_over, is_second_due, is_settled, lists_none, second_after, second_status_of};
+ghost use Rattle.jc_plan.specs.Statuses.{completed_at, conditions_at, with_due_end, filled, first_status_of, is_first_due, is_none, is_over, is_second_due, is_settled, leaves_none, lists_none, second_after, second_status_of};
 
 use crate::numbers::{Numbers, numbers_after};
 use jc_account::count_out;
@@ -55,27 +55,41 @@ fn lists_none(succeeded: &Uids, failed: &Uids) -> bool
     is_none(succeeded) && is_none(failed)
 }
 
-// Whether how the Job ends is settled and none of its pods is open.
-fn is_over(settled: bool, job: &Job, pods: &Pods) -> bool
-    ensures { result ≡ is_over settled (own_pods job.now pods.now) }
+// Whether no pod is left over for a later sync.
+fn leaves_none(counted: &CountIn) -> bool
+    ensures { result ≡ leaves_none counted.now }
 {
-    settled && !has_open(job, pods)
+    counted.left_succeeded == 0 && counted.left_failed == 0
+}
+
+// Whether how the Job ends is settled, and none of its pods is open or left over.
+fn is_over(settled: bool, job: &Job, pods: &Pods, counted: &CountIn) -> bool
+    ensures { result ≡ is_over settled (own_pods job.now pods.now) counted.now }
+{
+    settled && (!has_open(job, pods) && leaves_none(counted))
 }
 
 // Whether the end of the first status is due.
 fn is_first_due(settled: bool, job: &Job, pods: &Pods, counted: &CountIn) -> bool
     ensures { result ≡ is_first_due settled (own_pods job.now pods.now) counted.now }
 {
-    is_over(settled, job, pods)
+    is_over(settled, job, pods, counted)
         && (is_none(&counted.releases)
             && lists_none(&counted.uncounted_succeeded, &counted.uncounted_failed))
 }
 
 // Whether the end of the second status is due.
-fn is_second_due(settled: bool, job: &Job, pods: &Pods, status: &JobStatus) -> bool
-    ensures { result ≡ is_second_due settled (own_pods job.now pods.now) status.now }
+fn is_second_due(
+    settled: bool,
+    job: &Job,
+    pods: &Pods,
+    counted: &CountIn,
+    status: &JobStatus,
+) -> bool
+    ensures { result ≡ is_second_due settled (own_pods job.now pods.now) counted.now status.now }
 {
-    is_over(settled, job, pods) && lists_none(&status.uncounted_succeeded, &status.uncounted_failed)
+    is_over(settled, job, pods, counted)
+        && lists_none(&status.uncounted_succeeded, &status.uncounted_failed)
 }
 
 // The conditions of the Job after the sync, with its end where that is due.
@@ -115,6 +129,8 @@ fn filled(
         × (r.terminating ≡ numbers.terminating)) }
     ensures totals { IfOk result (λ r. (r.succeeded ≡ counted.now.succeeded)
         × (r.failed ≡ counted.now.failed) × (r.completed ≡ counted.now.completed)) }
+    ensures indexes { IfOk result (λ r. (r.failed_indexes ≡ counted.now.failed_indexes)
+        × (r.index_failures ≡ counted.now.index_failures)) }
     ensures lists { IfOk result (λ r. (r.uncounted_succeeded ≡ counted.now.uncounted_succeeded)
         × (r.uncounted_failed ≡ counted.now.uncounted_failed)) }
     ensures course { IfOk result (λ r. (r.start ≡ start) × (r.completion ≡ completion)
@@ -127,6 +143,8 @@ fn filled(
         succeeded: counted.succeeded,
         failed: counted.failed,
         completed: counted.completed.copy()?,
+        failed_indexes: counted.failed_indexes.copy()?,
+        index_failures: counted.index_failures.copy()?,
         uncounted_succeeded: counted.uncounted_succeeded.copy()?,
         uncounted_failed: counted.uncounted_failed.copy()?,
         start,
@@ -171,7 +189,7 @@ pub fn first_status(
 }
 
 /// The second status of the Job, whether it is to be written or not: the first with the released UIDs
-/// counted out.
+/// of what is counted in counted out.
 ///
 /// # Errors
 /// `Want` where there is no memory for it.
@@ -179,7 +197,7 @@ pub fn second_status(
     alloc: Global,
     basis: &Basis,
     job: &Job,
-    released: &Uids,
+    counted: &CountIn,
     target: Option<(CondKind, Reason)>,
     first: &JobStatus,
 ) -> Result<JobStatus, Want>
@@ -189,10 +207,11 @@ pub fn second_status(
     requires succeeded { first.now.succeeded + length first.now.uncounted_succeeded < 2 ^ 64 }
     requires failed { first.now.failed + length first.now.uncounted_failed < 2 ^ 64 }
     ensures { IfOk result (λ r. r ≡ second_after basis.entry.now.now job.now
-        (own_pods job.now basis.entry.now.pods) target (counted_out first.now released.now)) }
+        (own_pods job.now basis.entry.now.pods) counted.now target
+        (counted_out first.now counted.now.releases)) }
 {
-    let mut second = count_out(alloc, first, released)?;
-    let due = is_second_due(is_settled(job, target), job, &*basis.pods, &second);
+    let mut second = count_out(alloc, first, &counted.releases)?;
+    let due = is_second_due(is_settled(job, target), job, &*basis.pods, counted, &second);
     let conditions = conditions_at(alloc, basis, job, target, due)?;
     second.completion = completed_at(basis.now, &job.status, &conditions);
     second.conditions = conditions;

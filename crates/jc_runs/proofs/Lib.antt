@@ -20,6 +20,7 @@ pub mod CountedFacts
 pub mod StoredFacts
 pub mod MirrorFacts
 pub mod LegalRuns
+pub mod ConflictRuns
 pub mod QuietSteps
 pub mod QuietBegins
 pub mod QuietWrites

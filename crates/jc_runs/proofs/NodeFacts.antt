@@ -98,7 +98,7 @@ module _ (d : Deed) (past : List Deed) (log : List Entry) (rs : Registers) (h : 
       (quiet_syncs d past log rs h (quiet-by d log began (long ∙ ap (λ o. length (grown log o)) e)) began untold)
   write_keeps (WritesPod u old new e there same) long stored =
       subst (λ o. HasSyncs (d ∷ past) (grown log o) rs) (sym e)
-      (other_syncs d past log (pod_entry new ∷ log) rs h (pod_ties u old new there same (long ∙ ap (λ o. length (grown log o)) e) (subst (λ o. Stored (grown log o)) e stored)) began untold)
+      (other_syncs d past log (pod_entry new) rs h (pod_ties u old new there same (long ∙ ap (λ o. length (grown log o)) e) (subst (λ o. Stored (grown log o)) e stored)) began untold)
 
 -- ---- what the node does next
 

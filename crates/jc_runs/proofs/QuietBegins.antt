@@ -20,6 +20,7 @@ use Rattle.jc_log.proofs.LogFacts.{upto-all}
 use Rattle.jc_log.proofs.PodFacts.{pods_in-rises}
 use Rattle.jc_states.proofs.PodListFacts.{rises_filter}
 use Rattle.jc_log.proofs.WriteFacts.{job_in-key}
+use Rattle.jc_account.specs.Judged.{is_left_over}
 use Rattle.jc_plan.specs.Next.{next_status}
 use Rattle.jc_ledger.specs.declared.flights.Flight.{Flight}
 use Rattle.jc_ledger.specs.Flights.{Flies}
@@ -108,9 +109,10 @@ module _ (shape : Shape) (c w : ℕ) (d : Deed) (past : List Deed) (k : Key) (jo
           reaches_next (run ++ d ∷ past) log (flights_of_all h.registers) h.sync.flight job h.known.tied flies saw-it h.leaves
           ∙ ap (λ (x : Basis). next_status x.now x.backoff job (own_pods job x.pods)) h.of_basis
           ∙ ap (λ pods. next_status (moment shape past) (backoff k old-notes) job (own_pods job pods)) pods-then;
-      released = λ pod found own ended.
+      released = λ pod found own ended kept.
           ended_lost (run ++ d ∷ past) log (flights_of_all h.registers) h.sync.flight job h.known.tied flies saw-it h.leaves pod
-          (ap (λ (x : Basis). find (λ (p : Pod). same_uid p.uid pod.uid) x.pods) h.of_basis ∙ ap (find (λ (p : Pod). same_uid p.uid pod.uid)) pods-then ∙ found) own ended;
+          (ap (λ (x : Basis). find (λ (p : Pod). same_uid p.uid pod.uid) x.pods) h.of_basis ∙ ap (find (λ (p : Pod). same_uid p.uid pod.uid)) pods-then ∙ found) own ended
+          (ap (λ (x : Basis). is_left_over job (own_pods job x.pods) pod) h.of_basis ∙ ap (λ pods. is_left_over job (own_pods job pods) pod) pods-then ∙ kept);
     }),
   )
     where

@@ -1,5 +1,5 @@
 -- Which requests are answered without a text.
-use Rattle.std.proofs.Common.{◌≡◌, ℕ, Bool, true, false, cond, List, [], ◌∷◌, Option, Some, None, sym, subst}
+use Rattle.std.proofs.Common.{◌≡◌, ℕ, ◌==◌, Bool, true, false, not, cond, List, [], ◌∷◌, Option, Some, None, sym, subst}
 use Rattle.jc_types.specs.declared.actions.Fault.{Fault}
 use Rattle.jc_types.specs.declared.actions.Fault.TheVariants as fault
 use Rattle.jc_types.specs.declared.actions.SpecChange.{SpecChange}
@@ -12,16 +12,21 @@ use Rattle.jc_types.specs.declared.replies.Field.TheVariants.{Completions, Paral
 use Rattle.jc_types.specs.declared.replies.Reply.{Reply}
 use Rattle.jc_types.specs.declared.replies.Reply.TheVariants as reply
 use Rattle.jc_types.specs.declared.specifications.JobSpec.{JobSpec}
-use Rattle.jc_types.specs.Equality.{same_limits}
+use Rattle.jc_types.specs.declared.statuses.JobStatus.{JobStatus}
+use Rattle.jc_types.specs.Equality.{same_limits, same_status}
+use Rattle.jc_types.specs.Keys.{same_uid}
 use Rattle.jc_types.specs.declared.numbers.Uid.{Uid}
 use Rattle.jc_types.specs.declared.objects.Pod.{Pod}
 use Rattle.jc_states.specs.Pods.{is_marked}
 use Rattle.jc_history.specs.Nodes.{NodeAct}
 use Rattle.jc_history.specs.Replies.{node_gives}
 use Rattle.jc_log.specs.Log.{job_in, next_version, pod_in}
-use Rattle.jc_log.specs.Requests.{Answered, accepted, changed_spec, create_job_at, create_job_gives, delete_job_at, delete_job_gives, is_other, mark_pod_at, mark_pod_gives, pod_entry, refused, release_at, release_gives, released, update_refusal, update_spec_at, update_spec_gives, update_unless, with_mark, with_spec}
+use Rattle.jc_log.specs.Requests.{Answered, accepted, changed_spec, create_job_at, create_job_gives, delete_job_at, delete_job_gives, is_other, let_go_at, mark_pod_at, mark_pod_gives, pod_entry, refused, release_at, release_gives, released, update_refusal, update_spec_at, update_spec_gives, update_unless, with_mark, with_spec, write_status_at}
+use Rattle.jc_plan.specs.Plans.{planned}
+use Rattle.jc_ledger.specs.declared.flights.Flight.{Flight}
 use Rattle.jc_asks.specs.declared.asks.Ask.{Ask}
-use Rattle.jc_asks.specs.Steps.{Sync, answered_to, as_answer, stepped, stepped_at}
+use Rattle.jc_asks.specs.declared.asks.Ask.TheVariants.{MakePod, MarkPod, LetPodGo, WriteFirst, ReleasePod, WriteSecond}
+use Rattle.jc_asks.specs.Steps.{Sync, answered_to, as_answer, make_gives, status_gives, stepped, stepped_at, written_gives}
 use Rattle.jc_runs.specs.Texts.{AnswersNoText, HasNoText}
 
 -- A choice of two such answers.
@@ -79,23 +84,63 @@ node_tells : (log : List Entry) (o : Option (Pod × NodeAct)) → HasNoText (nod
 node_tells log None = tt
 node_tells log (Some step) = tt
 
--- An answer to a sync is none that tells of a container.
-answer_texts : (r : Reply) → AnswersNoText (as_answer r)
-answer_texts (reply.Created uid version) = tt
-answer_texts (reply.Written version) = tt
-answer_texts (reply.Unchanged version) = tt
-answer_texts (reply.Released version) = tt
-answer_texts (reply.Conflict current) = tt
-answer_texts reply.NotFound = tt
-answer_texts reply.NotTracked = tt
-answer_texts other = tt
+-- A reply that tells of no container is such an answer to a sync.
+answer_texts : (r : Reply) → HasNoText r → AnswersNoText (as_answer r)
+answer_texts (reply.Created uid version) none = tt
+answer_texts (reply.Written version) none = tt
+answer_texts (reply.Unchanged version) none = tt
+answer_texts (reply.Released version) none = tt
+answer_texts (reply.Removed version) none = tt
+answer_texts (reply.Conflict current) none = tt
+answer_texts reply.NotFound none = tt
+answer_texts reply.AlreadyExists none = tt
+answer_texts (reply.Immutable field) none = tt
+answer_texts (reply.Invalid field) none = tt
+answer_texts (reply.Final phase) none = tt
+answer_texts (reply.BadStep from to) none = tt
+answer_texts (reply.NoContainer name) none = none
+answer_texts reply.NotTracked none = tt
+answer_texts other none = tt
+
+-- What the store answers a sync.
+make_texts : (log : List Entry) (index : Option ℕ) (now : ℕ) (o : Option Job) → HasNoText (make_gives log index now o).reply
+make_texts log index now None = tt
+make_texts log index now (Some job) = tt
+
+let_go_texts : (log : List Entry) (v : Version) (o : Option Pod) → HasNoText (let_go_at log v o).reply
+let_go_texts log v None = tt
+let_go_texts log v (Some pod) =
+    either (not (pod.version.0 == v.0)) (refused (reply.Conflict pod.version)) (cond pod.tracked (released log pod) (refused reply.NotTracked)) tt
+    (either pod.tracked (released log pod) (refused reply.NotTracked) tt tt)
+
+write_texts : (log : List Entry) (uid : Uid) (v : Version) (status : JobStatus) (o : Option Job) → HasNoText (write_status_at log uid v status o).reply
+write_texts log uid v status None = tt
+write_texts log uid v status (Some job) =
+    either (not (same_uid job.uid uid)) _ _ tt
+    (either (not (job.version.0 == v.0)) _ _ tt (either (same_status job.status status) _ _ tt tt))
+
+status_texts : (log : List Entry) (flight : Flight) (status : JobStatus) (o : Option Job) → HasNoText (status_gives log flight status o).reply
+status_texts log flight status None = tt
+status_texts log flight status (Some job) = write_texts log job.uid flight.sends status (job_in flight.basis.key log)
+
+written_texts : (log : List Entry) (flight : Flight) (o : Option JobStatus) → HasNoText (written_gives log flight o).reply
+written_texts log flight None = tt
+written_texts log flight (Some status) = status_texts log flight status flight.basis.job
+
+asked_texts : (log : List Entry) (now : ℕ) (flight : Flight) (ask : Ask) → HasNoText (answered_to log now flight ask).reply
+asked_texts log now flight (MakePod index) = make_texts log index now flight.basis.job
+asked_texts log now flight (MarkPod u) = marked_texts log u now
+asked_texts log now flight (LetPodGo u v) = let_go_texts log v (pod_in u log)
+asked_texts log now flight WriteFirst = written_texts log flight (planned flight.basis).first
+asked_texts log now flight (ReleasePod u) = released_texts log u
+asked_texts log now flight WriteSecond = written_texts log flight (planned flight.basis).second
 
 stepped_texts : (now : ℕ) (pending : Option Fault) (log : List Entry) (sync : Sync) → HasNoText (stepped now pending log sync).reply
 stepped_texts now pending log sync = by sync.left pending
   where
     by : (left : List Ask) (pending : Option Fault) → HasNoText (stepped_at now pending log sync.flight left).reply
     by [] pending = tt
-    by (ask ∷ left) None = answer_texts (answered_to log now sync.flight ask).reply
+    by (ask ∷ left) None = answer_texts (answered_to log now sync.flight ask).reply (asked_texts log now sync.flight ask)
     by (ask ∷ left) (Some fault.Drop) = tt
     by (ask ∷ left) (Some fault.Lose) = tt
 

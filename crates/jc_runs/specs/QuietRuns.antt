@@ -2,10 +2,11 @@
 --     AreSteps shape c w run past      each deed of the run is a step of the worker's sync
 --     BeginsCurrent shape c w d ..     the deed begins a sync on caches that saw the whole log
 --     IsQuietSync shape c w d ..       from this begin on came the worker's steps alone
---     IsAtNext log old now ..          the Job has its next status; what had ended is released
+--     IsAtNext log old now ..          the Job has its next status; what had ended and was not left over is released
 --     WritesNoStatus reply             the reply tells of no request for a status
 use Rattle.std.specs.Prelude.{◌≡◌, ℕ, true, false, List, [], ◌∷◌, ◌++◌, find, Some, None, is_some}
 use Rattle.jc_log.specs.Acts as does
+use Rattle.jc_account.specs.Judged.{is_left_over}
 use Rattle.jc_plan.specs.Next.{next_status}
 use Rattle.jc_failpol.specs.Outcomes.{same_outcome, outcome_of}
 use Rattle.jc_failpol.specs.declared.outcomes.Outcome.TheVariants.{Alive}
@@ -58,7 +59,7 @@ pub record IsQuietSync (shape : Shape) (c w : ℕ) (d : Deed) (past : List Deed)
   pub free : register w (diary shape c (last ∷ run ++ d ∷ past)) ≡ None
 
 -- The Job has the status that was next when the log was the old one, and each of its pods that had
--- ended then is not tracked.
+-- ended then and was not left over is not tracked.
 pub record IsAtNext (log old : List Entry) (now : ℕ) (backoff : Backoff) (k : Key) (job : Job)
     : Type 0 where
   pub current : Job
@@ -67,6 +68,7 @@ pub record IsAtNext (log old : List Entry) (now : ℕ) (backoff : Backoff) (k : 
   pub status : current.status ≡ next_status now backoff job (own_pods job (pods_under k old))
   pub released : (pod : Pod) → find (λ p. same_uid p.uid pod.uid) (pods_under k old) ≡ Some pod
       → is_own job pod ≡ true → same_outcome (outcome_of job.spec pod) Alive ≡ false
+      → is_left_over job (own_pods job (pods_under k old)) pod ≡ false
       → is_lost (life pod.uid log) ≡ true
 
 -- The deed's request, where it made one, was none for a status.

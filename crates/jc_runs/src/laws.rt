@@ -29,6 +29,7 @@ ghost use Rattle.jc_history.specs.Legal.{IsLegal};
 ghost use Rattle.jc_history.specs.Registers.{backoff};
 ghost use Rattle.jc_history.specs.Replies.{diary, log_given};
 ghost use Rattle.jc_sync.specs.StepEffects.{IsLaterThan};
+ghost use Rattle.jc_runs.specs.Conflicts.{AreToldLater};
 ghost use Rattle.jc_runs.specs.Fates.{Fates};
 ghost use Rattle.jc_runs.specs.QuietRuns.{IsAtNext, IsQuietSync, WritesNoStatus};
 ghost use Rattle.jc_runs.specs.Runs.{AllAskValid, IsMachine};
@@ -72,8 +73,8 @@ pub fn syncs_can_go_on()
 
 /// **After each event of a run each pod was counted once (KEP-2307)**, and each finalizer that a
 /// sync took of a pod of a Job that is there was taken justly: the pod was judged before, or it is
-/// ignored, was active, or its index was complete. So no ended pod lost its finalizer uncounted,
-/// but by a command.
+/// ignored, was active, or its index was complete or not below the completions. So no ended pod lost
+/// its finalizer uncounted that needs a count, but by a command.
 pub fn runs_count_once()
     ensures at_each { (shape : Shape) (deeds : List Deed) (log : List Entry) (teams : List Team)
         (fates : Fates) (now : ℕ) → IsMachine shape deeds log teams fates now
@@ -114,10 +115,19 @@ pub fn legal_histories_count_once()
     allowed_updates_stay_valid();
 }
 
+/// In each legal history a status write or a let-go of a sync that is refused as a conflict is told a
+/// later version than it sent.
+pub fn legal_histories_tell_later_versions()
+    ensures { (shape : Shape) (deeds : List Deed) → IsLegal shape deeds → AllAskValid deeds
+        → AreToldLater shape deeds }
+{
+    allowed_updates_stay_valid();
+}
+
 /// A sync of a legal history that begins where both caches have seen the whole log, and that meets
 /// no fault, ends once all its requests are made. The Job then has the status that was next at the
-/// begin, and each of its pods that had ended then has lost its finalizer. Where the Job had its
-/// next status already, no status is written.
+/// begin, and each of its pods that had ended then and was not left over for a later sync has lost its
+/// finalizer. Where the Job had its next status already, no status is written.
 pub fn quiet_syncs_reach_the_next_status()
     ensures ended { (shape : Shape) (c w : ℕ) (d : Deed) (past : List Deed) (k : Key) (job : Job)
         (last : Deed) (run : List Deed) → IsQuietSync shape c w d past k job last run

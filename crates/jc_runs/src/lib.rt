@@ -6,6 +6,6 @@ mod laws;
 
 pub use laws::{
     conflicts_tell_later_versions, failures_stay_small, legal_histories_count_once,
-    quiet_syncs_reach_the_next_status, runs_count_once, runs_start, syncs_can_go_on,
-    valid_scripts_ask_valid,
+    legal_histories_tell_later_versions, quiet_syncs_reach_the_next_status, runs_count_once,
+    runs_start, syncs_can_go_on, valid_scripts_ask_valid,
 };

@@ -7,7 +7,7 @@ use Rattle.jc_states.specs.Pods.{is_final}
 
 -- A Job is a step from itself.
 pub JobStep-itself : (job : Job) → JobStep job job
-JobStep-itself job = record { key = refl; uid = refl; created = refl; mode = refl; replacement = refl; failure = refl; success = refl; template = refl }
+JobStep-itself job = record { key = refl; uid = refl; created = refl; mode = refl; replacement = refl; failure = refl; success = refl; per_index = refl; template = refl }
 
 -- Two steps are one.
 pub JobStep-then : (a b c : Job) → JobStep a b → JobStep b c → JobStep a c
@@ -19,6 +19,7 @@ JobStep-then a b c f g = record {
   replacement = g.replacement ∙ f.replacement;
   failure = g.failure ∙ f.failure;
   success = g.success ∙ f.success;
+  per_index = g.per_index ∙ f.per_index;
   template = g.template ∙ f.template;
 }
 

@@ -15,6 +15,7 @@ pub record JobStep (old new : Job) : Type 0 where
   pub replacement : new.spec.replacement ≡ old.spec.replacement
   pub failure : new.spec.failure ≡ old.spec.failure
   pub success : new.spec.success ≡ old.spec.success
+  pub per_index : new.spec.per_index ≡ old.spec.per_index
   pub template : new.spec.template ≡ old.spec.template
 
 -- What every write of a pod keeps of it. A finalizer that is gone does not come back, a mark stays

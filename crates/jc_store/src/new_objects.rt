@@ -6,8 +6,8 @@ ghost use Rattle.jc_log.specs.Requests.{empty_status, new_container, new_contain
 use jc_moment::Moment;
 use jc_ranges::Ranges;
 use jc_types::{
-    Arc, Conditions, Container, Containers, Copied, Job, JobSpec, JobStatus, Key, Name, Patterns,
-    Phase, Pod, Template, Uid, Uids, Version, Want,
+    Arc, Conditions, Container, Containers, Copied, IndexCounts, Job, JobSpec, JobStatus, Key,
+    Name, Patterns, Phase, Pod, Template, Uid, Uids, Version, Want,
 };
 use std::alloc::Global;
 
@@ -22,6 +22,8 @@ fn empty_status(alloc: Global) -> JobStatus
         succeeded: 0,
         failed: 0,
         completed: Ranges::new(alloc),
+        failed_indexes: Ranges::new(alloc),
+        index_failures: IndexCounts::new(alloc),
         uncounted_succeeded: Uids::new(alloc),
         uncounted_failed: Uids::new(alloc),
         start: None,

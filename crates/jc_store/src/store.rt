@@ -14,7 +14,7 @@ ghost use Rattle.jc_store.specs.Kept.{count_of};
 use super::pod_table::owned;
 use jc_states::goes;
 use jc_table::{PodTable, StoredPods, Table};
-use jc_types::{Copied, Entries, Entry, Job, Key, Pod, Uid, Version, Want};
+use jc_types::{Copied, Entries, Entry, Job, Key, ListOf, Pod, Uid, Version, Want};
 use std::alloc::Global;
 use std::marker::Model;
 
@@ -57,29 +57,49 @@ fn keep_count(made: &mut Table<Uid, u32>, owner: Uid, count: u32) -> Result<(), 
     Ok(())
 }
 
-// Writes a new Job's row and its entry.
-fn add_job(
-    jobs: &mut Table<Key, Job>,
-    log: &mut Entries,
+// Writes the row of a new key, and its entry. Row and entry may be of any type, so that the proof needs not
+// follow what is dropped where memory is wanted.
+fn add_row<R: Drop, E: Copied + Drop>(
+    rows: &mut Table<Key, R>,
+    log: &mut ListOf<E>,
     key: Key,
-    job: Job,
-    entry: Entry,
+    row: R,
+    entry: E,
 ) -> Result<(), Want>
-    requires { at same_key jobs.old key ≡ None }
-    ensures row { OnOk result (jobs.new ≡ puts same_key jobs.old key job) }
+    requires { at same_key rows.old key ≡ None }
+    ensures row { OnOk result (rows.new ≡ puts same_key rows.old key row) }
     ensures entry { OnOk result (log.new ≡ log.old ++ entry ∷ []) }
-    ensures row_kept { OnErr result (jobs.new ≡ jobs.old) }
+    ensures row_kept { OnErr result (rows.new ≡ rows.old) }
     ensures entry_kept { OnErr result (log.new ≡ log.old) }
 {
     let again = key.copy()?;
-    jobs.put(key, job)?;
+    rows.put(key, row)?;
     match log.push(entry) {
         Ok(()) => Ok(()),
         Err(want) => {
-            jobs.take(&again);
+            rows.take(&again);
             Err(want)
         }
     }
+}
+
+// Writes the row of a key that is there, and its entry.
+fn put_row<R: Drop, E: Copied + Drop>(
+    rows: &mut Table<Key, R>,
+    log: &mut ListOf<E>,
+    key: &Key,
+    row: R,
+    entry: E,
+) -> Result<(), Want>
+    requires { IsSome (at same_key rows.old key.now) }
+    ensures row { OnOk result (rows.new ≡ puts same_key rows.old key.now row) }
+    ensures entry { OnOk result (log.new ≡ log.old ++ entry ∷ []) }
+    ensures row_kept { OnErr result (rows.new ≡ rows.old) }
+    ensures entry_kept { OnErr result (log.new ≡ log.old) }
+{
+    log.push(entry)?;
+    rows.replace(key, row);
+    Ok(())
 }
 
 // Writes a new pod, which is open, and its entry.
@@ -233,9 +253,9 @@ impl Store {
         ensures kept { OnErr result (self.new ≡ self.old) }
     {
         let born = self.born() + 1;
-        let entry = Entry::JobPut(job.copy()?);
         let key = job.key.copy()?;
-        add_job(&mut self.jobs, &mut self.log, key, job, entry)?;
+        let entry = Entry::JobPut(job.copy()?);
+        add_row(&mut self.jobs, &mut self.log, key, job, entry)?;
         self.born = born;
         Ok(())
     }
@@ -247,10 +267,9 @@ impl Store {
         ensures added { OnOk result (self.new ≡ JobPut job ∷ self.old) }
         ensures kept { OnErr result (self.new ≡ self.old) }
     {
-        let entry = Entry::JobPut(job.copy()?);
         let key = job.key.copy()?;
-        self.log.push(entry)?;
-        self.jobs.replace(&key, job);
+        let entry = Entry::JobPut(job.copy()?);
+        put_row(&mut self.jobs, &mut self.log, &key, job, entry)?;
         Ok(())
     }
 

@@ -29,7 +29,7 @@ use Rattle.jc_sync.specs.Registers.{HasSyncs, Registers, put_at, register_at}
 use Rattle.jc_asks.specs.Sends.{new_sync, sent_first}
 use Rattle.jc_sync.proofs.RegisterFacts.{begin_syncs}
 use Rattle.jc_sync.proofs.SeenFacts.{lets-rise}
-use Rattle.jc_sync.proofs.StepFacts.{begun_at as place_begun}
+use Rattle.jc_sync.proofs.StepFacts.{begun_under}
 
 -- With what the sync began, and that the caches were fresh.
 pub record BegunBy (now : ℕ) (c : ControllerView) (basis : Basis) : Type 0 where
@@ -120,4 +120,4 @@ begun_syncs d past log rs c w now ctl basis h free holds answer act told_is stil
       written = refl;
       sends = IfSome-of basis.job (λ job. sent_first basis.job ≡ job.version) (λ job is. ap sent_first is);
       released = refl;
-    }) (place_begun (new_sync basis).flight (basis-rises log basis held) refl) refl (lets-rise basis (basis-rises log basis held)) refl
+    }) (begun_under (new_sync basis).flight (basis-rises log basis held) refl) refl (lets-rise basis (basis-rises log basis held)) refl

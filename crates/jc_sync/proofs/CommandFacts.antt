@@ -17,7 +17,7 @@ use Rattle.jc_types.specs.declared.replies.Field.TheVariants.{Completions, Paral
 use Rattle.jc_types.specs.declared.replies.Reply.{Reply}
 use Rattle.jc_types.specs.declared.replies.Reply.TheVariants.{AlreadyExists, BadStep, Conflict, Created, Final, Immutable, Invalid, NoContainer, NotFound, NotTracked, Released, Removed, Unchanged, Written}
 use Rattle.jc_types.specs.declared.specifications.JobSpec.{JobSpec}
-use Rattle.jc_log.specs.Requests.{Answered, accepted, changed_spec, create_job_at, create_job_gives, delete_job_at, delete_job_gives, gone_job, grown, is_above, is_given_else, is_other, is_unnamed, made_job, mark_pod_at, mark_pod_gives, pod_entry, refused, release_at, release_gives, released, report_phase_at, report_phase_gives, report_unless, same_course_of, update_refusal, update_spec_at, update_spec_gives, update_unless, with_mark, with_report, with_spec, without_finalizer}
+use Rattle.jc_log.specs.Requests.{Answered, accepted, changed_spec, create_job_at, create_job_gives, delete_job_at, delete_job_gives, gone_job, grown, is_above, is_immutable, is_other, is_unnamed, made_job, mark_pod_at, mark_pod_gives, pod_entry, refused, release_at, release_gives, released, report_phase_at, report_phase_gives, report_unless, same_course_of, update_refusal, update_spec_at, update_spec_gives, update_unless, with_mark, with_report, with_spec, without_finalizer}
 use Rattle.jc_log.specs.Deeds.{Deed}
 use Rattle.jc_log.specs.Log.{Live, job_in, life, next_uid, next_version, pod_in}
 use Rattle.jc_states.specs.Pods.{is_final, is_marked}
@@ -60,7 +60,7 @@ module _ (d : Deed) (past : List Deed) (log : List Entry) (rs : Registers) (h : 
 
   keeps_by : (r : Reply) (e : Entry) → IsStoreReply r → (d.reply ≡ r → d.length.0 ≡ length (e ∷ log) → Stored (e ∷ log) → Tied (d ∷ past) (e ∷ log) (flights_of_all rs)) → Keeps (accepted r e)
   keeps_by r e store ties reply grew kept =
-      other_syncs d past log (e ∷ log) rs h (ties reply grew kept) (ap began_of reply ∙ store.began) (ap told_step reply ∙ store.untold)
+      other_syncs d past log e rs h (ties reply grew kept) (ap began_of reply ∙ store.began) (ap told_step reply ∙ store.untold)
 
   -- A pod that is there is written.
   keeps_pod : (r : Reply) (u : Uid) (old new : Pod) → IsStoreReply r → pod_in u log ≡ Some old → new.uid ≡ old.uid → Keeps (accepted r (pod_entry new))
@@ -91,8 +91,9 @@ module _ (d : Deed) (past : List Deed) (log : List Entry) (rs : Registers) (h : 
             written = written (Created (next_uid log) (next_version log)) (JobPut (made_job log key spec now)) (record { asked = refl; began = refl; untold = refl }) reply grew kept tt;
             plain = plain (Created (next_uid log) (next_version log)) (record { asked = refl; began = refl; untold = refl }) reply;
             absent = is;
-            empty = record { succeeded = refl; failed = refl; uncounted_succeeded = refl; uncounted_failed = refl; completed = refl };
+            empty = record { succeeded = refl; failed = refl; uncounted_succeeded = refl; uncounted_failed = refl; completed = refl; index_failures = refl; failed_indexes = refl };
             waits = λ some. (valid.failure some).1;
+            limited = λ some. (valid.by_index some).0;
           }))
       by (Some job) is = keeps_refused AlreadyExists (record { asked = refl; began = refl; untold = refl })
 
@@ -129,7 +130,7 @@ module _ (d : Deed) (past : List Deed) (log : List Entry) (rs : Registers) (h : 
       other job is true = keeps_refused (Conflict job.version) (record { asked = refl; began = refl; untold = refl })
       other job is false =
           unless job is (update_refusal job.spec change)
-          (refusals (is_given_else change.completions job.spec.completions) (is_above GREATEST_PARALLELISM change.parallelism) (is_above GREATEST_LIMIT change.backoff_limit) (is_above GREATEST_LIMIT change.deadline) (update_refusal job.spec change) refl)
+          (refusals (is_immutable job.spec change) (is_above GREATEST_PARALLELISM change.parallelism) (is_above GREATEST_LIMIT change.backoff_limit) (is_above GREATEST_LIMIT change.deadline) (update_refusal job.spec change) refl)
 
       by : (o : Option Job) → job_in key log ≡ o → Keeps (update_spec_at log version change o)
       by None is = keeps_refused NotFound (record { asked = refl; began = refl; untold = refl })

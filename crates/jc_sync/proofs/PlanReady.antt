@@ -9,8 +9,9 @@ use Rattle.jc_types.specs.declared.objects.Entry.TheVariants.{JobPut, PodPut}
 use Rattle.jc_types.specs.declared.objects.Job.{Job}
 use Rattle.jc_types.specs.declared.objects.Pod.{Pod}
 use Rattle.jc_types.specs.declared.specifications.Mode.TheVariants.{Indexed}
+use Rattle.jc_types.specs.declared.statuses.IndexCount.{IndexCount}
 use Rattle.jc_states.specs.declared.bases.Basis.{Basis}
-use Rattle.jc_states.specs.Bases.{CanPlan, IsTidy, TotalsFit, own_pods}
+use Rattle.jc_states.specs.Bases.{CanPlan, FailuresFit, IsTidy, TotalsFit, own_pods}
 use Rattle.jc_log.specs.Deeds.{Deed}
 use Rattle.jc_types.specs.Keys.{same_key}
 use Rattle.jc_log.specs.Log.{Live, entry_at, job_in, life, pods_in, pods_of, upto}
@@ -30,13 +31,11 @@ use Rattle.jc_plan.proofs.Going.{filter-few}
 use Rattle.jc_ledger.specs.declared.flights.Flight.{Flight}
 use Rattle.jc_ledger.specs.Flights.{IsBasisOf}
 use Rattle.jc_ledger.specs.Tied.{HasSoundLists, Tied, made_as}
-use Rattle.jc_ledger.proofs.DistinctFacts.{ledger_of-distinct}
 use Rattle.jc_ledger.proofs.FrameFacts.{owner_made}
 use Rattle.jc_ledger.proofs.MadeFacts.{WasMade, job_in-was_made, made_as-upto}
 use Rattle.jc_ledger.proofs.OwnFacts.{basis-rises, own-is, own-live}
 use Rattle.jc_ledger.proofs.PutFacts.{ties_of}
 use Rattle.jc_ledger.proofs.QuietFacts.{seen_job-entry}
-use Rattle.jc_ledger.proofs.VerdictBounds.{few_records}
 use Rattle.jc_sync.specs.Plannable.{FitsIn, IsPlannable}
 
 -- ---- one more entry
@@ -62,13 +61,21 @@ pub record IsReady (log : List Entry) (basis : Basis) (job : Job) : Type 0 where
   pub valid : IsValidSpec job.spec
   pub tidy : IsTidy job basis.pods
   pub totals : length log < 2 ^ 32 → TotalsFit job basis.pods
+  pub fails : length log < 2 ^ 32 → FailuresFit job basis.pods
   pub few : length basis.pods ≤ length log
 
 pub ready : (deeds : List Deed) (log : List Entry) (flights : List Flight) (basis : Basis) (job : Job) → Tied deeds log flights → IsPlannable log → IsBasisOf log basis → basis.job ≡ Some job → IsReady log basis job
 ready deeds log flights basis job t p is saw = record {
   valid = p.valid job.version.0 job entry;
   tidy = λ mode. (tidy.none mode, All-from_recursion (λ (pod : Pod). IsSome pod.index) (own_pods job basis.pods) (subst (Each (λ pod. IsSome pod.index)) (sym (own-is log basis job t.legal is saw)) (indexed mode)));
-  totals = λ short. let at = t.totals job.version.0 job entry in let few = few_records job.uid deeds log (ledger_of-distinct job.uid deeds log) in let f = at.failed in let s = at.succeeded in (omega (arith, s, few_pods, few, short), omega (arith, f, few_pods, few, short));
+  totals = λ short. let at = t.totals job.version.0 job entry in let f = at.failed in let s = at.succeeded in (omega (arith, s, few_pods, short), omega (arith, f, few_pods, short));
+  fails = λ short. record {
+    ascending = tidy.counts;
+    fit =
+        All-from_recursion (λ (count : IndexCount). count.failures + length basis.pods < 2 ^ 64) job.status.index_failures
+        (Each-weaker (λ (count : IndexCount). count.failures ≤ length log) (λ (count : IndexCount). count.failures + length basis.pods < 2 ^ 64)
+        (λ count le. omega (arith, le, few_pods, short)) job.status.index_failures (t.totals job.version.0 job entry).failures);
+  };
   few = few_pods;
 }
   where
@@ -151,6 +158,7 @@ can_plan deeds log flights basis job t p is saw short failures last =
       valid = subst (λ (o : Option Job). IfSome o (λ j. IsValidSpec j.spec)) (sym saw) r.valid;
       tidy = subst (λ (o : Option Job). IfSome o (λ j. IsTidy j basis.pods)) (sym saw) r.tidy;
       totals = subst (λ (o : Option Job). IfSome o (λ j. TotalsFit j basis.pods)) (sym saw) (r.totals (omega (arith, short)));
+      index_failures = subst (λ (o : Option Job). IfSome o (λ j. FailuresFit j basis.pods)) (sym saw) (r.fails (omega (arith, short)));
       distinct = rising-apart 0 basis.pods (basis-rises log basis is);
       indexes = indexes-small log basis (Stored-from_legal log t.legal) p is;
       few = omega (arith, few, short);

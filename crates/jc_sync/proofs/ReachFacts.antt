@@ -1,5 +1,5 @@
 -- What a sync on current caches leaves: the next status of its Job, and no finalizer on a pod that had ended.
-use Rattle.std.proofs.Common.{◌≡◌, Bool, true, false, not, ◌||◌, List, find, Some, refl, sym, ap, ◌∙◌}
+use Rattle.std.proofs.Common.{◌≡◌, Bool, true, false, not, ◌&&◌, ◌||◌, List, find, Some, refl, sym, ap, ◌∙◌}
 use Rattle.std.proofs.lemmas.Bool.{and_from, not_from_false, or_left}
 use Rattle.jc_types.specs.declared.objects.Entry.{Entry}
 use Rattle.jc_types.specs.declared.objects.Job.{Job}
@@ -15,6 +15,7 @@ use Rattle.jc_log.specs.Log.{is_lost, job_in, life, upto}
 use Rattle.jc_states.specs.Pods.{is_tracked}
 use Rattle.jc_log.specs.Writes.{Stored, Writes}
 use Rattle.jc_log.proofs.WriteFacts.{Follows-upto, Stored-from_legal, lost_on}
+use Rattle.jc_account.specs.Judged.{is_left_over}
 use Rattle.jc_failpol.specs.declared.outcomes.Outcome.TheVariants.{Alive}
 use Rattle.jc_failpol.specs.Outcomes.{outcome_of, same_outcome}
 use Rattle.jc_states.specs.Listed.{is_listed}
@@ -52,17 +53,26 @@ module _ (deeds : List Deed) (log : List Entry) (flights : List Flight) (flight 
   pub reaches_next : l.current.status ≡ next_status flight.basis.now flight.basis.backoff job (own_pods job flight.basis.pods)
   reaches_next = l.status ∙ second-next job flight.basis (basis-rises log flight.basis flies.basis) tidy.none
 
-  -- An own pod that was no longer alive has no finalizer.
-  pub ended_lost : (pod : Pod) → find (λ (p : Pod). same_uid p.uid pod.uid) flight.basis.pods ≡ Some pod → is_own job pod ≡ true → same_outcome (outcome_of job.spec pod) Alive ≡ false → is_lost (life pod.uid log) ≡ true
-  ended_lost pod found own ended = by pod.tracked refl
+  -- An own pod that had ended and was not left over has no finalizer.
+  pub ended_lost : (pod : Pod) → find (λ (p : Pod). same_uid p.uid pod.uid) flight.basis.pods ≡ Some pod → is_own job pod ≡ true → same_outcome (outcome_of job.spec pod) Alive ≡ false
+      → is_left_over job (own_pods job flight.basis.pods) pod ≡ false → is_lost (life pod.uid log) ≡ true
+  ended_lost pod found own ended kept = by pod.tracked refl
     where
+      left : Bool
+      left = is_left_over job (own_pods job flight.basis.pods) pod
+
+      ends : Bool
+      ends = not (same_outcome (outcome_of job.spec pod) Alive) && not left
+
       by : (b : Bool) → pod.tracked ≡ b → is_lost (life pod.uid log) ≡ true
       by false tracked = lost_on pod.uid flight.basis.pods_at.0 log stored (ap is_lost (saw log flight.basis pod flies.basis found).stood ∙ not_from_false pod.tracked tracked)
       by true tracked =
           l.released pod.uid (due-released pod.uid job flight.basis there
           (due_in job flight.basis.pods pod found own
-          (and_from (is_tracked pod) (not (same_outcome (outcome_of job.spec pod) Alive) || is_listed job.status pod.uid) tracked
-          (or_left (not (same_outcome (outcome_of job.spec pod) Alive)) (is_listed job.status pod.uid) (not_from_false (same_outcome (outcome_of job.spec pod) Alive) ended)))))
+          (and_from (is_tracked pod) (ends || is_listed job.status pod.uid) tracked
+          (or_left ends (is_listed job.status pod.uid)
+          (and_from (not (same_outcome (outcome_of job.spec pod) Alive)) (not left)
+          (not_from_false (same_outcome (outcome_of job.spec pod) Alive) ended) (not_from_false left kept))))))
 
   pub has_next : HasNext log flight.basis job
   has_next = record { current = l.current; there = l.there; uid = l.uid; status = reaches_next }
@@ -70,8 +80,8 @@ module _ (deeds : List Deed) (log : List Entry) (flights : List Flight) (flight 
   -- So it is of each own pod.
   pub ended_all : EndedAreLost log flight.basis job
   ended_all =
-      All-from_recursion (IsLostOnceEnded log job) own
-      (Each-weaker (λ p. One p × Own p) (IsLostOnceEnded log job) (λ p h. ended_lost p h.0 h.1) own
+      All-from_recursion (IsLostOnceEnded log job own) own
+      (Each-weaker (λ p. One p × Own p) (IsLostOnceEnded log job own) (λ p h. ended_lost p h.0 h.1) own
       (Each-both One Own own (Each-filter One (is_own job) flight.basis.pods (rises-found 0 flight.basis.pods rising)) (Each-passes (is_own job) flight.basis.pods)))
     where
       own : List Pod

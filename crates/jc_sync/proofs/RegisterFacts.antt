@@ -9,7 +9,6 @@ use Rattle.jc_types.specs.declared.actions.Fault.{Fault}
 use Rattle.jc_types.specs.declared.actions.Fault.TheVariants as fault
 use Rattle.jc_types.specs.declared.replies.Answer.{Answer}
 use Rattle.jc_types.specs.declared.replies.Answer.TheVariants as answer
-use Rattle.jc_types.specs.declared.statuses.JobStatus.{JobStatus}
 use Rattle.jc_plan.specs.Plans.{planned}
 use Rattle.jc_asks.specs.declared.asks.Ask.{Ask}
 use Rattle.jc_asks.specs.declared.asks.Ask.TheVariants.{WriteFirst, ReleasePod}
@@ -32,11 +31,12 @@ use Rattle.jc_ledger.specs.Syncs.{Began, began_by, began_of, is_begin, stepper, 
 use Rattle.jc_ledger.specs.Tied.{Tied}
 use Rattle.jc_ledger.proofs.FrameFacts.{AllFly-one}
 use Rattle.jc_ledger.proofs.QuietFacts.{tied_begun, tied_dropped, tied_quiet, tied_start}
-use Rattle.jc_sync.specs.Places.{IsAt, IfGoesOn}
-use Rattle.jc_sync.specs.Registers.{AreFree, HasSyncs, IsRegister, Registers, flight_in, flights_in, flights_of_all, freed, put_at, put_worker, register_at, register_of, restarted}
+use Rattle.jc_sync.specs.Places.{IsAt, IfGoesOn, IsUnder, Under}
+use Rattle.jc_sync.specs.Registers.{AreFree, HasSyncs, IsRegister, NoneWritten, Registers, WritesShow, flight_in, flights_in, flights_of_all, freed, put_at, put_worker, register_at, register_of, restarted}
 use Rattle.jc_asks.specs.Sends.{sends_of, sent_first}
 use Rattle.jc_asks.specs.Steps.{SyncEnd, Next, GoesOn, Ends, Stepped, Sync, as_answer, answered_to, end_given, first_answered, flight_after, flights_of, next_unless, stepped, stepped_at}
-use Rattle.jc_sync.proofs.StepFacts.{stepped_next, stepped_ties}
+use Rattle.jc_sync.proofs.ShownFacts.{shown_stays, stepped_shown}
+use Rattle.jc_sync.proofs.StepFacts.{after_basis, stepped_next, stepped_ties}
 
 -- ---- the syncs before and after a register's
 
@@ -151,16 +151,6 @@ step_began now None log flight (ask ∷ left) = refl
 step_began now (Some fault.Drop) log flight (ask ∷ left) = refl
 step_began now (Some fault.Lose) log flight (ask ∷ left) = refl
 
-first_basis : (first : Option JobStatus) (given : Answer) (flight : Flight) → (first_answered first given flight).basis ≡ flight.basis
-first_basis first (answer.Written v) flight = refl
-first_basis first other flight = refl
-
--- An answer keeps the basis.
-pub after_basis : (ask : Ask) (given : Answer) (flight : Flight) → (flight_after ask given flight).basis ≡ flight.basis
-after_basis WriteFirst given flight = first_basis (planned flight.basis).first given flight
-after_basis (ReleasePod u) given flight = refl
-after_basis other given flight = refl
-
 -- The sync keeps its basis.
 pub step_basis : (now : ℕ) (pending : Option Fault) (log : List Entry) (flight : Flight) (left : List Ask) → IfGoesOn (stepped_at now pending log flight left).next (λ s. s.flight.basis ≡ flight.basis)
 step_basis now pending log flight [] = tt
@@ -247,13 +237,15 @@ pub quiet_syncs : (d : Deed) (past : List Deed) (log : List Entry) (rs : Registe
 quiet_syncs d past log rs h quiet none untold = record {
   tied = tied_quiet d past log (flights_of_all rs) h.tied quiet;
   each = λ c w sync is. kept c w d past sync (began_by-none c w d none) (step_told-none c w d untold) (h.each c w sync is);
+  writes = h.writes;
 }
 
--- Another event that begins no sync and is no step of one, once what ties is shown of it.
-pub other_syncs : (d : Deed) (past : List Deed) (log next : List Entry) (rs : Registers) → HasSyncs past log rs → Tied (d ∷ past) next (flights_of_all rs) → began_of d.reply ≡ None → told_step d.reply ≡ None → HasSyncs (d ∷ past) next rs
-other_syncs d past log next rs h tied none untold = record {
+-- One that appends an entry, begins no sync and is no step of one, once what ties is shown of it.
+pub other_syncs : (d : Deed) (past : List Deed) (log : List Entry) (e : Entry) (rs : Registers) → HasSyncs past log rs → Tied (d ∷ past) (e ∷ log) (flights_of_all rs) → began_of d.reply ≡ None → told_step d.reply ≡ None → HasSyncs (d ∷ past) (e ∷ log) rs
+other_syncs d past log e rs h tied none untold = record {
   tied = tied;
   each = λ c w sync is. kept c w d past sync (began_by-none c w d none) (step_told-none c w d untold) (h.each c w sync is);
+  writes = λ c w sync is. shown_stays log (Some e) sync.flight sync.left (h.writes c w sync is);
 }
 
 -- A step of the worker's sync.
@@ -266,6 +258,7 @@ step_syncs d past log rs c w now pending sync h is act told_is grew stays = reco
       (stepped_ties d past log here.front here.back sync.flight now (subst (Tied past log) here.is h.tied) pending sync.left mine.at
       (record { reply = told_is; length_is = grew; sync = ap (option_and_then (λ worker. sync_of worker.0 worker.1 past)) (ap stepper act) ∙ mine.begun }) stays);
   each = λ e v other at. by e v other (put_cases c w e v (register_of step.next) rs other at);
+  writes = λ e v other at. shown e v other (put_cases c w e v (register_of step.next) rs other at);
 }
   where
     step : Stepped
@@ -330,15 +323,25 @@ step_syncs d past log rs c w now pending sync h is act told_is grew stays = reco
         kept e v d past other (began_by-none e v d none)
         (cond-false (is_step e v d.act) (told_step d.reply) None (ap (is_step e v) act ∙ not_its e v apart)) (h.each e v other was)
 
+    shown_after : (next : Next) → IfGoesOn next (λ s. WritesShow (grown log step.entry) s.flight s.left) → (other : Sync) → register_of next ≡ Some other → WritesShow (grown log step.entry) other.flight other.left
+    shown_after (GoesOn s) shows other e = subst (λ (x : Sync). WritesShow (grown log step.entry) x.flight x.left) (same_some e) shows
+    shown_after (Ends end) shows other e = absurd (true≢false (sym (ap is_some e)))
+
+    shown : (e v : ℕ) (other : Sync) → PutCases c w e v (register_of step.next) rs other → WritesShow (grown log step.entry) other.flight other.left
+    shown e v other (Same c_is w_is mine_is) =
+        shown_after step.next (stepped_shown log now sync.flight (Stored-from_legal log h.tied.legal) flies pending sync.left mine.at (h.writes c w sync is)) other mine_is
+    shown e v other (Other apart was) = shown_stays log step.entry other.flight other.left (h.writes e v other was)
+
 -- A sync begins in a free register.
 pub begin_syncs : (d : Deed) (past : List Deed) (log : List Entry) (rs : Registers) (c w : ℕ) (sync : Sync) → HasSyncs past log rs → register_at c w rs ≡ Some None
-    → d.act ≡ does.Begin c w → began_of d.reply ≡ Some (began sync.flight.basis) → Begins d log sync.flight → IsAt sync.flight sync.left → sync.left ≡ asks_of (planned sync.flight.basis) → AscendsFrom 0 (lets_of (asks_of (planned sync.flight.basis)))
+    → d.act ≡ does.Begin c w → began_of d.reply ≡ Some (began sync.flight.basis) → Begins d log sync.flight → IsUnder sync.flight sync.left → sync.left ≡ asks_of (planned sync.flight.basis) → AscendsFrom 0 (lets_of (asks_of (planned sync.flight.basis)))
     → sync.flight.sends ≡ sent_first sync.flight.basis.job → HasSyncs (d ∷ past) log (put_at c w (Some sync) rs)
-begin_syncs d past log rs c w sync h is act told_is begins at all once sent = record {
+begin_syncs d past log rs c w sync h is act told_is begins under all once sent = record {
   tied =
       subst (Tied (d ∷ past) log) (sym (here.with_it (Some sync)))
       (tied_begun d past log here.front here.back sync.flight (subst (Tied past log) here.is h.tied) begins);
   each = λ e v other it. by e v other (put_cases c w e v (Some sync) rs other it);
+  writes = λ e v other it. shown e v other (put_cases c w e v (Some sync) rs other it);
 }
   where
     here : Around (flights_of_all rs) (λ new. flights_of_all (put_at c w new rs)) None
@@ -362,7 +365,7 @@ begin_syncs d past log rs c w sync h is act told_is begins at all once sent = re
     by e v other (Same c_is w_is mine_is) =
         subst (λ (x : Sync). IsRegister e v (d ∷ past) x) (same_some mine_is)
         (subst (λ x. IsRegister x v (d ∷ past) sync) (sym c_is) (subst (λ x. IsRegister c x (d ∷ past) sync) (sym w_is) (record {
-          at = at;
+          at = Under under;
           reads =
               subst (λ steps. IsLeftBy (planned sync.flight.basis) steps sync.left) (sym (cond-true (is_some (began_by c w d)) [] (with_step (step_told c w d) (steps_of c w past)) (ap is_some mine)))
               (subst (IsLeftBy (planned sync.flight.basis) []) (sym all) (reads_begun (planned sync.flight.basis) once));
@@ -373,6 +376,10 @@ begin_syncs d past log rs c w sync h is act told_is begins at all once sent = re
     by e v other (Other apart was) =
         kept e v d past other (cond-false (is_begin e v d.act) (began_of d.reply) None (ap (is_begin e v) act ∙ not_its e v apart))
         (cond-false (is_step e v d.act) (told_step d.reply) None (ap (is_step e v) act)) (h.each e v other was)
+
+    shown : (e v : ℕ) (other : Sync) → PutCases c w e v (Some sync) rs other → WritesShow log other.flight other.left
+    shown e v other (Same c_is w_is mine_is) = subst (λ (x : Sync). WritesShow log x.flight x.left) (same_some mine_is) (NoneWritten under begins.written)
+    shown e v other (Other apart was) = h.writes e v other was
 
 -- All registers of a controller become free.
 flights_in-freed : (ws : List (Option Sync)) → flights_in (freed ws) ≡ []
@@ -424,11 +431,16 @@ restart_syncs d past log rs c h quiet none untold =
     record {
       tied = subst (Tied (d ∷ past) log) (sym w.are) (tied_dropped (d ∷ past) log w.front w.dropped w.back (subst (Tied (d ∷ past) log) w.were all.tied));
       each = λ e v sync is. all.each e v sync (restart_keeps c e v rs sync is);
+      writes = λ e v sync is. all.writes e v sync (restart_keeps c e v rs sync is);
     }
 
 -- At the start no sync is under way.
 pub start_syncs : (rs : Registers) → ((c w : ℕ) (sync : Sync) → register_at c w rs ≡ Some (Some sync) → ⊥) → flights_of_all rs ≡ [] → HasSyncs [] [] rs
-start_syncs rs free none = record { tied = subst (Tied [] []) (sym none) tied_start; each = λ c w sync is. absurd (free c w sync is) }
+start_syncs rs free none = record {
+  tied = subst (Tied [] []) (sym none) tied_start;
+  each = λ c w sync is. absurd (free c w sync is);
+  writes = λ c w sync is. absurd (free c w sync is);
+}
 
 no_flights_in : (ws : List (Option Sync)) → Each (λ (register : Option Sync). register ≡ None) ws → flights_in ws ≡ []
 no_flights_in [] free = refl

@@ -19,14 +19,13 @@ use Rattle.jc_states.specs.UidLists.{AscendsFrom, is_in}
 use Rattle.jc_types.proofs.KeyFacts.{same_uid-itself}
 use Rattle.jc_types.proofs.ListFacts.{Each-append, Each-filter, Each-map, Each-weaker, find_each}
 use Rattle.jc_states.proofs.PodListFacts.{pod_among, rises-found}
-use Rattle.jc_account.specs.Accounts.{counted_in}
 use Rattle.jc_manage.specs.Creations.{IsIndexFor}
 use Rattle.jc_manage.specs.SeenPods.{IsSeen}
 use Rattle.jc_manage.specs.LetGoes.{seen, seen_uids}
 use Rattle.jc_manage.proofs.OneWay.{goes-seen}
 use Rattle.jc_plan.specs.declared.plans.Planned.{Planned}
 use Rattle.jc_plan.specs.Plans.{planned, planned_for}
-use Rattle.jc_plan.specs.Statuses.{decided_in, is_settled, wants_in}
+use Rattle.jc_plan.specs.Statuses.{accounted, decided_in, is_settled, wants_in}
 use Rattle.jc_plan.proofs.PartFacts.{planned-here}
 use Rattle.jc_plan.proofs.OrderFacts.{let_goes-ascend}
 use Rattle.jc_plan.proofs.PlanBounds.{plan-numbered}
@@ -67,7 +66,7 @@ own_contains job pods seen is_seen own =
 goes-active : (job : Job) (basis : Basis) → IsRising basis.pods → Each (λ row. SeenActive basis row.0 row.1) (wants_in job basis).let_goes
 goes-active job basis rising =
     Each-weaker (IsSeen own) (λ row. SeenActive basis row.0 row.1) at_row (wants_in job basis).let_goes
-    (recursion_from_All (IsSeen own) (wants_in job basis).let_goes (goes-seen own (is_settled job (decided_in job basis)) job (counted_in job basis.pods)))
+    (recursion_from_All (IsSeen own) (wants_in job basis).let_goes (goes-seen own (is_settled job (decided_in job basis)) job (accounted job basis)))
   where
     own : List Pod
     own = own_pods job basis.pods

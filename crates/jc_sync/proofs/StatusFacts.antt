@@ -20,7 +20,7 @@ use Rattle.jc_log.proofs.WriteFacts.{Stored-from_legal}
 use Rattle.jc_account.specs.Accounts.{counted_in}
 use Rattle.jc_plan.specs.Plans.{planned}
 use Rattle.jc_plan.specs.Statuses.{first_value, second_value}
-use Rattle.jc_plan.proofs.ValueFacts.{first-completed, first-failed, first-failed_list, first-succeeded, first-succeeded_list, second-completed, second-failed, second-failed_list, second-succeeded, second-succeeded_list}
+use Rattle.jc_plan.proofs.ValueFacts.{first-completed, first-failed, first-failed_indexes, first-failed_list, first-index_failures, first-succeeded, first-succeeded_list, second-completed, second-failed, second-failed_indexes, second-failed_list, second-index_failures, second-succeeded, second-succeeded_list}
 use Rattle.jc_ledger.specs.declared.flights.Flight.{Flight}
 use Rattle.jc_ledger.specs.EventKinds.{StatusWrite, began, IsAccepted, CountsIn, CountsOut}
 use Rattle.jc_ledger.specs.Flights.{known, IsSent, Flies}
@@ -49,6 +49,8 @@ counts-first flight job status is = subst (CountsIn job flight.basis.pods) (sym 
   succeeded = first-succeeded job flight.basis;
   failed = first-failed job flight.basis;
   completed = first-completed job flight.basis;
+  index_failures = first-index_failures job flight.basis;
+  failed_indexes = first-failed_indexes job flight.basis;
 })
 
 -- The second counts out of the first.
@@ -62,6 +64,8 @@ counts-second flight job before status was is =
       succeeded = second-succeeded job flight.basis;
       failed = second-failed job flight.basis;
       completed = second-completed job flight.basis ∙ sym (first-completed job flight.basis);
+      index_failures = second-index_failures job flight.basis ∙ sym (first-index_failures job flight.basis);
+      failed_indexes = second-failed_indexes job flight.basis ∙ sym (first-failed_indexes job flight.basis);
     }))
 
 -- ---- what is there

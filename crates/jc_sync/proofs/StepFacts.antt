@@ -11,6 +11,7 @@ use Rattle.jc_types.specs.declared.numbers.Version.{Version}
 use Rattle.jc_types.specs.declared.objects.Entry.{Entry}
 use Rattle.jc_types.specs.declared.objects.Job.{Job}
 use Rattle.jc_types.specs.declared.replies.Answer.{Answer}
+use Rattle.jc_types.specs.declared.replies.Answer.TheVariants as answer
 use Rattle.jc_types.specs.declared.replies.Reply.TheVariants as reply
 use Rattle.jc_types.specs.declared.statuses.JobStatus.{JobStatus}
 use Rattle.jc_log.specs.Requests.{Answered, grown}
@@ -33,7 +34,7 @@ use Rattle.jc_asks.specs.declared.asks.Ask.{Ask}
 use Rattle.jc_asks.specs.declared.asks.Ask.TheVariants.{MakePod, MarkPod, LetPodGo, WriteFirst, ReleasePod, WriteSecond}
 use Rattle.jc_asks.specs.Asks.{writes_status, asks_of, early_asks, is_gone, asks_after, as_request}
 use Rattle.jc_sync.specs.Places.{IsUnder, Before, After, IsAt, Under, Over, IfGoesOn}
-use Rattle.jc_asks.specs.Steps.{SyncEnd, Stepped, as_answer, answered_to, end_given, flight_after, flights_of, IsStepOf, next_unless, status_gives, written_gives, stepped_at}
+use Rattle.jc_asks.specs.Steps.{SyncEnd, Stepped, as_answer, answered_to, end_given, first_answered, flight_after, flights_of, IsStepOf, next_unless, status_gives, written_gives, stepped_at}
 use Rattle.jc_sync.proofs.ApiFacts.{StatusCases, Accepted, Same, Conflicts, Absent, status_cases}
 use Rattle.jc_sync.proofs.EntryFacts.{quiet-by}
 use Rattle.jc_sync.proofs.MakeFacts.{make_ties, mark_ties}
@@ -53,6 +54,16 @@ pub begun_at : (flight : Flight) → IsRising flight.basis.pods → flight.writt
 begun_at flight rising unwritten = Under (begun_under flight rising unwritten)
 
 -- ---- where it stands after an answer
+
+first_basis : (first : Option JobStatus) (given : Answer) (flight : Flight) → (first_answered first given flight).basis ≡ flight.basis
+first_basis first (answer.Written v) flight = refl
+first_basis first other flight = refl
+
+-- An answer keeps the basis.
+pub after_basis : (ask : Ask) (given : Answer) (flight : Flight) → (flight_after ask given flight).basis ≡ flight.basis
+after_basis WriteFirst given flight = first_basis (planned flight.basis).first given flight
+after_basis (ReleasePod u) given flight = refl
+after_basis other given flight = refl
 
 module _ (log : List Entry) (now : ℕ) (flight : Flight) where
   early_next : (ask : Ask) (left : List Ask) → IsEarlyAsk flight ask left → IsUnder flight left

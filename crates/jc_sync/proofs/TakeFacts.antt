@@ -98,7 +98,7 @@ module _ (d : Deed) (past : List Deed) (log : List Entry) (front back : List Fli
       knows_it : known flight job ≡ first_value job flight.basis
       knows_it = IfSome-at flight.basis.job (λ j. known flight j ≡ first_value j flight.basis) job saw knows
 
-      ends : IsDue job seen
+      ends : IsDue job flight.basis.pods seen
       ends = due_from job flight.basis.pods seen (basis-rises log flight.basis flies.basis) is_seen due
 
   orphan_took : (seen old : Pod) → d.reply ≡ reply.Stepped (request.Release seen.uid) given → find (λ (p : Pod). same_uid p.uid seen.uid) flight.basis.pods ≡ Some seen

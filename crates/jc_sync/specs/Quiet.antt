@@ -4,7 +4,7 @@
 --     StaysUndisturbed log job step        the step goes on, and so the Job is
 --     Leaves log flight job                the Job has the second status, and each pod to release was released
 --     HasNext log basis job                the Job has the next status of what the basis shows
---     EndedAreLost log basis job           each own pod that was no longer alive has no finalizer
+--     EndedAreLost log basis job           each own pod that had ended and was not left over has no finalizer
 --     steps_left asks                      at most so many steps are left, but for the end
 use Rattle.std.specs.Prelude.{All, false, ◌≡◌, ℕ, ◌+◌, true, List, [], ◌∷◌, Some}
 use Rattle.jc_types.specs.declared.numbers.Uid.{Uid}
@@ -16,6 +16,7 @@ use Rattle.jc_states.specs.Bases.{own_pods}
 use Rattle.jc_log.specs.Log.{job_in, life, is_lost}
 use Rattle.jc_log.specs.Requests.{grown}
 use Rattle.jc_states.specs.UidLists.{is_in}
+use Rattle.jc_account.specs.Judged.{is_left_over}
 use Rattle.jc_failpol.specs.declared.outcomes.Outcome.TheVariants.{Alive}
 use Rattle.jc_failpol.specs.Outcomes.{outcome_of, same_outcome}
 use Rattle.jc_plan.specs.Next.{next_value}
@@ -62,14 +63,16 @@ pub record HasNext (log : List Entry) (basis : Basis) (job : Job) : Type 0 where
   pub uid : current.uid ≡ job.uid
   pub status : current.status ≡ next_value job basis
 
--- The pod has no finalizer, where it was no longer alive.
-abbrev pub IsLostOnceEnded : List Entry → Job → Pod → Type 0
-IsLostOnceEnded log job pod =
-    same_outcome (outcome_of job.spec pod) Alive ≡ false → is_lost (life pod.uid log) ≡ true
+-- The pod has no finalizer, where it had ended and was not left over for a later sync.
+abbrev pub IsLostOnceEnded : List Entry → Job → List Pod → Pod → Type 0
+IsLostOnceEnded log job own pod =
+    same_outcome (outcome_of job.spec pod) Alive ≡ false → is_left_over job own pod ≡ false
+    → is_lost (life pod.uid log) ≡ true
 
 -- So it is of each own pod of the basis.
 abbrev pub EndedAreLost : List Entry → Basis → Job → Type 0
-EndedAreLost log basis job = All (IsLostOnceEnded log job) (own_pods job basis.pods)
+EndedAreLost log basis job =
+    All (IsLostOnceEnded log job (own_pods job basis.pods)) (own_pods job basis.pods)
 
 -- A let-go may bring a mark.
 abbrev pub steps_for : Ask → ℕ

@@ -7,17 +7,23 @@
 --     register_of next            the register after a step
 --     IsRegister c w past sync    what is known of the worker's sync
 --     AreFree rs                  no worker has a sync
+--     HasLater k n log            the log has put a Job of the key after its first n entries
+--     WritesShow log flight left  the sync has written nothing, or the log has such a Job
 --     HasSyncs deeds log rs       what ties, with where each sync stands
 --     TellsOfNoSync d             the deed is no begin and no step of a sync
 --     IsAnswered .., HasStepped .., HasBegun ..    so it is after a request, a step, a begin
-use Rattle.std.specs.Prelude.{◌≡◌, ℕ, zero, suc, List, [], ◌∷◌, ◌++◌, length, map, Option, Some, None, slice_get, option_and_then}
+use Rattle.std.specs.Prelude.{◌≡◌, ◌<◌, ℕ, zero, suc, List, [], ◌∷◌, ◌++◌, length, map, Option, Some, None, slice_get, option_and_then}
 use Rattle.jc_types.specs.declared.replies.Reply.TheVariants as reply
 use Rattle.std.specs.List.{AllByRecursion as Each}
 use Rattle.jc_types.specs.declared.objects.Entry.{Entry}
+use Rattle.jc_types.specs.declared.objects.Entry.TheVariants.{JobPut}
+use Rattle.jc_types.specs.declared.objects.Job.{Job}
+use Rattle.jc_types.specs.declared.objects.Key.{Key}
 use Rattle.jc_states.specs.declared.bases.Basis.{Basis}
 use Rattle.jc_log.specs.Requests.{Answered, grown}
 use Rattle.jc_log.specs.Acts as does
 use Rattle.jc_log.specs.Deeds.{Deed}
+use Rattle.jc_log.specs.Log.{entry_at}
 use Rattle.jc_states.specs.UidLists.{AscendsFrom}
 use Rattle.jc_log.specs.Writes.{Stored}
 use Rattle.jc_plan.specs.Plans.{planned}
@@ -25,9 +31,10 @@ use Rattle.jc_ledger.specs.declared.flights.Flight.{Flight}
 use Rattle.jc_ledger.specs.EventKinds.{began}
 use Rattle.jc_ledger.specs.Syncs.{began_of, sync_of}
 use Rattle.jc_ledger.specs.Tied.{Tied}
+use Rattle.jc_asks.specs.declared.asks.Ask.{Ask}
 use Rattle.jc_asks.specs.Asks.{asks_of}
 use Rattle.jc_asks.specs.Sends.{new_sync, sends_of}
-use Rattle.jc_sync.specs.Places.{IsAt}
+use Rattle.jc_sync.specs.Places.{IsAt, IsUnder}
 use Rattle.jc_asks.specs.Readings.{steps_of, told_step}
 use Rattle.jc_sync.specs.Leftovers.{IsLeftBy, lets_of}
 use Rattle.jc_asks.specs.Steps.{Ends, GoesOn, Next, Stepped, Sync}
@@ -101,10 +108,25 @@ pub record IsRegister (c w : ℕ) (past : List Deed) (sync : Sync) : Type 0 wher
 abbrev pub AreFree : Registers → Type 0
 AreFree rs = Each (λ ws. Each (λ (register : Option Sync). register ≡ None) ws) rs
 
--- What ties, and where each sync stands.
+-- The log has put a Job of the key after its first n entries.
+pub record HasLater (k : Key) (n : ℕ) (log : List Entry) : Type 0 where
+  pub version : ℕ
+  pub later : n < version
+  pub put : Job
+  pub is_put : entry_at version log ≡ Some (JobPut put)
+  pub key : put.key ≡ k
+
+-- The sync has written no status; or one of its Job's key was put after what its cache showed of Jobs.
+pub data WritesShow (log : List Entry) (flight : Flight) (left : List Ask) : Type 0 where
+  NoneWritten : IsUnder flight left → flight.written ≡ None → WritesShow log flight left
+  PutLater : HasLater flight.basis.key flight.basis.jobs_at.0 log → WritesShow log flight left
+
+-- What ties, where each sync stands, and that what it wrote is in the log.
 pub record HasSyncs (deeds : List Deed) (log : List Entry) (rs : Registers) : Type 0 where
   pub tied : Tied deeds log (flights_of_all rs)
   pub each : (c w : ℕ) (sync : Sync) → register_at c w rs ≡ Some (Some sync) → IsRegister c w deeds sync
+  pub writes : (c w : ℕ) (sync : Sync) → register_at c w rs ≡ Some (Some sync)
+      → WritesShow log sync.flight sync.left
 
 -- The deed is no begin and no step of a sync.
 pub record TellsOfNoSync (d : Deed) : Type 0 where

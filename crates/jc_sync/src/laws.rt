@@ -71,7 +71,8 @@ pub fn conflicts_are_later()
 
 /// A sync that begins where its Job is as it saw it, and meets no fault, goes on with every answer until no
 /// request is left; its Job then has the second status as a value, and all that was to be released is. In
-/// a tied history that is the next status, and no own pod that was no longer alive has its finalizer.
+/// a tied history that is the next status, and no own pod that had ended and was not left over for a later
+/// sync has its finalizer.
 pub fn quiet_syncs_come_to_the_next_status()
     ensures begun { (log : List Entry) (flight : Flight) (job : Job)
         → IsRising flight.basis.pods → flight.written ≡ None

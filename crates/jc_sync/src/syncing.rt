@@ -51,7 +51,7 @@ impl Model for Syncing {
     } };
 }
 
-/// The store's reply, as it answers a sync. What the store never answers to one is as no answer.
+/// The store's reply, as it answers a sync. A reply of no request is as no answer.
 pub fn as_answer(reply: Reply) -> Answer
     ensures { result ≡ as_answer reply }
 {
@@ -60,8 +60,15 @@ pub fn as_answer(reply: Reply) -> Answer
         Reply::Written { version } => Answer::Written { version },
         Reply::Unchanged { version } => Answer::Unchanged { version },
         Reply::Released { version } => Answer::Released { version },
+        Reply::Removed { version } => Answer::Removed { version },
         Reply::Conflict { current } => Answer::Conflict { current },
         Reply::NotFound => Answer::NotFound,
+        Reply::AlreadyExists => Answer::AlreadyExists,
+        Reply::Immutable { field } => Answer::Immutable { field },
+        Reply::Invalid { field } => Answer::Invalid { field },
+        Reply::Final { phase } => Answer::Final { phase },
+        Reply::BadStep { from, to } => Answer::BadStep { from, to },
+        Reply::NoContainer { name } => Answer::NoContainer { name },
         Reply::NotTracked => Answer::NotTracked,
         _ => Answer::Unavailable,
     }

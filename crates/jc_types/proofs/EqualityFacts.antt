@@ -12,12 +12,13 @@ use Rattle.jc_types.specs.declared.policies.Truth.TheVariants as truth
 use Rattle.jc_types.specs.declared.statuses.CondKind.{CondKind}
 use Rattle.jc_types.specs.declared.statuses.CondKind.TheVariants.{Suspended, FailureTarget, SuccessCriteriaMet, Failed, Complete}
 use Rattle.jc_types.specs.declared.statuses.Condition.{Condition}
+use Rattle.jc_types.specs.declared.statuses.IndexCount.{IndexCount}
 use Rattle.jc_types.specs.declared.statuses.JobStatus.{JobStatus}
 use Rattle.jc_types.specs.declared.statuses.Reason.{Reason}
 use Rattle.jc_types.specs.declared.statuses.Reason.TheVariants.{BackoffLimitExceeded, DeadlineExceeded, PodFailurePolicy, SuccessPolicy, CompletionsReached, JobSuspended, JobResumed, MaxFailedIndexesExceeded, FailedIndexes}
 use Rattle.jc_types.specs.Keys.{same_uid}
 pub use Rattle.jc_types.specs.Equality.{IsExact}
-use Rattle.jc_types.specs.Equality.{same_bool, same_option, kind_place, same_kind, reason_place, same_condition, same_counts, same_lists, same_status, same_container, truth_place, same_pattern}
+use Rattle.jc_types.specs.Equality.{same_bool, same_option, kind_place, same_kind, reason_place, same_condition, same_counts, same_index_count, same_indexes, same_lists, same_status, same_container, truth_place, same_pattern}
 use Rattle.jc_types.proofs.KeyFacts.{same_uid-eq, same_uid-itself}
 
 -- A test that implies equality, and holds of each value with itself, is exact.
@@ -145,6 +146,27 @@ uids-exact = pointwise_decides uid-exact
 indexes-exact : IsExact (pointwise nat_eq)
 indexes-exact = pointwise_decides nat-exact
 
+index_count-exact : IsExact same_index_count
+index_count-exact = exact_from same_index_count equal itself
+  where
+    equal : (a b : IndexCount) → same_index_count a b ≡ true → a ≡ b
+    equal a b e =
+        let p = and_parts (eqb a.index b.index) _ e in
+        let q = and_parts (eqb a.failures b.failures) _ p.1 in
+        λ i. record {
+          index = eqb-true a.index b.index p.0 i;
+          failures = eqb-true a.failures b.failures q.0 i;
+          fail = (bool-exact a.fail b.fail).0 q.1 i;
+        }
+
+    itself : (a : IndexCount) → same_index_count a a ≡ true
+    itself a =
+        and_from (eqb a.index a.index) _ (eq-eqb a.index a.index refl)
+        (and_from (eqb a.failures a.failures) _ (eq-eqb a.failures a.failures refl) ((bool-exact a.fail a.fail).1 refl))
+
+failures-exact : IsExact (pointwise same_index_count)
+failures-exact = pointwise_decides index_count-exact
+
 conditions-exact : IsExact (pointwise same_condition)
 conditions-exact = pointwise_decides condition-exact
 
@@ -159,7 +181,9 @@ same_status-equal a b e =
     let c2 = and_parts (eqb a.ready b.ready) _ c1.1 in
     let c3 = and_parts (eqb a.terminating b.terminating) _ c2.1 in
     let c4 = and_parts (eqb a.succeeded b.succeeded) _ c3.1 in
-    let l1 = and_parts (pointwise nat_eq a.completed b.completed) _ l.0 in
+    let l1 = and_parts (same_indexes a b) _ l.0 in
+    let x1 = and_parts (pointwise nat_eq a.completed b.completed) _ l1.0 in
+    let x2 = and_parts (pointwise nat_eq a.failed_indexes b.failed_indexes) _ x1.1 in
     let l2 = and_parts (pointwise same_uid a.uncounted_succeeded b.uncounted_succeeded) _ l1.1 in
     let m1 = and_parts (same_option nat_eq a.start b.start) _ l.1 in
     let m2 = and_parts (same_option nat_eq a.completion b.completion) _ m1.1 in
@@ -169,7 +193,9 @@ same_status-equal a b e =
       terminating = eqb-true a.terminating b.terminating c3.0 i;
       succeeded = eqb-true a.succeeded b.succeeded c4.0 i;
       failed = eqb-true a.failed b.failed c4.1 i;
-      completed = (indexes-exact a.completed b.completed).0 l1.0 i;
+      completed = (indexes-exact a.completed b.completed).0 x1.0 i;
+      failed_indexes = (indexes-exact a.failed_indexes b.failed_indexes).0 x2.0 i;
+      index_failures = (failures-exact a.index_failures b.index_failures).0 x2.1 i;
       uncounted_succeeded = (uids-exact a.uncounted_succeeded b.uncounted_succeeded).0 l2.0 i;
       uncounted_failed = (uids-exact a.uncounted_failed b.uncounted_failed).0 l2.1 i;
       start = (numbers-exact a.start b.start).0 m1.0 i;
@@ -186,7 +212,10 @@ same_status-itself a =
     (and_from (eqb a.succeeded a.succeeded) _ (eq-eqb a.succeeded a.succeeded refl)
     (eq-eqb a.failed a.failed refl)))))
     (and_from (same_lists a a) _
+    (and_from (same_indexes a a) _
     (and_from (pointwise nat_eq a.completed a.completed) _ ((indexes-exact a.completed a.completed).1 refl)
+    (and_from (pointwise nat_eq a.failed_indexes a.failed_indexes) _ ((indexes-exact a.failed_indexes a.failed_indexes).1 refl)
+    ((failures-exact a.index_failures a.index_failures).1 refl)))
     (and_from (pointwise same_uid a.uncounted_succeeded a.uncounted_succeeded) _ ((uids-exact a.uncounted_succeeded a.uncounted_succeeded).1 refl)
     ((uids-exact a.uncounted_failed a.uncounted_failed).1 refl)))
     (and_from (same_option nat_eq a.start a.start) _ ((numbers-exact a.start a.start).1 refl)

@@ -27,7 +27,7 @@ use Rattle.jc_types.specs.declared.specifications.Restart.TheVariants.{Never, On
 use Rattle.jc_types.specs.declared.specifications.Template.{Template}
 use Rattle.jc_types.specs.declared.syncs.Backoff.{Backoff}
 use Rattle.jc_types.specs.Keys.{same_key, same_uid}
-use Rattle.jc_types.specs.Equality.{same_bool, same_option, same_text, same_pattern, same_container, operator_place, action_place, mode_place, replacement_place, restart_place, phase_place, same_requirement, same_failure_rule, same_failure, same_success_rule, same_success, same_template, same_limits, same_kinds, same_spec, same_job, same_origin, same_pod, same_backoff}
+use Rattle.jc_types.specs.Equality.{same_bool, same_option, same_text, same_pattern, same_container, operator_place, action_place, mode_place, replacement_place, restart_place, phase_place, same_requirement, same_failure_rule, same_failure, same_success_rule, same_success, same_template, same_index_limits, same_limits, same_kinds, same_spec, same_job, same_origin, same_pod, same_backoff}
 use Rattle.jc_types.proofs.KeyFacts.{same_key-eq, same_key-itself}
 use Rattle.jc_types.proofs.EqualityFacts.{IsExact, bool-exact, containers-exact, exact_from, int-exact, nat-exact, numbers-exact, option-exact, patterns-exact, status-exact, uid-exact}
 
@@ -214,7 +214,9 @@ same_spec-equal a b e =
     let l4 = and_parts (same_option nat_eq a.deadline b.deadline) _ l3.1 in
     let k1 = and_parts (eqb (mode_place a.mode) (mode_place b.mode)) _ p.1 in
     let k2 = and_parts (eqb (replacement_place a.replacement) (replacement_place b.replacement)) _ k1.1 in
-    let k3 = and_parts (same_option same_failure a.failure b.failure) _ k2.1 in
+    let kx = and_parts (same_index_limits a b) _ k2.1 in
+    let x = and_parts (same_option nat_eq a.per_index b.per_index) _ kx.0 in
+    let k3 = and_parts (same_option same_failure a.failure b.failure) _ kx.1 in
     let k4 = and_parts (same_option same_success a.success b.success) _ k3.1 in
     λ i. record {
       parallelism = eqb-true a.parallelism b.parallelism l1.0 i;
@@ -222,6 +224,8 @@ same_spec-equal a b e =
       mode = mode-equal a.mode b.mode k1.0 i;
       suspend = (bool-exact a.suspend b.suspend).0 l3.0 i;
       backoff_limit = eqb-true a.backoff_limit b.backoff_limit l4.1 i;
+      per_index = (numbers-exact a.per_index b.per_index).0 x.0 i;
+      max_failed = (numbers-exact a.max_failed b.max_failed).0 x.1 i;
       deadline = (numbers-exact a.deadline b.deadline).0 l4.0 i;
       replacement = replacement-equal a.replacement b.replacement k2.0 i;
       failure = (option-exact same_failure failure-exact a.failure b.failure).0 k3.0 i;
@@ -241,9 +245,11 @@ same_kinds-itself : (a : JobSpec) → same_kinds a a ≡ true
 same_kinds-itself a =
     and_from (eqb (mode_place a.mode) (mode_place a.mode)) _ (same_number (mode_place a.mode))
     (and_from (eqb (replacement_place a.replacement) (replacement_place a.replacement)) _ (same_number (replacement_place a.replacement))
+    (and_from (same_index_limits a a) _
+    (and_from (same_option nat_eq a.per_index a.per_index) _ ((numbers-exact a.per_index a.per_index).1 refl) ((numbers-exact a.max_failed a.max_failed).1 refl))
     (and_from (same_option same_failure a.failure a.failure) _ ((option-exact same_failure failure-exact a.failure a.failure).1 refl)
     (and_from (same_option same_success a.success a.success) _ ((option-exact same_success success-exact a.success a.success).1 refl)
-    ((template-exact a.template a.template).1 refl))))
+    ((template-exact a.template a.template).1 refl)))))
 
 pub spec-exact : IsExact same_spec
 spec-exact =

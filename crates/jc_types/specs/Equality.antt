@@ -4,6 +4,7 @@
 --     same_text            two texts have the same bytes
 --     same_phase           two phases are the same
 --     same_condition       kind, status, reason and moment agree
+--     same_index_count     index, failures and mark agree
 --     same_status          all members of two statuses agree
 --     same_container       all members of two containers agree
 --     same_pattern         kind and truth agree
@@ -43,6 +44,7 @@ use Rattle.jc_types.specs.declared.policies.Truth.TheVariants as truth
 use Rattle.jc_types.specs.declared.statuses.CondKind.{CondKind}
 use Rattle.jc_types.specs.declared.statuses.CondKind.TheVariants.{Suspended, FailureTarget, SuccessCriteriaMet, Failed, Complete}
 use Rattle.jc_types.specs.declared.statuses.Condition.{Condition}
+use Rattle.jc_types.specs.declared.statuses.IndexCount.{IndexCount}
 use Rattle.jc_types.specs.declared.statuses.JobStatus.{JobStatus}
 use Rattle.jc_types.specs.declared.statuses.Reason.{Reason}
 use Rattle.jc_types.specs.declared.statuses.Reason.TheVariants as reason
@@ -101,10 +103,21 @@ same_counts a b =
     (a.active == b.active) && ((a.ready == b.ready) && ((a.terminating == b.terminating)
     && ((a.succeeded == b.succeeded) && (a.failed == b.failed))))
 
--- The completed indexes and the uncounted UIDs agree.
+-- Index, failures and mark agree.
+abbrev pub same_index_count : IndexCount → IndexCount → Bool
+same_index_count a b = (a.index == b.index) && ((a.failures == b.failures) && same_bool a.fail b.fail)
+
+-- What is said of indexes agrees.
+abbrev pub same_indexes : JobStatus → JobStatus → Bool
+same_indexes a b =
+    pointwise nat_eq a.completed b.completed
+    && (pointwise nat_eq a.failed_indexes b.failed_indexes
+    && pointwise same_index_count a.index_failures b.index_failures)
+
+-- What is said of indexes and the uncounted UIDs agree.
 abbrev pub same_lists : JobStatus → JobStatus → Bool
 same_lists a b =
-    pointwise nat_eq a.completed b.completed
+    same_indexes a b
     && (pointwise same_uid a.uncounted_succeeded b.uncounted_succeeded
     && pointwise same_uid a.uncounted_failed b.uncounted_failed)
 
@@ -209,13 +222,18 @@ same_limits a b =
     && (same_bool a.suspend b.suspend && (same_option nat_eq a.deadline b.deadline
     && (a.backoff_limit == b.backoff_limit))))
 
+-- The limits of each index, and of the indexes that fail, agree.
+abbrev pub same_index_limits : JobSpec → JobSpec → Bool
+same_index_limits a b =
+    same_option nat_eq a.per_index b.per_index && same_option nat_eq a.max_failed b.max_failed
+
 -- The members that no update changes agree.
 abbrev pub same_kinds : JobSpec → JobSpec → Bool
 same_kinds a b =
     (mode_place a.mode == mode_place b.mode)
     && ((replacement_place a.replacement == replacement_place b.replacement)
-    && (same_option same_failure a.failure b.failure
-    && (same_option same_success a.success b.success && same_template a.template b.template)))
+    && (same_index_limits a b && (same_option same_failure a.failure b.failure
+    && (same_option same_success a.success b.success && same_template a.template b.template))))
 
 -- All members of two specifications agree.
 abbrev pub same_spec : JobSpec → JobSpec → Bool

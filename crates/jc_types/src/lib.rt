@@ -29,7 +29,9 @@ pub use actions::{
 };
 pub use copies::{Bytes, Copied, Same, Want};
 pub use laws::tests_are_exact;
-pub use limits::{GREATEST_COMPLETIONS, GREATEST_LIMIT, GREATEST_PARALLELISM, MOST_CONTAINERS};
+pub use limits::{
+    GREATEST_COMPLETIONS, GREATEST_LIMIT, GREATEST_PARALLELISM, MOST_CONTAINERS, MOST_UNCOUNTED,
+};
 pub use lists::ListOf;
 pub use numbers::{Uid, Uids, Version};
 pub use objects::{Container, Containers, Entries, Entry, Job, Jobs, Key, Kind, Phase, Pod};
@@ -42,7 +44,7 @@ pub use replies::{Answer, Field, Reply, Request};
 pub use runs::{Event, History, Past, Shape, Sys};
 pub use shared::Arc;
 pub use specifications::{JobSpec, Mode, Replacement, Restart, Template};
-pub use statuses::{CondKind, Condition, Conditions, JobStatus, Reason};
+pub use statuses::{CondKind, Condition, Conditions, IndexCount, IndexCounts, JobStatus, Reason};
 pub use syncs::{Backoff, CountIn, Indexes, PodVersions, counts};
 pub use texts::{Name, Names, Text};
 pub use uid_words::uid_text;

@@ -1,5 +1,7 @@
 //! The specification of a Job (`JobSpec` of batch/v1).
 
+ghost use Rattle.std.specs.Prelude.{◌≡◌, ◌↔◌, IsTrue};
+
 use crate::copies::{Copied, Same, Want};
 use crate::policies::{FailurePolicy, SuccessPolicy};
 use crate::texts::Names;
@@ -55,6 +57,10 @@ pub struct JobSpec {
     pub suspend: bool,
     /// The number of failed pods above which the Job fails.
     pub backoff_limit: u32,
+    /// An index fails with more failed pods than this (`backoffLimitPerIndex`, KEP-3850).
+    pub per_index: Option<u32>,
+    /// The number of failed indexes above which the Job fails (`maxFailedIndexes`, KEP-3850).
+    pub max_failed: Option<u32>,
     /// Seconds from the start time on (`activeDeadlineSeconds`).
     pub deadline: Option<u32>,
     /// When a pod is replaced.
@@ -85,6 +91,8 @@ impl Copied for JobSpec {
             mode: self.mode,
             suspend: self.suspend,
             backoff_limit: self.backoff_limit,
+            per_index: self.per_index,
+            max_failed: self.max_failed,
             deadline: self.deadline,
             replacement: self.replacement,
             failure: self.failure.copy()?,
@@ -102,14 +110,26 @@ impl Same for Template {
     }
 }
 
+// Whether the limits of failures and of time agree.
+fn has_same_limits(a: &JobSpec, b: &JobSpec) -> bool
+    ensures { IsTrue result
+        ↔ ((a.now.backoff_limit ≡ b.now.backoff_limit)
+        × ((a.now.per_index ≡ b.now.per_index)
+        × ((a.now.max_failed ≡ b.now.max_failed) × (a.now.deadline ≡ b.now.deadline)))) }
+{
+    a.backoff_limit == b.backoff_limit
+        && a.per_index == b.per_index
+        && a.max_failed == b.max_failed
+        && a.deadline == b.deadline
+}
+
 impl Same for JobSpec {
     fn is_same(&self, other: &Self) -> bool {
         self.parallelism == other.parallelism
             && self.completions == other.completions
             && self.mode == other.mode
             && self.suspend == other.suspend
-            && self.backoff_limit == other.backoff_limit
-            && self.deadline == other.deadline
+            && has_same_limits(self, other)
             && self.replacement == other.replacement
             && self.failure.is_same(&other.failure)
             && self.success.is_same(&other.success)

@@ -60,6 +60,20 @@ pub struct Condition {
 /// The conditions of a Job, in the order in which they came.
 pub type Conditions = ListOf<Condition>;
 
+/// How often pods of one index have failed (KEP-3850).
+#[derive(Clone, Copy, PartialEq, Eq, Debug)]
+pub struct IndexCount {
+    /// The index.
+    pub index: u32,
+    /// How many of its pods were judged as failed.
+    pub failures: u64,
+    /// Whether the failure policy failed the index for one of them.
+    pub fail: bool,
+}
+
+/// The failures of each index that has some, in ascending index.
+pub type IndexCounts = ListOf<IndexCount>;
+
 /// The observed state of a Job.
 #[derive(Drop)]
 pub struct JobStatus {
@@ -75,6 +89,10 @@ pub struct JobStatus {
     pub failed: u64,
     /// The indexes that have succeeded (`completedIndexes`).
     pub completed: Ranges,
+    /// The indexes that have failed (`failedIndexes`, KEP-3850).
+    pub failed_indexes: Ranges,
+    /// The failures of each index, which outlive its pods (KEP-3850).
+    pub index_failures: IndexCounts,
     /// Succeeded pods that the totals do not count yet (`uncountedTerminatedPods`).
     pub uncounted_succeeded: Uids,
     /// Failed pods that the totals do not count yet (`uncountedTerminatedPods`).
@@ -93,6 +111,12 @@ impl Copied for Condition {
     }
 }
 
+impl Copied for IndexCount {
+    fn copy(&self) -> Result<Self, Want> {
+        Ok(*self)
+    }
+}
+
 impl Copied for JobStatus {
     fn copy(&self) -> Result<Self, Want> {
         Ok(JobStatus {
@@ -102,6 +126,8 @@ impl Copied for JobStatus {
             succeeded: self.succeeded,
             failed: self.failed,
             completed: self.completed.copy()?,
+            failed_indexes: self.failed_indexes.copy()?,
+            index_failures: self.index_failures.copy()?,
             uncounted_succeeded: self.uncounted_succeeded.copy()?,
             uncounted_failed: self.uncounted_failed.copy()?,
             start: self.start,
@@ -120,6 +146,12 @@ impl Same for Condition {
     }
 }
 
+impl Same for IndexCount {
+    fn is_same(&self, other: &Self) -> bool {
+        self.index == other.index && self.failures == other.failures && self.fail == other.fail
+    }
+}
+
 impl Same for JobStatus {
     fn is_same(&self, other: &Self) -> bool {
         self.active == other.active
@@ -128,6 +160,8 @@ impl Same for JobStatus {
             && self.succeeded == other.succeeded
             && self.failed == other.failed
             && self.completed.is_same(&other.completed)
+            && self.failed_indexes.is_same(&other.failed_indexes)
+            && self.index_failures.is_same(&other.index_failures)
             && self.uncounted_succeeded.is_same(&other.uncounted_succeeded)
             && self.uncounted_failed.is_same(&other.uncounted_failed)
             && self.start.is_same(&other.start)

@@ -6,6 +6,7 @@ ghost use Rattle.jc_types.specs.Counts.{counts as counts_of};
 use crate::copies::{Copied, Same, Want};
 use crate::lists::ListOf;
 use crate::numbers::{Uid, Uids, Version};
+use crate::statuses::IndexCounts;
 use jc_moment::Moment;
 use jc_ranges::Ranges;
 
@@ -37,24 +38,36 @@ pub struct CountIn {
     pub failed: u64,
     /// The indexes that have succeeded.
     pub completed: Ranges,
+    /// The indexes that have failed (KEP-3850).
+    pub failed_indexes: Ranges,
+    /// The failures of each index (KEP-3850).
+    pub index_failures: IndexCounts,
     /// The pods whose finalizer is to go.
     pub releases: Uids,
     /// How many successes are counted in now; of an Indexed Job, how many indexes.
     pub new_succeeded: u32,
     /// How many failures are counted in now.
     pub new_failed: u32,
+    /// The failed pods that are counted in now, in ascending order.
+    pub judged_failed: Uids,
+    /// How many succeeded pods are left over for a later sync.
+    pub left_succeeded: u32,
+    /// How many failed pods are left over for a later sync.
+    pub left_failed: u32,
 }
 
 /// The failed count and the succeeded count of a Job (KEP-2307): each total with the length of its
-/// list of uncounted pods. Both are below 2^64.
+/// list of uncounted pods and with the pods that are left over. Both are below 2^64.
 pub fn counts(counted: &CountIn) -> (u64, u64)
     requires failed { (counts_of counted.now).0 < 2 ^ 64 }
     requires succeeded { (counts_of counted.now).1 < 2 ^ 64 }
     ensures { result ≡ counts_of counted.now }
 {
     (
-        counted.failed + counted.uncounted_failed.len() as u64,
-        counted.succeeded + counted.uncounted_succeeded.len() as u64,
+        counted.failed + counted.uncounted_failed.len() as u64 + u64::from(counted.left_failed),
+        counted.succeeded
+            + counted.uncounted_succeeded.len() as u64
+            + u64::from(counted.left_succeeded),
     )
 }
 
@@ -78,9 +91,14 @@ impl Copied for CountIn {
             succeeded: self.succeeded,
             failed: self.failed,
             completed: self.completed.copy()?,
+            failed_indexes: self.failed_indexes.copy()?,
+            index_failures: self.index_failures.copy()?,
             releases: self.releases.copy()?,
             new_succeeded: self.new_succeeded,
             new_failed: self.new_failed,
+            judged_failed: self.judged_failed.copy()?,
+            left_succeeded: self.left_succeeded,
+            left_failed: self.left_failed,
         })
     }
 }

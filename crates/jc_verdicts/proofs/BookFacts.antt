@@ -1,36 +1,59 @@
 -- The books of all Jobs: what one more write does to them, and what they come to.
-use Rattle.std.proofs.Common.{◌≡◌, ℕ, ◌+◌, ◌<◌, ◌^◌, Bool, true, false, cond, ◌||◌, List, [], ◌∷◌, ◌++◌, length, map, reverse, take, drop, slice_get, Option, Some, None, IfSome, refl, sym, ap, ◌∙◌, subst}
+use Rattle.std.proofs.Common.{◌≡◌, ℕ, ◌+◌, ◌<◌, ◌^◌, Bool, true, false, cond, List, [], ◌∷◌, ◌++◌, length, map, reverse, take, drop, slice_get, Option, Some, None, IfSome, refl, sym, ap, ◌∙◌, subst}
 use Rattle.std.specs.List.{IsDistinct}
-use Rattle.std.specs.Option.{option_map, option_map_or}
+use Rattle.std.specs.Option.{option_map, option_map_or, option_or}
 use Rattle.std.proofs.lemmas.List.{drop_more}
-use Rattle.std.proofs.lemmas.List.Folds.{list_any-append}
 use Rattle.std.proofs.lemmas.Option.{get_or_from_slice_get, slice_get_within}
 use Rattle.jc_types.specs.declared.numbers.Uid.{Uid}
 use Rattle.jc_types.specs.declared.objects.Entry.{Entry}
 use Rattle.jc_types.specs.declared.objects.Job.{Job}
+use Rattle.jc_types.specs.declared.objects.Pod.{Pod}
+use Rattle.jc_types.specs.declared.specifications.JobSpec.{JobSpec}
 use Rattle.jc_types.specs.Keys.{same_uid}
 use Rattle.jc_types.proofs.KeyFacts.{same_uid-eq, same_uid-either_way}
 use Rattle.jc_log.specs.Deeds.{Deed}
-use Rattle.jc_log.specs.Log.{upto, pods_of}
+use Rattle.jc_log.specs.Log.{upto, pods_in, pods_of}
 use Rattle.jc_log.specs.Tables.{at, Sets}
 use Rattle.jc_log.proofs.LogFacts.{upto-reverse}
+use Rattle.jc_log.proofs.PodFacts.{pods_in-rises}
+use Rattle.jc_states.specs.PodLists.{IsRising}
 use Rattle.jc_states.specs.UidLists.{join}
+use Rattle.jc_states.proofs.PodListFacts.{rises_filter}
+use Rattle.jc_failpol.specs.declared.outcomes.Outcome.{Outcome}
 use Rattle.jc_verdicts.specs.declared.books.Book.{Book}
 use Rattle.jc_ledger.specs.declared.counts.Verdicts.{Verdicts}
-use Rattle.jc_verdicts.specs.declared.rows.Row.{Row}
-use Rattle.jc_verdicts.specs.Books.{AreCounts, AreFew, AreSound, IsSoundBook, done_at, rows_at, totals_of, verdicts_at}
-use Rattle.jc_ledger.specs.Ledger.{Ledger, Record, entered, judged_by, ledger_of}
-use Rattle.jc_verdicts.specs.Verdicts.{IsCount, fresh_rows, has_row, indexes_in, new_rows}
+use Rattle.jc_account.specs.declared.judgements.Judgement.{Judgement as Row}
+use Rattle.jc_verdicts.specs.Books.{AreCounts, AreFew, AreSound, IsSoundBook, Knows, done_at, rows_at, totals_of, verdicts_at}
+use Rattle.jc_ledger.specs.Ledger.{kept, Judging, Ledger, Record, entered, judged_by, ledger_of}
+use Rattle.jc_verdicts.specs.Verdicts.{IsCount, done_after, done_by, fresh_rows, new_rows, outcome_in, rows_for, success_indexes}
 use Rattle.jc_ledger.specs.Ledger.{verdicts_of}
 use Rattle.jc_verdicts.proofs.VerdictFacts.{few_rows, few_kept, verdicts_are}
-use Rattle.jc_verdicts.proofs.VerdictRows.{count_entered}
+use Rattle.jc_verdicts.proofs.VerdictRows.{outcomes-append, count_entered}
 
--- The UIDs are those of the rows after new ones are noted.
-pub uids-more : (known more : Uid → Bool) (rows new all : List Row) → ((u : Uid) → known u ≡ has_row rows u) → ((u : Uid) → more u ≡ (known u || has_row new u)) → all ≡ rows ++ new → (u : Uid) → more u ≡ has_row all u
-uids-more known more rows new all old noted is u =
-    noted u ∙ ap (λ b. b || has_row new u) (old u)
-    ∙ sym (list_any-append (λ (row : Row). same_uid row.uid u) rows new)
-    ∙ ap (λ rs. has_row rs u) (sym is)
+-- The outcomes are those of the rows after new ones are noted.
+pub knows-more : (known more : List (Uid × Outcome)) (rows new all : List Row) → Knows known rows → ((u : Uid) → at same_uid more u ≡ option_or (at same_uid known u) (outcome_in new u)) → all ≡ rows ++ new → Knows more all
+knows-more known more rows new all old noted is u =
+    noted u ∙ ap (λ o. option_or o (outcome_in new u)) (old u) ∙ sym (outcomes-append u rows new) ∙ ap (λ rs. outcome_in rs u) (sym is)
+
+-- What is judged where the outcomes are those of the rows.
+pub rows-known : (spec : JobSpec) (known : List (Uid × Outcome)) (rows : List Row) (pods : List Pod) → Knows known rows → rows_for spec (at same_uid known) pods ≡ new_rows spec rows pods
+rows-known spec known rows pods knows = ap (λ f. rows_for spec f pods) (λ i u. knows u i)
+
+-- The pods of a Job rise.
+pub owned-rise : (j : Uid) (log : List Entry) (pods : List Pod) → pods ≡ pods_of j log → IsRising pods
+owned-rise j log pods are = subst IsRising (sym are) (rises_filter 0 (λ pod. same_uid pod.owner_uid j) (pods_in log) (pods_in-rises log))
+
+-- The rows of what is judged are those that the write judges.
+pub new-is : (job : Job) (spec : JobSpec) (log : List Entry) (seen : ℕ) (known : List (Uid × Outcome)) (rows new : List Row) (pods : List Pod) → spec ≡ job.spec → pods ≡ pods_of job.uid (reverse (take seen log)) → Knows known rows
+    → new ≡ rows_for spec (at same_uid known) pods → new ≡ fresh_rows job rows log seen
+new-is job spec log seen known rows new pods same are knows is =
+    is ∙ ap (λ s. rows_for s (at same_uid known) pods) same ∙ rows-known job.spec known rows pods knows ∙ ap (new_rows job.spec rows) are
+
+-- The indexes that are done by what is known are those by the rows.
+pub done-known : (job : Job) (log : List Entry) (seen : ℕ) (known : List (Uid × Outcome)) (rows : List Row) (done more : List ℕ) (pods : List Pod) → pods ≡ pods_of job.uid (reverse (take seen log)) → Knows known rows
+    → more ≡ success_indexes job (at same_uid known) pods → join (kept job done) more ≡ done_after job rows done log seen
+done-known job log seen known rows done more pods are knows is =
+    ap (join (kept job done)) (is ∙ ap (λ f. success_indexes job f pods) (λ i u. knows u i) ∙ ap (success_indexes job (outcome_in rows)) are)
 
 module _ (u : Uid) (old mid new : List (Uid × Book)) (book : Book)
     (others : (j : Uid) → same_uid u j ≡ false → at same_uid mid j ≡ at same_uid old j)
@@ -49,7 +72,7 @@ pub books-counted : (job : Job) (log : List Entry) (seen version : ℕ) (ledgers
     → ((j : Uid) → same_uid job.uid j ≡ false → at same_uid mid j ≡ at same_uid old j)
     → Sets same_uid mid new job.uid (Some book)
     → book.rows.items ≡ rows_at job.uid old ++ fresh_rows job (rows_at job.uid old) log seen
-    → book.done.items ≡ join (done_at job.uid old) (indexes_in (fresh_rows job (rows_at job.uid old) log seen))
+    → book.done.items ≡ done_after job (rows_at job.uid old) (done_at job.uid old) log seen
     → AreCounts ledgers old
     → AreCounts (λ j. judged_by j (reverse log) (Some (record { job = job; seen = seen; at = version })) (ledgers j)) new
 books-counted job log seen version ledgers old mid new book others sets more joins counts j =
@@ -69,12 +92,17 @@ books-counted job log seen version ledgers old mid new book others sets more joi
     own =
         count_entered job (pods_of job.uid (upto seen (reverse log))) seen version (ledgers job.uid) (rows_at job.uid old) book.rows.items (done_at job.uid old) book.done.items (counts job.uid)
         (more ∙ ap (λ pods. rows_at job.uid old ++ new_rows job.spec (rows_at job.uid old) pods) pods_are)
-        (joins ∙ ap (λ pods. join (done_at job.uid old) (indexes_in (new_rows job.spec (rows_at job.uid old) pods))) pods_are)
+        (joins ∙ ap (λ pods. done_by job (outcome_in (rows_at job.uid old)) (done_at job.uid old) pods) pods_are)
 
     by : (b : Bool) → same_uid job.uid j ≡ b → IsCount (items (cond b (Some book) (at same_uid mid j))) (indexes (cond b (Some book) (at same_uid mid j))) (cond b (entered job (pods_of j (upto seen (reverse log))) seen version (ledgers j)) (ledgers j))
     by true s =
         subst (λ x. IsCount book.rows.items book.done.items (entered job (pods_of x (upto seen (reverse log))) seen version (ledgers x))) (same_uid-eq job.uid j s) own
     by false s = subst (λ o. IsCount (items o) (indexes o) (ledgers j)) (sym (others j s)) (counts j)
+
+-- So it does after the event that is the write.
+pub counts-after : (log : List Entry) (judging judged : Option Judging) → judging ≡ judged → (ledgers : Uid → Ledger) (books : List (Uid × Book)) → AreCounts (λ j. judged_by j log judging (ledgers j)) books
+    → AreCounts (λ j. judged_by j log judged (ledgers j)) books
+counts-after log judging judged same ledgers books counts = subst (λ (o : Option Judging). AreCounts (λ j. judged_by j log o (ledgers j)) books) same counts
 
 -- What stands at a place is the first of the list from there on.
 pub drop-found : {X : Type 0} (xs : List X) (i n : ℕ) (x : X) → i + 1 ≡ n → slice_get xs i ≡ Some x → drop i xs ≡ x ∷ drop n xs

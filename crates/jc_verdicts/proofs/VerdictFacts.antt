@@ -11,7 +11,7 @@ use Rattle.jc_log.specs.Deeds.{Deed, deeds}
 use Rattle.jc_types.specs.Keys.{same_uid}
 use Rattle.jc_failpol.specs.declared.outcomes.Outcome.TheVariants.{Succeeded, Failed}
 use Rattle.jc_failpol.specs.Outcomes.{same_outcome}
-use Rattle.jc_verdicts.specs.declared.rows.Row.{Row}
+use Rattle.jc_account.specs.declared.judgements.Judgement.{Judgement as Row}
 use Rattle.jc_ledger.specs.Ledger.{Record, Ledger, judged_as, ledger_of}
 use Rattle.jc_verdicts.specs.Verdicts.{IsCount, deeds_of, row_of}
 use Rattle.jc_ledger.specs.Ledger.{verdicts_of}
@@ -43,9 +43,8 @@ module _ (j : Uid) (past : List Deed) (log : List Entry) (n : ℕ) (rows : List 
   few_kept =
       let are = ap length kept.done_is in
       let indexes = few_done j past (reverse log) in
-      let records = few_records j past (reverse log) once in
       let long = length-reverse log in
-      omega (arith, few, are, indexes, records, long)
+      omega (arith, few, are, indexes, long)
 
 -- The verdicts of a ledger, by what is kept.
 pub verdicts_are : (ledger : Ledger) (rows items : List Row) (done : List ℕ) (succeeded failed indexes : ℕ) → IsCount rows done ledger → items ≡ rows

@@ -1,30 +1,42 @@
 -- What is kept of a ledger: its rows, and the set of its indexes.
-use Rattle.std.proofs.Common.{◌≡◌, ℕ, ◌+◌, ◌<◌, Bool, true, false, cond, not, ◌&&◌, ◌||◌, List, [], ◌∷◌, ◌++◌, map, filter, find, length, get_or, drop, Option, Some, None, is_some, Result, refl, sym, ap, ◌∙◌, subst}
-use Rattle.std.specs.List.{cons_option, list_any, insert}
+use Rattle.std.proofs.Common.{◌≡◌, ℕ, ◌+◌, ◌-◌, ◌<◌, Bool, true, false, cond, not, ◌&&◌, List, [], ◌∷◌, ◌++◌, map, filter, find, length, get_or, drop, take, Option, Some, None, is_some, Result, Ok, Err, refl, sym, ap, ◌∙◌, subst}
+use Rattle.std.specs.Prelude.{IfOk, Vec, option_and_then, option_map, slice_get}
+use Rattle.std.specs.declared.alloc.Global.{Global}
+use Rattle.std.specs.List.{cons_option, insert}
+use Rattle.std.specs.Option.{option_map_or, option_or}
+use Rattle.std.proofs.lemmas.List.Elements.{filter_agree, filter_map-append}
+use Rattle.std.proofs.lemmas.List.Folds.{find-append}
+use Rattle.std.proofs.lemmas.Option.{slice_get-map}
 use Rattle.std.specs.List.Sorted.{IsBinarySearchResult}
 use Rattle.std.specs.Ordering.{nat_cmp}
 use Rattle.std.specs.Result.{MatchResult}
-use Rattle.std.proofs.lemmas.List.{drop_more, map-append, length-map}
+use Rattle.std.proofs.lemmas.List.{drop_more, map-append, length-map, take_more}
 use Rattle.std.proofs.lemmas.List.Sorted.{searched}
 use Rattle.std.proofs.lemmas.Result.{MatchResult-weaker}
 use Rattle.jc_ranges.specs.Sets.{IsIncreasing, with_member}
 use Rattle.jc_ranges.proofs.Order.{non_decreasing, present, absent}
+use Rattle.jc_types.specs.declared.limits.TheConstants.{MOST_UNCOUNTED}
 use Rattle.jc_types.specs.declared.numbers.Uid.{Uid}
 use Rattle.jc_types.specs.declared.objects.Job.{Job}
 use Rattle.jc_types.specs.declared.objects.Pod.{Pod}
+use Rattle.jc_types.specs.declared.specifications.JobSpec.{JobSpec}
 use Rattle.jc_types.specs.Keys.{same_uid}
+use Rattle.jc_states.specs.PodLists.{IsRising, RisesFrom}
+use Rattle.jc_states.proofs.PodListFacts.{rises_filter}
 use Rattle.jc_states.specs.Pods.{is_tracked}
 use Rattle.jc_states.specs.UidLists.{join}
-use Rattle.jc_types.proofs.ListFacts.{any_map, filter_same, filter-map}
+use Rattle.jc_types.proofs.ListFacts.{filter_same, filter-map}
 use Rattle.jc_failpol.specs.declared.outcomes.Outcome.{Outcome}
-use Rattle.jc_failpol.specs.declared.outcomes.Outcome.TheVariants.{Succeeded}
+use Rattle.jc_failpol.specs.declared.outcomes.Outcome.TheVariants.{Failed, Succeeded}
 use Rattle.jc_failpol.specs.Outcomes.{is_verdict, outcome_of, same_outcome}
 use Rattle.jc_account.specs.Modes.{indexes_of}
-use Rattle.jc_account.proofs.ListedFacts.{each}
-use Rattle.jc_verdicts.specs.declared.rows.Row.{Row}
-use Rattle.jc_account.specs.Judged.{is_fresh}
-use Rattle.jc_ledger.specs.Ledger.{Record, Ledger, record_of, has_record, chosen, recorded, judged_as, successes, entered}
-use Rattle.jc_verdicts.specs.Verdicts.{row_of, row_for, is_row_of, has_row, new_rows, success_index, indexes_in, IsCount}
+use Rattle.jc_account.specs.Judgements.{first_beyond, is_fit, rows_within}
+use Rattle.jc_account.specs.Rooms.{has_room, joins_list, judged_within, takes_room}
+use Rattle.jc_account.proofs.RoomFacts.{first_of, room-below}
+use Rattle.jc_account.specs.declared.judgements.Judgement.{Judgement as Row}
+use Rattle.jc_account.specs.Judged.{has_come_to, is_fresh}
+use Rattle.jc_ledger.specs.Ledger.{Record, Ledger, record_of, has_record, is_held, is_success, is_within, fresh, chosen, kept, recorded, judged_as, successes, entered, within}
+use Rattle.jc_verdicts.specs.Verdicts.{row_of, row_for, done_by, is_held_by, is_row_of, is_success_by, new_rows, outcome_in, rows_for, space_by, success_index, success_indexes, waiting, IsCount}
 
 -- ---- the set of indexes
 
@@ -34,58 +46,159 @@ searched_place n xs ys r same s h =
     let found = searched xs n r (subst (λ zs. IsBinarySearchResult (λ y. nat_cmp y n) zs r) same h) (λ i j q k. non_decreasing xs s i j 0 q k) in
     MatchResult-weaker r found (λ i q. present n xs i s q.0 q.1) (λ i q. (absent n xs i q.0 q.1 q.2).1)
 
--- One row more, from the last to the first.
-pub joined_row : (rows : List Row) (d : Row) (k n : ℕ) (set mid new : List ℕ) → k + 1 ≡ n → k < length rows
-    → mid ≡ join set (indexes_in (drop n rows)) → new ≡ join mid (indexes_in (get_or rows k d ∷ [])) → new ≡ join set (indexes_in (drop k rows))
-joined_row rows d k n set mid new next within so_far puts =
-    let at : drop k rows ≡ get_or rows k d ∷ drop n rows = drop_more rows k d within ∙ ap (λ i. get_or rows k d ∷ drop i rows) next in
-    puts ∙ ap (λ ds. join ds (indexes_in (get_or rows k d ∷ []))) so_far
-    ∙ by (success_index (get_or rows k d))
-    ∙ ap (λ rs. join set (indexes_in rs)) (sym at)
-  where
-    by : (o : Option ℕ) → join (join set (indexes_in (drop n rows))) (cons_option o []) ≡ join set (cons_option o (indexes_in (drop n rows)))
-    by None = refl
-    by (Some index) = refl
+-- One index more, from the last to the first.
+pub joined_index : (indexes : List ℕ) (d k n : ℕ) (set mid new : List ℕ) → k + 1 ≡ n → k < length indexes
+    → mid ≡ join set (drop n indexes) → new ≡ with_member (get_or indexes k d) mid → new ≡ join set (drop k indexes)
+joined_index indexes d k n set mid new next within so_far puts =
+    puts ∙ ap (with_member (get_or indexes k d)) so_far
+    ∙ ap (join set) (sym (drop_more indexes k d within ∙ ap (λ i. get_or indexes k d ∷ drop i indexes) next))
 
 -- ---- the rows
 
--- What passes is found.
-found_some : {X : Type 0} (test : X → Bool) (xs : List X) → is_some (find test xs) ≡ list_any test xs
-found_some test [] = refl
-found_some test (x ∷ xs) = by (test x) (found_some test xs)
+-- The rows of records say what the pods were judged.
+outcome_is : (u : Uid) (records : List Record) → option_map (λ (r : Record). r.outcome) (record_of u records) ≡ outcome_in (map row_of records) u
+outcome_is u [] = refl
+outcome_is u (r ∷ records) = by (same_uid r.pod.uid u) (outcome_is u records)
   where
-    by : (b : Bool) → is_some (find test xs) ≡ list_any test xs → is_some (cond b (Some x) (find test xs)) ≡ (b || list_any test xs)
+    by : (b : Bool) → option_map (λ (x : Record). x.outcome) (record_of u records) ≡ outcome_in (map row_of records) u
+        → option_map (λ (x : Record). x.outcome) (cond b (Some r) (record_of u records)) ≡ option_map (λ (row : Row). row.outcome) (cond b (Some (row_of r)) (find (is_row_of u) (map row_of records)))
     by true ih = refl
     by false ih = ih
 
 -- A pod has a record where a row has its UID.
-known_is : (u : Uid) (records : List Record) → is_some (record_of u records) ≡ list_any (is_row_of u) (map row_of records)
-known_is u records = found_some (λ (r : Record). same_uid r.pod.uid u) records ∙ sym (any_map row_of (is_row_of u) records)
+known_is : (u : Uid) (records : List Record) → has_record records u ≡ is_some (outcome_in (map row_of records) u)
+known_is u records = by (record_of u records) ∙ ap is_some (outcome_is u records)
+  where
+    by : (o : Option Record) → is_some o ≡ is_some (option_map (λ (r : Record). r.outcome) o)
+    by None = refl
+    by (Some r) = refl
 
--- The pods that are still to be judged.
-pub chosen_is : (job : Job) (records : List Record) (pods : List Pod) → chosen job records pods ≡ filter (is_fresh job.spec (has_row (map row_of records))) pods
+-- A pod joined a list by its record where it did by its row.
+held_is : (spec : JobSpec) (records : List Record) (pod : Pod) → is_held spec records pod ≡ is_held_by spec (outcome_in (map row_of records)) pod
+held_is spec records pod =
+    ap (λ b. is_tracked pod && b)
+    (by (record_of pod.uid records) ∙ ap (λ o. option_map_or (λ outcome. joins_list spec.mode outcome) o false) (outcome_is pod.uid records))
+  where
+    by : (o : Option Record) → option_map_or (λ (r : Record). joins_list spec.mode r.outcome) o false ≡ option_map_or (λ outcome. joins_list spec.mode outcome) (option_map (λ (r : Record). r.outcome) o) false
+    by None = refl
+    by (Some r) = refl
+
+-- The pods that a write judges.
+pub chosen_is : (job : Job) (records : List Record) (pods : List Pod) → chosen job records pods
+    ≡ judged_within job.spec (space_by job.spec (outcome_in (map row_of records)) pods) (waiting job.spec (outcome_in (map row_of records)) pods)
 chosen_is job records pods =
-    filter_same (is_fresh job.spec (has_record records)) (is_fresh job.spec (has_row (map row_of records))) pods
-    (each (λ pod. is_fresh job.spec (has_record records) pod ≡ is_fresh job.spec (has_row (map row_of records)) pod)
-    (λ pod. ap (λ b. is_tracked pod && (is_verdict (outcome_of job.spec pod) && not b)) (known_is pod.uid records)) pods)
+    let known = outcome_in (map row_of records) in
+    let held = filter_agree (is_held job.spec records) (is_held_by job.spec known) (held_is job.spec records) pods in
+    let unjudged = filter_agree (is_fresh job.spec (has_record records)) (is_fresh job.spec (λ u. is_some (known u)))
+    (λ pod. ap (λ b. is_tracked pod && (is_verdict (outcome_of job.spec pod) && not b)) (known_is pod.uid records)) pods in
+    ap (λ (ps : List Pod). judged_within job.spec (MOST_UNCOUNTED - length ps) (fresh job records pods)) held
+    ∙ ap (judged_within job.spec (space_by job.spec known pods)) unjudged
+
+-- The rows among those of waiting pods for which there is room.
+pub fitting_rows : (spec : JobSpec) (n : ℕ) (pods : List Pod) → RisesFrom 0 pods
+    → rows_within spec.mode (first_beyond spec.mode n (map (row_for spec) pods)) (map (row_for spec) pods) ≡ map (row_for spec) (judged_within spec n pods)
+fitting_rows spec n pods rises =
+    ap (λ first. rows_within spec.mode first (map (row_for spec) pods)) first_is
+    ∙ filter-map (row_for spec) (λ row. is_fit spec.mode (first_of spec n pods) row.outcome row.uid) pods
+    ∙ ap (map (row_for spec))
+    (sym
+    (filter_same (has_room spec n pods) (λ p. is_fit spec.mode (first_of spec n pods) (outcome_of spec p) p.uid) pods (room-below spec n 0 pods rises)))
+  where
+    uid_of : (o : Option Pod) → option_map (λ (row : Row). row.uid) (option_map (row_for spec) o) ≡ option_map (λ (pod : Pod). pod.uid) o
+    uid_of None = refl
+    uid_of (Some pod) = refl
+
+    first_is : first_beyond spec.mode n (map (row_for spec) pods) ≡ first_of spec n pods
+    first_is =
+        ap (λ rows. option_map (λ (row : Row). row.uid) (slice_get rows n)) (filter-map (row_for spec) (λ row. joins_list spec.mode row.outcome) pods)
+        ∙ ap (option_map (λ (row : Row). row.uid)) (slice_get-map (row_for spec) (filter (takes_room spec) pods) n)
+        ∙ uid_of (slice_get (filter (takes_room spec) pods) n)
+
+-- The outcomes by rows and more.
+pub outcomes-append : (u : Uid) (rows more : List Row) → outcome_in (rows ++ more) u ≡ option_or (outcome_in rows u) (outcome_in more u)
+outcomes-append u rows more = ap (option_map (λ (row : Row). row.outcome)) (find-append (is_row_of u) rows more) ∙ by (find (is_row_of u) rows)
+  where
+    by : (o : Option Row) → option_map (λ (row : Row). row.outcome) (option_or o (find (is_row_of u) more)) ≡ option_or (option_map (λ (row : Row). row.outcome) o) (outcome_in more u)
+    by None = refl
+    by (Some row) = refl
+
+-- One row more is noted.
+pub noted_more : (u : Uid) (old mid new : Option Outcome) (rows : List Row) (i : ℕ) (row : Row) → i < length rows → mid ≡ option_or old (outcome_in (take i rows) u) → new ≡ option_or mid (outcome_in (get_or rows i row ∷ []) u)
+    → new ≡ option_or old (outcome_in (take (i + 1) rows) u)
+noted_more u old mid new rows i row within so_far notes =
+    notes ∙ ap (λ o. option_or o (outcome_in (get_or rows i row ∷ []) u)) so_far ∙ by old
+    ∙ ap (option_or old) (sym (outcomes-append u (take i rows) (get_or rows i row ∷ [])) ∙ ap (λ rs. outcome_in rs u) (sym (take_more rows i row within)))
+  where
+    by : (o : Option Outcome) → option_or (option_or o (outcome_in (take i rows) u)) (outcome_in (get_or rows i row ∷ []) u) ≡ option_or o (option_or (outcome_in (take i rows) u) (outcome_in (get_or rows i row ∷ []) u))
+    by None = refl
+    by (Some x) = refl
+
+-- The rows that a search for the first UID without room leaves.
+pub fitting_result : (spec : JobSpec) (known : Uid → Option Outcome) (pods : List Pod) (space : ℕ) (rows others : List Row) (first : Option Uid) → IsRising pods → space ≡ space_by spec known pods
+    → rows ≡ map (row_for spec) (waiting spec known pods) → others ≡ map (row_for spec) (waiting spec known pods)
+    → first ≡ first_beyond spec.mode space rows → {E : Type 0} (r : Result (Vec Row Global) E) → IfOk r (λ judged. judged.items ≡ rows_within spec.mode first others)
+    → IfOk r (λ new. new.items ≡ rows_for spec known pods)
+fitting_result spec known pods space rows others first rises room are same found (Ok v) h =
+    h ∙ ap (rows_within spec.mode first) same
+    ∙ ap (λ f. rows_within spec.mode f (map (row_for spec) (waiting spec known pods))) (found ∙ ap (λ n. first_beyond spec.mode n rows) room ∙ ap (first_beyond spec.mode (space_by spec known pods)) are)
+    ∙ fitting_rows spec (space_by spec known pods) (waiting spec known pods) (rises_filter 0 (is_fresh spec (λ u. is_some (known u))) pods rises)
+fitting_result spec known pods space rows others first rises room are same found (Err e) h = tt
 
 -- The rows of new records.
 recorded_rows : (job : Job) (seen at : ℕ) (pods : List Pod) → map row_of (map (recorded job seen at) pods) ≡ map (row_for job.spec) pods
 recorded_rows job seen at [] = refl
 recorded_rows job seen at (pod ∷ pods) = ap (λ rest. row_for job.spec pod ∷ rest) (recorded_rows job seen at pods)
 
--- The indexes of new successes.
-success_indexes : (job : Job) (pods : List Pod) → indexes_of (successes job pods) ≡ indexes_in (map (row_for job.spec) pods)
-success_indexes job [] = refl
-success_indexes job (pod ∷ pods) = by (same_outcome (outcome_of job.spec pod) Succeeded) (success_indexes job pods)
+-- A pod is a success by its record where it is by its row.
+success_is : (job : Job) (records : List Record) (pod : Pod) → is_success job records pod ≡ is_success_by job (outcome_in (map row_of records)) pod
+success_is job records pod =
+    ap (λ b. has_come_to job Succeeded pod && not b)
+    (by (record_of pod.uid records) ∙ ap (λ o. option_map_or (λ outcome. same_outcome outcome Failed) o false) (outcome_is pod.uid records))
   where
-    by : (b : Bool) → indexes_of (successes job pods) ≡ indexes_in (map (row_for job.spec) pods)
-        → indexes_of (cond b (pod ∷ successes job pods) (successes job pods)) ≡ cons_option (cond b pod.index None) (indexes_in (map (row_for job.spec) pods))
-    by true ih = ap (cons_option pod.index) ih
-    by false ih = ih
+    by : (o : Option Record) → option_map_or (λ (r : Record). same_outcome r.outcome Failed) o false ≡ option_map_or (λ outcome. same_outcome outcome Failed) (option_map (λ (r : Record). r.outcome) o) false
+    by None = refl
+    by (Some r) = refl
+
+-- Their indexes that are below the number of completions.
+indexes_are : (job : Job) (known : Uid → Option Outcome) (pods : List Pod) → within job.spec (indexes_of (filter (is_success_by job known) pods)) ≡ success_indexes job known pods
+indexes_are job known [] = refl
+indexes_are job known (pod ∷ pods) = by (is_success_by job known pod) pod.index refl (indexes_are job known pods)
+  where
+    rest : List ℕ
+    rest = success_indexes job known pods
+
+    one : (n : ℕ) (w : Bool) → within job.spec (indexes_of (filter (is_success_by job known) pods)) ≡ rest
+        → cond w (n ∷ within job.spec (indexes_of (filter (is_success_by job known) pods))) (within job.spec (indexes_of (filter (is_success_by job known) pods))) ≡ cons_option (cond w (Some n) None) rest
+    one n true h = ap (λ ns. n ∷ ns) h
+    one n false h = h
+
+    index : (o : Option ℕ) → within job.spec (indexes_of (filter (is_success_by job known) pods)) ≡ rest
+        → within job.spec (cons_option o (indexes_of (filter (is_success_by job known) pods))) ≡ cons_option (option_and_then (λ n. cond (is_within job.spec n) (Some n) None) o) rest
+    index None h = h
+    index (Some n) h = one n (is_within job.spec n) h
+
+    by : (b : Bool) (o : Option ℕ) → pod.index ≡ o → within job.spec (indexes_of (filter (is_success_by job known) pods)) ≡ rest
+        → within job.spec (indexes_of (cond b (pod ∷ filter (is_success_by job known) pods) (filter (is_success_by job known) pods)))
+        ≡ cons_option (cond b (option_and_then (λ n. cond (is_within job.spec n) (Some n) None) pod.index) None) rest
+    by true o e h = index pod.index h
+    by false o e h = h
+
+-- The indexes that are done.
+pub done_is : (job : Job) (records : List Record) (done : List ℕ) (pods : List Pod) → join (kept job done) (within job.spec (indexes_of (successes job records pods))) ≡ done_by job (outcome_in (map row_of records)) done pods
+done_is job records done pods =
+    ap (λ ps. join (kept job done) (within job.spec (indexes_of ps))) (filter_agree (is_success job records) (is_success_by job (outcome_in (map row_of records))) (success_is job records) pods)
+    ∙ ap (join (kept job done)) (indexes_are job (outcome_in (map row_of records)) pods)
+
+-- The indexes of pods and of one more.
+pub one-index : {A : Type 0} (now : A → Pod) (job : Job) (known : Uid → Option Outcome) (shown : List A) (a : A) (indexes new : List ℕ) (o : Option ℕ)
+    → indexes ≡ success_indexes job known (map now shown) → o ≡ success_index job known (now a) → new ≡ indexes ++ cons_option o []
+    → new ≡ success_indexes job known (map now (shown ++ a ∷ []))
+one-index now job known shown a indexes new o are is more =
+    more ∙ ap (λ ns. ns ++ cons_option o []) are ∙ ap (λ i. success_indexes job known (map now shown) ++ cons_option i []) is
+    ∙ sym (ap (success_indexes job known) (map-append now shown (a ∷ [])) ∙ filter_map-append (success_index job known) (map now shown) (now a ∷ []))
 
 -- What is kept after a write that judges.
-pub count_entered : (job : Job) (pods : List Pod) (seen at : ℕ) (ledger : Ledger) (rows rows' : List Row) (done done' : List ℕ) → IsCount rows done ledger → rows' ≡ rows ++ new_rows job.spec rows pods → done' ≡ join done (indexes_in (new_rows job.spec rows pods))
+pub count_entered : (job : Job) (pods : List Pod) (seen at : ℕ) (ledger : Ledger) (rows rows' : List Row) (done done' : List ℕ) → IsCount rows done ledger → rows' ≡ rows ++ new_rows job.spec rows pods → done' ≡ done_by job (outcome_in rows) done pods
     → IsCount rows' done' (entered job pods seen at ledger)
 count_entered job pods seen at ledger rows rows' done done' is more joins = record {
   rows_are =
@@ -94,13 +207,13 @@ count_entered job pods seen at ledger rows rows' done done' is more joins = reco
       ∙ ap (λ rs. map row_of ledger.records ++ rs) (sym (recorded_rows job seen at (chosen job ledger.records pods)))
       ∙ sym (map-append row_of ledger.records (map (recorded job seen at) (chosen job ledger.records pods)));
   done_is =
-      joins ∙ ap (λ ds. join ds (indexes_in (new_rows job.spec rows pods))) is.done_is
-      ∙ ap (λ rs. join ledger.done (indexes_in (new_rows job.spec rs pods))) is.rows_are
-      ∙ ap (λ ps. join ledger.done (indexes_in (map (row_for job.spec) ps))) (sym picks)
-      ∙ ap (join ledger.done) (sym (success_indexes job (chosen job ledger.records pods)));
+      joins ∙ ap (λ ds. done_by job (outcome_in rows) ds pods) is.done_is
+      ∙ ap (λ rs. done_by job (outcome_in rs) ledger.done pods) is.rows_are
+      ∙ sym (done_is job ledger.records ledger.done pods);
 }
   where
-    picks : chosen job ledger.records pods ≡ filter (is_fresh job.spec (has_row (map row_of ledger.records))) pods
+    picks : chosen job ledger.records pods
+        ≡ judged_within job.spec (space_by job.spec (outcome_in (map row_of ledger.records)) pods) (waiting job.spec (outcome_in (map row_of ledger.records)) pods)
     picks = chosen_is job ledger.records pods
 
 -- How many are judged so, by the rows.

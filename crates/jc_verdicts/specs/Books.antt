@@ -1,5 +1,5 @@
 -- The books of all Jobs, as a pass over a history keeps them, and what they come to.
---     HasUids known rows       the UIDs are those of the rows
+--     Knows known rows         the outcomes under UIDs are those of the rows
 --     IsSoundBook j log book       the book has the pods of the Job of the UID, and is in order
 --     AreSound log books       so it is of each book
 --     rows_at j books          the rows of the Job's book; none where it has no book
@@ -10,30 +10,30 @@
 --     verdicts_at job rows     the verdicts in the row of the UID; none where it has no row
 use Rattle.std.specs.Prelude.{◌≡◌, ℕ, ◌<◌, ◌^◌, IfSome, List, [], filter, length, Some}
 use Rattle.std.specs.Option.{option_map_or}
-use Rattle.std.specs.HashSet.{HashSet, contains}
 use Rattle.jc_ranges.specs.Sets.{IsIncreasing}
 use Rattle.jc_types.specs.declared.numbers.Uid.{Uid}
 use Rattle.jc_types.specs.declared.objects.Entry.{Entry}
 use Rattle.jc_types.specs.Keys.{same_uid}
 use Rattle.jc_log.specs.Tables.{at}
+use Rattle.jc_failpol.specs.declared.outcomes.Outcome.{Outcome}
 use Rattle.jc_failpol.specs.declared.outcomes.Outcome.TheVariants.{Succeeded, Failed}
 use Rattle.jc_failpol.specs.Outcomes.{same_outcome}
 use Rattle.jc_verdicts.specs.declared.books.Book.{Book}
 use Rattle.jc_ledger.specs.declared.counts.Verdicts.{Verdicts}
-use Rattle.jc_verdicts.specs.declared.rows.Row.{Row}
+use Rattle.jc_account.specs.declared.judgements.Judgement.{Judgement as Row}
 use Rattle.jc_ledger.specs.Ledger.{Ledger}
-use Rattle.jc_verdicts.specs.Verdicts.{HasSeen, IsCount, has_row}
+use Rattle.jc_verdicts.specs.Verdicts.{HasSeen, IsCount, outcome_in}
 
--- The UIDs are those of the rows.
-abbrev pub HasUids : {S : Type 0} → HashSet Uid S → List Row → Type 0
-HasUids known rows = (u : Uid) → contains same_uid known u ≡ has_row rows u
+-- The outcome under each UID is that of the first row of the UID.
+abbrev pub Knows : List (Uid × Outcome) → List Row → Type 0
+Knows known rows = (u : Uid) → at same_uid known u ≡ outcome_in rows u
 
--- The book of the Job of the UID has the Job's pods among the first entries; its indexes rise, and its UIDs
--- are those of its rows.
+-- The book of the Job of the UID has the Job's pods among the first entries; its indexes rise, and its
+-- outcomes are those of its rows.
 pub record IsSoundBook (j : Uid) (log : List Entry) (book : Book) : Type 0 where
   pub seen : HasSeen j log book.pods book.at
   pub order : IsIncreasing book.done.items
-  pub uids : HasUids book.known book.rows.items
+  pub known : Knows book.known.entries book.rows.items
 
 -- So it is of each book.
 abbrev pub AreSound : List Entry → List (Uid × Book) → Type 0

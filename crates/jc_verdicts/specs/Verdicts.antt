@@ -3,19 +3,27 @@
 --     deeds_of script events         the deeds of events, newest first
 --     sync_at d past                 the sync whose write of a status the deed is
 --     Row, row_of record             what a count keeps of a record
---     has_row rows u                 one of the rows has the UID
---     rows_for spec known pods       the rows of the pods that are judged where these UIDs were
+--     outcome_in rows u              what the pod of the UID was judged, by the rows
+--     is_held_by spec known pod      the pod is tracked, and was judged so that it joined a list
+--     space_by spec known pods       how many UIDs may join the lists
+--     waiting spec known pods        the pods that are still to be judged
+--     rows_for spec known pods       the rows of the pods that are judged where pods were judged so
 --     new_rows spec rows pods        the rows of the pods that a write judges
 --     fresh_rows job rows log seen   those that it judges of the Job's pods among the first entries
+--     success_indexes job known pods the indexes of pods that have succeeded
+--     done_by job known done pods    the indexes that are done after a write
+--     done_after ..                  those after one whose sync saw the first entries
 --     IsCount rows done ledger       the rows and the indexes are those of the ledger
 --     judging_as past job seen       the write of the event judges the pods of the Job so
 --     ledger_after ..                the ledger after one more event
 --     before_place places at log     how many entries come before the one at the place of this number
 --     HasSeen j log pods at          so many places were taken, and the pods are those of the Job then
-use Rattle.std.specs.Prelude.{◌≡◌, ℕ, ◌<◌, ◌≤◌, ◌&&◌, Bool, All, List, map, filter, get_or, reverse, take, length, if◌then◌else◌, Option, None}
-use Rattle.std.specs.List.{filter_map, list_any}
+use Rattle.std.specs.Prelude.{◌≡◌, ℕ, ◌-◌, ◌<◌, ◌≤◌, ◌&&◌, Bool, false, All, List, map, filter, find, get_or, reverse, take, length, if◌then◌else◌, Option, Some, None, is_some, not, option_and_then, option_map}
+use Rattle.std.specs.List.{filter_map}
+use Rattle.std.specs.Option.{option_map_or}
 use Rattle.jc_types.specs.declared.actions.Command.{Command}
 use Rattle.jc_types.specs.declared.actions.Script.{Script}
+use Rattle.jc_types.specs.declared.limits.TheConstants.{MOST_UNCOUNTED}
 use Rattle.jc_types.specs.declared.numbers.Uid.{Uid}
 use Rattle.jc_types.specs.declared.objects.Entry.{Entry}
 use Rattle.jc_types.specs.declared.objects.Job.{Job}
@@ -28,13 +36,17 @@ use Rattle.jc_types.specs.declared.specifications.JobSpec.{JobSpec}
 use Rattle.jc_log.specs.Deeds.{Deed, deed}
 use Rattle.jc_types.specs.Keys.{same_uid}
 use Rattle.jc_log.specs.Log.{pods_of}
-use Rattle.jc_failpol.specs.declared.outcomes.Outcome.TheVariants.{Succeeded}
+use Rattle.jc_states.specs.Pods.{is_tracked}
+use Rattle.jc_failpol.specs.declared.outcomes.Outcome.{Outcome}
+use Rattle.jc_states.specs.UidLists.{join}
+use Rattle.jc_failpol.specs.declared.outcomes.Outcome.TheVariants.{Failed, Succeeded}
 use Rattle.jc_failpol.specs.Outcomes.{outcome_of, same_outcome}
 use Rattle.jc_verdicts.specs.Places.{touched}
-use Rattle.jc_verdicts.specs.declared.rows.Row.{Row}
+use Rattle.jc_account.specs.declared.judgements.Judgement.{Judgement as Row}
 use Rattle.jc_ledger.specs.Syncs.{Began, request_of, step_sync, appends}
-use Rattle.jc_account.specs.Judged.{is_fresh}
-use Rattle.jc_ledger.specs.Ledger.{Record, Ledger, Judging, is_status, judging_of, judged_by}
+use Rattle.jc_account.specs.Judged.{has_come_to, is_fresh}
+use Rattle.jc_account.specs.Rooms.{joins_list, judged_within}
+use Rattle.jc_ledger.specs.Ledger.{Record, Ledger, Judging, is_status, is_within, judging_of, judged_by, kept}
 
 -- The number of a command event is a place among the commands.
 abbrev pub IsPlace : List Command → Event → Type 0
@@ -63,33 +75,65 @@ row_of r = record { uid = r.pod.uid; outcome = r.outcome; index = r.pod.index }
 abbrev pub row_for : JobSpec → Pod → Row
 row_for spec pod = record { uid = pod.uid; outcome = outcome_of spec pod; index = pod.index }
 
--- A row has the UID.
+-- The row has the UID.
 abbrev pub is_row_of : Uid → Row → Bool
 is_row_of u row = same_uid row.uid u
 
--- One of the rows has the UID.
-abbrev pub has_row : List Row → Uid → Bool
-has_row rows u = list_any (is_row_of u) rows
+-- What the pod of the UID was judged, by the rows.
+abbrev pub outcome_in : List Row → Uid → Option Outcome
+outcome_in rows u = option_map (λ (row : Row). row.outcome) (find (is_row_of u) rows)
 
--- The rows of the pods that are judged where those of these UIDs were.
-abbrev pub rows_for : JobSpec → (Uid → Bool) → List Pod → List Row
-rows_for spec known pods = map (row_for spec) (filter (is_fresh spec known) pods)
+-- The pod is tracked, and was judged so that it joined a list, where pods were judged so.
+abbrev pub is_held_by : JobSpec → (Uid → Option Outcome) → Pod → Bool
+is_held_by spec known pod =
+    is_tracked pod && option_map_or (λ outcome. joins_list spec.mode outcome) (known pod.uid) false
+
+-- How many UIDs may join the lists, where pods were judged so.
+abbrev pub space_by : JobSpec → (Uid → Option Outcome) → List Pod → ℕ
+space_by spec known pods = MOST_UNCOUNTED - length (filter (is_held_by spec known) pods)
+
+-- The pods that are still to be judged, where pods were judged so.
+abbrev pub waiting : JobSpec → (Uid → Option Outcome) → List Pod → List Pod
+waiting spec known pods = filter (is_fresh spec (λ u. is_some (known u))) pods
+
+-- The rows of the pods that are judged, where pods were judged so.
+abbrev pub rows_for : JobSpec → (Uid → Option Outcome) → List Pod → List Row
+rows_for spec known pods =
+    map (row_for spec) (judged_within spec (space_by spec known pods) (waiting spec known pods))
 
 -- The rows of the pods that a write judges.
 abbrev pub new_rows : JobSpec → List Row → List Pod → List Row
-new_rows spec rows pods = rows_for spec (has_row rows) pods
+new_rows spec rows pods = rows_for spec (outcome_in rows) pods
 
 -- The rows of the Job's pods that a write judges whose sync saw the first entries.
 abbrev pub fresh_rows : Job → List Row → List Entry → ℕ → List Row
 fresh_rows job rows log seen = new_rows job.spec rows (pods_of job.uid (reverse (take seen log)))
 
--- The index of a success.
-abbrev pub success_index : Row → Option ℕ
-success_index row = if same_outcome row.outcome Succeeded then row.index else None
+-- The pod is tracked and has succeeded, and was not judged Failed, where pods were judged so.
+abbrev pub is_success_by : Job → (Uid → Option Outcome) → Pod → Bool
+is_success_by job known pod =
+    has_come_to job Succeeded pod
+    && not (option_map_or (λ outcome. same_outcome outcome Failed) (known pod.uid) false)
 
--- The indexes of the successes.
-abbrev pub indexes_in : List Row → List ℕ
-indexes_in rows = filter_map success_index rows
+-- The index of such a pod, if it is below the number of completions.
+abbrev pub success_index : Job → (Uid → Option Outcome) → Pod → Option ℕ
+success_index job known pod =
+    if is_success_by job known pod
+    then option_and_then (λ index. if is_within job.spec index then Some index else None) pod.index
+    else None
+
+-- Those of the pods.
+abbrev pub success_indexes : Job → (Uid → Option Outcome) → List Pod → List ℕ
+success_indexes job known pods = filter_map (success_index job known) pods
+
+-- The indexes that are done after a write that saw the pods, where pods were judged so.
+abbrev pub done_by : Job → (Uid → Option Outcome) → List ℕ → List Pod → List ℕ
+done_by job known done pods = join (kept job done) (success_indexes job known pods)
+
+-- Those after a write whose sync saw the first entries.
+abbrev pub done_after : Job → List Row → List ℕ → List Entry → ℕ → List ℕ
+done_after job rows done log seen =
+    done_by job (outcome_in rows) done (pods_of job.uid (reverse (take seen log)))
 
 -- The rows and the indexes are those of the ledger.
 pub record IsCount (rows : List Row) (done : List ℕ) (ledger : Ledger) : Type 0 where

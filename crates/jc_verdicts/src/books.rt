@@ -6,16 +6,17 @@ ghost use Rattle.jc_types.specs.declared.objects.Entry.{Entry};
 ghost use Rattle.jc_types.specs.Keys.{same_uid};
 ghost use Rattle.jc_log.specs.Log.{pods_of};
 ghost use Rattle.jc_log.specs.Tables.{at};
-ghost use Rattle.jc_states.specs.UidLists.{join};
 ghost use Rattle.jc_verdicts.specs.Books.{AreCounts, AreSound, IsSoundBook, done_at, rows_at};
 ghost use Rattle.jc_ledger.specs.Ledger.{Ledger, judged_by};
 ghost use Rattle.jc_verdicts.specs.Places.{ArePlaces};
-ghost use Rattle.jc_verdicts.specs.Verdicts.{HasSeen, fresh_rows, indexes_in};
+ghost use Rattle.jc_verdicts.specs.Verdicts.{HasSeen, done_after, fresh_rows};
 
 use crate::places::{Places, places_at};
-use crate::rows::{Row, enter, new_rows, note_uids};
+use crate::rows::{new_rows, note_outcomes, success_indexes, with_indexes};
 use crate::seen::look;
-use indexmap::{IndexMap, IndexSet};
+use indexmap::IndexMap;
+use jc_account::Judgement as Row;
+use jc_failpol::Outcome;
 use jc_table::PodTable;
 use jc_types::{Entry, Job, Uid, Want};
 use std::alloc::Global;
@@ -25,8 +26,8 @@ use std::alloc::Global;
 #[derive(Drop)]
 pub struct Book {
     pub rows: Vec<Row>,
-    /// The UIDs of the judged pods.
-    pub known: IndexSet<Uid>,
+    /// What the pods of the UIDs were judged.
+    pub known: IndexMap<Uid, Outcome>,
     pub done: Vec<u32>,
     pub pods: PodTable,
     /// From how many of the places of its list the pods were taken.
@@ -36,14 +37,14 @@ pub struct Book {
 /// The book of a Job of which nothing was judged.
 fn empty(alloc: Global) -> Book
     ensures rows { result.rows.items ≡ [] }
-    ensures known { result.known.keys ≡ [] }
+    ensures known { result.known.entries ≡ [] }
     ensures done { result.done.items ≡ [] }
     ensures pods { result.pods ≡ [] }
     ensures at { result.at ≡ 0 }
 {
     Book {
         rows: Vec::new(alloc),
-        known: IndexSet::new(alloc),
+        known: IndexMap::new(alloc),
         done: Vec::new(alloc),
         pods: PodTable::new(alloc),
         at: 0,
@@ -63,7 +64,7 @@ fn look_in(
     ensures pods { OnOk result (book.new.pods ≡ pods_of owner (reverse (take seen log.now))) }
     ensures seen { OnOk result (HasSeen owner log.now book.new.pods book.new.at) }
     ensures rows { OnOk result (book.new.rows.items ≡ book.old.rows.items) }
-    ensures known { OnOk result (book.new.known.keys ≡ book.old.known.keys) }
+    ensures known { OnOk result (book.new.known.entries ≡ book.old.known.entries) }
     ensures done { OnOk result (book.new.done.items ≡ book.old.done.items) }
 {
     let own = places_at(&places.pods, &owner);
@@ -85,15 +86,16 @@ fn judge(
     ensures rows { OnOk result (book.new.rows.items
         ≡ book.old.rows.items ++ fresh_rows job.now book.old.rows.items log.now seen) }
     ensures done { OnOk result (book.new.done.items
-        ≡ join book.old.done.items
-        (indexes_in (fresh_rows job.now book.old.rows.items log.now seen))) }
+        ≡ done_after job.now book.old.rows.items book.old.done.items log.now seen) }
     ensures sound { OnOk result (IsSoundBook job.now.uid log.now book.new) }
 {
     look_in(book, job.uid, log, places, seen)?;
     let new = new_rows(alloc, &job.spec, &book.known, &book.pods)?;
+    let more = success_indexes(alloc, job, &book.known, &book.pods)?;
+    book.done = with_indexes(alloc, book.done.as_slice(), job, more.as_slice())?;
     let fresh = new.as_slice();
-    enter(&mut book.rows, &mut book.done, fresh)?;
-    note_uids(&mut book.known, fresh)?;
+    book.rows.extend_from_slice(fresh)?;
+    note_outcomes(&mut book.known, fresh)?;
     Ok(())
 }
 

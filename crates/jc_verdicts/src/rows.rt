@@ -1,35 +1,67 @@
 //! What is kept of the judged pods of a Job.
 
-ghost use Rattle.std.specs.Prelude.{◌≡◌, ◌<◌, ◌^◌, ◌++◌, ◌∷◌, ◌||◌, [], IfOk, OnOk, filter, length};
-ghost use Rattle.std.specs.HashSet.{contains};
+ghost use Rattle.std.specs.Prelude.{◌≡◌, ◌<◌, ◌^◌, ◌∷◌, [], IfOk, None, OnOk, Some, false, filter, if◌then◌else◌, is_some, length, map};
+ghost use Rattle.std.specs.Option.{option_and_then, option_copied, option_map_or, option_or, unwrap_or};
 ghost use Rattle.jc_ranges.specs.Sets.{IsIncreasing, with_member};
 ghost use Rattle.jc_types.specs.declared.numbers.Uid.{Uid};
 ghost use Rattle.jc_types.specs.Keys.{same_uid};
+ghost use Rattle.jc_log.specs.Tables.{at};
+ghost use Rattle.jc_states.specs.PodLists.{IsRising};
 ghost use Rattle.jc_states.specs.UidLists.{join};
+ghost use Rattle.jc_failpol.specs.declared.outcomes.Outcome.TheVariants.{Failed};
 ghost use Rattle.jc_failpol.specs.Outcomes.{outcome_of, same_outcome};
-ghost use Rattle.jc_verdicts.specs.declared.rows.Row.{Row};
+ghost use Rattle.jc_account.specs.declared.judgements.Judgement.{Judgement as Row};
 ghost use Rattle.jc_account.specs.Judged.{is_fresh};
-ghost use Rattle.jc_verdicts.specs.Verdicts.{has_row, indexes_in, row_for, rows_for, success_index};
+ghost use Rattle.jc_account.specs.Rooms.{joins_list};
+ghost use Rattle.jc_ledger.specs.Ledger.{is_within, kept as kept_of};
+ghost use Rattle.jc_verdicts.specs.Verdicts.{is_held_by, is_success_by, outcome_in, row_for, rows_for, space_by};
+ghost use Rattle.jc_verdicts.specs.Verdicts.{success_index, success_indexes, waiting};
 
-use indexmap::IndexSet;
+use indexmap::IndexMap;
+use jc_account::{Judgement as Row, first_beyond, joins_list, rows_within};
 use jc_failpol::{Outcome, is_verdict, outcome};
+use jc_states::has_end;
 use jc_table::PodTable;
-use jc_types::{JobSpec, Pod, Uid, Want};
+use jc_types::{Job, JobSpec, MOST_UNCOUNTED, Mode, Pod, Uid, Want};
 use std::alloc::Global;
 
-/// A judged pod: its UID, what it was judged, and its completion index.
-#[derive(Clone, Copy)]
-pub struct Row {
-    pub uid: Uid,
-    pub outcome: Outcome,
-    pub index: Option<u32>,
+/// Whether the pod is still to be judged.
+fn is_fresh(spec: &JobSpec, known: &IndexMap<Uid, Outcome>, pod: &Pod) -> bool
+    ensures { result
+        ≡ is_fresh spec.now (λ u. is_some (at same_uid known.now.entries u)) pod.now }
+{
+    pod.tracked && is_verdict(outcome(spec, pod)) && !known.contains_key(&pod.uid)
 }
 
-/// Whether the pod is still to be judged.
-fn is_fresh(spec: &JobSpec, known: &IndexSet<Uid>, pod: &Pod) -> bool
-    ensures { result ≡ is_fresh spec.now (contains same_uid known.now) pod.now }
+/// Whether a pod that was judged so, if it was, joined a list.
+fn has_joined(mode: Mode, outcome: Option<&Outcome>) -> bool
+    ensures { result
+        ≡ option_map_or (λ outcome. joins_list mode outcome) (option_copied outcome.entry) false }
 {
-    pod.tracked && is_verdict(outcome(spec, pod)) && !known.contains(&pod.uid)
+    match outcome {
+        Some(outcome) => joins_list(mode, *outcome),
+        None => false,
+    }
+}
+
+/// Whether the pod is tracked, and was judged so that it joined a list.
+fn is_held(spec: &JobSpec, known: &IndexMap<Uid, Outcome>, pod: &Pod) -> bool
+    ensures { result ≡ is_held_by spec.now (at same_uid known.now.entries) pod.now }
+{
+    pod.tracked && has_joined(spec.mode, known.get(&pod.uid))
+}
+
+/// How many UIDs may join the lists: one less for each pod that is tracked and joined one.
+fn space(spec: &JobSpec, known: &IndexMap<Uid, Outcome>, pods: &PodTable) -> usize
+    ensures { result ≡ space_by spec.now (at same_uid known.now.entries) pods.now }
+{
+    let mut space = MOST_UNCOUNTED as usize;
+    for pod in pods.values() {
+        if is_held(spec, known, pod) {
+            space = space.saturating_sub(1);
+        }
+    }
+    space
 }
 
 /// The row of a pod that is judged.
@@ -44,14 +76,14 @@ fn row_for(spec: &JobSpec, pod: &Pod) -> Row
 }
 
 /// The rows of the pods that are still to be judged: their UIDs are not known yet.
-pub fn new_rows(
+fn waiting_rows(
     alloc: Global,
     spec: &JobSpec,
-    known: &IndexSet<Uid>,
+    known: &IndexMap<Uid, Outcome>,
     pods: &PodTable,
 ) -> Result<Vec<Row>, Want>
     ensures { IfOk result (λ new. new.items
-        ≡ rows_for spec.now (contains same_uid known.now) pods.now) }
+        ≡ map (row_for spec.now) (waiting spec.now (at same_uid known.now.entries) pods.now)) }
 {
     let mut new = Vec::new(alloc);
     for pod in pods.values() {
@@ -62,26 +94,124 @@ pub fn new_rows(
     Ok(new)
 }
 
-/// Notes the UIDs of new rows.
-pub fn note_uids(known: &mut IndexSet<Uid>, rows: &[Row]) -> Result<(), Want>
-    ensures { OnOk result ((u : Uid) → contains same_uid known.new u
-        ≡ (contains same_uid known.old u || has_row rows.now u)) }
+/// The rows of the pods that a write judges: of those that are still to be judged, as many as there is
+/// room for.
+pub fn new_rows(
+    alloc: Global,
+    spec: &JobSpec,
+    known: &IndexMap<Uid, Outcome>,
+    pods: &PodTable,
+) -> Result<Vec<Row>, Want>
+    requires { IsRising pods.now }
+    ensures { IfOk result (λ new. new.items
+        ≡ rows_for spec.now (at same_uid known.now.entries) pods.now) }
 {
-    for row in rows {
-        known.insert(row.uid)?;
+    let space = space(spec, known, pods);
+    let waiting = waiting_rows(alloc, spec, known, pods)?;
+    let first = first_beyond(spec.mode, waiting.as_slice(), space);
+    rows_within(alloc, spec.mode, first, waiting.as_slice())
+}
+
+/// Notes the outcome of a row, where its UID has none.
+fn note_row(known: &mut IndexMap<Uid, Outcome>, row: &Row) -> Result<(), Want>
+    ensures { OnOk result ((u : Uid) → at same_uid known.new.entries u
+        ≡ option_or (at same_uid known.old.entries u) (outcome_in (row.now ∷ []) u)) }
+{
+    if !known.contains_key(&row.uid) {
+        known.insert(row.uid, row.outcome)?;
     }
     Ok(())
 }
 
-/// The index of a success.
-fn success_index(row: &Row) -> Option<u32>
-    ensures { result ≡ success_index row.now }
+/// Notes the outcomes of new rows.
+pub fn note_outcomes(known: &mut IndexMap<Uid, Outcome>, rows: &[Row]) -> Result<(), Want>
+    ensures { OnOk result ((u : Uid) → at same_uid known.new.entries u
+        ≡ option_or (at same_uid known.old.entries u) (outcome_in rows.now u)) }
 {
-    if row.outcome == Outcome::Succeeded {
-        row.index
+    for row in rows {
+        note_row(known, row)?;
+    }
+    Ok(())
+}
+
+/// Whether a pod that was judged so, if it was, was judged Failed.
+fn has_failed(outcome: Option<&Outcome>) -> bool
+    ensures { result
+        ≡ option_map_or (λ outcome. same_outcome outcome Failed) (option_copied outcome.entry) false }
+{
+    match outcome {
+        Some(outcome) => *outcome == Outcome::Failed,
+        None => false,
+    }
+}
+
+/// Whether the pod is tracked and has succeeded, and was not judged Failed.
+fn is_success(job: &Job, known: &IndexMap<Uid, Outcome>, pod: &Pod) -> bool
+    ensures { result ≡ is_success_by job.now (at same_uid known.now.entries) pod.now }
+{
+    pod.tracked && outcome(&job.spec, pod) == Outcome::Succeeded && !has_failed(known.get(&pod.uid))
+}
+
+/// The number of completions of the Job.
+fn completions(job: &Job) -> u32
+    ensures { result ≡ unwrap_or job.now.spec.completions 0 }
+{
+    job.spec.completions.unwrap_or(0)
+}
+
+/// The index, where it is below the number of completions.
+fn index_within(job: &Job, index: Option<u32>) -> Option<u32>
+    ensures { result
+        ≡ option_and_then (λ index. if is_within job.now.spec index then Some index else None) index }
+{
+    match index {
+        Some(index) if index < completions(job) => Some(index),
+        _ => None,
+    }
+}
+
+/// The index of a pod that has succeeded, where it is below the number of completions.
+fn success_index(job: &Job, known: &IndexMap<Uid, Outcome>, pod: &Pod) -> Option<u32>
+    ensures { result ≡ success_index job.now (at same_uid known.now.entries) pod.now }
+{
+    if is_success(job, known, pod) {
+        index_within(job, pod.index)
     } else {
         None
     }
+}
+
+/// The indexes of the pods that have succeeded, and that were not judged Failed.
+pub fn success_indexes(
+    alloc: Global,
+    job: &Job,
+    known: &IndexMap<Uid, Outcome>,
+    pods: &PodTable,
+) -> Result<Vec<u32>, Want>
+    ensures { IfOk result (λ indexes. indexes.items
+        ≡ success_indexes job.now (at same_uid known.now.entries) pods.now) }
+{
+    let mut indexes = Vec::new(alloc);
+    for pod in pods.values() {
+        if let Some(index) = success_index(job, known, pod) {
+            indexes.push(index)?;
+        }
+    }
+    Ok(indexes)
+}
+
+/// The indexes that stay: those below the number of completions, or all where an end stands.
+fn kept(alloc: Global, done: &[u32], job: &Job) -> Result<Vec<u32>, Want>
+    ensures { IfOk result (λ stay. stay.items ≡ kept_of job.now done.now) }
+{
+    if has_end(&job.status.conditions) {
+        return Vec::from_slice(alloc, done);
+    }
+    let completions = completions(job);
+    done.iter()
+        .copied()
+        .filter(|index| *index < completions)
+        .collect(alloc)
 }
 
 /// Puts an index in its place; a list that has it stays as it is.
@@ -95,37 +225,31 @@ fn put_index(done: &mut Vec<u32>, index: u32) -> Result<(), Want>
     Ok(())
 }
 
-/// Puts the index of a row in its place, where the row is a success that has one.
-fn put_row(done: &mut Vec<u32>, row: &Row) -> Result<(), Want>
+/// Puts the indexes in their places, the last first.
+fn put_indexes(done: &mut Vec<u32>, indexes: &[u32]) -> Result<(), Want>
     requires { IsIncreasing done.old.items }
-    ensures { OnOk result (done.new.items ≡ join done.old.items (indexes_in (row.now ∷ []))) }
+    ensures { OnOk result (done.new.items ≡ join done.old.items indexes.now) }
 {
-    if let Some(index) = success_index(row) {
-        put_index(done, index)?;
+    for place in (0..indexes.len()).rev() {
+        put_index(done, indexes[place])?;
     }
     Ok(())
 }
 
-/// Puts the indexes of the successes in their places, the last first.
-fn put_indexes(done: &mut Vec<u32>, rows: &[Row]) -> Result<(), Want>
-    requires { IsIncreasing done.old.items }
-    ensures { OnOk result (done.new.items ≡ join done.old.items (indexes_in rows.now)) }
+/// The indexes after a write: of the old ones those that stay, with the new ones.
+pub fn with_indexes(
+    alloc: Global,
+    done: &[u32],
+    job: &Job,
+    indexes: &[u32],
+) -> Result<Vec<u32>, Want>
+    requires { IsIncreasing done.now }
+    ensures done { IfOk result (λ all. all.items ≡ join (kept_of job.now done.now) indexes.now) }
+    ensures order { IfOk result (λ all. IsIncreasing all.items) }
 {
-    for place in (0..rows.len()).rev() {
-        put_row(done, &rows[place])?;
-    }
-    Ok(())
-}
-
-/// Enters new rows, and the indexes of their successes.
-pub fn enter(rows: &mut Vec<Row>, done: &mut Vec<u32>, new: &[Row]) -> Result<(), Want>
-    requires { IsIncreasing done.old.items }
-    ensures rows { OnOk result (rows.new.items ≡ rows.old.items ++ new.now) }
-    ensures done { OnOk result (done.new.items ≡ join done.old.items (indexes_in new.now)) }
-{
-    put_indexes(done, new)?;
-    rows.extend_from_slice(new)?;
-    Ok(())
+    let mut all = kept(alloc, done, job)?;
+    put_indexes(&mut all, indexes)?;
+    Ok(all)
 }
 
 /// How many rows have the outcome.

@@ -1,8 +1,10 @@
 -- The members of what is counted in.
-use Rattle.std.proofs.Common.{length, refl, ap, sym, ◌∙◌, arith}
+use Rattle.std.proofs.Common.{◌+◌, ◌-◌, length, refl, ap, sym, ◌∙◌, arith}
+use Rattle.jc_types.specs.declared.limits.TheConstants.{MOST_UNCOUNTED}
 use Rattle.jc_types.specs.declared.specifications.JobSpec.{JobSpec}
-use Rattle.jc_states.specs.Bases.{own_pods}
-use Rattle.jc_account.specs.Accounts.{stayed}
+use Rattle.jc_types.proofs.ListFacts.{filter_filter}
+use Rattle.jc_states.specs.Bases.{is_own, own_pods}
+use Rattle.jc_account.specs.Judged.{is_staying, stayed}
 use Rattle.jc_account.proofs.Totals.{counted, merged_at, successes_fit}
 use Rattle.jc_account.proofs.accounts.count_job.Goals as goal
 
@@ -29,6 +31,11 @@ returns-clause-counted c =
     c.in_ok-releases.ensures
     c.gain.ensures
     c.len.ensures
+    c.new.ensures
+    c.new-2.ensures
+    refl
+    c.in_ok-newly.ensures.left_succeeded
+    c.in_ok-newly.ensures.left_failed
 
 pub returns-clause-failed_fits : goal.returns-clause-failed_fits
 returns-clause-failed_fits c =
@@ -47,10 +54,17 @@ returns-clause-succeeded_fits c =
     let status = c.args.job.now.status in
     successes_fit c.deref.result.now.mode c.raised-total.result c.succeeded.result
     (length c.in_ok-stayed_succeeded.stayed_succeeded) (length c.in_ok-newly.newly.succeeded) (length c.in_ok-with_successes.field-0)
-    (length c.args.pods.now) status.succeeded (length status.uncounted_succeeded)
+    c.in_ok-newly.newly.left_succeeded (length c.args.pods.now) status.succeeded (length status.uncounted_succeeded)
     c.succeeded.ensures.plain c.succeeded.ensures.indexed
     (λ e. ap length (c.requires.tidy (sym (ap (λ (spec : JobSpec). spec.mode) c.deref.ensures) ∙ e)).0)
     c.raised-total.ensures c.in_ok-with_successes.ensures.few
     (λ e. ap length (c.in_ok-with_successes.ensures.indexed e))
     (omega (arith, c.in_ok-stayed_succeeded.ensures.shorter, ap length c.as_slice.ensures))
-    c.in_ok-newly.ensures.few_succeeded c.requires.totals.0
+    c.in_ok-newly.ensures.few_succeeded c.requires.few c.requires.totals.0
+
+-- The room is what those leave that stay.
+pub judge-requires-clause-room : goal.judge-requires-clause-room
+judge-requires-clause-room c =
+    let job = c.args.job.now in
+    c.room_beside-room.ensures
+    ∙ ap (λ n. MOST_UNCOUNTED - n) (c.count_staying.ensures ∙ ap length (sym (filter_filter (is_staying job) (is_own job) c.args.pods.now)))

@@ -1,46 +1,108 @@
 -- The rows against the pods.
-use Rattle.std.proofs.Common.{All, length, ap, subst, sym, ◌∙◌, arith}
-use Rattle.jc_types.specs.declared.specifications.JobSpec.{JobSpec}
-use Rattle.jc_states.specs.Bases.{own_pods}
+use Rattle.std.proofs.Common.{All, length, unwrap_or, ap, subst, sym, ◌∙◌, arith}
+use Rattle.jc_states.specs.Conditions.{has_end}
 use Rattle.jc_failpol.specs.declared.outcomes.Outcome.TheVariants.{Failed, Succeeded}
-use Rattle.jc_account.specs.Judgements.{completed_judged, HasSmall, judgements, uids_judged}
-use Rattle.jc_account.proofs.JudgementFacts.{completed-newly, newly-few, rows-small, uids-newly}
+use Rattle.jc_account.specs.Judgements.{completed_judged, HasSmall, uids_judged}
+use Rattle.jc_account.proofs.JudgementFacts.{completed-newly, first-is, judged-few, judged-is, left-is, rows-few, rows-small, uids-newly}
 use Rattle.jc_account.proofs.judgements.judge.Goals as goal
 
-pub returns-clause-succeeded : goal.returns-clause-succeeded
-returns-clause-succeeded c =
-    c.in_ok-uids_judged.ensures
-    ∙ ap (uids_judged Succeeded) (c.as_slice.ensures.value ∙ c.in_ok-rows.ensures)
-    ∙ uids-newly c.args.job.now c.args.pods.now Succeeded
-
-pub returns-clause-failed : goal.returns-clause-failed
-returns-clause-failed c =
-    c.in_ok-uids_judged-2.ensures
-    ∙ ap (uids_judged Failed) (c.as_slice-2.ensures.value ∙ c.in_ok-rows.ensures)
-    ∙ uids-newly c.args.job.now c.args.pods.now Failed
+pub returns-clause-first_left : goal.returns-clause-first_left
+returns-clause-first_left c =
+    let job = c.args.job.now in
+    let pods = c.args.pods.now in
+    first-is job pods c.requires.rising c.deref.result.now c.first_beyond-first_left.result c.args.room c.as_slice.result.now
+    c.deref.ensures c.requires.room (c.as_slice.ensures.value ∙ c.in_ok-rows.ensures) c.first_beyond-first_left.ensures
 
 pub completed-requires : goal.completed-requires
 completed-requires c =
-    subst (All HasSmall) (sym (c.as_slice-3.ensures.value ∙ c.in_ok-rows.ensures)) (rows-small c.args.job.now c.args.pods.now c.requires)
+    let job = c.args.job.now in
+    let pods = c.args.pods.now in
+    let first = first-is job pods c.requires.rising c.deref.result.now c.first_beyond-first_left.result c.args.room c.as_slice.result.now
+    c.deref.ensures c.requires.room (c.as_slice.ensures.value ∙ c.in_ok-rows.ensures) c.first_beyond-first_left.ensures in
+    let rows = judged-is job pods c.requires.rising c.deref.result.now c.deref.ensures c.first_beyond-first_left.result first c.as_slice-2.result.now
+    (c.as_slice-2.ensures.value ∙ c.in_ok-rows.ensures) c.in_ok-judged.judged.items c.in_ok-judged.ensures in
+    subst (All HasSmall) (sym (c.as_slice-5.ensures.value ∙ rows)) (rows-small job pods c.requires.indexes)
+
+pub returns-clause-succeeded : goal.returns-clause-succeeded
+returns-clause-succeeded c =
+    let job = c.args.job.now in
+    let pods = c.args.pods.now in
+    let first = first-is job pods c.requires.rising c.deref.result.now c.first_beyond-first_left.result c.args.room c.as_slice.result.now
+    c.deref.ensures c.requires.room (c.as_slice.ensures.value ∙ c.in_ok-rows.ensures) c.first_beyond-first_left.ensures in
+    let rows = judged-is job pods c.requires.rising c.deref.result.now c.deref.ensures c.first_beyond-first_left.result first c.as_slice-2.result.now
+    (c.as_slice-2.ensures.value ∙ c.in_ok-rows.ensures) c.in_ok-judged.judged.items c.in_ok-judged.ensures in
+    c.in_ok-uids_judged.ensures ∙ ap (uids_judged Succeeded) (c.as_slice-3.ensures.value ∙ rows) ∙ uids-newly job pods Succeeded
+
+pub returns-clause-failed : goal.returns-clause-failed
+returns-clause-failed c =
+    let job = c.args.job.now in
+    let pods = c.args.pods.now in
+    let first = first-is job pods c.requires.rising c.deref.result.now c.first_beyond-first_left.result c.args.room c.as_slice.result.now
+    c.deref.ensures c.requires.room (c.as_slice.ensures.value ∙ c.in_ok-rows.ensures) c.first_beyond-first_left.ensures in
+    let rows = judged-is job pods c.requires.rising c.deref.result.now c.deref.ensures c.first_beyond-first_left.result first c.as_slice-2.result.now
+    (c.as_slice-2.ensures.value ∙ c.in_ok-rows.ensures) c.in_ok-judged.judged.items c.in_ok-judged.ensures in
+    c.in_ok-uids_judged-2.ensures ∙ ap (uids_judged Failed) (c.as_slice-4.ensures.value ∙ rows) ∙ uids-newly job pods Failed
 
 pub returns-clause-completed : goal.returns-clause-completed
 returns-clause-completed c =
     let job = c.args.job.now in
+    let pods = c.args.pods.now in
+    let first = first-is job pods c.requires.rising c.deref.result.now c.first_beyond-first_left.result c.args.room c.as_slice.result.now
+    c.deref.ensures c.requires.room (c.as_slice.ensures.value ∙ c.in_ok-rows.ensures) c.first_beyond-first_left.ensures in
+    let rows = judged-is job pods c.requires.rising c.deref.result.now c.deref.ensures c.first_beyond-first_left.result first c.as_slice-2.result.now
+    (c.as_slice-2.ensures.value ∙ c.in_ok-rows.ensures) c.in_ok-judged.judged.items c.in_ok-judged.ensures in
     c.in_ok-completed.ensures
-    ∙ ap (completed_judged _ job.status.completed) (c.as_slice-3.ensures.value ∙ c.in_ok-rows.ensures)
-    ∙ ap (λ (spec : JobSpec). completed_judged spec.mode job.status.completed (judgements job (own_pods job c.args.pods.now))) c.deref.ensures
-    ∙ completed-newly job c.args.pods.now
+    ∙ ap (completed_judged job.spec.mode (has_end job.status.conditions) (unwrap_or job.spec.completions 0) job.status.completed) (c.as_slice-5.ensures.value ∙ rows)
+    ∙ completed-newly job pods
+
+pub count_beyond-requires : goal.count_beyond-requires
+count_beyond-requires c =
+    omega (arith, ap length (c.as_slice-6.ensures.value ∙ c.in_ok-rows.ensures), rows-few c.args.job.now c.args.pods.now, c.requires.few)
+
+pub count_beyond-requires-2 : goal.count_beyond-requires-2
+count_beyond-requires-2 c =
+    omega (arith, ap length (c.as_slice-7.ensures.value ∙ c.in_ok-rows.ensures), rows-few c.args.job.now c.args.pods.now, c.requires.few)
+
+pub returns-clause-left_succeeded : goal.returns-clause-left_succeeded
+returns-clause-left_succeeded c =
+    let job = c.args.job.now in
+    let pods = c.args.pods.now in
+    let first = first-is job pods c.requires.rising c.deref.result.now c.first_beyond-first_left.result c.args.room c.as_slice.result.now
+    c.deref.ensures c.requires.room (c.as_slice.ensures.value ∙ c.in_ok-rows.ensures) c.first_beyond-first_left.ensures in
+    left-is job pods c.requires.rising c.deref.result.now c.deref.ensures c.first_beyond-first_left.result first c.as_slice-6.result.now
+    (c.as_slice-6.ensures.value ∙ c.in_ok-rows.ensures) Succeeded c.count_beyond.result c.count_beyond.ensures
+
+pub returns-clause-left_failed : goal.returns-clause-left_failed
+returns-clause-left_failed c =
+    let job = c.args.job.now in
+    let pods = c.args.pods.now in
+    let first = first-is job pods c.requires.rising c.deref.result.now c.first_beyond-first_left.result c.args.room c.as_slice.result.now
+    c.deref.ensures c.requires.room (c.as_slice.ensures.value ∙ c.in_ok-rows.ensures) c.first_beyond-first_left.ensures in
+    left-is job pods c.requires.rising c.deref.result.now c.deref.ensures c.first_beyond-first_left.result first c.as_slice-7.result.now
+    (c.as_slice-7.ensures.value ∙ c.in_ok-rows.ensures) Failed c.count_beyond-2.result c.count_beyond-2.ensures
 
 pub returns-clause-few_succeeded : goal.returns-clause-few_succeeded
 returns-clause-few_succeeded c =
-    let same = c.in_ok-uids_judged.ensures
-    ∙ ap (uids_judged Succeeded) (c.as_slice.ensures.value ∙ c.in_ok-rows.ensures)
-    ∙ uids-newly c.args.job.now c.args.pods.now Succeeded in
-    omega (arith, ap length same, newly-few c.args.job.now c.args.pods.now Succeeded)
+    let job = c.args.job.now in
+    let pods = c.args.pods.now in
+    let first = first-is job pods c.requires.rising c.deref.result.now c.first_beyond-first_left.result c.args.room c.as_slice.result.now
+    c.deref.ensures c.requires.room (c.as_slice.ensures.value ∙ c.in_ok-rows.ensures) c.first_beyond-first_left.ensures in
+    let rows = judged-is job pods c.requires.rising c.deref.result.now c.deref.ensures c.first_beyond-first_left.result first c.as_slice-2.result.now
+    (c.as_slice-2.ensures.value ∙ c.in_ok-rows.ensures) c.in_ok-judged.judged.items c.in_ok-judged.ensures in
+    judged-few job pods Succeeded c.in_ok-uids_judged.field-0 c.count_beyond.result
+    (c.in_ok-uids_judged.ensures ∙ ap (uids_judged Succeeded) (c.as_slice-3.ensures.value ∙ rows) ∙ uids-newly job pods Succeeded)
+    (left-is job pods c.requires.rising c.deref.result.now c.deref.ensures c.first_beyond-first_left.result first c.as_slice-6.result.now
+    (c.as_slice-6.ensures.value ∙ c.in_ok-rows.ensures) Succeeded c.count_beyond.result c.count_beyond.ensures)
 
 pub returns-clause-few_failed : goal.returns-clause-few_failed
 returns-clause-few_failed c =
-    let same = c.in_ok-uids_judged-2.ensures
-    ∙ ap (uids_judged Failed) (c.as_slice-2.ensures.value ∙ c.in_ok-rows.ensures)
-    ∙ uids-newly c.args.job.now c.args.pods.now Failed in
-    omega (arith, ap length same, newly-few c.args.job.now c.args.pods.now Failed)
+    let job = c.args.job.now in
+    let pods = c.args.pods.now in
+    let first = first-is job pods c.requires.rising c.deref.result.now c.first_beyond-first_left.result c.args.room c.as_slice.result.now
+    c.deref.ensures c.requires.room (c.as_slice.ensures.value ∙ c.in_ok-rows.ensures) c.first_beyond-first_left.ensures in
+    let rows = judged-is job pods c.requires.rising c.deref.result.now c.deref.ensures c.first_beyond-first_left.result first c.as_slice-2.result.now
+    (c.as_slice-2.ensures.value ∙ c.in_ok-rows.ensures) c.in_ok-judged.judged.items c.in_ok-judged.ensures in
+    judged-few job pods Failed c.in_ok-uids_judged-2.field-0 c.count_beyond-2.result
+    (c.in_ok-uids_judged-2.ensures ∙ ap (uids_judged Failed) (c.as_slice-4.ensures.value ∙ rows) ∙ uids-newly job pods Failed)
+    (left-is job pods c.requires.rising c.deref.result.now c.deref.ensures c.first_beyond-first_left.result first c.as_slice-7.result.now
+    (c.as_slice-7.ensures.value ∙ c.in_ok-rows.ensures) Failed c.count_beyond-2.result c.count_beyond-2.ensures)

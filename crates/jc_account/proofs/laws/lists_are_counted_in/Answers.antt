@@ -1,5 +1,5 @@
 -- The lemmas on the lists.
-use Rattle.jc_account.proofs.AccountFacts.{empty-in, failed-in, failed-length, failed-order, indexed-in, lists-apart, succeeded-in, succeeded-length, succeeded-order}
+use Rattle.jc_account.proofs.AccountFacts.{empty-in, failed-in, failed-length, failed-order, indexed-in, lists-apart, lists-short, succeeded-in, succeeded-length, succeeded-order}
 use Rattle.jc_account.proofs.laws.lists_are_counted_in.Goals as goal
 
 pub returns : goal.returns
@@ -13,4 +13,5 @@ returns c = record {
   failed_length = failed-length;
   succeeded_length = succeeded-length;
   apart = lists-apart;
+  few = lists-short;
 }

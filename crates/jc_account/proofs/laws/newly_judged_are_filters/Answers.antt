@@ -1,5 +1,5 @@
 -- The lemmas on newly judged pods.
-use Rattle.jc_account.proofs.AccountFacts.{judged-member, newly-member, newly-order, staying-member}
+use Rattle.jc_account.proofs.AccountFacts.{judged-member, left-member, newly-member, newly-order, newly-room, staying-member}
 use Rattle.jc_account.proofs.JudgementFacts.{newly-none}
 use Rattle.jc_account.proofs.StayingFacts.{staying-length}
 use Rattle.jc_account.proofs.laws.newly_judged_are_filters.Goals as goal
@@ -7,9 +7,11 @@ use Rattle.jc_account.proofs.laws.newly_judged_are_filters.Goals as goal
 pub returns : goal.returns
 returns c = record {
   judged = judged-member;
+  left = left-member;
   member = newly-member;
   none = newly-none;
   order = newly-order;
+  few = newly-room;
   staying = staying-member;
   staying_length = staying-length;
 }

@@ -1,5 +1,5 @@
 -- The lemmas on the totals.
-use Rattle.jc_account.proofs.AccountFacts.{failed-sum, failed-total, few-failed, indexed-total, new-failed, new-indexes, new-succeeded, succeeded-sum, succeeded-total}
+use Rattle.jc_account.proofs.AccountFacts.{failed-sum, failed-total, few-failed, indexed-total, judged-failed, left-failed, left-indexed, left-succeeded, new-failed, new-indexes, new-succeeded, succeeded-sum, succeeded-total}
 use Rattle.jc_account.proofs.Totals.{stayed_and_left}
 use Rattle.jc_account.proofs.laws.totals_are_counted_in.Goals as goal
 
@@ -14,5 +14,9 @@ returns c = record {
   new_failed = new-failed;
   new_succeeded = new-succeeded;
   new_indexes = new-indexes;
+  judged_failed = judged-failed;
   few_failed = few-failed;
+  left_failed = left-failed;
+  left_succeeded = left-succeeded;
+  left_indexed = left-indexed;
 }

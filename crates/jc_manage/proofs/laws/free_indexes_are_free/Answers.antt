@@ -4,6 +4,6 @@ use Rattle.jc_manage.proofs.laws.free_indexes_are_free.Goals as goal
 
 pub returns : goal.returns
 returns c = record {
-  completed = free-new;
+  settled = free-new;
   kept = free-unkept;
 }

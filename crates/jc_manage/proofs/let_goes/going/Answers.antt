@@ -1,10 +1,10 @@
-use Rattle.std.proofs.Common.{nat_eq, rules, tests}
+use Rattle.std.proofs.Common.{nat_eq, unwrap_or, rules, tests}
 use Rattle.std.proofs.lemmas.Iterator.{YieldsList-from_map, YieldsList-from_slice, items_from_collect}
 use Rattle.std.proofs.lemmas.Iterator.Consumers.{YieldsList-at, YieldsList-from_filter}
 use Rattle.jc_states.specs.Bases.{is_own}
 use Rattle.std.specs.HashMap.{get}
 use Rattle.jc_states.specs.Pods.{is_tracked_active}
-use Rattle.jc_manage.specs.LetGoes.{seen}
+use Rattle.jc_manage.specs.LetGoes.{is_needless, seen}
 use Rattle.jc_manage.specs.Ranks.{goes_by}
 use Rattle.jc_manage.proofs.let_goes.going.Goals as goal
 
@@ -14,7 +14,7 @@ returns c =
     items_from_collect _ c.collect.ensures.ran
     (YieldsList-from_map _ seen
     (YieldsList-at c.map.ensures.source
-    (YieldsList-from_filter _ (goes_by c.args.job.now.spec.mode c.args.completed.now (λ index. get nat_eq c.args.holders.now index) c.args.least)
+    (YieldsList-from_filter _ (goes_by c.args.job.now.spec.mode (is_needless (unwrap_or c.args.job.now.spec.completions 0) c.args.counted.now) (λ index. get nat_eq c.args.holders.now index) c.args.least)
     (YieldsList-at c.filter-3.ensures.source
     (YieldsList-from_filter _ is_tracked_active
     (YieldsList-at c.filter-2.ensures.source

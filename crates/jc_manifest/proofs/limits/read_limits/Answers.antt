@@ -18,5 +18,5 @@ unfolding limits_refusal
 returns c = (
   none_or _ _ c.in_ok-suspend.ensures.0
       (none_or _ _ c.in_ok-backoff_limit.ensures.0 (none_or _ _ c.in_ok-deadline.ensures.0 refl)),
-  limits_said c.args.path.now _ _ _ _ _ c.unwrap_or.ensures c.in_ok-suspend.ensures.1 c.in_ok-backoff_limit.ensures.1 c.in_ok-deadline.ensures.1,
+  limits_said c.args.by_index c.args.path.now _ _ _ _ _ _ c.usual_backoff.ensures c.unwrap_or.ensures c.in_ok-suspend.ensures.1 c.in_ok-backoff_limit.ensures.1 c.in_ok-deadline.ensures.1,
 )

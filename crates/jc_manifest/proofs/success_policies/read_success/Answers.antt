@@ -1,6 +1,7 @@
 use Rattle.std.proofs.lemmas.Result.{err_from_is_err_and}
 use Rattle.jc_manifest.proofs.RowFacts.{reads_err}
-use Rattle.jc_manifest.specs.SuccessPolicies.{completions_of, given_success_refusal, success_rules_in, success_refusal, success_in}
+use Rattle.jc_manifest.specs.Counts.{completions_of}
+use Rattle.jc_manifest.specs.SuccessPolicies.{given_success_refusal, success_rules_in, success_refusal, success_in}
 use Rattle.jc_manifest.proofs.PolicyFacts.{given_refused, given_none, given_said}
 use Rattle.jc_manifest.proofs.success_policies.read_success.Goals as goal
 

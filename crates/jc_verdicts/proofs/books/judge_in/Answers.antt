@@ -1,7 +1,6 @@
 use Rattle.std.proofs.Common.{◌++◌, ap, ◌∙◌}
-use Rattle.jc_states.specs.UidLists.{join}
-use Rattle.jc_verdicts.specs.Books.{done_at}
-use Rattle.jc_verdicts.specs.Verdicts.{fresh_rows, indexes_in}
+use Rattle.jc_verdicts.specs.Books.{rows_at}
+use Rattle.jc_verdicts.specs.Verdicts.{done_after, fresh_rows}
 use Rattle.jc_verdicts.proofs.BookFacts.{books-counted, books-sound}
 use Rattle.jc_verdicts.proofs.books.judge_in.Goals as goal
 
@@ -18,6 +17,7 @@ returns-clause-counts c =
     books-counted c.args.job.now c.args.log.now c.args.seen version ledgers c.args.books.now.entries c.taken-book.new.books.entries c.insert.new.self.entries c.judge.new.book c.taken-book.ensures.others
     c.in_ok-insert.ensures.updates.0
     (c.in_ok-judge.ensures.rows ∙ ap (λ rows. rows ++ fresh_rows c.args.job.now rows c.args.log.now c.args.seen) c.taken-book.ensures.rows)
-    (c.in_ok-judge.ensures.done ∙ ap (λ done. join done (indexes_in (fresh_rows c.args.job.now c.taken-book.result.rows.items c.args.log.now c.args.seen))) c.taken-book.ensures.done
-    ∙ ap (λ rows. join (done_at c.args.job.now.uid c.args.books.now.entries) (indexes_in (fresh_rows c.args.job.now rows c.args.log.now c.args.seen))) c.taken-book.ensures.rows)
+    (c.in_ok-judge.ensures.done
+    ∙ ap (λ rows. done_after c.args.job.now rows c.taken-book.result.done.items c.args.log.now c.args.seen) c.taken-book.ensures.rows
+    ∙ ap (λ done. done_after c.args.job.now (rows_at c.args.job.now.uid c.args.books.now.entries) done c.args.log.now c.args.seen) c.taken-book.ensures.done)
     counts

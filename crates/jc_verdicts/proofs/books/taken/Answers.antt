@@ -1,9 +1,9 @@
 use Rattle.std.proofs.Common.{IfSome, sym, ap, ◌∙◌, subst}
-use Rattle.std.specs.List.{list_any}
 use Rattle.jc_ranges.specs.Sets.{IsIncreasing}
 use Rattle.jc_types.specs.Keys.{same_uid}
+use Rattle.jc_log.specs.Tables.{at}
 use Rattle.jc_verdicts.specs.Books.{IsSoundBook}
-use Rattle.jc_verdicts.specs.Verdicts.{has_row}
+use Rattle.jc_verdicts.specs.Verdicts.{outcome_in}
 use Rattle.jc_verdicts.proofs.TouchFacts.{seen-first}
 use Rattle.jc_verdicts.proofs.books.taken.Goals as goal
 
@@ -20,5 +20,5 @@ returns-in-None-clause-sound c =
     record {
       seen = seen-first c.args.uid log c.empty.result.pods c.empty.result.at c.empty.ensures.pods c.empty.ensures.at;
       order = subst IsIncreasing (sym c.empty.ensures.done) tt;
-      uids = λ u. ap (list_any (same_uid u)) c.empty.ensures.known ∙ ap (λ rows. has_row rows u) (sym c.empty.ensures.rows);
+      known = λ u. ap (λ es. at same_uid es u) c.empty.ensures.known ∙ ap (λ rows. outcome_in rows u) (sym c.empty.ensures.rows);
     }

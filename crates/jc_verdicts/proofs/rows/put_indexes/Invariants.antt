@@ -1,12 +1,11 @@
 use Rattle.std.proofs.Common.{◌≡◌, drop}
 use Rattle.jc_ranges.specs.Sets.{IsIncreasing}
 use Rattle.jc_states.specs.UidLists.{join}
-use Rattle.jc_verdicts.specs.Verdicts.{indexes_in}
 use Rattle.jc_verdicts.proofs.rows.put_indexes.Given as goal
 
--- The indexes so far have those of the successes from the place on.
+-- The indexes so far have those from the place on.
 abbrev pub invariant-loop-place : goal.invariant-loop-place
 invariant-loop-place l = record {
-  joined : l.done.items ≡ join l.fn.done.items (indexes_in (drop l.place l.rows));
+  joined : l.done.items ≡ join l.fn.done.items (drop l.place l.indexes);
   order : IsIncreasing l.done.items;
 }

@@ -5,15 +5,15 @@ use Rattle.jc_log.specs.Tables.{at, puts}
 use Rattle.jc_store.proofs.Keeps.{job_row, put_job-keeps}
 use Rattle.jc_store.proofs.store.Store.put_job.Goals as goal
 
-pub replace-requires : goal.replace-requires
-replace-requires c =
+pub put_row-requires : goal.put_row-requires
+put_row-requires c =
     subst (λ k. IsSome (at same_key c.self.inside.jobs k)) (sym c.in_ok-key.ensures)
     (job_row c.self.inside.jobs c.self.inside.log c.args.self.now c.args.job c.self.invariant.jobs_there c.self.view_is c.requires.step)
 
 pub invariant_of-self-2 : goal.invariant_of-self-2
 invariant_of-self-2 c =
-    put_job-keeps c.self.inside.born c.self.inside.jobs c.replace.new.self c.self.inside.pods c.self.inside.made
-    c.self.inside.log c.push.new.self c.args.self.now c.args.job c.self.invariant c.self.view_is
-    (c.in_ok-push.ensures.added ∙ ap (λ j. c.self.inside.log ++ JobPut j ∷ []) c.in_ok-copy.ensures)
-    (c.replace.ensures.puts ∙ ap (λ k. puts same_key c.self.inside.jobs k c.args.job) c.in_ok-key.ensures)
+    put_job-keeps c.self.inside.born c.self.inside.jobs c.put_row.new.rows c.self.inside.pods c.self.inside.made
+    c.self.inside.log c.put_row.new.log c.args.self.now c.args.job c.self.invariant c.self.view_is
+    (c.in_ok-put_row.ensures.entry ∙ ap (λ j. c.self.inside.log ++ JobPut j ∷ []) c.in_ok-copy.ensures)
+    (c.in_ok-put_row.ensures.row ∙ ap (λ k. puts same_key c.self.inside.jobs k c.args.job) c.in_ok-key.ensures)
     c.requires.version c.requires.step

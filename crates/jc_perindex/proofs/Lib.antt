@@ -1,0 +1,4 @@
+pub mod Filled
+pub mod Placed
+pub mod Raised
+pub mod Sets

@@ -1,0 +1,118 @@
+//! Which indexes have failed.
+
+ghost use Rattle.std.specs.Prelude.{◌≡◌, ◌<◌, ◌≤◌, ◌^◌, IfOk, IfSome, IsSome, filter, length, map};
+ghost use Rattle.jc_ranges.specs.Sets.{IsIncreasing};
+ghost use Rattle.jc_types.specs.declared.limits.TheConstants.{GREATEST_COMPLETIONS};
+ghost use Rattle.jc_types.specs.declared.statuses.IndexCount.{IndexCount};
+ghost use Rattle.jc_states.specs.Bases.{FailuresFit, own_pods};
+ghost use Rattle.jc_states.specs.ValidSpecs.{IsValidSpec};
+ghost use Rattle.jc_perindex.specs.Failures.{failed_set, filled_counts, has_failed};
+
+use crate::counts::raise_each;
+use jc_ranges::Ranges;
+use jc_states::{Basis, has_end};
+use jc_types::{CountIn, IndexCount, IndexCounts, Job, Pod, Want};
+use std::alloc::Global;
+
+// Whether the index of the count has failed.
+fn has_failed(limit: u32, completions: u32, completed: &Ranges, count: IndexCount) -> bool
+    ensures { result ≡ has_failed limit completions completed.now count }
+{
+    count.index < completions
+        && (!completed.contains(count.index) && (u64::from(limit) < count.failures || count.fail))
+}
+
+// The indexes that have failed, of counts in ascending index.
+fn failed_of(
+    alloc: Global,
+    limit: u32,
+    completions: u32,
+    completed: &Ranges,
+    counts: &[IndexCount],
+) -> Result<Ranges, Want>
+    requires ascending { IsIncreasing (map (λ (count : IndexCount). count.index) counts.now) }
+    requires few { completions ≤ GREATEST_COMPLETIONS }
+    ensures { IfOk result (λ set. set ≡ map (λ (count : IndexCount). count.index)
+        (filter (has_failed limit completions completed.now) counts.now)) }
+{
+    let mut set = Ranges::new(alloc);
+    for count in counts {
+        if has_failed(limit, completions, completed, *count) {
+            set.insert(count.index)?;
+        }
+    }
+    Ok(set)
+}
+
+// The indexes of the Job that have failed.
+fn failed_set(
+    alloc: Global,
+    job: &Job,
+    limit: u32,
+    completed: &Ranges,
+    counts: &[IndexCount],
+) -> Result<Ranges, Want>
+    requires ascending { IsIncreasing (map (λ (count : IndexCount). count.index) counts.now) }
+    requires valid { IsValidSpec job.now.spec }
+    ensures { IfOk result (λ set. set ≡ failed_set job.now limit completed.now counts.now) }
+{
+    if has_end(&job.status.conditions) {
+        return job.status.failed_indexes.copy();
+    }
+    let completions = job.spec.completions.unwrap_or(0);
+    failed_of(alloc, limit, completions, completed, counts)
+}
+
+// The counts in a list of their own.
+fn listed(alloc: Global, counts: &[IndexCount]) -> Result<IndexCounts, Want>
+    ensures { IfOk result (λ list. list ≡ counts.now) }
+{
+    let mut list = IndexCounts::new(alloc);
+    for count in counts {
+        list.push(*count)?;
+    }
+    Ok(list)
+}
+
+// What is counted of a Job, with its failures of each index and its failed indexes.
+fn fill_job(alloc: Global, job: &Job, pods: &[Pod], counted: CountIn) -> Result<CountIn, Want>
+    requires valid { IsValidSpec job.now.spec }
+    requires few { length pods.now < 2 ^ 31 }
+    requires failures { FailuresFit job.now pods.now }
+    ensures { IfOk result (λ r. r ≡ filled_counts job.now (own_pods job.now pods.now) counted) }
+{
+    let mut counted = counted;
+    let Some(limit) = job.spec.per_index else {
+        counted.failed_indexes = Ranges::new(alloc);
+        counted.index_failures = IndexCounts::new(alloc);
+        return Ok(counted);
+    };
+    let counts = raise_each(alloc, job, counted.judged_failed.as_slice(), pods)?;
+    let failed = failed_set(alloc, job, limit, &counted.completed, counts.as_slice())?;
+    counted.failed_indexes = failed;
+    counted.index_failures = listed(alloc, counts.as_slice())?;
+    Ok(counted)
+}
+
+/// What a sync has counted, with the failures of each index and the indexes that have failed (KEP-3850).
+///
+/// Where the Job has no limit for each index nothing is said of them. Otherwise the index of each pod that
+/// is newly judged as failed has one failure more, and the failure policy may fail the index for it. Until
+/// the Job has ended, those indexes have failed that are below its completions and not completed, and whose
+/// pods have failed more often than the limit allows or which the policy failed; then they stay.
+///
+/// # Errors
+/// `Want` where there is no memory for it.
+pub fn fill(alloc: Global, basis: &Basis, counted: CountIn) -> Result<CountIn, Want>
+    requires there { IsSome basis.now.job }
+    requires valid { IfSome basis.now.job (λ job. IsValidSpec job.spec) }
+    requires few { length basis.now.pods < 2 ^ 31 }
+    requires failures { IfSome basis.now.job (λ job. FailuresFit job basis.now.pods) }
+    ensures { IfOk result (λ r. IfSome basis.entry.now.job (λ job.
+        r ≡ filled_counts job (own_pods job basis.entry.now.pods) counted)) }
+{
+    match &basis.job {
+        Some(job) => fill_job(alloc, job, basis.pods.as_slice(), counted),
+        None => unreachable!(),
+    }
+}
