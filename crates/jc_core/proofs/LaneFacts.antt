@@ -53,12 +53,12 @@ other_after commands before lane other number past apart is =
 
 -- ---- lists with one element set
 
-set_same : {A : Type 0} (xs : List A) (i : ℕ) (x : A) → i < length xs → slice_get (set xs i x) i ≡ Some x
+pub set_same : {A : Type 0} (xs : List A) (i : ℕ) (x : A) → i < length xs → slice_get (set xs i x) i ≡ Some x
 set_same [] i x within = absurd (omega (arith, within))
 set_same (y ∷ xs) zero x within = refl
 set_same (y ∷ xs) (suc i) x within = set_same xs i x (omega (arith, within))
 
-set_apart : {A : Type 0} (xs : List A) (i j : ℕ) (x : A) → (i ≡ j → ⊥) → slice_get (set xs i x) j ≡ slice_get xs j
+pub set_apart : {A : Type 0} (xs : List A) (i j : ℕ) (x : A) → (i ≡ j → ⊥) → slice_get (set xs i x) j ≡ slice_get xs j
 set_apart [] i j x apart = refl
 set_apart (y ∷ xs) zero zero x apart = absurd (apart refl)
 set_apart (y ∷ xs) zero (suc j) x apart = refl

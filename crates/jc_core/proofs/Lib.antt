@@ -10,3 +10,5 @@ mod IdleFacts
 mod NodeCalls
 mod SyncFacts
 mod QuietSyncs
+pub mod LongerScripts
+pub mod LongerFacts

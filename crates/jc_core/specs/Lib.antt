@@ -6,3 +6,5 @@ pub mod Diaries
 pub mod Idle
 pub mod Syncs
 pub mod Started
+pub mod LongerScripts
+pub mod Longer

@@ -123,7 +123,8 @@ impl Cluster {
     /// What happened, in order. The history is legal, its commands came in the order of their lanes,
     /// and after each of its events each pod was counted once (KEP-2307). A sync took a finalizer of a
     /// pod of a Job that is there only where the pod was judged before, or is ignored, was active, or
-    /// its index was complete: so no ended pod lost it uncounted, but by a command.
+    /// its index was complete or not below the completions: so no ended pod that needs a count lost it
+    /// uncounted, but by a command.
     ///
     /// Where the shape has a single controller: no more pods of a Job run at once than its parallelism
     /// says (batch/v1), since each pod fitted when it was made, also one whose reply was lost. And a Job

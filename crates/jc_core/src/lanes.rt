@@ -4,6 +4,7 @@ ghost use Rattle.std.specs.Prelude.{◌≡◌, ◌<◌, ◌^◌, ◌↔◌, [], 
 ghost use Rattle.jc_types.specs.declared.actions.Command.{Command};
 ghost use Rattle.jc_types.specs.declared.runs.Past.{Past};
 ghost use Rattle.jc_history.specs.Legal.{ComesNext, next_place};
+ghost use Rattle.jc_core.specs.Longer.{HasMore};
 ghost use Rattle.jc_core.specs.Places.{AreNone, AreUsedUp, HasPlaces, MovesOn, next_from};
 
 use jc_types::{Command, Event, Want};
@@ -92,6 +93,17 @@ impl Lanes {
         };
         let from = *number as usize + 1;
         self.next[*lane as usize] = next_from(commands, *lane, from);
+    }
+
+    // Takes up a command at the end of the others: it is its lane's next one, where the lane is used up. It takes no
+    // memory.
+    pub(crate) fn append(&mut self, lane: u8, place: u32)
+        ensures { HasMore lane place self.old self.new }
+    {
+        let next = self.next[lane as usize];
+        if next.is_none() {
+            self.next[lane as usize] = Some(place);
+        }
     }
 
     // The place of the lane's next command; none where the lane is used up.

@@ -21,6 +21,7 @@ ghost use Rattle.jc_runs.specs.Teams.{KnowsNothing, begin_held, begin_registers,
 ghost use Rattle.jc_runs.specs.Texts.{HasNoText};
 
 use crate::keeping::Twice;
+use crate::places::put;
 use crate::started::Started;
 use crate::strides::{close, prepared, start};
 use jc_cache::listed_jobs_fill_the_table;
@@ -164,7 +165,7 @@ impl Member {
     pub fn become_other(&mut self, other: Member)
         ensures { self.new ≡ other }
     {
-        *self = other;
+        put(self, other);
     }
 
     /// Puts a fault before the worker's next request, in place of one that is pending.

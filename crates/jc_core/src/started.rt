@@ -12,6 +12,7 @@ ghost use Rattle.jc_sync.specs.Registers.{register_of};
 ghost use Rattle.jc_runs.specs.Teams.{end_of_next, fault_left, stride_by};
 ghost use Rattle.jc_core.specs.Started.{sync_of};
 
+use crate::places::put_first;
 use crate::strides::{Taken, step_sync};
 use jc_control::Controller;
 use jc_moment::Moment;
@@ -81,9 +82,7 @@ impl Started {
         requires own { planned.flight.basis ≡ self.old.flight.basis }
         ensures { self.new ≡ self.old }
     {
-        if self.sync.is_none() {
-            self.sync = Some(planned);
-        }
+        put_first(&mut self.sync, planned);
     }
 
     // Makes the next request, and takes note of the answer and of its end. The plan is made first,

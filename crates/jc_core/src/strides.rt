@@ -15,6 +15,7 @@ ghost use Rattle.jc_runs.specs.Teams.{begun_sync, end_of_next, fault_left, is_fi
 ghost use Rattle.jc_runs.specs.Texts.{HasNoText};
 
 use crate::keeping::Twice;
+use crate::places::{put_at, put_given_at};
 use crate::started::Started;
 use jc_asks::Ask;
 use jc_control::{Begin, Controller, SyncEnd};
@@ -68,9 +69,7 @@ pub(crate) fn start(registers: &mut Vec<Option<Started>>, worker: usize, sync: O
     requires { worker < length registers.old.items }
     ensures { registers.new.items ≡ with_sync registers.old.items worker sync }
 {
-    if let Some(sync) = sync {
-        registers[worker] = Some(sync);
-    }
+    put_given_at(registers, worker, sync);
 }
 
 // Makes the worker's register free, where its sync is over.
@@ -80,7 +79,7 @@ pub(crate) fn close(registers: &mut Vec<Option<Started>>, worker: usize, is_over
         ≡ (if is_over then set registers.old.items worker None else registers.old.items) }
 {
     if is_over {
-        registers[worker] = None;
+        put_at(registers, worker, None);
     }
 }
 

@@ -73,8 +73,8 @@ impl Cluster {
     ///
     /// Where the worker is free and meets no fault, both caches have seen the whole log, and the
     /// first key in line has a Job, the last reply is `Ended`: the Job then has the status that was
-    /// next at the call, and no pod of it that had ended then is tracked. No status is written where
-    /// the Job had that status.
+    /// next at the call, and no pod of it that had ended then and was not left over for a later sync is
+    /// tracked. No status is written where the Job had that status.
     ///
     /// # Errors
     /// `HistoryFull` exactly where the history has as many events as the shape allows, and one is to

@@ -29,12 +29,12 @@ pub enum Cause {
     Invalid { path: Path, rule: u32 },
 }
 
-// Why a line was not read.
+/// Why a line was not read.
 #[derive(Debug, Drop)]
 pub enum LineFault {
-    // The line is bad.
+    /// The line is bad.
     Bad { cause: Cause },
-    // Memory ran out.
+    /// Memory ran out.
     Want,
 }
 

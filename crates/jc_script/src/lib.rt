@@ -15,6 +15,11 @@ mod scripts;
 mod updates;
 mod verbs;
 
-pub use causes::Cause;
+pub use causes::{Cause, LineFault};
+pub use commands::Said;
+pub use ends::read_ends;
 pub use laws::scripts_fit_their_shape;
-pub use scripts::{ScriptFault, read_script};
+pub use lines::{first_line, trimmed};
+pub use phases::read_report;
+pub use scripts::{ScriptFault, read_script, read_text};
+pub use updates::read_change;

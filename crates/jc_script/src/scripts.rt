@@ -40,9 +40,13 @@ impl From<AllocError> for ScriptFault {
     }
 }
 
-// What a text that is not empty says.
+/// What a line without its carriage return says, where it is not empty.
+///
+/// # Errors
+///
+/// `Bad` exactly where the line is bad, with its cause. `Want`: memory ran out.
 #[tactic(auto, unfolding(crate::specs::Scripts::text_says))]
-fn read_text(alloc: Global, text: &[u8], shape: &Shape) -> Result<Said, LineFault>
+pub fn read_text(alloc: Global, text: &[u8], shape: &Shape) -> Result<Said, LineFault>
     ensures { Says (λ said. said) result (text_says shape.now text.now) }
 {
     if MOST_LINE_BYTES < text.len() {

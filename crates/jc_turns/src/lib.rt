@@ -3,6 +3,7 @@
 
 mod actors;
 mod bringing;
+mod fitting;
 mod kinds;
 mod laws;
 mod next;
@@ -15,6 +16,7 @@ mod ways;
 mod whole;
 
 pub use actors::Actor;
+pub use fitting::fits;
 pub use laws::{available_events_keep_the_order, new_clusters_play_the_whole_script};
 pub use next::{is_quiescent, next_event};
 pub use offers::available;
