@@ -15,21 +15,25 @@ ghost use Rattle.jc_core.specs.Diaries.{diary_seen};
 ghost use Rattle.jc_core.specs.declared.apply.ApplyFault.TheVariants.{HistoryFull};
 ghost use Rattle.jc_turns.specs.Actors.{CanCome, IsOfActor};
 ghost use Rattle.jc_turns.specs.Slots.{unheld_seen};
-ghost use Rattle.jc_kept.specs.Shared.{AreLanes, fresh_slot, freed_slots, holds_slot, is_held_actor, is_open, numbers_of, put_back_by, registers_of, slots_after, submitted_by, taken_by};
+ghost use Rattle.jc_kept.specs.Names.{IsOfName};
+ghost use Rattle.jc_kept.specs.Shared.{AreLanes, AreRegisters, fresh_slot, freed_slots, holds_slot, is_held_actor, is_open, numbers_of, put_back_by, registers_of, slots_after, submitted_by, taken_by};
 
-use crate::changes::{Change, change_all};
+use crate::changes::Change;
 use crate::lanes::lanes_are_bytes;
+use crate::naming::Naming;
 use crate::registers::{
     copy_basis, first_open, fresh_slots, is_held_actor, is_held_by, is_of_sync,
 };
+use crate::slots::Slots;
 use crate::touches::{touch_all, touch_of_event};
 use jc_core::{ApplyFault, Cluster};
 use jc_states::Basis;
 use jc_sync::Syncing;
-use jc_turns::{Actor, Slot, available, available_events_keep_the_order, next_unheld};
-use jc_types::{Arc, Event, Reply, Script, Shape, Want};
+use jc_turn::Booked;
+use jc_turns::{Actor, available, available_events_keep_the_order, next_unheld};
+use jc_types::{Arc, Event, History, Reply, Script, Shape, Want};
 use std::alloc::Global;
-use std::marker::Model;
+use std::marker::{Model, PhantomData};
 
 /// A plan that is to be made.
 #[derive(Drop)]
@@ -40,27 +44,56 @@ pub struct Work {
     pub basis: Arc<Basis>,
 }
 
-/// The cluster of a threaded run, and the registers as its seats see them. It keeps what the type
-/// of the cluster keeps, and that the history is orderly.
+/// The cluster of a threaded run, and the registers as its seats see them: all, or none where no
+/// seat makes plans. It keeps what the type of the cluster keeps, that the history is orderly, and
+/// that script and shape are the named ones.
 ///
 /// Plans, holds and seats are not in the history, and no reply depends on them.
 #[derive(Drop)]
-pub struct Kept {
+pub struct Kept<J: Naming> {
     cluster: Cluster,
-    slots: Vec<Slot>,
+    slots: Slots,
+    of: PhantomData<J>,
 }
 
-impl Model for Kept {
+impl<J: Naming> Model for Kept<J> {
+    ghost use Rattle.jc_kept.specs.Names.{IsOfName};
     ghost use Rattle.jc_kept.specs.Shared.{IsKept, Shared};
 
     ghost Value = { Shared };
 
-    ghost view = { λ k. record { seen = k.cluster; slots = k.slots.items } };
+    ghost view = { λ k. record { seen = k.cluster; slots = k.slots } };
 
-    ghost invariant = { λ k. IsKept k.cluster k.slots.items };
+    ghost invariant = { λ k. IsKept k.cluster k.slots × IsOfName J.script J.shape k.cluster };
 }
 
-impl Kept {
+/// A cluster to be shared, of which nobody holds anything. It has no registers to be held, so its
+/// seats make no plans; the steps of the syncs make them. It takes no memory.
+pub fn keep<J: Naming>(cluster: Cluster) -> Kept<J>
+    requires named { IsOfName J.script J.shape cluster }
+    requires orderly { IsOrderly cluster.shape (deeds_seen cluster) }
+    ensures seen { result.seen ≡ cluster }
+    ensures slots { result.slots ≡ [] }
+{
+    lanes_are_bytes(cluster.script().commands.as_slice());
+    Kept {
+        cluster,
+        slots: Slots::none(),
+        of: PhantomData,
+    }
+}
+
+impl<J: Naming> Booked for Kept<J> {
+    ghost use Rattle.std.specs.Prelude.{reverse};
+
+    ghost pasts = { λ k. reverse k.seen.pasts };
+
+    fn history(&self) -> &History {
+        self.cluster.history()
+    }
+}
+
+impl<J: Naming> Kept<J> {
     // Whether the seat holds the register, and the plan was made of what its sync began with.
     fn fits(&self, seat: u32, controller: u32, worker: u32, planned: &Syncing) -> bool
         requires of_shape { controller < self.now.seen.shape.controllers }
@@ -78,7 +111,9 @@ impl Kept {
     ///
     /// # Errors
     /// `Want` where there is no memory for it.
-    pub fn new(alloc: Global, script: Script, shape: Shape) -> Result<Kept, Want>
+    pub fn new(alloc: Global, script: Script, shape: Shape) -> Result<Kept<J>, Want>
+        requires script { script ≡ J.script }
+        requires shape { shape ≡ J.shape }
         requires fine { Each (λ (command : Command). IsValidAction command.action) script.commands }
         requires fits { length script.commands < 2 ^ 32 }
         requires bound { shape.events ≤ 200000 }
@@ -89,7 +124,11 @@ impl Kept {
         let slots = fresh_slots(alloc, &shape)?;
         let cluster = Cluster::new(alloc, script, shape)?;
         lanes_are_bytes(cluster.script().commands.as_slice());
-        Ok(Kept { cluster, slots })
+        Ok(Kept {
+            cluster,
+            slots: Slots::of(slots),
+            of: PhantomData,
+        })
     }
 
     /// The cluster.
@@ -102,9 +141,18 @@ impl Kept {
     /// The cluster, in which nobody holds anything any more. Its history is orderly.
     pub fn into_cluster(self) -> Cluster
         ensures seen { result ≡ self.seen }
+        ensures named { IsOfName J.script J.shape result }
         ensures orderly { IsOrderly result.shape (deeds_seen result) }
     {
         self.cluster
+    }
+
+    /// What its type keeps: whose cluster it is, and that its history is orderly.
+    pub fn keeps(&self)
+        ensures named { IsOfName J.script J.shape self.now.seen }
+        ensures orderly { IsOrderly self.now.seen.shape (deeds_seen self.now.seen) }
+    {
+        let _ = &self.cluster;
     }
 
     // The lanes of its commands are bytes: its type keeps it.
@@ -124,7 +172,7 @@ impl Kept {
         ensures first { IfOk result (λ found.
             option_map (λ work. (work.controller, work.worker)) found
             ≡ option_map numbers_of (find (is_open self.old.seen) self.old.slots)) }
-        ensures registers { map numbers_of self.old.slots ≡ registers_of self.old.seen.shape }
+        ensures registers { AreRegisters self.old.seen.shape (map numbers_of self.old.slots) }
         ensures of_shape { IfOk result (λ found. IfSome found (λ work.
             (work.controller < self.old.seen.shape.controllers)
             × (work.worker < self.old.seen.shape.workers))) }
@@ -147,7 +195,7 @@ impl Kept {
             controller: slot.controller,
             worker: slot.worker,
         };
-        change_all(&mut self.slots, change);
+        self.slots.change(change);
         Ok(Some(Work {
             controller: slot.controller,
             worker: slot.worker,
@@ -178,7 +226,7 @@ impl Kept {
                 controller,
                 worker,
             };
-            change_all(&mut self.slots, change);
+            self.slots.change(change);
         }
         fits
     }
@@ -193,7 +241,7 @@ impl Kept {
             controller,
             worker,
         };
-        change_all(&mut self.slots, change);
+        self.slots.change(change);
     }
 
     /// No register is held any more.
@@ -201,14 +249,17 @@ impl Kept {
         ensures slots { self.new.slots ≡ freed_slots self.old.slots }
         ensures seen { self.new.seen ≡ self.old.seen }
     {
-        change_all(&mut self.slots, Change::Free);
+        self.slots.change(Change::Free);
     }
 
     /// Whether a register is held.
     pub fn held(&self) -> bool
         ensures { result ≡ list_any (λ slot. is_some slot.holder) self.now.slots }
     {
-        self.slots.iter().any(|slot| slot.holder.is_some())
+        self.slots
+            .as_slice()
+            .iter()
+            .any(|slot| slot.holder.is_some())
     }
 
     /// The one event that the actor can make now, as `jc_turns::available` gives it; a worker gives

@@ -4,11 +4,14 @@
 mod changes;
 mod kept;
 mod lanes;
+mod naming;
 mod registers;
 mod seats;
+mod slots;
 mod touches;
 mod turns;
 
-pub use kept::{Kept, Work};
+pub use kept::{Kept, Work, keep};
+pub use naming::Naming;
 pub use seats::Seat;
 pub use turns::Turn;

@@ -1,2 +1,5 @@
 mod LeftFacts
 mod UsedFacts
+mod LeaveFacts
+mod PlanFacts
+mod SeenFacts

@@ -8,7 +8,7 @@ use Rattle.jc_kept.proofs.TouchFacts.{touched-seen}
 use Rattle.jc_kept.proofs.kept.Kept.apply.Goals as goal
 
 pub returns-clause-slots : goal.returns-clause-slots
-returns-clause-slots c =
-    touched-seen c.self.inside.cluster c.self.inside.slots.items c.touch_all.new.slots.items c.args.self.now c.args.event c.touch_of_event-touch.result c.in_ok-reply.reply c.self.view_is
+returns-clause-slots g c =
+    touched-seen c.self.inside.cluster c.self.inside.slots c.touch_all.new.slots c.args.self.now c.args.event c.touch_of_event-touch.result c.in_ok-reply.reply c.self.view_is
     (c.touch_of_event-touch.ensures ∙ ap (λ (s : Script). touch_of (act_of_event s.commands c.args.event)) c.script.ensures)
     (c.in_ok-reply.ensures.reply ∙ ap (λ (s : Shared). reply_seen s.seen c.args.event) c.self.view_is) c.touch_all.ensures.slots

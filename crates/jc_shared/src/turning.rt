@@ -1,0 +1,273 @@
+//! A run on several threads, whose seats share one cluster by a turn lock.
+
+ghost use Rattle.std.specs.Prelude.{◌≡◌, ◌<◌, ◌≤◌, ◌^◌, Err, IfOk, IfSome, IsErrOf, IsSome, true, false, length, reverse};
+ghost use Rattle.std.specs.List.{AllByRecursion as Each};
+ghost use Rattle.jc_types.specs.declared.actions.Command.{Command};
+ghost use Rattle.jc_states.specs.Bases.{CanPlan};
+ghost use Rattle.jc_states.specs.ValidActions.{IsValidAction};
+ghost use Rattle.jc_asks.specs.Sends.{new_sync};
+ghost use Rattle.jc_kept.specs.declared.kept.Work.{Work};
+ghost use Rattle.jc_order.specs.Plays.{IsProper};
+ghost use Rattle.jc_runs.specs.Seen.{Seen};
+ghost use Rattle.jc_turn.specs.Seats.{AreFree, BelongTo, IsSameSeat};
+ghost use Rattle.jc_shared.specs.Runs.{IsLeft, IsWhole};
+
+use crate::finishing::finish;
+use crate::gate::Gate;
+use crate::players::{hand_in, plan_of};
+use crate::threads::{ThreadsFault, new_kept};
+use jc_core::{ApplyFault, Cluster};
+use jc_kept::{Kept, Naming, Seat, Turn, Work};
+use jc_sync::Syncing;
+use jc_turn::{Seat as Place, Taken, Turn as Lock, make};
+use jc_types::{Copied, Script, Shape, Want};
+use std::alloc::Global;
+use std::marker::Brand;
+use std::sync::Wait;
+use std::sync::atomic::{AtomicBool, Ordering};
+use std::thread;
+use std::thread::Threads;
+
+// Takes the cluster for one turn of the seat, and gives it back. `None` where it was out.
+fn go<J: Naming>(
+    lock: &Lock<Kept<J>>,
+    place: &mut Place,
+    seat: &mut Seat,
+) -> Option<Result<Turn, ApplyFault>>
+    requires turn { place.old.turn ≡ lock.now.name }
+    requires free { place.old.holds ≡ false }
+    requires number { seat.old.number < seat.old.threads }
+    ensures place { IsSameSeat place.old place.new × (place.new.holds ≡ false) }
+    ensures seat { (seat.new.number ≡ seat.old.number) × (seat.new.threads ≡ seat.old.threads) }
+    ensures plannable { IfSome result (λ next. IfOk next (λ turn. (work : Work)
+        → turn ≡ Turn.Plan work → IsSome work.basis.job → CanPlan work.basis)) }
+{
+    let Taken::Value(mut kept) = lock.take(place) else {
+        return None;
+    };
+    let next = kept.turn(seat);
+    lock.give(place, kept);
+    Some(next)
+}
+
+// Takes the cluster, once it is there.
+fn wait_for<J: Naming, R: Wait>(rt: &R, lock: &Lock<Kept<J>>, place: &mut Place) -> Kept<J>
+    requires turn { place.old.turn ≡ lock.now.name }
+    requires free { place.old.holds ≡ false }
+    ensures place { IsSameSeat place.old place.new × (place.new.holds ≡ true) }
+    ensures seen { place.new.seen ≡ reverse result.seen.pasts }
+{
+    for _ in rt.forever() {
+        if let Taken::Value(kept) = lock.take(place) {
+            return kept;
+        }
+        thread::yield_now();
+    }
+    unreachable!()
+}
+
+// Makes the plan while the seat does not hold the cluster, tells the gate, and hands it in. False
+// where there is no memory for it; the register is then put back.
+fn make_plan<J: Naming, R: Wait, G: Gate>(
+    rt: &R,
+    gate: &G,
+    alloc: Global,
+    lock: &Lock<Kept<J>>,
+    place: &mut Place,
+    seat: u32,
+    work: &Work,
+) -> bool
+    requires turn { place.old.turn ≡ lock.now.name }
+    requires free { place.old.holds ≡ false }
+    requires plannable { IsSome work.now.basis.job → CanPlan work.now.basis }
+    ensures { IsSameSeat place.old place.new × (place.new.holds ≡ false) }
+{
+    let made = plan_of(alloc, work);
+    if made.is_ok() {
+        gate.planned(seat, &work.basis.key);
+    }
+    let mut kept = wait_for(rt, lock, place);
+    let is_made = hand_in(&mut kept, seat, work, made);
+    lock.give(place, kept);
+    is_made
+}
+
+// One turn of a seat. False where it is to end; it holds no register then.
+fn step<J: Naming, R: Wait, G: Gate>(
+    rt: &R,
+    gate: &G,
+    alloc: Global,
+    lock: &Lock<Kept<J>>,
+    want: &AtomicBool,
+    place: &mut Place,
+    seat: &mut Seat,
+) -> bool
+    requires turn { place.old.turn ≡ lock.now.name }
+    requires free { place.old.holds ≡ false }
+    requires number { seat.old.number < seat.old.threads }
+    ensures place { IsSameSeat place.old place.new × (place.new.holds ≡ false) }
+    ensures seat { (seat.new.number ≡ seat.old.number) × (seat.new.threads ≡ seat.old.threads) }
+{
+    let Some(next) = go(lock, place, seat) else {
+        thread::yield_now();
+        return true;
+    };
+    match next {
+        Ok(Turn::Plan(work)) => {
+            let is_made = make_plan(rt, gate, alloc, lock, place, seat.number, &work);
+            if !is_made {
+                want.store(true, Ordering::SeqCst);
+            }
+            is_made
+        }
+        Ok(Turn::Went) => true,
+        Ok(Turn::Wait) => {
+            thread::yield_now();
+            true
+        }
+        Ok(Turn::End) | Err(ApplyFault::HistoryFull) => false,
+        Err(ApplyFault::Want) => {
+            want.store(true, Ordering::SeqCst);
+            false
+        }
+    }
+}
+
+// The turns of a seat, until it ends.
+fn run_place<J: Naming, R: Wait, G: Gate>(
+    rt: &R,
+    gate: &G,
+    alloc: Global,
+    lock: &Lock<Kept<J>>,
+    want: &AtomicBool,
+    place: &mut Place,
+    number: u32,
+    threads: u32,
+)
+    requires turn { place.old.turn ≡ lock.now.name }
+    requires free { place.old.holds ≡ false }
+    requires number { number < threads }
+    ensures { IsSameSeat place.old place.new × (place.new.holds ≡ false) }
+{
+    let mut seat = Seat {
+        number,
+        threads,
+        tries_lanes: true,
+    };
+    for _ in rt.forever() {
+        if !step(rt, gate, alloc, lock, want, place, &mut seat) {
+            return;
+        }
+    }
+}
+
+// The turns of all seats, each in a thread of its own.
+fn run_places<J: Naming + Send + Sync, R: Threads + Wait + Sync, G: Gate + Sync>(
+    rt: &R,
+    gate: &G,
+    alloc: Global,
+    lock: &Lock<Kept<J>>,
+    want: &AtomicBool,
+    places: &mut [Place],
+    threads: u32,
+)
+    requires some { 1 ≤ threads }
+    requires few { length places.old ≤ threads }
+    requires own { BelongTo lock.now.name places.old }
+    requires free { AreFree places.old }
+    ensures own { BelongTo lock.now.name places.new }
+    ensures free { AreFree places.new }
+{
+    thread::for_each_mut(
+        rt,
+        places,
+        threads as usize,
+        &|i: usize, place: &mut Place|
+            requires { (i < 2 ^ 32) × (i < threads) × (place.old.turn ≡ lock.now.name)
+                × (place.old.holds ≡ false) }
+            ensures { IsSameSeat place.old place.new × (place.new.holds ≡ false) }
+        { run_place(rt, gate, alloc, lock, want, place, i as u32, threads) },
+    );
+}
+
+// The run, where the script and the shape have a name.
+//
+// As `run_turn`.
+fn run_named<J: Naming + Send + Sync, R: Threads + Wait + Sync, G: Gate + Sync>(
+    rt: &R,
+    alloc: Global,
+    script: &Script,
+    shape: &Shape,
+    threads: u32,
+    gate: &G,
+) -> Result<Cluster, ThreadsFault>
+    requires script { script.now ≡ J.script }
+    requires shape { shape.now ≡ J.shape }
+    requires some { 1 ≤ threads }
+    requires few { threads ≤ 16 }
+    requires fine { Each (λ (command : Command). IsValidAction command.action) script.now.commands }
+    requires proper { IsProper script.now shape.now }
+    requires fits { length script.now.commands < 2 ^ 32 }
+    requires bound { shape.now.events ≤ 200000 }
+    ensures left { IfOk result (λ cluster. IsLeft script.now shape.now cluster) }
+    ensures whole { IfOk result (λ cluster. IsWhole cluster) }
+    ensures full { (seen : Seen) → IsErrOf result (ThreadsFault.Full seen)
+        → IsLeft script.now shape.now seen }
+    ensures filled { (seen : Seen) → IsErrOf result (ThreadsFault.Full seen)
+        → length seen.pasts ≡ shape.now.events }
+    ensures to_come { (seen : Seen) → IsErrOf result (ThreadsFault.Full seen) → ¬ IsWhole seen }
+{
+    let Ok(kept) = new_kept::<J>(alloc, script, shape) else {
+        return Err(ThreadsFault::Want);
+    };
+    let Ok((lock, mut places)) = make(alloc, kept, threads) else {
+        return Err(ThreadsFault::Want);
+    };
+    let want = AtomicBool::new(false);
+    run_places(
+        rt,
+        gate,
+        alloc,
+        &lock,
+        &want,
+        places.as_mut_slice(),
+        threads,
+    );
+    let mut kept = lock.close(places);
+    if want.load(Ordering::SeqCst) {
+        return Err(ThreadsFault::Want);
+    }
+    kept.free_all();
+    finish(kept.into_cluster(), script, shape)
+}
+
+/// Plays the script as `run_threads` does, but the seats share the cluster by a turn lock: a seat
+/// that finds the cluster out, or only held registers, lets other threads run and tries again. It
+/// may wait, so its promise holds if it returns.
+///
+/// # Errors
+/// As those of `run_threads`.
+pub fn run_turn<R: Threads + Wait + Sync, G: Gate + Sync>(
+    rt: &R,
+    alloc: Global,
+    script: &Script,
+    shape: &Shape,
+    threads: u32,
+    gate: &G,
+) -> Result<Cluster, ThreadsFault>
+    requires some { 1 ≤ threads }
+    requires few { threads ≤ 16 }
+    requires fine { Each (λ (command : Command). IsValidAction command.action) script.now.commands }
+    requires proper { IsProper script.now shape.now }
+    requires fits { length script.now.commands < 2 ^ 32 }
+    requires bound { shape.now.events ≤ 200000 }
+    ensures left { IfOk result (λ cluster. IsLeft script.now shape.now cluster) }
+    ensures whole { IfOk result (λ cluster. IsWhole cluster) }
+    ensures full { (seen : Seen) → IsErrOf result (ThreadsFault.Full seen)
+        → IsLeft script.now shape.now seen }
+    ensures filled { (seen : Seen) → IsErrOf result (ThreadsFault.Full seen)
+        → length seen.pasts ≡ shape.now.events }
+    ensures to_come { (seen : Seen) → IsErrOf result (ThreadsFault.Full seen) → ¬ IsWhole seen }
+{
+    run_named::<Brand, R, G>(rt, alloc, script, shape, threads, gate)
+}

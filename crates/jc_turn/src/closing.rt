@@ -1,0 +1,61 @@
+//! How a lock ends.
+
+ghost use Rattle.std.specs.Prelude.{◌≡◌, ◌<◌, ◌≤◌, ◌+◌, ◌∷◌, [], length, false};
+ghost use Rattle.jc_turn.specs.declared.board.Stage.TheVariants.{Rests};
+ghost use Rattle.jc_turn.specs.Seats.{AreFree, AreSeatsOf, BelongTo, HaveSeen, IsLock};
+
+use crate::board::Place;
+use crate::histories::Booked;
+use crate::seating::{Seat, Seats};
+use crate::steps::{Board, learn};
+use crate::turns::Turn;
+
+// The seat of the table that a seat of the lock has.
+fn place_of<T>(seat: Seat) -> Place<T>
+    requires { seat.holds ≡ false }
+    ensures place { (result.table_id ≡ seat.turn) × (result.me.1 ≡ []) }
+    ensures view { (result.me.0.stage ≡ Rests) × (result.me.0.weight ≡ 1)
+        × (result.me.0.seen ≡ seat.seen) }
+{
+    let Seat { badge, number: _ } = seat;
+    badge.into_seat()
+}
+
+// One place that stands for all these seats, and has seen what each of them has.
+fn gather<T: Booked>(board: &Board<T>, mut seats: Vec<Seat>) -> Place<T>
+    requires lock { IsLock board.now.table_id }
+    requires some { 0 < length seats.items }
+    requires own { BelongTo board.now.table_id seats.items }
+    requires free { AreFree seats.items }
+    ensures place { (result.table_id ≡ board.now.table_id) × (result.me.1 ≡ []) }
+    ensures view { (result.me.0.stage ≡ Rests) × (result.me.0.weight ≡ length seats.items) }
+    ensures seen { HaveSeen seats.items result.me.0.seen }
+{
+    let Some(first) = seats.pop() else {
+        unreachable!()
+    };
+    let mut place = place_of(first);
+    while let Some(seat) = seats.pop() {
+        learn(board, &mut place, place_of(seat));
+    }
+    place
+}
+
+impl<T: Booked> Turn<T> {
+    /// Ends the lock, and gives its value, whose history begins with what each seat has seen. It
+    /// takes no memory.
+    pub fn close(self, seats: Seats) -> T
+        requires seats { AreSeatsOf self seats }
+        requires free { AreFree seats }
+        ensures { HaveSeen seats (T.pasts result) }
+    {
+        let Turn { table } = self;
+        let Seats { seats } = seats;
+        let place = gather(&table.shared, seats);
+        let mut closed = table.close_with(place);
+        let slot = closed.take(0);
+        closed.free();
+        let Some(value) = slot else { unreachable!() };
+        value
+    }
+}
