@@ -1,2 +1,4 @@
 pub mod DeedFacts
 mod SampleFacts
+mod WrongFacts
+mod WrongSyncFacts

@@ -1,4 +1,4 @@
--- The history in which one pod is made, and succeeds, and is counted: worked out.
+-- The histories that show of what is said: worked out.
 use Rattle.std.proofs.Common.{◌≡◌, Bool, true, false, List, [], ◌∷◌, ◌++◌, drop, take, Option, Some, None, is_some, refl, sym, ap, ◌∙◌, arith, true≢false}
 use Rattle.std.proofs.lemmas.List.{take-append-drop}
 use Rattle.std.specs.Option.{option_map, unwrap_or}
@@ -11,20 +11,22 @@ use Rattle.jc_types.specs.declared.runs.Shape.{Shape}
 use Rattle.jc_states.specs.Conditions.{has_end}
 use Rattle.jc_account.specs.Accounts.{counted_in, counted_out}
 use Rattle.jc_manage.specs.Backoffs.{pause}
+use Rattle.jc_perindex.specs.Failures.{failing_in, failures_in}
 use Rattle.jc_plan.specs.Plans.{planned}
 use Rattle.jc_plan.specs.Statuses.{first_value, second_value}
 use Rattle.jc_log.specs.Acts as does
 use Rattle.jc_log.specs.Deeds.{Deed}
 use Rattle.jc_log.specs.Log.{Life, Gone, Live, Never, is_never, job_in, life}
 use Rattle.jc_log.specs.Requests.{grown}
-use Rattle.jc_history.specs.Available.{available, is_empty}
+use Rattle.jc_history.specs.Available.{available, is_empty, is_quiescent}
 use Rattle.jc_history.specs.Legal.{IsLegal}
 use Rattle.jc_history.specs.Play.{brought_up, event_played, settled_down, stepped_through, whole_play}
-use Rattle.jc_history.specs.Replies.{gives, log_given}
+use Rattle.jc_history.specs.Replies.{diary, gives, log_given}
 use Rattle.jc_history.specs.Samples.{pi_key, usual_shape, version_at}
 use Rattle.jc_history.specs.SampleScripts.{one_pod_script}
+use Rattle.jc_rest.specs.Stuck.{is_sure}
 use Rattle.jc_order.specs.Plays.{IsProper}
-use Rattle.jc_promise.specs.SomeDeeds.{FindsEnd, MakesPod, SomeDeed, one_pod_deeds}
+use Rattle.jc_promise.specs.SomeDeeds.{FindsEnd, MakesPod, SomeDeed, one_pod_deeds, waiting_deeds, waiting_script}
 use Rattle.jc_order.proofs.PlayFacts.{plays-whole}
 
 -- ---- the history is legal
@@ -94,7 +96,7 @@ abbrev one_pod_log : List Entry
 one_pod_log = (whole_play one_pod_script usual_shape).log
 
 making : is_making (drop 5 one_pod_log) ≡ true
-unfolding whole_play brought_up stepped_through settled_down event_played gives planned first_value second_value counted_in counted_out pause available one_pod_script
+unfolding failing_in failures_in whole_play brought_up stepped_through settled_down event_played gives planned first_value second_value counted_in counted_out pause available one_pod_script
 making = refl
 
 pub one_pod-made : SomeDeed (MakesPod usual_shape) one_pod_deeds
@@ -110,14 +112,14 @@ found past d None there ended = absurd (true≢false (sym (ap is_some ended)))
 found past d (Some job) there ended = record { key = pi_key; job = job; there = there; ended = ap (λ o. unwrap_or o false) ended }
 
 ended-then : option_map (λ (job : Job). has_end job.status.conditions) (job_in pi_key (log_given usual_shape (drop 1 one_pod_deeds))) ≡ Some true
-unfolding whole_play brought_up stepped_through settled_down event_played gives log_given planned first_value second_value counted_in counted_out pause available one_pod_script
+unfolding failing_in failures_in whole_play brought_up stepped_through settled_down event_played gives log_given planned first_value second_value counted_in counted_out pause available one_pod_script
 ended-then = refl
 
 abbrev last : Deed
 last = record { lane = None; act = does.Step 0 0; reply = Ended; length = version_at 7 }
 
 parted : one_pod_deeds ≡ last ∷ drop 1 one_pod_deeds
-unfolding whole_play brought_up stepped_through settled_down event_played gives planned first_value second_value counted_in counted_out pause available one_pod_script
+unfolding failing_in failures_in whole_play brought_up stepped_through settled_down event_played gives planned first_value second_value counted_in counted_out pause available one_pod_script
 parted = refl
 
 pub one_pod-ends : SomeDeed (FindsEnd usual_shape) one_pod_deeds
@@ -128,3 +130,24 @@ one_pod-ends = record {
   parts = parted;
   holds = found (drop 1 one_pod_deeds) last (job_in pi_key (log_given usual_shape (drop 1 one_pod_deeds))) refl ended-then;
 }
+
+-- ---- a Job that waits
+
+proper-waiting : IsProper waiting_script usual_shape
+unfolding waiting_script
+proper-waiting = (tt, (tt, tt))
+
+pub waiting-legal : IsLegal usual_shape waiting_deeds
+waiting-legal = (plays-whole waiting_script usual_shape proper-waiting).plays.legal
+
+pub waiting-rests : is_quiescent usual_shape waiting_deeds (log_given usual_shape waiting_deeds) ≡ true
+unfolding failing_in failures_in whole_play brought_up stepped_through settled_down event_played gives log_given planned first_value second_value counted_in counted_out pause available waiting_script
+waiting-rests = refl
+
+pub waiting-sure : is_sure pi_key (diary usual_shape 0 waiting_deeds) ≡ true
+unfolding failing_in failures_in whole_play brought_up stepped_through settled_down event_played gives log_given planned first_value second_value counted_in counted_out pause available waiting_script
+waiting-sure = refl
+
+pub waiting-unended : option_map (λ (job : Job). has_end job.status.conditions) (job_in pi_key (log_given usual_shape waiting_deeds)) ≡ Some false
+unfolding failing_in failures_in whole_play brought_up stepped_through settled_down event_played gives log_given planned first_value second_value counted_in counted_out pause available waiting_script
+waiting-unended = refl

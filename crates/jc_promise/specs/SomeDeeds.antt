@@ -3,7 +3,10 @@
 --     MakesPod shape past d       the deed brings a pod into the log whose UID was never there
 --     FindsEnd shape past d       before the deed a Job is there that has ended
 --     one_pod_deeds               the history in which one pod is made, and succeeds, and is counted
-use Rattle.std.specs.Prelude.{◌≡◌, true, List, ◌∷◌, ◌++◌, Some}
+--     waiting_deeds               the history in which one pod is made that has no fate, till nothing is left to do
+use Rattle.std.specs.Prelude.{◌≡◌, true, List, [], ◌∷◌, ◌++◌, Some}
+use Rattle.jc_types.specs.declared.actions.Action1.TheVariants as act
+use Rattle.jc_types.specs.declared.actions.Script.{Script}
 use Rattle.jc_types.specs.declared.objects.Entry.TheVariants.{PodPut}
 use Rattle.jc_types.specs.declared.objects.Job.{Job}
 use Rattle.jc_types.specs.declared.objects.Key.{Key}
@@ -14,7 +17,7 @@ use Rattle.jc_log.specs.Deeds.{Deed}
 use Rattle.jc_log.specs.Log.{Never, job_in, life}
 use Rattle.jc_history.specs.Play.{deeds_played, whole_play}
 use Rattle.jc_history.specs.Replies.{log_given}
-use Rattle.jc_history.specs.Samples.{usual_shape}
+use Rattle.jc_history.specs.Samples.{pi_key, sample_script, sample_spec, usual_shape}
 use Rattle.jc_history.specs.SampleScripts.{one_pod_script}
 
 -- P holds of a deed of the history and what came before it.
@@ -41,3 +44,11 @@ pub record FindsEnd (shape : Shape) (past : List Deed) (d : Deed) : Type 0 where
 -- One pod is made, and succeeds, and is counted.
 abbrev pub one_pod_deeds : List Deed
 one_pod_deeds = deeds_played one_pod_script (whole_play one_pod_script usual_shape)
+
+-- A Job is made, and all is done that there is to do.
+unfoldable pub waiting_script : Script
+waiting_script = sample_script (act.Create pi_key sample_spec ∷ act.Settle ∷ [])
+
+-- Its pod is made and has no fate, so nothing befalls it.
+abbrev pub waiting_deeds : List Deed
+waiting_deeds = deeds_played waiting_script (whole_play waiting_script usual_shape)

@@ -1,22 +1,44 @@
 //! Laws on the histories of a script. What each function ensures holds of every history, and its callers
 //! may cite it.
 
-ghost use Rattle.std.specs.Prelude.{◌≡◌, ◌<◌, ◌≤◌};
+ghost use Rattle.std.specs.Prelude.{◌≡◌, ◌<◌, ◌≤◌, Some, false, true};
+ghost use Rattle.std.specs.Option.{option_map};
 ghost use Rattle.std.specs.List.{AllByRecursion as Each};
 ghost use Rattle.jc_types.specs.declared.actions.Command.{Command};
 ghost use Rattle.jc_types.specs.declared.actions.Script.{Script};
+ghost use Rattle.jc_types.specs.declared.objects.Job.{Job};
 ghost use Rattle.jc_types.specs.declared.runs.History.{History};
 ghost use Rattle.jc_types.specs.declared.runs.Shape.{Shape};
+ghost use Rattle.jc_states.specs.Conditions.{has_end};
 ghost use Rattle.jc_states.specs.ValidActions.{IsValidAction};
+ghost use Rattle.jc_log.specs.Log.{job_in};
+ghost use Rattle.jc_history.specs.Available.{is_quiescent};
 ghost use Rattle.jc_history.specs.Legal.{IsHistory, IsLegal};
-ghost use Rattle.jc_history.specs.Samples.{usual_shape};
-ghost use Rattle.jc_promise.specs.Promises.{KeepsPromises};
-ghost use Rattle.jc_promise.specs.SomeDeeds.{FindsEnd, MakesPod, SomeDeed, one_pod_deeds};
+ghost use Rattle.jc_history.specs.Replies.{diary, log_given};
+ghost use Rattle.jc_history.specs.Samples.{pi_key, usual_shape};
+ghost use Rattle.jc_ledger.specs.Once.{OnceAtEach};
+ghost use Rattle.jc_history.specs.Samples.{sample_spec};
+ghost use Rattle.jc_runs.specs.Conflicts.{AreToldLater};
+ghost use Rattle.jc_bounds.specs.Histories.{HoldsBounds};
+ghost use Rattle.jc_bounds.specs.Kept.{IsShut};
+ghost use Rattle.jc_rest.specs.Lost.{AreLostWell};
+ghost use Rattle.jc_rest.specs.Stuck.{is_sure};
+ghost use Rattle.jc_promise.specs.Promises.{IsToldAlone, KeepsPromises, RestsWell, WaitsWell};
+ghost use Rattle.jc_promise.specs.SomeDeeds.{FindsEnd, MakesPod, SomeDeed, one_pod_deeds, waiting_deeds};
+ghost use Rattle.jc_promise.specs.Wrong.{pi_job};
+ghost use Rattle.jc_promise.specs.WrongCounts.{early_release, early_total, recount, stale_pod_cache, stale_write};
+ghost use Rattle.jc_promise.specs.WrongEnds.{early_end, failed_job, skipped_command, twice_script};
+ghost use Rattle.jc_promise.specs.WrongOutcomes.{early_fail_job, finalizer_vanishes, ignored_counted, index_twice};
+ghost use Rattle.jc_promise.specs.WrongSyncs.{false_conflict, forgotten_pod, old_caches, stuck_job, two_syncs, two_workers};
 
 use jc_bounds::one_controller_holds_the_bounds;
 use jc_report::lines_determine_histories;
-use jc_rest::{finalizers_are_lost_with_a_cause, no_ended_pod_is_forgotten_at_rest};
-use jc_runs::{legal_histories_count_once, valid_scripts_ask_valid};
+use jc_rest::{
+    finalizers_are_lost_with_a_cause, no_ended_pod_is_forgotten_at_rest, no_job_is_stuck_at_rest,
+};
+use jc_runs::{
+    legal_histories_count_once, legal_histories_tell_later_versions, valid_scripts_ask_valid,
+};
 
 /// **Whatever the script**: of each legal history of a script whose commands are valid, in any order of
 /// its lanes, with any number of controllers and workers, all promises hold (KEP-2307).
@@ -29,7 +51,9 @@ pub fn legal_histories_keep_the_promises()
     valid_scripts_ask_valid();
     legal_histories_count_once();
     finalizers_are_lost_with_a_cause();
+    legal_histories_tell_later_versions();
     no_ended_pod_is_forgotten_at_rest();
+    no_job_is_stuck_at_rest();
     one_controller_holds_the_bounds();
     lines_determine_histories();
 }
@@ -41,4 +65,52 @@ pub fn a_job_of_one_controller_ends()
     ensures legal { IsLegal usual_shape one_pod_deeds }
     ensures makes { SomeDeed (MakesPod usual_shape) one_pod_deeds }
     ensures ends { SomeDeed (FindsEnd usual_shape) one_pod_deeds }
+{}
+
+/// What is said of Jobs at rest is said of something: at the end of this legal history nothing is left to do,
+/// its controller has added the Job's key since its pod cache last skipped entries, and the Job has not
+/// ended. It waits for its pod, of which nothing says how it will end.
+pub fn a_job_waits_at_rest()
+    ensures legal { IsLegal usual_shape waiting_deeds }
+    ensures rests { is_quiescent usual_shape waiting_deeds (log_given usual_shape waiting_deeds)
+        ≡ true }
+    ensures sure { is_sure pi_key (diary usual_shape 0 waiting_deeds) ≡ true }
+    ensures unended { option_map (λ (job : Job). has_end job.status.conditions)
+        (job_in pi_key (log_given usual_shape waiting_deeds)) ≡ Some false }
+{}
+
+/// Each promise says something, since it refuses a history. Each of these is what a machine makes that
+/// is wrong in one place; the promise that refuses it is the clause.
+/// - That each pod is counted once, after each event: finalizers that go before a list has the UID,
+///   totals that rise too early, a sync on an old pod cache, a status that is written at an old version,
+///   a UID that is counted again, an index that is counted twice, a failure that is ignored and counts,
+///   a pod that fails its Job and goes before the Job has a target.
+/// - That each finalizer was lost to a command or with a cause: the first of these, and a finalizer
+///   that goes by a mark.
+/// - The bounds of one controller: a controller that goes on with its caches after a request without
+///   an answer, a queue that hands out a key whose sync goes on, a Job that ends while a pod is open.
+/// - That conflicts are later: one that tells the version that was sent.
+/// - That lines tell one history: a lane that begins with its second command.
+/// - That no ended pod is forgotten at rest: a sync that begins on what its caches held before.
+/// - That no Job is stuck at rest: a sync that begins on what its caches held before they were listed.
+pub fn wrong_histories_are_refused()
+    ensures early_release { OnceAtEach early_release.deeds early_release.log → ⊥ }
+    ensures early_release_unlost { AreLostWell (pi_job sample_spec) early_release.deeds
+        early_release.log → ⊥ }
+    ensures early_total { OnceAtEach early_total.deeds early_total.log → ⊥ }
+    ensures stale_pod_cache { OnceAtEach stale_pod_cache.deeds stale_pod_cache.log → ⊥ }
+    ensures stale_write { OnceAtEach stale_write.deeds stale_write.log → ⊥ }
+    ensures recount { OnceAtEach recount.deeds recount.log → ⊥ }
+    ensures index_twice { OnceAtEach index_twice.deeds index_twice.log → ⊥ }
+    ensures ignored_counted { OnceAtEach ignored_counted.deeds ignored_counted.log → ⊥ }
+    ensures early_fail_job { OnceAtEach early_fail_job.deeds early_fail_job.log → ⊥ }
+    ensures finalizer_vanishes { AreLostWell (pi_job sample_spec) finalizer_vanishes.deeds
+        finalizer_vanishes.log → ⊥ }
+    ensures old_caches { HoldsBounds usual_shape old_caches → ⊥ }
+    ensures two_syncs { HoldsBounds two_workers two_syncs → ⊥ }
+    ensures early_end { IsShut early_end.log failed_job → ⊥ }
+    ensures false_conflict { AreToldLater usual_shape false_conflict → ⊥ }
+    ensures skipped_command { IsToldAlone twice_script usual_shape skipped_command → ⊥ }
+    ensures forgotten_pod { RestsWell usual_shape forgotten_pod → ⊥ }
+    ensures stuck_job { WaitsWell usual_shape stuck_job → ⊥ }
 {}

@@ -1,7 +1,9 @@
--- A sync that saw a Job and its ended pod, while both stand, neither ends well nor finds its Job gone.
-use Rattle.std.proofs.Common.{◌≡◌, ℕ, ◌≤◌, Bool, true, false, cond, not, ◌&&◌, ◌||◌, List, [], ◌∷◌, filter, find, length, Option, Some, None, IfSome, refl, sym, ap, ◌∙◌, subst, arith, true≢false}
-use Rattle.std.specs.Option.{option_map_or}
-use Rattle.std.proofs.lemmas.Bool.{and_from, and_parts, not_from_false, or_left}
+-- A sync that saw a Job as it is now and its ended pod neither ends well nor finds its Job gone. It wrote no status,
+-- since that would be a newer entry of the Job; and a plan that writes none has room for each pod, so it has this one
+-- released.
+use Rattle.std.proofs.Common.{◌≡◌, ℕ, zero, suc, ◌≤◌, ◌<◌, Bool, true, false, cond, not, ◌&&◌, ◌||◌, List, [], ◌∷◌, filter, find, length, Option, Some, None, IfSome, refl, sym, ap, ◌∙◌, subst, arith, true≢false}
+use Rattle.std.specs.Option.{option_map_or, unwrap_or}
+use Rattle.std.proofs.lemmas.Bool.{and_from, and_parts, and_right, cond-true, not_from_false, not_from_true, or_left}
 use Rattle.std.proofs.lemmas.List.{append-nil}
 use Rattle.jc_failpol.specs.declared.outcomes.Outcome.{Outcome}
 use Rattle.jc_failpol.specs.declared.outcomes.Outcome.TheVariants.{Alive, Succeeded, Failed, Ignored}
@@ -11,6 +13,7 @@ use Rattle.jc_types.specs.declared.actions.Fault.{Fault}
 use Rattle.jc_types.specs.declared.actions.Fault.TheVariants.{Drop, Lose}
 use Rattle.jc_types.specs.declared.numbers.Uid.{Uid}
 use Rattle.jc_types.specs.declared.objects.Entry.{Entry}
+use Rattle.jc_types.specs.declared.objects.Entry.TheVariants.{JobPut}
 use Rattle.jc_types.specs.declared.objects.Job.{Job}
 use Rattle.jc_types.specs.declared.objects.Key.{Key}
 use Rattle.jc_types.specs.declared.objects.Phase.{Phase}
@@ -22,49 +25,47 @@ use Rattle.jc_types.specs.declared.replies.Answer.TheVariants as answer
 use Rattle.jc_types.specs.declared.replies.Reply.TheVariants as reply
 use Rattle.jc_types.specs.declared.specifications.JobSpec.{JobSpec}
 use Rattle.jc_types.specs.declared.statuses.JobStatus.{JobStatus}
+use Rattle.jc_types.specs.Equality.{same_status}
 use Rattle.jc_types.specs.Keys.{same_key, same_uid}
-use Rattle.jc_types.proofs.KeyFacts.{same_uid-eq}
-use Rattle.jc_states.specs.Bases.{is_own}
+use Rattle.jc_types.proofs.EqualityFacts.{status-exact}
+use Rattle.jc_types.proofs.KeyFacts.{same_key-itself}
+use Rattle.jc_states.specs.Bases.{own_pods}
 use Rattle.jc_states.specs.Listed.{is_listed}
 use Rattle.jc_states.specs.Pods.{is_final, is_marked, is_tracked}
 use Rattle.jc_states.specs.UidLists.{is_in}
-use Rattle.jc_log.specs.Log.{Live, is_job_of, is_lost, job_in, life, living, pod_in, pods_in, upto}
+use Rattle.jc_log.specs.Log.{Live, entry_at, is_lost, job_in, life, living, pod_in, pods_in, upto}
 use Rattle.jc_log.specs.Requests.{Answered}
-use Rattle.jc_log.proofs.LogFacts.{upto-all}
+use Rattle.jc_log.specs.Writes.{Stored, Writes}
+use Rattle.jc_log.proofs.LogFacts.{entry_at-place, length-upto, upto-all, upto-entry_at}
+use Rattle.jc_log.proofs.PlaceFacts.{job_in-within}
 use Rattle.jc_log.proofs.PodFacts.{living-live, pods_in-among}
-use Rattle.jc_log.proofs.WriteFacts.{life-uid}
-use Rattle.jc_plan.specs.Plans.{planned}
+use Rattle.jc_log.proofs.WriteFacts.{Follows-upto, life-uid, place_is_version}
+use Rattle.jc_account.specs.Judged.{fits, is_candidate, is_left_over}
+use Rattle.jc_plan.specs.Plans.{WritesNothing, planned}
+use Rattle.jc_plan.specs.Statuses.{first_value}
+use Rattle.jc_plan.proofs.LeftFacts.{all-fit}
 use Rattle.jc_plan.proofs.OrderFacts.{due-released}
+use Rattle.jc_plan.proofs.PlanFacts.{plan-first}
 use Rattle.jc_ledger.specs.declared.flights.Flight.{Flight}
-use Rattle.jc_ledger.specs.Flights.{Flies}
+use Rattle.jc_ledger.specs.Flights.{Flies, known}
 use Rattle.jc_ledger.proofs.DuePods.{due_in}
+use Rattle.jc_ledger.proofs.OwnFacts.{basis-rises}
+use Rattle.jc_ledger.proofs.QuietFacts.{IfSome-at}
 use Rattle.jc_asks.specs.declared.asks.Ask.{Ask}
 use Rattle.jc_asks.specs.declared.asks.Ask.TheVariants.{MakePod, MarkPod, LetPodGo, WriteFirst, ReleasePod, WriteSecond}
-use Rattle.jc_asks.specs.Asks.{as_request}
+use Rattle.jc_asks.specs.Asks.{as_request, second_asks}
 use Rattle.jc_asks.specs.Steps.{as_answer, answered_to, status_gives, stepped_at, written_gives}
-use Rattle.jc_sync.specs.Places.{AreReleased, IsAt, Over, Under}
+use Rattle.jc_sync.specs.Places.{AreReleased, IsAt, IsUnder, KnowsFirst, Over, Under}
+use Rattle.jc_sync.specs.Registers.{NoneWritten, PutLater, WritesShow}
 use Rattle.jc_sync.proofs.ApiFacts.{Absent, Accepted, Conflicts, Same, StatusCases, status_cases}
 use Rattle.jc_sync.proofs.PlaceFacts.{AtEarly, AtFirst, AtLast, Place, at_first, at_second, is_asked, place_of}
 use Rattle.jc_history.specs.Delays.{is_retried}
 use Rattle.jc_history.specs.Diaries.{end_by}
 use Rattle.jc_history.specs.Registers.{asks_status}
 use Rattle.jc_order.specs.Restless.{has_forgotten, is_forgotten}
-use Rattle.jc_rest.specs.Both.{AreThere, FailsAfter, has_job_as}
+use Rattle.jc_rest.specs.Both.{AreThere, FailsAfter}
 
--- ---- the two
-
--- The Job of the UID.
-record TheJob (k : Key) (j : Uid) (log : List Entry) : Type 0 where
-  job : Job
-  is : job_in k log ≡ Some job
-  uid : job.uid ≡ j
-
-the-job : (k : Key) (j : Uid) (log : List Entry) → has_job_as k j log ≡ true → TheJob k j log
-the-job k j log h = by (job_in k log) refl h
-  where
-    by : (o : Option Job) → job_in k log ≡ o → is_job_of j o ≡ true → TheJob k j log
-    by None e h = absurd (true≢false (sym h))
-    by (Some job) e h = record { job = job; is = e; uid = same_uid-eq job.uid j h }
+-- ---- the pod
 
 -- The pod of the UID.
 record ThePod (k : Key) (j u : Uid) (log : List Entry) : Type 0 where
@@ -140,35 +141,73 @@ all-released flight (Under under) = by (place_of flight [] under)
     by (AtLast made (u ∷ rest) are is knows released) = absurd (true≢false (sym (ap is_asked is)))
     by (AtLast made [] are is knows released) = λ u h. released u (sym (ap (is_in u) (are ∙ append-nil made)) ∙ h)
 
-module _ (k : Key) (j u : Uid) (a b : ℕ) (log : List Entry) (there : AreThere k j u a b log) (now : ℕ) (flight : Flight) (flies : Flies log flight)
+module _ (k : Key) (job : Job) (u : Uid) (a b : ℕ) (log : List Entry) (stored : Stored log) (there : AreThere k job u a b log) (now : ℕ) (flight : Flight) (flies : Flies log flight)
     (named : flight.basis.key ≡ k) (jobs : a ≤ flight.basis.jobs_at.0) (pods : b ≤ flight.basis.pods_at.0) where
   whole : upto (length log) log ≡ log
   whole = upto-all (length log) log (omega arith)
 
-  seen-log : List Entry
-  seen-log = upto flight.basis.pods_at.0 log
-
   -- As the sync saw them, and as they are now.
-  old-job : TheJob k j (upto flight.basis.jobs_at.0 log)
-  old-job = the-job k j (upto flight.basis.jobs_at.0 log) (there.job flight.basis.jobs_at.0 jobs flies.basis.jobs_at)
+  saw-it : flight.basis.job ≡ Some job
+  saw-it = flies.basis.job ∙ ap (λ q. job_in q (upto flight.basis.jobs_at.0 log)) named ∙ there.stays flight.basis.jobs_at.0 jobs flies.basis.jobs_at
 
-  new-job : TheJob k j log
-  new-job =
-      the-job k j log
-      (ap (has_job_as k j) (sym whole)
-      ∙ there.job (length log) (let le = flies.basis.jobs_at in omega (arith, jobs, le)) (omega arith))
+  now-there : job_in k log ≡ Some job
+  now-there =
+      ap (job_in k) (sym whole) ∙ there.stays (length log) (let le = flies.basis.jobs_at in omega (arith, jobs, le)) (omega arith)
 
-  old-pod : ThePod k j u (upto flight.basis.pods_at.0 log)
-  old-pod = the-pod k j u (upto flight.basis.pods_at.0 log) (there.pod flight.basis.pods_at.0 pods flies.basis.pods_at)
+  old-pod : ThePod k job.uid u (upto flight.basis.pods_at.0 log)
+  old-pod = the-pod k job.uid u (upto flight.basis.pods_at.0 log) (there.pod flight.basis.pods_at.0 pods flies.basis.pods_at)
 
-  new-pod : ThePod k j u log
+  new-pod : ThePod k job.uid u log
   new-pod =
-      the-pod k j u log
-      (ap (has_forgotten k j u) (sym whole)
+      the-pod k job.uid u log
+      (ap (has_forgotten k job.uid u) (sym whole)
       ∙ there.pod (length log) (let le = flies.basis.pods_at in omega (arith, pods, le)) (omega arith))
 
-  saw-it : flight.basis.job ≡ Some old-job.job
-  saw-it = flies.basis.job ∙ ap (λ q. job_in q (upto flight.basis.jobs_at.0 log)) named ∙ old-job.is
+  -- ---- where it has nothing left to ask, it wrote nothing and left nothing over
+
+  seen-by : job.version.0 ≤ flight.basis.jobs_at.0
+  seen-by =
+      let within = job_in-within k (upto flight.basis.jobs_at.0 log) job (Follows-upto Writes flight.basis.jobs_at.0 log stored) (there.stays flight.basis.jobs_at.0 jobs flies.basis.jobs_at) in
+      let long = length-upto flight.basis.jobs_at.0 log flies.basis.jobs_at in
+      omega (arith, within, long)
+
+  -- No entry put the Job after that.
+  none-newer : (v : ℕ) (put : Job) → entry_at v log ≡ Some (JobPut put) → put.key ≡ flight.basis.key → flight.basis.jobs_at.0 < v → ⊥
+  none-newer zero put is key later = omega (arith, later)
+  none-newer (suc v) put is key later =
+      let version : put.version.0 ≡ suc v = place_is_version (suc v) log (JobPut put) stored is in
+      let same : put ≡ job = ap (λ o. unwrap_or o put) (sym found ∙ there.stays (suc v) (omega (arith, jobs, later)) (entry_at-place (suc v) log (JobPut put) is).1) in
+      omega (arith, version, ap (λ (x : Job). x.version.0) same, seen-by, later)
+    where
+      found : job_in k (upto (suc v) log) ≡ Some put
+      found =
+          ap (job_in k) (upto-entry_at v log (JobPut put) is)
+          ∙ cond-true (same_key put.key k) (Some put) (job_in k (upto v log)) (ap (λ q. same_key q k) (key ∙ named) ∙ same_key-itself k)
+
+  unwritten : (left : List Ask) → WritesShow log flight left → IsUnder flight left × (flight.written ≡ None)
+  unwritten left (NoneWritten under none) = (under, none)
+  unwritten left (PutLater h) = absurd (none-newer h.version h.put h.is_put h.key h.later)
+
+  writes-nothing : IsUnder flight [] × (flight.written ≡ None) → WritesNothing (planned flight.basis)
+  writes-nothing h = by (place_of flight [] h.0)
+    where
+      first : KnowsFirst flight → (planned flight.basis).first ≡ None
+      first knows =
+          let known-is : known flight job ≡ first_value job flight.basis = IfSome-at flight.basis.job (λ j. known flight j ≡ first_value j flight.basis) job saw-it knows in
+          let value : job.status ≡ first_value job flight.basis = sym (ap (λ (w : Option JobStatus). unwrap_or w job.status) h.1) ∙ known-is in
+          plan-first flight.basis job saw-it
+          ∙ cond-true (same_status job.status (first_value job flight.basis)) None (Some (first_value job flight.basis))
+          ((status-exact job.status (first_value job flight.basis)).1 value)
+
+      second : (o : Option JobStatus) → [] ≡ second_asks o → o ≡ None
+      second None e = refl
+      second (Some status) e = absurd (true≢false (sym (ap is_asked e)))
+
+      by : Place flight [] → WritesNothing (planned flight.basis)
+      by (AtEarly ask front is early others none) = absurd (true≢false (sym (ap is_asked is)))
+      by (AtFirst status first is none) = absurd (true≢false (sym (ap is_asked is)))
+      by (AtLast made (v ∷ rest) are is knows released) = absurd (true≢false (sym (ap is_asked is)))
+      by (AtLast made [] are is knows released) = (first knows, second (planned flight.basis).second is)
 
   -- ---- it does not end well
 
@@ -183,40 +222,46 @@ module _ (k : Key) (j u : Uid) (a b : ℕ) (log : List Entry) (there : AreThere 
       (ap (λ v. find (λ (p : Pod). same_uid p.uid v) (pods_in (upto flight.basis.pods_at.0 log))) pod-uid
       ∙ pods_in-among u (upto flight.basis.pods_at.0 log) ∙ ap living old-pod.is)
 
-  own : is_own old-job.job old-pod.pod ≡ true
-  own = ap (same_uid old-pod.pod.owner_uid) old-job.uid ∙ old-pod.own
-
-  due : is_in old-pod.pod.uid (planned flight.basis).releases ≡ true
-  due =
-      due-released old-pod.pod.uid old-job.job flight.basis saw-it
-      (due_in old-job.job flight.basis.pods old-pod.pod found own
-      (and_from (is_tracked old-pod.pod) (not (same_outcome (outcome_of old-job.job.spec old-pod.pod) Alive) || is_listed old-job.job.status old-pod.pod.uid) old-pod.tracked
-      (or_left (not (same_outcome (outcome_of old-job.job.spec old-pod.pod) Alive)) (is_listed old-job.job.status old-pod.pod.uid)
-      (not_from_false (same_outcome (outcome_of old-job.job.spec old-pod.pod) Alive) (ended-out old-job.job.spec old-pod.pod old-pod.final)))))
+  -- It has ended, and there is room for it.
+  due : WritesNothing (planned flight.basis) → is_in old-pod.pod.uid (planned flight.basis).releases ≡ true
+  due writes =
+      due-released old-pod.pod.uid job flight.basis saw-it
+      (due_in job flight.basis.pods old-pod.pod found old-pod.own
+      (and_from (is_tracked old-pod.pod) ((not (same_outcome (outcome_of job.spec old-pod.pod) Alive) && not (is_left_over job own old-pod.pod)) || is_listed job.status old-pod.pod.uid) old-pod.tracked
+      (or_left (not (same_outcome (outcome_of job.spec old-pod.pod) Alive) && not (is_left_over job own old-pod.pod)) (is_listed job.status old-pod.pod.uid)
+      (and_from (not (same_outcome (outcome_of job.spec old-pod.pod) Alive)) (not (is_left_over job own old-pod.pod))
+      (not_from_false (same_outcome (outcome_of job.spec old-pod.pod) Alive) (ended-out job.spec old-pod.pod old-pod.final))
+      (not_from_false (is_left_over job own old-pod.pod)
+      (and_right (is_candidate job old-pod.pod) (not (fits job own old-pod.pod))
+      (not_from_true (fits job own old-pod.pod)
+      (all-fit job flight.basis saw-it (basis-rises log flight.basis flies.basis) writes.0 writes.1 old-pod.pod))))))))
+    where
+      own : List Pod
+      own = own_pods job flight.basis.pods
 
   held : is_lost (life u log) ≡ false
   held = ap is_lost new-pod.is ∙ ap not new-pod.tracked
 
-  never-ends : IsAt flight [] → ⊥
-  never-ends at =
+  never-ends : IsAt flight [] → WritesShow log flight [] → ⊥
+  never-ends at wrote =
       true≢false
-      (sym (flies.released old-pod.pod.uid (all-released flight at old-pod.pod.uid due))
+      (sym (flies.released old-pod.pod.uid (all-released flight at old-pod.pod.uid (due (writes-nothing (unwritten [] wrote)))))
       ∙ ap (λ v. is_lost (life v log)) pod-uid ∙ held)
 
   -- ---- nor is its Job gone
 
-  status-fails : (status : JobStatus) (given : Answered) → StatusCases log flight.basis.key old-job.job.uid flight.sends status given → IfSome (end_by true (as_answer given.reply)) (λ end. is_retried end ≡ true)
-  status-fails status given (Accepted current is its at differs e) = subst (λ (x : Answered). IfSome (end_by true (as_answer x.reply)) (λ end. is_retried end ≡ true)) (sym e) tt
-  status-fails status given (Same current is its at same e) = subst (λ (x : Answered). IfSome (end_by true (as_answer x.reply)) (λ end. is_retried end ≡ true)) (sym e) tt
-  status-fails status given (Conflicts current is its other e) = subst (λ (x : Answered). IfSome (end_by true (as_answer x.reply)) (λ end. is_retried end ≡ true)) (sym e) refl
-  status-fails status given (Absent gone e) = absurd (gone new-job.job (ap (λ q. job_in q log) named ∙ new-job.is) (new-job.uid ∙ sym old-job.uid))
+  status-fails : (status : JobStatus) (given : Answered) → StatusCases log flight.basis.key job.uid flight.sends status given → IfSome (end_by true (as_answer given.reply)) (λ end. is_retried end ≡ true)
+  status-fails status given (Accepted current there own at differs e) = subst (λ (x : Answered). IfSome (end_by true (as_answer x.reply)) (λ end. is_retried end ≡ true)) (sym e) tt
+  status-fails status given (Same current there own at same e) = subst (λ (x : Answered). IfSome (end_by true (as_answer x.reply)) (λ end. is_retried end ≡ true)) (sym e) tt
+  status-fails status given (Conflicts current there own other e) = subst (λ (x : Answered). IfSome (end_by true (as_answer x.reply)) (λ end. is_retried end ≡ true)) (sym e) refl
+  status-fails status given (Absent gone e) = absurd (gone job (ap (λ q. job_in q log) named ∙ now-there) refl)
 
   written-fails : (status : JobStatus) (o : Option JobStatus) → o ≡ Some status → IfSome (end_by true (as_answer (written_gives log flight o).reply)) (λ end. is_retried end ≡ true)
   written-fails status o is =
       status-fails status (written_gives log flight o)
-      (subst (λ p. StatusCases log flight.basis.key old-job.job.uid flight.sends status (written_gives log flight p)) (sym is)
-      (subst (λ p. StatusCases log flight.basis.key old-job.job.uid flight.sends status (status_gives log flight status p)) (sym saw-it)
-      (status_cases log flight.basis.key old-job.job.uid flight.sends status)))
+      (subst (λ p. StatusCases log flight.basis.key job.uid flight.sends status (written_gives log flight p)) (sym is)
+      (subst (λ p. StatusCases log flight.basis.key job.uid flight.sends status (status_gives log flight status p)) (sym saw-it)
+      (status_cases log flight.basis.key job.uid flight.sends status)))
 
   asked-fails : (ask : Ask) (left : List Ask) → IsAt flight (ask ∷ left) → FailsAfter (reply.Stepped (as_request ask) (as_answer (answered_to log now flight ask).reply))
   asked-fails (MakePod index) left at = other-fails (as_answer (answered_to log now flight (MakePod index)).reply)
@@ -227,8 +272,8 @@ module _ (k : Key) (j u : Uid) (a b : ℕ) (log : List Entry) (there : AreThere 
   asked-fails WriteSecond left at = let ask = at_second flight left at in written-fails ask.status (planned flight.basis).second ask.second
 
   -- So no step ends it but as one that failed.
-  pub step-fails : (pending : Option Fault) (left : List Ask) → IsAt flight left → FailsAfter (stepped_at now pending log flight left).reply
-  step-fails pending [] at = never-ends at
-  step-fails None (ask ∷ left) at = asked-fails ask left at
-  step-fails (Some Drop) (ask ∷ left) at = lost-fails (asks_status (as_request ask))
-  step-fails (Some Lose) (ask ∷ left) at = lost-fails (asks_status (as_request ask))
+  pub step-fails : (pending : Option Fault) (left : List Ask) → IsAt flight left → WritesShow log flight left → FailsAfter (stepped_at now pending log flight left).reply
+  step-fails pending [] at wrote = never-ends at wrote
+  step-fails None (ask ∷ left) at wrote = asked-fails ask left at
+  step-fails (Some Drop) (ask ∷ left) at wrote = lost-fails (asks_status (as_request ask))
+  step-fails (Some Lose) (ask ∷ left) at wrote = lost-fails (asks_status (as_request ask))

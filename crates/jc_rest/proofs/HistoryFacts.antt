@@ -25,7 +25,7 @@ use Rattle.jc_states.specs.Pods.{is_final}
 use Rattle.jc_states.specs.ValidSpecs.{IsValidSpec}
 use Rattle.jc_log.specs.Acts.{Act}
 use Rattle.jc_log.specs.Deeds.{Deed}
-use Rattle.jc_log.specs.Log.{Live, is_job_of, job_in, life, living, pods_of, upto}
+use Rattle.jc_log.specs.Log.{Live, job_in, life, living, pods_of, upto}
 use Rattle.jc_log.specs.Requests.{changed_spec, grown, update_refusal}
 use Rattle.jc_log.specs.Writes.{Legal}
 use Rattle.jc_log.proofs.WriteFacts.{Stored-from_legal}
@@ -56,7 +56,7 @@ use Rattle.jc_runs.proofs.CountedFacts.{justified}
 use Rattle.jc_runs.proofs.LegalRuns.{Machine, There, given, legal_run, team, there, within}
 use Rattle.jc_runs.proofs.ListFacts.{register_there}
 use Rattle.jc_runs.proofs.StepRuns.{step_gives-at}
-use Rattle.jc_rest.specs.Both.{AreThere, FailsAfter, has_job_as}
+use Rattle.jc_rest.specs.Both.{AreThere, FailsAfter}
 use Rattle.jc_rest.specs.LetGo.{EndedAreLetGo, IsLetGoOnceEnded}
 use Rattle.jc_rest.specs.Lost.{AreLostWell}
 use Rattle.jc_rest.proofs.EndFacts.{step-fails}
@@ -65,18 +65,18 @@ use Rattle.jc_rest.proofs.StandFacts.{Standing, standing}
 
 -- ---- what is there was there before
 
-module _ (k : Key) (j u : Uid) (a b : ℕ) where
-  there-older : (e : Entry) (log : List Entry) → AreThere k j u a b (e ∷ log) → AreThere k j u a b log
+module _ (k : Key) (job : Job) (u : Uid) (a b : ℕ) where
+  there-older : (e : Entry) (log : List Entry) → AreThere k job u a b (e ∷ log) → AreThere k job u a b log
   there-older e log h = record {
-    job = λ n low high. ap (has_job_as k j) (sym (upto-fixed n e log high)) ∙ h.job n low (omega (arith, high));
-    pod = λ n low high. ap (has_forgotten k j u) (sym (upto-fixed n e log high)) ∙ h.pod n low (omega (arith, high));
+    stays = λ n low high. ap (job_in k) (sym (upto-fixed n e log high)) ∙ h.stays n low (omega (arith, high));
+    pod = λ n low high. ap (has_forgotten k job.uid u) (sym (upto-fixed n e log high)) ∙ h.pod n low (omega (arith, high));
   }
 
-  there-before : (shape : Shape) (d : Deed) (past : List Deed) → AreThere k j u a b (log_given shape (d ∷ past)) → AreThere k j u a b (log_given shape past)
+  there-before : (shape : Shape) (d : Deed) (past : List Deed) → AreThere k job u a b (log_given shape (d ∷ past)) → AreThere k job u a b (log_given shape past)
   unfolding log_given
   there-before shape d past h = by (gives shape past (log_given shape past) d.act).entry h
     where
-      by : (o : Option Entry) → AreThere k j u a b (grown (log_given shape past) o) → AreThere k j u a b (log_given shape past)
+      by : (o : Option Entry) → AreThere k job u a b (grown (log_given shape past) o) → AreThere k job u a b (log_given shape past)
       by None h = h
       by (Some e) h = there-older e (log_given shape past) h
 
@@ -139,7 +139,7 @@ module _ (k : Key) (a b : ℕ) where
 
 -- ---- a deed of a machine
 
-module _ (shape : Shape) (past : List Deed) (d : Deed) (legal : IsLegalNext shape past d) (m : Machine shape past) (k : Key) (j u : Uid) (a b : ℕ) (stand : AreThere k j u a b (log_given shape past)) (c w : ℕ) (e : d.act ≡ does.Step c w) where
+module _ (shape : Shape) (past : List Deed) (d : Deed) (legal : IsLegalNext shape past d) (m : Machine shape past) (k : Key) (job : Job) (u : Uid) (a b : ℕ) (stand : AreThere k job u a b (log_given shape past)) (c w : ℕ) (e : d.act ≡ does.Step c w) where
   of_shape : (c < shape.controllers) × (w < shape.workers)
   of_shape = within shape past d legal m (does.Step c w) e
 
@@ -152,10 +152,10 @@ module _ (shape : Shape) (past : List Deed) (d : Deed) (legal : IsLegalNext shap
   -- The sync of the register, where one is.
   at-sync : (sync : Sync) → slice_get one.one.registers w ≡ Some (Some sync) → (fault : Option Fault) → (basis : Basis) → sync.flight.basis ≡ basis → IfSaw k a b basis (stepped_at m.now fault m.log sync.flight sync.left).reply
   at-sync sync mine fault basis same named jobs pods =
-      step-fails k j u a b m.log (subst (AreThere k j u a b) (sym m.run.log_is) stand) m.now sync.flight flies
+      step-fails k job u a b m.log (Stored-from_legal m.log m.run.syncs.tied.legal) (subst (AreThere k job u a b) (sym m.run.log_is) stand) m.now sync.flight flies
       (ap (λ (x : Basis). x.key) same ∙ same_key-eq basis.key k named)
       (subst (λ (x : Basis). a ≤ x.jobs_at.0) (sym same) jobs) (subst (λ (x : Basis). b ≤ x.pods_at.0) (sym same) pods)
-      fault sync.left (m.run.syncs.each c w sync at).at
+      fault sync.left (m.run.syncs.each c w sync at).at (m.run.syncs.writes c w sync at)
     where
       at : register_at c w (registers_of m.teams) ≡ Some (Some sync)
       at = register_there m.teams c one.one one.one one.is w (Some sync) mine
@@ -196,12 +196,12 @@ module _ (shape : Shape) (past : List Deed) (d : Deed) (legal : IsLegalNext shap
 abbrev pub Stay : Type 0
 Stay = (spec : JobSpec) (change : SpecChange) → IsValidSpec spec → update_refusal spec change ≡ None → IsValidSpec (changed_spec spec change)
 
-module _ (stay : Stay) (shape : Shape) (k : Key) (j u : Uid) (a b : ℕ) where
-  all-fail : (c : ℕ) (deeds : List Deed) → IsLegal shape deeds → AllAskValid deeds → AreThere k j u a b (log_given shape deeds) → AllFail k a b (notes shape c deeds (log_given shape deeds))
+module _ (stay : Stay) (shape : Shape) (k : Key) (job : Job) (u : Uid) (a b : ℕ) where
+  all-fail : (c : ℕ) (deeds : List Deed) → IsLegal shape deeds → AllAskValid deeds → AreThere k job u a b (log_given shape deeds) → AllFail k a b (notes shape c deeds (log_given shape deeds))
   all-fail c [] legal valid stand = tt
   all-fail c (d ∷ past) legal valid stand =
       subst (AllFail k a b) (sym (notes-next shape c past d legal.1))
-      (by (restarts c d.act) (all-fail c past legal.1 valid.1 (there-before k j u a b shape d past stand)))
+      (by (restarts c d.act) (all-fail c past legal.1 valid.1 (there-before k job u a b shape d past stand)))
     where
       old : List Note
       old = notes shape c past (log_given shape past)
@@ -209,7 +209,7 @@ module _ (stay : Stay) (shape : Shape) (k : Key) (j u : Uid) (a b : ℕ) where
       new-notes : AllFail k a b (notes_taken c d.act d.reply (moment shape past) (log_given shape (d ∷ past)) old)
       new-notes =
           other-notes k a b c d.act d.reply (moment shape past) (log_given shape (d ∷ past)) old
-          (λ w e. told-fails shape past d legal.0 (legal_run stay shape past legal.1 valid.1) k j u a b (there-before k j u a b shape d past stand) c w e)
+          (λ w e. told-fails shape past d legal.0 (legal_run stay shape past legal.1 valid.1) k job u a b (there-before k job u a b shape d past stand) c w e)
 
       by : (t : Bool) → AllFail k a b old → AllFail k a b (cond t [] (notes_taken c d.act d.reply (moment shape past) (log_given shape (d ∷ past)) old ++ old))
       by true more = tt
@@ -219,13 +219,13 @@ module _ (stay : Stay) (shape : Shape) (k : Key) (j u : Uid) (a b : ℕ) where
 
 module _ (stay : Stay) (shape : Shape) (deeds : List Deed) (legal : IsLegal shape deeds) (valid : AllAskValid deeds) (some : 0 < shape.controllers) (working : 0 < shape.workers)
     (quiet : is_quiescent shape deeds (log_given shape deeds) ≡ true) (room : moment shape deeds + 60 < end_of_moments) where
-  not-both : (k : Key) (j u : Uid) → has_job_as k j (log_given shape deeds) ≡ true → has_forgotten k j u (log_given shape deeds) ≡ true → ⊥
-  not-both k j u its p =
-      no-rest shape deeds legal working quiet room 0 some k j u both.together
-      (all-fail stay shape k j u both.together.job_from both.together.pod_from 0 deeds legal valid (record { job = both.job; pod = both.together.pod_since }))
+  not-both : (k : Key) (job : Job) (u : Uid) → job_in k (log_given shape deeds) ≡ Some job → has_forgotten k job.uid u (log_given shape deeds) ≡ true → ⊥
+  not-both k job u its p =
+      no-rest shape deeds legal working quiet room 0 some k job.uid u both.together
+      (all-fail stay shape k job u both.together.job_from both.together.pod_from 0 deeds legal valid (record { stays = both.stays; pod = both.together.pod_since }))
     where
-      both : Standing k j u (log_given shape deeds)
-      both = standing k j u (log_given shape deeds) its p
+      both : Standing k job u (log_given shape deeds)
+      both = standing k job u (log_given shape deeds) its p
 
   legal-log : Legal (log_given shape deeds)
   legal-log = let m = legal_run stay shape deeds legal valid in subst Legal m.run.log_is m.run.syncs.tied.legal
@@ -256,8 +256,7 @@ module _ (stay : Stay) (shape : Shape) (deeds : List Deed) (legal : IsLegal shap
           by : (b : Bool) → pod.tracked ≡ b → pod.tracked ≡ false
           by false t = t
           by true t =
-              absurd (not-both k job.uid pod.uid
-              (ap (is_job_of job.uid) its ∙ same_uid-itself job.uid)
+              absurd (not-both k job pod.uid its
               (ap (λ l. option_map_or (is_forgotten k job.uid) (living l) false) lives ∙ forgotten t))
 
 -- ---- how finalizers were lost

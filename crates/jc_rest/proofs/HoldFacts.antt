@@ -1,5 +1,6 @@
 -- Which answers of the store leave a pod its finalizer, and which take it.
 use Rattle.std.proofs.Common.{◌≡◌, ℕ, ◌+◌, ◌-◌, ◌==◌, nat_lt, Bool, true, false, cond, not, ◌&&◌, List, [], ◌∷◌, length, Option, Some, None, find, refl, sym, ap, ◌∙◌, subst, true≢false}
+use Rattle.std.proofs.lemmas.Bool.{and_parts, not-false, not-true, not_from_true}
 use Rattle.jc_log.specs.Acts as does
 use Rattle.jc_control.specs.declared.begins.Begin.{Begin}
 use Rattle.jc_moment.specs.Range.{end_of_moments}
@@ -28,7 +29,7 @@ use Rattle.jc_states.specs.declared.bases.Basis.{Basis}
 use Rattle.jc_states.specs.Pods.{goes, is_final, is_marked}
 use Rattle.jc_log.specs.Acts.{Act}
 use Rattle.jc_log.specs.Deeds.{Deed}
-use Rattle.jc_log.specs.Log.{Gone, Life, Live, Never, job_in, life, pod_in}
+use Rattle.jc_log.specs.Log.{Gone, Life, Live, is_lost, job_in, life, pod_in}
 use Rattle.jc_log.specs.Requests.{Answered, changed_spec, create_job_at, create_job_gives, delete_job_at, delete_job_gives, grown, is_other, is_unnamed, let_go_gives, made_pod, mark_pod_at, mark_pod_gives, pod_entry, release_gives, released, report_phase_at, report_phase_gives, report_unless, same_course_of, update_refusal, update_spec_at, update_spec_gives, update_unless, with_mark, with_report, without_finalizer, write_status_at}
 use Rattle.jc_log.proofs.PodFacts.{living-live}
 use Rattle.jc_log.proofs.WriteFacts.{life-uid}
@@ -49,11 +50,9 @@ use Rattle.jc_history.specs.Numbers.{number}
 use Rattle.jc_history.specs.Registers.{made, pending, register}
 use Rattle.jc_history.specs.Replies.{begin_gives, deliver_gives, finish_gives, gives, node_gives, step_gives}
 
--- No pod lives without its finalizer.
+-- No pod is without its finalizer, or gone.
 abbrev pub Holds : Life → Type 0
-Holds Never = Unit {0}
-Holds (Live pod) = pod.tracked ≡ true
-Holds Gone = Unit {0}
+Holds l = is_lost l ≡ false
 
 module _ (u : Uid) (log : List Entry) where
   -- What an answer to the request leaves: the pod has its finalizer still, or the request took it.
@@ -63,7 +62,7 @@ module _ (u : Uid) (log : List Entry) where
 
   -- So it is of an act, or the act strips the pod.
   pub data OfAct (act : Act) (a : Answered) : Type 0 where
-    Strips : act ≡ does.Strip u → OfAct act a
+    Strips : act ≡ does.Strip u → (pod : Pod) → life u log ≡ Live pod → (e : Entry) → a.entry ≡ Some e → OfAct act a
     Otherwise : Outcome (request_of a.reply) a → OfAct act a
 
   module _ (held : Holds (life u log)) where
@@ -80,29 +79,33 @@ module _ (u : Uid) (log : List Entry) where
     put new h = by (same_uid new.uid u) refl
       where
         by : (b : Bool) → same_uid new.uid u ≡ b → Holds (cond b (Live new) (life u log))
-        by true s = h s
+        by true s = not_from_true new.tracked (h s)
         by false s = held
 
-    gone : (new : Pod) → Holds (life u (PodGone new ∷ log))
-    gone new = by (same_uid new.uid u)
+    -- A pod that goes has no finalizer.
+    gone : (new : Pod) → (same_uid new.uid u ≡ true → new.tracked ≡ true) → goes new ≡ true → Holds (life u (PodGone new ∷ log))
+    gone new h g = by (same_uid new.uid u) refl
       where
-        by : (b : Bool) → Holds (cond b Gone (life u log))
-        by true = tt
-        by false = held
+        untracked : new.tracked ≡ false
+        untracked = not-true new.tracked (and_parts (not new.tracked) (is_final new.phase) (and_parts (is_marked new) (not new.tracked && is_final new.phase) g).1).0
+
+        by : (b : Bool) → same_uid new.uid u ≡ b → Holds (cond b Gone (life u log))
+        by true s = absurd (true≢false (sym (h s) ∙ untracked))
+        by false s = held
 
     written : (new : Pod) → (same_uid new.uid u ≡ true → new.tracked ≡ true) → Holds (life u (pod_entry new ∷ log))
-    written new h = by (goes new)
+    written new h = by (goes new) refl
       where
-        by : (b : Bool) → Holds (life u (cond b (PodGone new) (PodPut new) ∷ log))
-        by true = gone new
-        by false = put new h
+        by : (b : Bool) → goes new ≡ b → Holds (life u (cond b (PodGone new) (PodPut new) ∷ log))
+        by true g = gone new h g
+        by false g = put new h
 
     -- A pod of the UID that is there has its finalizer.
     its : (v : Uid) (old : Pod) → life v log ≡ Live old → same_uid old.uid u ≡ true → life u log ≡ Live old
     its v old is s = ap (λ w. life w log) (sym (sym (life-uid v log old is) ∙ same_uid-eq old.uid u s)) ∙ is
 
     tracked : (v : Uid) (old : Pod) → life v log ≡ Live old → same_uid old.uid u ≡ true → old.tracked ≡ true
-    tracked v old is s = subst Holds (its v old is s) held
+    tracked v old is s = not-false old.tracked (subst Holds (its v old is s) held)
 
     -- ---- requests that keep it
 
@@ -231,7 +234,7 @@ module _ (u : Uid) (log : List Entry) where
       where
         by : (a : Answered) → Outcome (Some (as_request (ReleasePod v))) a → OfAct (does.Strip v) a
         by a (Held h) = Otherwise (Held h)
-        by a (Taken taking takes same pod is entry there) = Strips (ap (λ o. does.Strip (pod-of o)) takes ∙ ap does.Strip same)
+        by a (Taken taking takes same pod is entry there) = Strips (ap (λ o. does.Strip (pod-of o)) takes ∙ ap does.Strip same) pod is entry there
           where
             pod-of : Option Taking → Uid
             pod-of None = taking.pod

@@ -3,3 +3,10 @@ pub mod EndFacts
 pub mod HoldFacts
 pub mod LostFacts
 pub mod HistoryFacts
+pub mod SureFacts
+pub mod LastFacts
+pub mod PlainFacts
+pub mod NoAskFacts
+pub mod TellFacts
+pub mod WatchFacts
+pub mod StuckFacts

@@ -1,3 +1,4 @@
 pub mod LetGo
 pub mod Both
 pub mod Lost
+pub mod Stuck

@@ -10,19 +10,22 @@ ghost use Rattle.jc_log.specs.Deeds.{Deed};
 ghost use Rattle.jc_log.specs.Log.{job_in};
 ghost use Rattle.jc_history.specs.Available.{is_quiescent};
 ghost use Rattle.jc_history.specs.Diaries.{moment};
+ghost use Rattle.jc_history.specs.Registers.{backoff};
 ghost use Rattle.jc_history.specs.Legal.{IsLegal};
-ghost use Rattle.jc_history.specs.Replies.{log_given};
+ghost use Rattle.jc_history.specs.Replies.{diary, log_given};
 ghost use Rattle.jc_runs.specs.Runs.{AllAskValid};
 ghost use Rattle.jc_rest.specs.LetGo.{EndedAreLetGo};
 ghost use Rattle.jc_rest.specs.Lost.{AreLostWell};
+ghost use Rattle.jc_rest.specs.Stuck.{IsWaiting, is_sure};
 
 use jc_manifest::allowed_updates_stay_valid;
 
 /// **At rest no ended pod is forgotten (KEP-2307)**: where nothing is available any more, each pod
 /// that has ended, of a Job that is there, has lost its finalizer. So it is for any number of
 /// controllers and workers, with faults, lost replies, restarts, pods that lose their finalizers by
-/// commands, and caches that are listed anew. The clock stands more than a minute before the last
-/// moment, since a retry past it is not added.
+/// commands, and caches that are listed anew; and however many pods have ended, though a sync counts
+/// in no more of them than fit into the lists, and leaves the others over. The clock stands more than
+/// a minute before the last moment, since a retry past it is not added.
 ///
 /// The Job's status need not be the next one: where a pod came and went between two lists of the
 /// pod cache, no list adds its owner's key.
@@ -37,15 +40,38 @@ pub fn no_ended_pod_is_forgotten_at_rest()
     allowed_updates_stay_valid();
 }
 
-/// In each legal history a pod of a Job that is there has lost its finalizer, where it has none, to
-/// a command, or to a sync that had a cause: the pod was judged by an earlier write of the Job's
-/// status, or it needs no count, since its failure is ignored, it was active and was let go, or its
-/// index was complete. So at rest each pod that has ended and that no command stripped is in the
-/// Job's counts, or needs no count.
+/// In each legal history, of each pod that ever was there of a Job that is there, where it is without its
+/// finalizer now, or gone, one of the deeds took it: just before this deed the pod had it, and just after
+/// it not. It was a command that stripped this pod, or a release or let-go of this pod by a sync, and the
+/// sync had a cause: the pod was judged by an earlier write of the Job's status; or it needs no count,
+/// since its failure is ignored, it was active and was let go, or its index was complete or is none of
+/// the Job's. So at rest each pod that has ended and that no command stripped is in the Job's counts, or
+/// needs no count.
 pub fn finalizers_are_lost_with_a_cause()
     ensures { (shape : Shape) (deeds : List Deed) → IsLegal shape deeds → AllAskValid deeds
         → (k : Key) (job : Job) → job_in k (log_given shape deeds) ≡ Some job
         → AreLostWell job deeds (log_given shape deeds) }
+{
+    allowed_updates_stay_valid();
+}
+
+/// **At rest no Job is stuck (batch/v1)**: where nothing is available any more, each Job that is there has
+/// ended, or it waits for something that only the outside can give: it is suspended, it may run no pod, it
+/// has an active pod of which nothing says how it will end, or its pods are held back past the last moment.
+/// So it is for each controller that has added the Job's key since its pod cache last skipped entries of
+/// the log.
+///
+/// Without that it can be false: where the last pod of a Job comes to its end and leaves the log between
+/// two lists of the pod cache, nobody adds the Job's key.
+pub fn no_job_is_stuck_at_rest()
+    ensures { (shape : Shape) (deeds : List Deed) → IsLegal shape deeds → AllAskValid deeds
+        → 0 < shape.workers
+        → is_quiescent shape deeds (log_given shape deeds) ≡ true
+        → moment shape deeds + 60 < end_of_moments
+        → (c : ℕ) → c < shape.controllers
+        → (k : Key) (job : Job) → job_in k (log_given shape deeds) ≡ Some job
+        → is_sure k (diary shape c deeds) ≡ true
+        → IsWaiting deeds (backoff k (diary shape c deeds)) (log_given shape deeds) job }
 {
     allowed_updates_stay_valid();
 }

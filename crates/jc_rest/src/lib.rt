@@ -1,6 +1,8 @@
-//! What holds where nothing is left to do: that no ended pod is forgotten.
+//! What holds where nothing is left to do: no ended pod is forgotten, and no Job is stuck.
 #![tactic(auto)]
 
 mod laws;
 
-pub use laws::{finalizers_are_lost_with_a_cause, no_ended_pod_is_forgotten_at_rest};
+pub use laws::{
+    finalizers_are_lost_with_a_cause, no_ended_pod_is_forgotten_at_rest, no_job_is_stuck_at_rest,
+};

@@ -1,5 +1,5 @@
 -- What holds of each legal history, from the laws below.
-use Rattle.std.proofs.Common.{arith, ◌≡◌, ◌+◌, ◌<◌, ◌^◌, subst, length, reverse}
+use Rattle.std.proofs.Common.{arith, ◌+◌, ◌<◌, ◌^◌, subst, length, reverse}
 use Rattle.jc_log.specs.Deeds.{deeds}
 use Rattle.jc_runs.specs.Runs.{AllAskValid}
 use Rattle.jc_promise.proofs.DeedFacts.{deeds-are}
@@ -12,9 +12,11 @@ returns c = λ script shape history valid some working few follows.
     record {
       once = c.legal_histories_count_once.ensures.at_each shape (deeds script history) follows.legal asks;
       lost = c.finalizers_are_lost_with_a_cause.ensures shape (deeds script history) follows.legal asks;
+      conflicts = c.legal_histories_tell_later_versions.ensures shape (deeds script history) follows.legal asks;
       told = λ other legal events others same.
           let short : 1 + length other.events.items < 2 ^ 64 = omega (arith, legal.few, few) in
           c.lines_determine_histories.ensures script shape other history legal follows others events short same;
       bounds = λ one. c.one_controller_holds_the_bounds.ensures shape (deeds script history) one follows.legal;
       rests = λ quiet room. c.no_ended_pod_is_forgotten_at_rest.ensures shape (deeds script history) follows.legal asks some working quiet room;
+      waits = λ quiet room. c.no_job_is_stuck_at_rest.ensures shape (deeds script history) follows.legal asks working quiet room;
     }

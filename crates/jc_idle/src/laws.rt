@@ -1,0 +1,23 @@
+//! The law on plans that ask for nothing. Its function is empty: what it ensures holds of every basis, and
+//! its callers may cite it.
+
+ghost use Rattle.std.specs.Prelude.{◌≡◌, ◌<◌, Some, false};
+ghost use Rattle.jc_types.specs.declared.objects.Job.{Job};
+ghost use Rattle.jc_states.specs.declared.bases.Basis.{Basis};
+ghost use Rattle.jc_states.specs.Conditions.{has_end};
+ghost use Rattle.jc_states.specs.PodLists.{IsRising};
+ghost use Rattle.jc_states.specs.ValidSpecs.{IsValidSpec};
+ghost use Rattle.jc_plan.specs.Plans.{planned};
+ghost use Rattle.jc_idle.specs.Waits.{AsksNothing, Waits};
+
+/// **A plan that asks for nothing waits for something.** Over a valid Job that has not ended, is not
+/// suspended and may run a pod, a plan that has no request and names no moment finds an active tracked pod
+/// of the Job, or one that is marked and still open; or the moment before which no pod is made lies past
+/// the last one.
+pub fn idle_plans_wait()
+    ensures { (job : Job) (basis : Basis)
+        → basis.job ≡ Some job → IsRising basis.pods → IsValidSpec job.spec
+        → has_end job.status.conditions ≡ false → job.spec.suspend ≡ false
+        → 0 < job.spec.parallelism
+        → AsksNothing (planned basis) → Waits job basis }
+{}

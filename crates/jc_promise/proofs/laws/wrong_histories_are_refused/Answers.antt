@@ -1,0 +1,25 @@
+-- What each of them is refused by.
+use Rattle.jc_promise.proofs.WrongFacts.{early_fail_job-refused, early_release-refused, early_release-unlost, early_total-refused, finalizer_vanishes-refused, ignored_counted-refused, index_twice-refused, recount-refused, stale_pod_cache-refused, stale_write-refused}
+use Rattle.jc_promise.proofs.WrongSyncFacts.{early_end-refused, false_conflict-refused, forgotten_pod-refused, old_caches-refused, skipped_command-refused, stuck_job-refused, two_syncs-refused}
+use Rattle.jc_promise.proofs.laws.wrong_histories_are_refused.Goals as goal
+
+pub returns : goal.returns
+returns c = record {
+  early_release = early_release-refused;
+  early_release_unlost = early_release-unlost;
+  early_total = early_total-refused;
+  stale_pod_cache = stale_pod_cache-refused;
+  stale_write = stale_write-refused;
+  recount = recount-refused;
+  index_twice = index_twice-refused;
+  ignored_counted = ignored_counted-refused;
+  early_fail_job = early_fail_job-refused;
+  finalizer_vanishes = finalizer_vanishes-refused;
+  old_caches = old_caches-refused;
+  two_syncs = two_syncs-refused;
+  early_end = early_end-refused;
+  false_conflict = false_conflict-refused;
+  skipped_command = skipped_command-refused;
+  forgotten_pod = forgotten_pod-refused;
+  stuck_job = stuck_job-refused;
+}
