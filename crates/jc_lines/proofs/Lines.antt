@@ -1,5 +1,5 @@
 -- The line of an event tells its number and a glimpse of it, and so the lines of a history tell the history.
-use Rattle.std.proofs.Common.{◌≡◌, ℕ, ◌+◌, ◌^◌, ◌<◌, ◌≤◌, List, [], ◌∷◌, ◌++◌, map, length, drop, codes, decimal, refl, sym, ap, subst, ◌∙◌, arith, append_assoc}
+use Rattle.std.proofs.Common.{◌≡◌, ℕ, ◌+◌, ◌^◌, ◌<◌, List, [], ◌∷◌, ◌++◌, map, length, drop, decimal, refl, sym, ap, subst, ◌∙◌, arith, append_assoc}
 use Rattle.std.proofs.lemmas.List.{append_cancel_left}
 use Rattle.jc_log.specs.Deeds.{act_of_event, deed, lane_of}
 use Rattle.jc_types.specs.declared.actions.Command.{Command}

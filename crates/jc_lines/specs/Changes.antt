@@ -1,7 +1,7 @@
 -- The JSON values that the change of a pod's phase and the ends of pods are printed as.
 --     phase_change_data change     an object with the phase, the containers and the conditions
 --     ends_data ends               a list of objects, one for each end
-use Rattle.std.specs.Prelude.{ℕ, ℤ, List, ◌∷◌, [], map, option_map, Option, Some, codes}
+use Rattle.std.specs.Prelude.{ℤ, List, map, option_map, Some, codes}
 use Rattle.serde_json.specs.Data.{Data, Members, number, object, no_members, string}
 use Rattle.serde_json.specs.Find.{of_integer}
 use Rattle.jc_manifest.specs.Members.{list_data, number_data, with_json_member}

@@ -5,7 +5,6 @@
 --     TellsThree reply         it tells of three things
 use Rattle.std.specs.Prelude.{ℕ, List, ◌++◌, Option, None, Some, codes, decimal}
 use Rattle.jc_moment.specs.Text.{moment_text}
-use Rattle.jc_types.specs.declared.numbers.Uid.{Uid}
 use Rattle.jc_types.specs.declared.replies.Answer.{Answer}
 use Rattle.jc_types.specs.declared.replies.Answer.TheVariants as answer
 use Rattle.jc_types.specs.declared.replies.Reply.{Reply}

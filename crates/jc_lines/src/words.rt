@@ -6,6 +6,7 @@ ghost use Rattle.jc_lines.specs.Words.{fault_word, field_word, objects_word, pha
 
 use jc_types::{Fault, Field, Kind, Phase, Truth};
 
+/// The word of a phase.
 pub fn phase_word(phase: Phase) -> &'static str
     ensures { result.now ≡ phase_word phase }
 {
@@ -17,6 +18,7 @@ pub fn phase_word(phase: Phase) -> &'static str
     }
 }
 
+/// The word of a kind of objects.
 pub fn kind_word(kind: Kind) -> &'static str
     ensures { result.now ≡ objects_word kind }
 {
@@ -26,6 +28,7 @@ pub fn kind_word(kind: Kind) -> &'static str
     }
 }
 
+/// The word of a fault.
 pub fn fault_word(fault: Fault) -> &'static str
     ensures { result.now ≡ fault_word fault }
 {
@@ -35,6 +38,7 @@ pub fn fault_word(fault: Fault) -> &'static str
     }
 }
 
+/// The name of a member of a specification.
 pub fn field_word(field: Field) -> &'static str
     ensures { result.now ≡ field_word field }
 {
@@ -46,6 +50,7 @@ pub fn field_word(field: Field) -> &'static str
     }
 }
 
+/// The word of a condition's truth.
 pub fn truth_word(truth: Truth) -> &'static str
     ensures { result.now ≡ truth_word truth }
 {

@@ -7,4 +7,4 @@ mod laws;
 mod reports;
 
 pub use laws::lines_determine_histories;
-pub use reports::{report, summary};
+pub use reports::{report, summary, tail};

@@ -7,7 +7,7 @@ ghost use Rattle.jc_lines.specs.Events.{event_line, event_lines};
 ghost use Rattle.jc_log.specs.Deeds.{deed};
 ghost use Rattle.jc_log.specs.Log.{jobs_in};
 ghost use Rattle.jc_types.specs.declared.runs.Past.{Past};
-ghost use Rattle.jc_report.specs.Reports.{report_text, summary_of};
+ghost use Rattle.jc_report.specs.Reports.{in_order, jobs_text as jobs_said, report_text, summary_of, verdicts_in};
 
 use crate::jobs::{in_order, jobs_text};
 use jc_lines::{print_full, print_summary, put_event};
@@ -44,6 +44,33 @@ fn events_text(alloc: Global, script: &Script, events: &[Past]) -> Result<String
     Ok(text)
 }
 
+/// The two lines of each Job that is there after a history of the script, whose log and whose Jobs these
+/// are, in ascending key: what it has come to, and how many of its pods were judged. The log stands
+/// oldest first.
+///
+/// # Errors
+///
+/// Want of memory.
+pub fn tail(
+    alloc: Global,
+    script: &Script,
+    history: &History,
+    log: &Entries,
+    jobs: &Table<Key, Job>,
+) -> Result<String, Want>
+    requires few { length log.now < 2 ^ 32 }
+    requires places { IsNumbered script.now history.now }
+    requires jobs { jobs.now ≡ jobs_in (reverse log.now) }
+    ensures { IfOk result (λ text. string_bytes text
+        ≡ jobs_said (verdicts_in script.now history.now.events.items (reverse log.now))
+        (in_order (jobs_in (reverse log.now)))) }
+{
+    let rows = all_verdicts(alloc, script, history, log)?;
+    let list = in_order(alloc, jobs)?;
+    let text = jobs_text(alloc, &rows, list.as_slice())?;
+    Ok(text)
+}
+
 /// The report of a history of the script, whose log and whose Jobs these are: a line for each event,
 /// then two for each Job in ascending key, what it has come to and how many of its pods were judged,
 /// and `full` at last where the history was full. The log stands oldest first. It takes one pass over
@@ -66,9 +93,7 @@ pub fn report(
     ensures { IfOk result (λ text. string_bytes text
         ≡ report_text script.now history.now.events.items (reverse log.now) full) }
 {
-    let rows = all_verdicts(alloc, script, history, log)?;
-    let list = in_order(alloc, jobs)?;
-    let last = jobs_text(alloc, &rows, list.as_slice())?;
+    let last = tail(alloc, script, history, log, jobs)?;
     let mut text = events_text(alloc, script, history.events.as_slice())?;
     text.push_str(last.as_str())?;
     print_full(&mut text, full)?;
