@@ -1,0 +1,9 @@
+mod ExpiredFacts
+mod FindFacts
+mod Fits
+mod Lists
+mod LongerPlays
+mod PlayedFacts
+mod RefusedTtls
+mod TtlReading
+mod Whole

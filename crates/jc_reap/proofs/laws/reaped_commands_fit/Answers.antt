@@ -1,0 +1,14 @@
+use Rattle.jc_types.specs.declared.actions.Action1.{Action1}
+use Rattle.jc_log.specs.Deeds.{act_of_action}
+use Rattle.jc_states.specs.ValidActions.{IsValidAction}
+use Rattle.jc_history.specs.Legal.{IsOfShape}
+use Rattle.jc_reap.proofs.Fits.{of-all}
+use Rattle.jc_reap.proofs.laws.reaped_commands_fit.Goals as goal
+
+-- Nothing is asked of a mark, a clock, a delete or a settle.
+pub returns-clause-valid : goal.returns-clause-valid
+returns-clause-valid c = λ seen ttls. of-all IsValidAction (λ u. tt) (λ n. tt) (λ k. tt) tt seen ttls
+
+pub returns-clause-within : goal.returns-clause-within
+returns-clause-within c = λ shape seen ttls.
+    of-all (λ (action : Action1). IsOfShape shape (act_of_action action)) (λ u. tt) (λ n. tt) (λ k. tt) tt seen ttls

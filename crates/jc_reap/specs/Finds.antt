@@ -1,0 +1,69 @@
+-- What the commands of a reaper find when they come; deeds and logs are newest first.
+--     FindsExpired ttl log now k reply    a delete of the key removed a Job whose time was over
+--     FindsOwnerless log u                a mark found a pod whose Job is gone
+--     FindsDue ttl shape past act reply   the act did the one or the other, if it is a delete or a mark
+--     AreDue ttl shape past more          so did each of the deeds behind the past
+--     IsCollected ttl shape before after  so did each of the deeds by which the ones went on to the others
+--     seen_at_end script shape            what a reaper sees at the end of the script's play
+use Rattle.std.specs.Prelude.{◌≡◌, ℕ, ◌+◌, ◌≤◌, true, List, [], ◌∷◌, ◌++◌, Option, Some}
+use Rattle.jc_types.specs.declared.actions.Script.{Script}
+use Rattle.jc_types.specs.declared.numbers.Uid.{Uid}
+use Rattle.jc_types.specs.declared.objects.Entry.{Entry}
+use Rattle.jc_types.specs.declared.objects.Job.{Job}
+use Rattle.jc_types.specs.declared.objects.Key.{Key}
+use Rattle.jc_types.specs.declared.objects.Pod.{Pod}
+use Rattle.jc_types.specs.declared.replies.Reply.{Reply}
+use Rattle.jc_types.specs.declared.replies.Reply.TheVariants.{Removed}
+use Rattle.jc_types.specs.declared.runs.Shape.{Shape}
+use Rattle.jc_log.specs.Acts.{Act}
+use Rattle.jc_log.specs.Acts as does
+use Rattle.jc_log.specs.Deeds.{Deed}
+use Rattle.jc_log.specs.Log.{job_in, next_version, pod_in}
+use Rattle.jc_history.specs.Diaries.{all_jobs, moment}
+use Rattle.jc_history.specs.Play.{whole_play}
+use Rattle.jc_history.specs.Replies.{log_given}
+use Rattle.jc_runs.specs.Seen.{Seen}
+use Rattle.jc_reap.specs.Expiries.{ended_at}
+use Rattle.jc_reap.specs.Reaping.{is_ownerless}
+
+-- A delete of the key finds a Job that has ended and that has a TTL, so many seconds after whose end the
+-- moment is not before; and it removes the Job.
+pub record FindsExpired (ttl : Uid → Option ℕ) (log : List Entry) (now : ℕ) (k : Key) (reply : Reply) : Type 0
+  where
+    pub job : Job
+    pub there : job_in k log ≡ Some job
+    pub end : ℕ
+    pub ended : ended_at job.status.conditions ≡ Some end
+    pub seconds : ℕ
+    pub given : ttl job.uid ≡ Some seconds
+    pub over : end + seconds ≤ now
+    pub removed : reply ≡ Removed (next_version log)
+
+-- A mark finds a pod that no Job that is there made.
+pub record FindsOwnerless (log : List Entry) (u : Uid) : Type 0 where
+  pub pod : Pod
+  pub there : pod_in u log ≡ Some pod
+  pub gone : is_ownerless (all_jobs log) pod ≡ true
+
+-- A delete or a mark finds this, after these deeds. Of other acts nothing is said.
+abbrev pub FindsDue : (Uid → Option ℕ) → Shape → List Deed → Act → Reply → Type 0
+FindsDue ttl shape past (does.Delete k) reply =
+    FindsExpired ttl (log_given shape past) (moment shape past) k reply
+FindsDue ttl shape past (does.Mark u) reply = FindsOwnerless (log_given shape past) u
+FindsDue ttl shape past other reply = Unit {0}
+
+-- So does each of the deeds that came behind the past.
+abbrev pub AreDue : (Uid → Option ℕ) → Shape → List Deed → List Deed → Type 0
+AreDue ttl shape past [] = Unit {0}
+AreDue ttl shape past (d ∷ more) = FindsDue ttl shape (more ++ past) d.act d.reply × AreDue ttl shape past more
+
+-- The deeds went on from those before, and each delete and each mark among what came behind them found this.
+pub record IsCollected (ttl : Uid → Option ℕ) (shape : Shape) (before after : List Deed) : Type 0 where
+  pub more : List Deed
+  pub parts : after ≡ more ++ before
+  pub due : AreDue ttl shape before more
+
+-- What a reaper sees at the end of the play of the script.
+abbrev pub seen_at_end : Script → Shape → Seen
+seen_at_end script shape =
+    record { script = script; shape = shape; pasts = (whole_play script shape).pasts }

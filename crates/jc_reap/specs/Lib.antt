@@ -1,0 +1,5 @@
+pub mod Expiries
+pub mod Finds
+pub mod Makers
+pub mod Reaping
+pub mod TtlLines

@@ -1,0 +1,62 @@
+//! The commands that a reaper gives to a cluster at rest.
+
+ghost use Rattle.std.specs.Prelude.{◌≡◌, ◌≤◌, IfOk, OnOk, length, true};
+ghost use Rattle.jc_history.specs.Available.{is_quiescent};
+ghost use Rattle.jc_runs.specs.Seen.{deeds_seen, log_seen};
+ghost use Rattle.jc_reap.specs.Reaping.{reap_list, then_settle, unsettled};
+
+use crate::expiries::expired;
+use crate::makers::makers;
+use crate::marking::{give, mark_all_ownerless};
+use crate::removals::remove_all;
+use crate::ttls::Ttls;
+use jc_core::Cluster;
+use jc_types::{Action1, Commands, Want};
+use std::alloc::Global;
+
+// All commands but the settle at the end.
+fn unsettled(alloc: Global, cluster: &Cluster, ttls: &Ttls) -> Result<Commands, Want>
+    ensures { IfOk result (λ commands. commands ≡ unsettled cluster.now ttls.now) }
+{
+    let store = cluster.store();
+    let script = cluster.script();
+    let events = cluster.history().events.as_slice();
+    let makers = makers(alloc, script.commands.as_slice(), events)?;
+    let rows = expired(alloc, store.jobs(), &makers, ttls.as_slice())?;
+    let mut commands = Commands::new(alloc);
+    mark_all_ownerless(alloc, &mut commands, store.jobs(), store.pods())?;
+    remove_all(&mut commands, store, cluster.moment(), rows)?;
+    Ok(commands)
+}
+
+// Adds a settle at the end, where there is a command.
+fn settle(commands: &mut Commands) -> Result<(), Want>
+    ensures { OnOk result (commands.new ≡ then_settle commands.old) }
+{
+    if commands.is_empty() {
+        return Ok(());
+    }
+    give(commands, Action1::Settle)
+}
+
+/// The commands that remove what is done with from a cluster at rest, as the TTL controller and the
+/// garbage collector of Kubernetes do: marks of the pods whose Job is gone, in ascending UID; then, in
+/// the order of the moments at which they may go and of their keys, each finished Job to which the
+/// command that made it gave a TTL, where its end and the TTL are not past the last moment: a clock to
+/// that moment where it is not reached, the delete of the Job, and marks of its pods in ascending UID;
+/// and a settle, where there is anything to do. All are of lane 0.
+///
+/// The cluster stays as it is. A command past the last entry of the TTLs has none.
+///
+/// # Errors
+/// `Want` where there is no memory.
+pub fn reap(alloc: Global, cluster: &Cluster, ttls: &Ttls) -> Result<Commands, Want>
+    requires rest { is_quiescent cluster.now.shape (deeds_seen cluster.now) (log_seen cluster.now)
+        ≡ true }
+    requires few { length ttls.now ≤ length cluster.now.script.commands }
+    ensures { IfOk result (λ commands. commands ≡ reap_list cluster.now ttls.now) }
+{
+    let mut commands = unsettled(alloc, cluster, ttls)?;
+    settle(&mut commands)?;
+    Ok(commands)
+}
