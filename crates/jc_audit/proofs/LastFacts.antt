@@ -1,0 +1,153 @@
+-- The newest event: its deed, and the command at the end of a script.
+use Rattle.std.proofs.Common.{◌≡◌, ℕ, zero, suc, ◌+◌, ◌==◌, Bool, true, false, cond, List, [], ◌∷◌, ◌++◌, length, slice_get, Option, Some, is_some, refl, sym, ap, ap₂, subst, arith, eqb-true, true≢false}
+use Rattle.std.specs.List.{AllByRecursion as Each}
+use Rattle.std.specs.Option.{unwrap_or}
+use Rattle.jc_types.specs.declared.actions.Action1.{Action1}
+use Rattle.jc_types.specs.declared.actions.Action1.TheVariants as act
+use Rattle.jc_types.specs.declared.actions.Command.{Command}
+use Rattle.jc_types.specs.declared.replies.Reply.{Reply}
+use Rattle.jc_types.specs.declared.runs.Event.{Event}
+use Rattle.jc_types.specs.declared.runs.Shape.{Shape}
+use Rattle.jc_types.specs.declared.runs.Sys.{Sys}
+use Rattle.jc_types.specs.declared.runs.Sys.TheVariants as sys
+use Rattle.jc_log.specs.Acts.{Act}
+use Rattle.jc_log.specs.Deeds.{Deed, act_of_action, act_of_system, lane_of}
+use Rattle.jc_history.specs.Legal.{IsLegal, IsLegalNext, lane_places, places_from}
+use Rattle.jc_history.specs.Replies.{log_given, next_deed}
+use Rattle.jc_lines.specs.Proper.{IsProperAction, as_begin}
+use Rattle.jc_runs.specs.Seen.{Admits, IsDoable, Seen, act_seen, deeds_seen, happened}
+
+-- ---- deeds
+
+-- The deed of an event that has happened.
+pub newest : (seen : Seen) (e : Event) → deeds_seen (happened seen e) ≡ next_deed seen.shape (deeds_seen seen) (lane_of e) (act_seen seen e) ∷ deeds_seen seen
+newest seen e = refl
+
+abbrev deed_of : Option ℕ → Act → Reply → ℕ → Deed
+deed_of lane a r n = record { lane = lane; act = a; reply = r; length = record { 0 = n } }
+
+-- A legal deed is the one that comes where its act is done next.
+pub legal_is_next : (shape : Shape) (past : List Deed) (d : Deed) → IsLegalNext shape past d → d ≡ next_deed shape past d.lane d.act
+unfolding log_given
+legal_is_next shape past d legal = ap₂ (λ r n. deed_of d.lane d.act r n) legal.reply legal.length
+
+-- What happens is legal.
+pub happened_is_legal : (seen : Seen) (e : Event) → Admits seen e → IsLegal seen.shape (deeds_seen seen) → IsLegal seen.shape (deeds_seen (happened seen e))
+unfolding log_given
+happened_is_legal seen e admits legal = (record { within = admits.within; settled = admits.settled; reply = refl; length = refl }, legal)
+
+-- ---- the command at the end
+
+pub get_last : {A : Type 0} (xs : List A) (x : A) → slice_get (xs ++ x ∷ []) (length xs) ≡ Some x
+get_last [] x = refl
+get_last (y ∷ xs) x = get_last xs x
+
+-- ---- begins in the place of syncs
+
+pub begun_act : (a : Action1) → act_of_action (as_begin a) ≡ act_of_action a
+begun_act (act.Create key spec) = refl
+begun_act (act.Update key version change) = refl
+begun_act (act.Delete key) = refl
+begun_act (act.Mark pod) = refl
+begun_act (act.Strip pod) = refl
+begun_act (act.Finish pod exit) = refl
+begun_act (act.Report pod change) = refl
+begun_act (act.Fate key ends) = refl
+begun_act (act.Clock add) = refl
+begun_act (act.List controller kind) = refl
+begun_act (act.Deliver controller kind) = refl
+begun_act (act.Begin controller worker) = refl
+begun_act (act.Sync controller worker) = refl
+begun_act (act.Step controller worker) = refl
+begun_act act.Node = refl
+begun_act (act.Restart controller) = refl
+begun_act (act.PutFault controller worker fault) = refl
+begun_act act.Settle = refl
+
+pub begun_proper : (a : Action1) → IsProperAction a → IsProperAction (as_begin a)
+begun_proper (act.Create key spec) p = p
+begun_proper (act.Update key version change) p = p
+begun_proper (act.Delete key) p = p
+begun_proper (act.Mark pod) p = p
+begun_proper (act.Strip pod) p = p
+begun_proper (act.Finish pod exit) p = p
+begun_proper (act.Report pod change) p = p
+begun_proper (act.Fate key ends) p = p
+begun_proper (act.Clock add) p = p
+begun_proper (act.List controller kind) p = p
+begun_proper (act.Deliver controller kind) p = p
+begun_proper (act.Begin controller worker) p = p
+begun_proper (act.Sync controller worker) p = p
+begun_proper (act.Step controller worker) p = p
+begun_proper act.Node p = p
+begun_proper (act.Restart controller) p = p
+begun_proper (act.PutFault controller worker fault) p = p
+begun_proper act.Settle p = p
+
+pub doable : (a : Action1) → IsDoable (act_of_action a)
+doable (act.Create key spec) = tt
+doable (act.Update key version change) = tt
+doable (act.Delete key) = tt
+doable (act.Mark pod) = tt
+doable (act.Strip pod) = tt
+doable (act.Finish pod exit) = tt
+doable (act.Report pod change) = tt
+doable (act.Fate key ends) = tt
+doable (act.Clock add) = tt
+doable (act.List controller kind) = tt
+doable (act.Deliver controller kind) = tt
+doable (act.Begin controller worker) = tt
+doable (act.Sync controller worker) = tt
+doable (act.Step controller worker) = tt
+doable act.Node = tt
+doable (act.Restart controller) = tt
+doable (act.PutFault controller worker fault) = tt
+doable act.Settle = tt
+
+pub system_doable : (s : Sys) → IsDoable (act_of_system s)
+system_doable (sys.List controller kind) = tt
+system_doable (sys.Deliver controller kind) = tt
+system_doable (sys.Begin controller worker) = tt
+system_doable (sys.Step controller worker) = tt
+system_doable sys.Node = tt
+system_doable (sys.Clock add) = tt
+
+-- ---- places of lanes
+
+-- A command of the script at that place, and its lane.
+pub record IsAt (commands : List Command) (lane n : ℕ) : Type 0 where
+  pub command : Command
+  pub found : slice_get commands n ≡ Some command
+  pub of_lane : command.lane ≡ lane
+
+-- The place of a lane is that of a command of the lane.
+module _ (lane : ℕ) where
+  -- The places from one on, of the commands from there on.
+  at_place : (p : ℕ) (cs : List Command) (k n : ℕ) → slice_get (places_from lane p cs) k ≡ Some n → (m : ℕ) × (n ≡ p + m) × IsAt cs lane m
+  at_place p [] k n e = absurd (true≢false (sym (ap is_some e)))
+  at_place p (c ∷ cs) k n e = by (λ k e. at_place (p + 1) cs k n e) (c.lane == lane) refl k e
+    where
+      next : (m : ℕ) × (n ≡ p + 1 + m) × IsAt cs lane m → (m : ℕ) × (n ≡ p + m) × IsAt (c ∷ cs) lane m
+      next t = let far = t.1 in (suc t.0, omega (arith, far), record { command = t.2.command; found = t.2.found; of_lane = t.2.of_lane })
+
+      by : ((k : ℕ) → slice_get (places_from lane (p + 1) cs) k ≡ Some n → (m : ℕ) × (n ≡ p + 1 + m) × IsAt cs lane m) → (b : Bool) → (c.lane == lane) ≡ b → (k : ℕ)
+          → slice_get (cond b (p ∷ places_from lane (p + 1) cs) (places_from lane (p + 1) cs)) k ≡ Some n → (m : ℕ) × (n ≡ p + m) × IsAt (c ∷ cs) lane m
+      by ih true same zero e = let f = ap (λ o. unwrap_or o n) e in (0, omega (arith, f), record { command = c; found = refl; of_lane = eqb-true c.lane lane same })
+      by ih true same (suc k) e = next (ih k e)
+      by ih false same k e = next (ih k e)
+
+pub lane_at : (lane : ℕ) (cs : List Command) (k n : ℕ) → slice_get (lane_places lane cs) k ≡ Some n → IsAt cs lane n
+lane_at lane cs k n e =
+    let t = at_place lane 0 cs k n e in
+    let far = t.1 in
+    let same : t.0 ≡ n = omega (arith, far) in
+    subst (IsAt cs lane) same t.2
+
+pub each_at : {A : Type 0} (P : A → Type 0) (xs : List A) (i : ℕ) (x : A) → Each P xs → slice_get xs i ≡ Some x → P x
+each_at P [] i x all e = absurd (true≢false (sym (ap is_some e)))
+each_at P (y ∷ xs) zero x all e = subst P (ap (λ o. unwrap_or o x) e) all.0
+each_at P (y ∷ xs) (suc i) x all e = each_at P xs i x all.1 e
+
+pub each_more : {A : Type 0} (P : A → Type 0) (xs : List A) (x : A) → Each P xs → P x → Each P (xs ++ x ∷ [])
+each_more P [] x all one = (one, tt)
+each_more P (y ∷ xs) x all one = (all.0, each_more P xs x all.1 one)

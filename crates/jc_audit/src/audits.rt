@@ -1,0 +1,64 @@
+//! The audit of bytes.
+
+ghost use Rattle.std.specs.Prelude.{◌≡◌, ◌≤◌, IfOk, length};
+ghost use Rattle.jc_audit.specs.Audits.{Says, begins_event};
+ghost use Rattle.jc_audit.specs.Walks.{at_first};
+
+use crate::tails::{rest_at, tail_verdict};
+use crate::verdicts::Verdict;
+use crate::walking::take;
+use jc_core::Cluster;
+use jc_types::{Commands, Script, Shape, Want};
+use std::alloc::Global;
+
+// Whether the first line is that of an event: it begins with a digit.
+fn begins_event(rest: &[u8]) -> bool
+    ensures { result ≡ begins_event rest.now }
+{
+    match rest.first() {
+        Some(byte) => 48 <= *byte && *byte <= 57,
+        None => false,
+    }
+}
+
+// A cluster in which nothing has happened, whose script has no command.
+fn first_cluster(alloc: Global, shape: Shape) -> Result<Cluster, Want>
+    requires { shape.events ≤ 200000 }
+    ensures { IfOk result (λ c. c ≡ at_first shape) }
+{
+    let script = Script {
+        commands: Commands::new(alloc),
+    };
+    Cluster::new(alloc, script, shape)
+}
+
+/// What is to be said of the bytes. They are a report where lines of events stand first, each of
+/// which is that of a command put at its lane's end or of an event of the system that was available,
+/// with the reply that the machine gives; and then the lines of the Jobs that have come of it, and
+/// `full`, if at all, where the history is full. Else the first line is named that differs. Nothing is
+/// taken from who printed them: the machine is played along. It takes the time and the memory of the
+/// play.
+///
+/// # Errors
+///
+/// Want of memory.
+pub fn audit(alloc: Global, bytes: &[u8], shape: Shape) -> Result<Verdict, Want>
+    requires short { length bytes.now ≤ 67108864 }
+    requires few_controllers { shape.controllers ≤ 4 }
+    requires few_workers { shape.workers ≤ 16 }
+    requires few_events { shape.events ≤ 200000 }
+    ensures { IfOk result (λ v. Says shape bytes.now v) }
+{
+    let mut cluster = first_cluster(alloc, shape)?;
+    let mut at = 0;
+    'walking: while begins_event(rest_at(bytes, at)) {
+        let line = cluster.history().events.len() as u32 + 1;
+        let taken = take(alloc, &mut cluster, rest_at(bytes, at))?;
+        let Some(len) = taken else {
+            return Ok(Verdict::No { line });
+        };
+        at += len;
+    }
+    let verdict = tail_verdict(alloc, &cluster, rest_at(bytes, at))?;
+    Ok(verdict)
+}

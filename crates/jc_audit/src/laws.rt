@@ -1,0 +1,43 @@
+//! Laws on reports. What each function ensures holds of all bytes, and its callers may cite it.
+
+ghost use Rattle.std.specs.Prelude.{◌≡◌, ◌≤◌, Bool, List, length, true, ℕ};
+ghost use Rattle.std.specs.List.{AllByRecursion as Each};
+ghost use Rattle.jc_history.specs.Available.{IsOrderly};
+ghost use Rattle.jc_history.specs.Legal.{IsHistory};
+ghost use Rattle.jc_history.specs.Replies.{log_given};
+ghost use Rattle.jc_lines.specs.Proper.{IsProperCommand};
+ghost use Rattle.jc_log.specs.Deeds.{deeds};
+ghost use Rattle.jc_report.specs.Reports.{report_text};
+ghost use Rattle.jc_types.specs.declared.actions.Script.{Script};
+ghost use Rattle.jc_types.specs.declared.runs.History.{History};
+ghost use Rattle.jc_types.specs.declared.runs.Shape.{Shape};
+ghost use Rattle.jc_audit.specs.Audits.{IsRecognised, Says};
+ghost use Rattle.jc_audit.specs.Reported.{IsReported};
+ghost use Rattle.jc_audit.specs.declared.verdicts.Verdict.{Verdict};
+
+use jc_lines::printed_fronts_are_read_back;
+
+/// Of a script whose commands are proper, each legal and orderly history prints as a report.
+pub fn histories_print_reports()
+    ensures { (script : Script) (shape : Shape) (history : History) (full : Bool)
+        → Each IsProperCommand script.commands → IsHistory script shape history
+        → IsOrderly shape (deeds script history)
+        → (full ≡ true → length history.events.items ≡ shape.events)
+        → IsRecognised shape
+        (report_text script history.events.items (log_given shape (deeds script history)) full) }
+{}
+
+/// A report is what a legal and orderly history of a script whose commands are proper prints as.
+pub fn reports_are_of_histories()
+    ensures { (shape : Shape) (bytes : List ℕ) → IsRecognised shape bytes → IsReported shape bytes }
+{}
+
+/// One thing alone is to be said of bytes: so those of which Yes is said are the reports, and of all
+/// others one line is named.
+pub fn verdicts_are_unique()
+    ensures { (shape : Shape) → shape.controllers ≤ 4 → shape.workers ≤ 16
+        → shape.events ≤ 200000 → (bytes : List ℕ) (v w : Verdict)
+        → Says shape bytes v → Says shape bytes w → v ≡ w }
+{
+    printed_fronts_are_read_back();
+}

@@ -1,0 +1,13 @@
+//! The auditor: whether bytes are a report, whoever printed them.
+#![tactic(auto)]
+
+mod audits;
+mod laws;
+mod tails;
+mod taking;
+mod verdicts;
+mod walking;
+
+pub use audits::audit;
+pub use laws::{histories_print_reports, reports_are_of_histories, verdicts_are_unique};
+pub use verdicts::Verdict;
