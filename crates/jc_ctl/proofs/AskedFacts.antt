@@ -1,17 +1,29 @@
 -- What words ask for threads.
-use Rattle.std.proofs.Common.{◌≡◌, ℕ, ◌≤◌, Bool, true, false, List, Err, Option, Some, None, is_some, not, refl, ap, arith, subst, sym, true≢false}
+use Rattle.std.proofs.Common.{◌≡◌, ℕ, Bool, true, false, List, Err, Option, Some, None, is_some, not, refl, ap, arith, subst, sym, true≢false, ◌∙◌}
 use Rattle.std.specs.Prelude.{IfSome, IsTrue}
+use Rattle.std.proofs.lemmas.Option.{same_Some}
 use Rattle.jc_types.specs.declared.runs.Shape.{Shape}
+use Rattle.jc_audit.specs.Audits.{Says}
+use Rattle.jc_audit.specs.declared.verdicts.Verdict.TheVariants.{Yes}
 use Rattle.jc_script.specs.Scripts.{BadLine, script_of}
+use Rattle.jc_words.specs.declared.words.LockKind.{LockKind}
 use Rattle.jc_words.specs.declared.words.Order.{Order}
-use Rattle.jc_words.specs.declared.words.Order.TheVariants.{Run}
+use Rattle.jc_words.specs.declared.words.Order.TheVariants.{Audit, Generate, Reap, Run}
+use Rattle.jc_ctl.specs.Audited.{IsPromised, OfAudit, TellsVerdict}
 use Rattle.jc_ctl.specs.declared.run.Asked.{Asked}
-use Rattle.jc_ctl.specs.Runs.{IsSingle, OfInput, answer_of, reported}
+use Rattle.jc_ctl.specs.declared.run.Asked.TheVariants as ask
+use Rattle.jc_ctl.specs.Played.{as_script}
+use Rattle.jc_ctl.specs.Runs.{HasThreads, IsSingle, OfInput, answer_of, order_asked, reported}
 
--- Words ask for no threads where none were found.
+-- What is asked for is not done on one thread.
+not-single : (asked : Asked) → HasThreads asked → IsSingle (order_asked asked) → ⊥
+not-single (ask.Threads threads lock shape) some zero = omega (arith, zero, some)
+not-single (ask.Audit shape) some none = none
+
+-- Words ask for no threads and no audit where none were found.
 pub single-is : (words : Option Order) (asked : Option Asked) (b : Bool) → is_some asked ≡ not b
-    → IfSome asked (λ asked. words ≡ Some (Run asked.threads asked.shape))
-    → IfSome asked (λ asked. 1 ≤ asked.threads)
+    → IfSome asked (λ asked. words ≡ Some (order_asked asked))
+    → IfSome asked HasThreads
     → (asked ≡ None → (order : Order) → words ≡ Some order → IsSingle order)
     → (IsTrue b → (order : Order) → words ≡ Some order → IsSingle order)
     × (((order : Order) → words ≡ Some order → IsSingle order) → IsTrue b)
@@ -19,21 +31,47 @@ single-is words None true is found some none = ((λ t. none refl), (λ h. refl))
 single-is words None false is found some none = absurd (true≢false (sym is))
 single-is words (Some asked) true is found some none = absurd (true≢false is)
 single-is words (Some asked) false is found some none =
-    ((λ t. absurd (true≢false (sym t))), (λ h. let zero = h (Run asked.threads asked.shape) found in absurd (omega (arith, zero, some))))
+    ((λ t. absurd (true≢false (sym t))), (λ h. absurd (not-single asked some (h (order_asked asked) found))))
 
 -- A bad line is the same on any number of threads.
-bad-same : (threads : ℕ) (shape : Shape) (input : List ℕ) (bad : BadLine) → script_of shape input ≡ Err bad
-    → answer_of (Run threads shape) input ≡ Err bad
+bad-same : (threads : ℕ) (lock : LockKind) (shape : Shape) (input : List ℕ) (bad : BadLine) → script_of shape input ≡ Err bad
+    → answer_of (Run threads lock shape) input ≡ Err bad
 unfolding answer_of
-bad-same threads shape input bad e = ap (reported shape) e
+bad-same threads lock shape input bad e = ap (λ r. reported shape (as_script r)) e
 
-pub bad-of : (words : Option Order) (threads : ℕ) (shape : Shape) (left : Option (List ℕ)) (bad : BadLine)
-    → words ≡ Some (Run threads shape) → IfSome left (λ input. script_of shape input ≡ Err bad)
+pub bad-of : (words : Option Order) (threads : ℕ) (lock : LockKind) (shape : Shape) (left : Option (List ℕ)) (bad : BadLine)
+    → words ≡ Some (Run threads lock shape) → IfSome left (λ input. script_of shape input ≡ Err bad)
     → IfSome words (λ order. OfInput order left (λ input. answer_of order input ≡ Err bad))
-bad-of words threads shape left bad is h =
+bad-of words threads lock shape left bad is h =
     subst (λ o. IfSome o (λ order. OfInput order left (λ input. answer_of order input ≡ Err bad))) (sym is) (by left h)
   where
     by : (left : Option (List ℕ)) → IfSome left (λ input. script_of shape input ≡ Err bad)
-        → IfSome left (λ input. answer_of (Run threads shape) input ≡ Err bad)
+        → IfSome left (λ input. answer_of (Run threads lock shape) input ≡ Err bad)
     by None h = tt
-    by (Some input) h = bad-same threads shape input bad h
+    by (Some input) h = bad-same threads lock shape input bad h
+
+-- ---- audits
+
+shape-in : Order → Shape → Shape
+shape-in (Audit shape) other = shape
+shape-in (Run threads lock shape) other = other
+shape-in (Reap shape) other = other
+shape-in (Generate number jobs pods) other = other
+
+-- Words ask for one shape.
+pub same-shape : (words : Option Order) (a b : Shape) → words ≡ Some (Audit a) → words ≡ Some (Audit b) → a ≡ b
+unfolding shape-in
+same-shape words a b is asks = ap (λ (o : Order). shape-in o a) (same_Some (Audit a) (Audit b) (sym is ∙ asks))
+
+-- What holds of the shape holds of the words.
+pub of-audit : (words : Option Order) (shape : Shape) (P : Shape → Type 0) → words ≡ Some (Audit shape) → P shape
+    → IfSome words (λ order. OfAudit order P)
+of-audit words shape P is p = subst (λ o. IfSome o (λ order. OfAudit order P)) (sym is) p
+
+-- Of a report whose verdict was told all promises hold.
+pub promised-too : (shape : Shape) (left old new : Option (List ℕ))
+    → ((input : List ℕ) → Says shape input Yes → IsPromised shape input)
+    → IfSome left (λ input. TellsVerdict shape input Yes old new)
+    → IfSome left (λ input. TellsVerdict shape input Yes old new × IsPromised shape input)
+promised-too shape None old new keeps told = tt
+promised-too shape (Some input) old new keeps told = (told, keeps input told.says)

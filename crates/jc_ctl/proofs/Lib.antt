@@ -4,3 +4,4 @@ mod WholeFacts
 mod RunFacts
 mod LeftFacts
 mod AskedFacts
+mod ReapFacts

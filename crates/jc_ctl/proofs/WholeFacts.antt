@@ -8,6 +8,7 @@ use Rattle.jc_runs.specs.Seen.{Seen, log_seen}
 use Rattle.jc_script.specs.Scripts.{script_of}
 use Rattle.jc_turns.specs.Turns.{playing_of}
 use Rattle.jc_words.specs.Fits.{IsFitShape}
+use Rattle.jc_ctl.specs.Played.{as_script}
 use Rattle.jc_ctl.specs.Runs.{Printed, printed_by, report_printed, reported, summary_printed}
 use Rattle.jc_ctl.specs.declared.orders.Output.{Output}
 use Rattle.jc_ctl.specs.declared.plays.Played.{Played}
@@ -58,8 +59,9 @@ few_events shape that e fits = subst (λ (s : Shape). s.events ≤ 200000) (sym 
 -- A text that says a script has its report.
 pub reported_is : (shape : Shape) (input : List ℕ) (script : Script) (output : Output)
     → script_of shape input ≡ Ok script.commands → printed_by output ≡ report_printed script shape
-    → reported shape (script_of shape input) ≡ Ok (printed_by output)
-reported_is shape input script output e is = ap (reported shape) e ∙ ap (λ (p : Printed). Ok p) (sym is)
+    → reported shape (as_script (script_of shape input)) ≡ Ok (printed_by output)
+reported_is shape input script output e is =
+    ap (λ r. reported shape (as_script r)) e ∙ ap (λ (p : Printed). Ok p) (sym is)
 
 pub few_played : (shape : Shape) (played : Played) → played.cluster.shape ≡ shape → shape.events ≤ 200000
     → played.cluster.shape.events ≤ 200000

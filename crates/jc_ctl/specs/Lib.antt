@@ -1,2 +1,4 @@
+pub mod Audited
+pub mod Played
 pub mod Runs
 pub mod Told

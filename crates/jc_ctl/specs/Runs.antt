@@ -2,24 +2,30 @@
 --     Printed                        what a run prints: a text, and whether the history is full
 --     report_printed script shape    that of the play of a script
 --     summary_printed script shape   that of a generated script
+--     print_said print said          what is printed of a script, or the first bad line
+--     reported shape said            the report of its play
 --     answer_of order input          what the words ask for on one thread, where the source has these bytes
 --     IsSingle order                 it is played on one thread
+--     order_asked asked              the order of a run on threads, or of an audit
+--     HasThreads asked               the run is on some threads
 --     MayEnd said status             how a run on threads may end, of what a text says
 --     OfInput order left P           P holds of the bytes that the order reads
 --     status_of answer               the status of a run that meets no fault and no want of memory
 --     printed_by output              what is written, as it is printed
-use Rattle.std.specs.Prelude.{◌≡◌, ℕ, ◌⊎◌, Bool, List, [], string_bytes, Option, Result, Ok, Err, IfSome, if◌then◌else◌}
+use Rattle.std.specs.Prelude.{◌≡◌, ℕ, ◌≤◌, ◌⊎◌, Bool, false, List, [], string_bytes, Option, Result, Ok, Err, IfSome, if◌then◌else◌}
 use Rattle.jc_types.specs.declared.actions.Command.{Command}
 use Rattle.jc_types.specs.declared.actions.Script.{Script}
 use Rattle.jc_types.specs.declared.runs.Shape.{Shape}
 use Rattle.jc_history.specs.Play.{is_full, play_of, whole_play}
-use Rattle.jc_script.specs.Scripts.{BadLine, script_of}
-use Rattle.jc_gen.specs.Generated.{generated}
+use Rattle.jc_script.specs.Scripts.{BadLine}
 use Rattle.jc_report.specs.Reports.{report_text, summary_of}
 use Rattle.jc_words.specs.declared.words.Order.{Order}
 use Rattle.jc_words.specs.declared.words.Order.TheVariants as order
 use Rattle.jc_words.specs.Words.{default_shape}
+use Rattle.jc_ctl.specs.Played.{script_played}
 use Rattle.jc_ctl.specs.declared.orders.Output.{Output}
+use Rattle.jc_ctl.specs.declared.run.Asked.{Asked}
+use Rattle.jc_ctl.specs.declared.run.Asked.TheVariants as ask
 use Rattle.jc_ctl.specs.declared.status.Status.{Status}
 use Rattle.jc_ctl.specs.declared.status.Status.TheVariants as status
 
@@ -42,20 +48,29 @@ summary_printed script shape = record {
   full = is_full script shape;
 }
 
--- The report of the play of the commands that a text says, or its first bad line.
-abbrev pub reported : Shape → Result (List Command) BadLine → Result Printed BadLine
-reported shape (Ok commands) = Ok (report_printed (record { commands = commands }) shape)
-reported shape (Err bad) = Err bad
+-- What is printed of a script that is there, or the first bad line.
+abbrev pub print_said : (Script → Printed) → Result Script BadLine → Result Printed BadLine
+print_said print (Ok script) = Ok (print script)
+print_said print (Err bad) = Err bad
 
--- What the words ask for on one thread, where the source has these bytes.
+-- The report of the play of the script, or the first bad line.
+abbrev pub reported : Shape → Result Script BadLine → Result Printed BadLine
+reported shape said = print_said (λ script. report_printed script shape) said
+
+-- What the words ask for on one thread, where the source has these bytes: that of the script that is played last. An
+-- audit prints nothing of a play.
 unfoldable pub answer_of : Order → List ℕ → Result Printed BadLine
-answer_of (order.Run threads shape) input = reported shape (script_of shape input)
+answer_of (order.Run threads lock shape) input = reported shape (script_played (order.Run threads lock shape) input)
+answer_of (order.Reap shape) input = reported shape (script_played (order.Reap shape) input)
+answer_of (order.Audit shape) input = Ok (record { text = []; full = false })
 answer_of (order.Generate number jobs pods) input =
-    Ok (summary_printed (generated number jobs pods) default_shape)
+    print_said (λ script. summary_printed script default_shape) (script_played (order.Generate number jobs pods) input)
 
--- A run reads all that the source has left, where the source tells it; a generated script needs no source.
+-- A run, a reaper and an audit read all that the source has left, where the source tells it; a generated script needs no source.
 abbrev pub OfInput : Order → Option (List ℕ) → (List ℕ → Type 0) → Type 0
-OfInput (order.Run threads shape) left P = IfSome left P
+OfInput (order.Run threads lock shape) left P = IfSome left P
+OfInput (order.Reap shape) left P = IfSome left P
+OfInput (order.Audit shape) left P = IfSome left P
 OfInput (order.Generate number jobs pods) left P = P []
 
 -- The status of a run that meets no fault and no want of memory.
@@ -63,10 +78,22 @@ abbrev pub status_of : Result Printed BadLine → Status
 status_of (Ok printed) = if printed.full then status.HistoryFull else status.Ok
 status_of (Err bad) = status.BadScript bad.number bad.cause
 
--- It is played on one thread: without threads, or a generated script.
+-- It is played on one thread: without threads, by a reaper, or a generated script.
 abbrev pub IsSingle : Order → Type 0
-IsSingle (order.Run threads shape) = threads ≡ 0
+IsSingle (order.Run threads lock shape) = threads ≡ 0
+IsSingle (order.Reap shape) = Unit {0}
+IsSingle (order.Audit shape) = ⊥
 IsSingle (order.Generate number jobs pods) = Unit {0}
+
+-- The order that run_single does not do: of a run on threads, or of an audit.
+abbrev pub order_asked : Asked → Order
+order_asked (ask.Threads threads lock shape) = order.Run threads lock shape
+order_asked (ask.Audit shape) = order.Audit shape
+
+-- Such a run is on some threads.
+abbrev pub HasThreads : Asked → Type 0
+HasThreads (ask.Threads threads lock shape) = 1 ≤ threads
+HasThreads (ask.Audit shape) = Unit {0}
 
 -- How a run on threads may end that meets no fault and no want of memory, of what a text says.
 abbrev pub MayEnd : Result (List Command) BadLine → Status → Type 0

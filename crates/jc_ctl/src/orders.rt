@@ -10,9 +10,11 @@ ghost use Rattle.jc_script.specs.Scripts.{most_bytes, script_of};
 ghost use Rattle.jc_script.specs.declared.causes.Cause.{Cause};
 ghost use Rattle.jc_words.specs.Fits.{IsFitOrder, IsFitShape};
 ghost use Rattle.jc_words.specs.Words.{default_shape};
-ghost use Rattle.jc_ctl.specs.Runs.{answer_of, printed_by, report_printed, reported, summary_printed};
+ghost use Rattle.jc_ctl.specs.Played.{as_script};
+ghost use Rattle.jc_ctl.specs.Runs.{IsSingle, answer_of, printed_by, report_printed, reported, summary_printed};
 
 use crate::plays::play_whole;
+use crate::reaps::reap_answer;
 use crate::texts::{report_text, summary_text};
 use jc_gen::{generate, generated_commands_are_valid, generated_scripts_are_fit};
 use jc_script::{Cause, ScriptFault, read_script, scripts_fit_their_shape};
@@ -29,9 +31,9 @@ pub(crate) struct Output {
     pub(crate) full: bool,
 }
 
-// The report of the play of a script.
+/// The report of the play of a script.
 #[tactic(auto, using(crate::proofs::WholeFacts::report_is, crate::proofs::WholeFacts::few_played))]
-fn script_answer(alloc: Global, script: Script, shape: Shape) -> Result<Output, Want>
+pub(crate) fn script_answer(alloc: Global, script: Script, shape: Shape) -> Result<Output, Want>
     requires fine { Each (λ (command : Command). IsValidAction command.action) script.commands }
     requires proper { IsProper script shape }
     requires fits { length script.commands < 2 ^ 32 }
@@ -52,7 +54,7 @@ fn run_answer(alloc: Global, shape: Shape, input: &[u8]) -> Result<Output, Scrip
     requires few { length input.now ≤ most_bytes }
     requires fits { IsFitShape shape }
     ensures text { IfOk result
-        (λ output. reported shape (script_of shape input.now) ≡ Ok (printed_by output)) }
+        (λ output. reported shape (as_script (script_of shape input.now)) ≡ Ok (printed_by output)) }
     ensures bad_line { (number : ℕ) (cause : Cause)
         → IsErrOf result (ScriptFault.BadLine number cause)
         → script_of shape input.now ≡ Err (record { number = number; cause = cause }) }
@@ -89,6 +91,7 @@ fn generate_answer(alloc: Global, number: u32, jobs: u32, pods: u32) -> Result<O
 pub(crate) fn answer(alloc: Global, order: &Order, input: &[u8]) -> Result<Output, ScriptFault>
     requires few { length input.now ≤ most_bytes }
     requires fits { IsFitOrder order.now }
+    requires single { IsSingle order.now }
     ensures text { IfOk result (λ output. answer_of order.now input.now ≡ Ok (printed_by output)) }
     ensures bad_line { (number : ℕ) (cause : Cause)
         → IsErrOf result (ScriptFault.BadLine number cause)
@@ -96,6 +99,8 @@ pub(crate) fn answer(alloc: Global, order: &Order, input: &[u8]) -> Result<Outpu
 {
     match order {
         Order::Run { shape, .. } => run_answer(alloc, *shape, input),
+        Order::Reap { shape } => reap_answer(alloc, *shape, input),
+        Order::Audit { .. } => unreachable!(),
         Order::Generate { number, jobs, pods } => Ok(generate_answer(
             alloc, *number, *jobs, *pods,
         )?),

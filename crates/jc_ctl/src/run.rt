@@ -1,19 +1,28 @@
 //! The top calls: they read, play and write.
 
-ghost use Rattle.std.specs.Prelude.{◌≡◌, ◌≢◌, ◌<◌, ◌≤◌, ◌+◌, ◌↔◌, ◌⊎◌, Err, IfOk, IfSome, IsErrOf, IsOkAnd, IsTrue, None, OnErr, Some, false, if◌then◌else◌, length, map, string_bytes, true, vec_len, ℕ};
+ghost use Rattle.std.specs.Prelude.{◌≡◌, ◌≢◌, ◌<◌, ◌≤◌, ◌+◌, ◌↔◌, ◌⊎◌, Err, IfOk, IfSome, IsErrOf, IsOkAnd, IsTrue, List, None, Ok, OnErr, Option, Some, false, if◌then◌else◌, length, map, string_bytes, true, vec_len, ℕ};
 ghost use Rattle.std.specs.Io.KnownBytes.{Appends, Keeps};
 ghost use Rattle.jc_io.specs.Faults.{Rose};
 ghost use Rattle.jc_io.specs.Moved.{AppendsFront, TakesAtMost, TakesCount};
 ghost use Rattle.jc_types.specs.declared.runs.Shape.{Shape};
+ghost use Rattle.jc_types.specs.declared.actions.Command.{Command};
+ghost use Rattle.jc_reap.specs.TtlLines.{ttls_of};
 ghost use Rattle.jc_script.specs.Scripts.{most_bytes, script_of};
 ghost use Rattle.jc_script.specs.declared.causes.Cause.{Cause};
 ghost use Rattle.jc_words.specs.Words.{order_of};
+ghost use Rattle.jc_words.specs.declared.words.LockKind.{LockKind};
 ghost use Rattle.jc_words.specs.declared.words.Order.{Order};
-ghost use Rattle.jc_words.specs.declared.words.Order.TheVariants.{Generate, Run};
-ghost use Rattle.jc_ctl.specs.Runs.{IsSingle, MayEnd, OfInput, answer_of, status_of};
+ghost use Rattle.jc_words.specs.declared.words.Order.TheVariants.{Audit, Generate, Reap, Run};
+ghost use Rattle.jc_audit.specs.declared.verdicts.Verdict.TheVariants.{No, Yes};
+ghost use Rattle.jc_ctl.specs.Audited.{IsAudited, IsPromised, OfAudit, TellsVerdict, TellsVerdictFront};
+ghost use Rattle.jc_ctl.specs.Played.{CollectsDue, at_rest, script_played, staging_of};
+ghost use Rattle.jc_ctl.specs.Runs.{HasThreads, IsSingle, MayEnd, OfInput, answer_of, order_asked, status_of};
 ghost use Rattle.jc_ctl.specs.Told.{TellsFront, TellsHistory, ends_full};
 
-use crate::laws::runs_tell_their_history;
+use crate::audited::run_audit;
+use crate::laws::{
+    audited_reports_keep_the_promises, reapers_collect_what_is_due, runs_tell_their_history,
+};
 use crate::orders::answer;
 use crate::status::Status;
 use crate::threaded::run_threaded;
@@ -21,7 +30,7 @@ use jc_io::{Bytes, ReadEnd, Sink, Source, WriteFault, read_all, write_all};
 use jc_script::ScriptFault;
 use jc_shared::Gate;
 use jc_types::Shape;
-use jc_words::{Order, orders_fit, read_words};
+use jc_words::{LockKind, Order, orders_fit, read_words};
 use std::alloc::Global;
 use std::sync::Wait;
 use std::thread::Threads;
@@ -29,7 +38,7 @@ use std::thread::Threads;
 // A script has at most this many bytes.
 pub(crate) const MOST_BYTES: u64 = 67_108_864;
 
-// Reads all that the order needs: the whole source for a script, and nothing for a generated one.
+// Reads all that the order needs: the whole source for a script or a report, and nothing for a generated one.
 fn read_input<S: Source>(alloc: Global, order: &Order, source: &mut S) -> Result<Bytes, ReadEnd>
     ensures all { IfOk result
         (λ bytes. OfInput order.now (S.left source.old) (λ input. input ≡ bytes.items)) }
@@ -46,7 +55,9 @@ fn read_input<S: Source>(alloc: Global, order: &Order, source: &mut S) -> Result
         → TakesAtMost (S.left source.old) (S.left source.new) most_bytes }
 {
     match order {
-        Order::Run { .. } => read_all(alloc, source, MOST_BYTES),
+        Order::Run { .. } | Order::Reap { .. } | Order::Audit { .. } => {
+            read_all(alloc, source, MOST_BYTES)
+        }
         Order::Generate { .. } => Ok(Vec::new(alloc)),
     }
 }
@@ -61,7 +72,7 @@ pub(crate) fn ended(full: bool) -> Status
     Status::Ok
 }
 
-/// Does what the words ask for, where they ask for no threads: it waits for nobody. `words` are those after
+/// Does what the words ask for, where they ask for no threads and no audit: it waits for nobody. `words` are those after
 /// the program's name. It is `run_program` for such words, which says more of it.
 pub fn run_single<S: Source, K: Sink>(
     alloc: Global,
@@ -79,15 +90,22 @@ pub fn run_single<S: Source, K: Sink>(
         (λ printed. (printed.full ≡ true) × Appends (K.held sink.old) (K.held sink.new) printed.text))) }
     // The headline.
     ensures headline { (result ≡ Status.Ok) ⊎ (result ≡ Status.HistoryFull)
-        → (threads : ℕ) (shape : Shape) → order_of (map string_bytes words.now) ≡ Some (Run threads shape)
-        → IfSome (S.left source.old) (λ input. IsOkAnd (script_of shape input) (λ commands.
-        TellsHistory threads (record { commands = commands }) shape (ends_full result)
-        (K.held sink.old) (K.held sink.new))) }
+        → (order : Order) → order_of (map string_bytes words.now) ≡ Some order
+        → IfSome (staging_of order) (λ staging. IfSome (S.left source.old) (λ input.
+        IsOkAnd (script_played order input) (λ script.
+        TellsHistory staging.threads script staging.shape (ends_full result)
+        (K.held sink.old) (K.held sink.new)))) }
     // The same where the sink failed: what went out is the front of such a report.
     ensures headline_front { result ≡ Status.WriteFault
-        → (threads : ℕ) (shape : Shape) → order_of (map string_bytes words.now) ≡ Some (Run threads shape)
-        → IfSome (S.left source.old) (λ input. IsOkAnd (script_of shape input) (λ commands.
-        TellsFront threads (record { commands = commands }) shape (K.held sink.old) (K.held sink.new))) }
+        → (order : Order) → order_of (map string_bytes words.now) ≡ Some order
+        → IfSome (staging_of order) (λ staging. IfSome (S.left source.old) (λ input.
+        IsOkAnd (script_played order input) (λ script.
+        TellsFront staging.threads script staging.shape (K.held sink.old) (K.held sink.new)))) }
+    // What a reaper's commands have found: Jobs whose time was over, and pods whose Job was gone.
+    ensures collected { (shape : Shape) (input : List ℕ) (commands : List Command)
+        (ttls : List (Option ℕ)) → order_of (map string_bytes words.now) ≡ Some (Reap shape)
+        → S.left source.old ≡ Some input → script_of shape input ≡ Ok commands
+        → ttls_of shape input ≡ Ok ttls → CollectsDue (at_rest commands) shape ttls }
     ensures bad_words { (result ≡ Status.BadWords) ↔ (order_of (map string_bytes words.now) ≡ None) }
     ensures nothing_read { result ≡ Status.BadWords → Keeps (S.left source.old) (S.left source.new) }
     // A generated script needs no source.
@@ -104,6 +122,7 @@ pub fn run_single<S: Source, K: Sink>(
     // TooLong takes one byte more than a script may have, and no other end takes so many.
     ensures not_too_long { result ≢ Status.TooLong
         → TakesAtMost (S.left source.old) (S.left source.new) most_bytes }
+    ensures no_audit { (line : ℕ) → result ≢ Status.AuditNo line }
     ensures nothing_written { result ≢ Status.Ok → result ≢ Status.HistoryFull → result ≢ Status.WriteFault
         → Keeps (K.held sink.old) (K.held sink.new) }
     ensures front { result ≡ Status.WriteFault → IfSome (order_of (map string_bytes words.now)) (λ order.
@@ -115,12 +134,13 @@ pub fn run_single<S: Source, K: Sink>(
         → OfInput order (S.left source.old) (λ input. length input ≤ most_bytes
         → (result ≡ status_of (answer_of order input)) ⊎ (result ≡ Status.Want)) }
     // The same of a longer input.
-    ensures complete_too_long { (threads : ℕ) (shape : Shape)
-        → order_of (map string_bytes words.now) ≡ Some (Run threads shape)
-        → ¬ Rose (S.faults source.old) (S.faults source.new) → IfSome (S.left source.old) (λ input.
-        most_bytes < length input → (result ≡ Status.TooLong) ⊎ (result ≡ Status.Want)) }
+    ensures complete_too_long { (order : Order) → order_of (map string_bytes words.now) ≡ Some order
+        → ¬ Rose (S.faults source.old) (S.faults source.new)
+        → OfInput order (S.left source.old) (λ input. most_bytes < length input
+        → (result ≡ Status.TooLong) ⊎ (result ≡ Status.Want)) }
 {
     orders_fit();
+    reapers_collect_what_is_due();
     runs_tell_their_history();
     let order = match read_words(words) {
         Some(order) => order,
@@ -148,49 +168,73 @@ pub fn run_single<S: Source, K: Sink>(
     }
 }
 
-// What a run on threads is asked for.
+// What is asked for that `run_single` does not do.
 #[derive(Clone, Copy)]
-struct Asked {
-    threads: u32,
-    shape: Shape,
+enum Asked {
+    // A run on threads.
+    Threads {
+        threads: u32,
+        lock: LockKind,
+        shape: Shape,
+    },
+    // An audit.
+    Audit {
+        shape: Shape,
+    },
 }
 
-// The threads that the words ask for, where they ask for some.
-fn threads_asked(words: &[String]) -> Option<Asked>
+// Which run on threads or which audit the words ask for, where they ask for one.
+fn asked_for(words: &[String]) -> Option<Asked>
     ensures some { IfSome result (λ asked. order_of (map string_bytes words.now)
-        ≡ Some (Run asked.threads asked.shape)) }
-    ensures threads { IfSome result (λ asked. 1 ≤ asked.threads) }
+        ≡ Some (order_asked asked)) }
+    ensures threads { IfSome result HasThreads }
     ensures none { result ≡ None → (order : Order) → order_of (map string_bytes words.now) ≡ Some order
         → IsSingle order }
 {
     match read_words(words) {
-        Some(Order::Run { threads, shape }) if threads > 0 => Some(Asked { threads, shape }),
+        Some(
+            Order::Run {
+                threads,
+                lock,
+                shape,
+            },
+        ) if threads > 0 => Some(Asked::Threads {
+            threads,
+            lock,
+            shape,
+        }),
+        Some(Order::Audit { shape }) => Some(Asked::Audit { shape }),
         _ => None,
     }
 }
 
-/// Whether the words ask for no threads, so that `run_single` does what they ask for.
+/// Whether the words ask for no threads and no audit, so that `run_single` does what they ask for.
 pub fn is_single(words: &[String]) -> bool
     ensures { IsTrue result ↔ ((order : Order) → order_of (map string_bytes words.now) ≡ Some order
         → IsSingle order) }
 {
-    threads_asked(words).is_none()
+    asked_for(words).is_none()
 }
 
 /// Does what the words ask for. `words` are those after the program's name.
 ///
 /// `run` with its options reads a script of at most 67,108,864 bytes from the source, plays it, and
-/// writes the report; `generate` with three numbers plays a generated script, and writes the summary.
-/// With `--threads` from 1 on as many seats play the script, and make their plans beside each other;
-/// `gate` is told of each plan. The answers are tested in the order words, reading, script, writing.
+/// writes the report; `reap` plays it with a settle behind it, then all of it once more with the
+/// commands behind that which a reaper gives, and writes the report of that; `audit` reads a
+/// report, and writes whether it is one; `generate` with three numbers plays a generated script,
+/// and writes the summary. With `--threads` from 1 on as many seats play the script, and make their
+/// plans beside each other; `gate` is told of each plan. They share the cluster by the lock that
+/// the words ask for, and what is promised is the same of both. The answers are tested in the order
+/// words, reading, script, writing.
 ///
 /// **The headline (KEP-2307)**: whatever the script and the number of threads, with `Ok` and with
-/// `HistoryFull` what `run` has written is the report of a history of the script that is legal and orderly.
-/// After each of its events each pod of each Job was counted once, and each finalizer that a sync took had
-/// its cause. Its lines tell it, and the statuses that are printed are those of its log. With one controller
-/// no more pods run at once than a Job allows, and a Job that has ended stays as it is. Where the script
-/// is played on threads or ends in a settle, and the history is not full, nothing is left to do and no ended
-/// pod is forgotten. With `WriteFault` what went out is the front of such a report.
+/// `HistoryFull` what `run` or `reap` has written is the report of a history of the script that was played
+/// last, and this history is legal and orderly. After each of its events each pod of each Job was counted
+/// once, and each finalizer that a sync took had its cause. Its lines tell it, and the statuses that are
+/// printed are those of its log. With one controller no more pods run at once than a Job allows, and a Job
+/// that has ended stays as it is. Where the script is played on threads or ends in a settle, and the history
+/// is not full, nothing is left to do and no ended pod is forgotten. With `WriteFault` what went out is the
+/// front of such a report.
 ///
 /// On one thread the history is that of the play. On threads it may wait, and what it promises holds if it
 /// returns; which of the possible histories it is, is not said.
@@ -211,15 +255,22 @@ pub fn run_program<R: Threads + Wait + Sync, S: Source, K: Sink, G: Gate + Sync>
         IsOkAnd (answer_of order input) (λ printed. (printed.full ≡ true) × Appends (K.held sink.old) (K.held sink.new) printed.text))) }
     // The headline.
     ensures headline { (result ≡ Status.Ok) ⊎ (result ≡ Status.HistoryFull)
-        → (threads : ℕ) (shape : Shape) → order_of (map string_bytes words.now) ≡ Some (Run threads shape)
-        → IfSome (S.left source.old) (λ input. IsOkAnd (script_of shape input) (λ commands.
-        TellsHistory threads (record { commands = commands }) shape (ends_full result)
-        (K.held sink.old) (K.held sink.new))) }
+        → (order : Order) → order_of (map string_bytes words.now) ≡ Some order
+        → IfSome (staging_of order) (λ staging. IfSome (S.left source.old) (λ input.
+        IsOkAnd (script_played order input) (λ script.
+        TellsHistory staging.threads script staging.shape (ends_full result)
+        (K.held sink.old) (K.held sink.new)))) }
     // The same where the sink failed: what went out is the front of such a report.
     ensures headline_front { result ≡ Status.WriteFault
-        → (threads : ℕ) (shape : Shape) → order_of (map string_bytes words.now) ≡ Some (Run threads shape)
-        → IfSome (S.left source.old) (λ input. IsOkAnd (script_of shape input) (λ commands.
-        TellsFront threads (record { commands = commands }) shape (K.held sink.old) (K.held sink.new))) }
+        → (order : Order) → order_of (map string_bytes words.now) ≡ Some order
+        → IfSome (staging_of order) (λ staging. IfSome (S.left source.old) (λ input.
+        IsOkAnd (script_played order input) (λ script.
+        TellsFront staging.threads script staging.shape (K.held sink.old) (K.held sink.new)))) }
+    // What a reaper's commands have found: Jobs whose time was over, and pods whose Job was gone.
+    ensures collected { (shape : Shape) (input : List ℕ) (commands : List Command)
+        (ttls : List (Option ℕ)) → order_of (map string_bytes words.now) ≡ Some (Reap shape)
+        → S.left source.old ≡ Some input → script_of shape input ≡ Ok commands
+        → ttls_of shape input ≡ Ok ttls → CollectsDue (at_rest commands) shape ttls }
     ensures bad_words { (result ≡ Status.BadWords) ↔ (order_of (map string_bytes words.now) ≡ None) }
     ensures nothing_read { result ≡ Status.BadWords → Keeps (S.left source.old) (S.left source.new) }
     // A generated script needs no source.
@@ -236,8 +287,31 @@ pub fn run_program<R: Threads + Wait + Sync, S: Source, K: Sink, G: Gate + Sync>
     // TooLong takes one byte more than a script may have, and no other end takes so many.
     ensures not_too_long { result ≢ Status.TooLong
         → TakesAtMost (S.left source.old) (S.left source.new) most_bytes }
-    ensures nothing_written { result ≢ Status.Ok → result ≢ Status.HistoryFull → result ≢ Status.WriteFault
+    ensures nothing_written { result ≢ Status.Ok → result ≢ Status.HistoryFull
+        → ((line : ℕ) → result ≢ Status.AuditNo line) → result ≢ Status.WriteFault
         → Keeps (K.held sink.old) (K.held sink.new) }
+    // With Ok what an audit has read is a report, and all promises hold of the history that it tells; with AuditNo it
+    // is none, and the line is the first that differs. That was written. AuditNo comes of an audit alone.
+    ensures yes { result ≡ Status.Ok → (shape : Shape)
+        → order_of (map string_bytes words.now) ≡ Some (Audit shape) → IfSome (S.left source.old) (λ input.
+        TellsVerdict shape input Yes (K.held sink.old) (K.held sink.new) × IsPromised shape input) }
+    ensures no { (line : ℕ) → result ≡ Status.AuditNo line
+        → IfSome (order_of (map string_bytes words.now)) (λ order. OfAudit order (λ shape.
+        IfSome (S.left source.old) (λ input.
+        TellsVerdict shape input (No line) (K.held sink.old) (K.held sink.new)))) }
+    ensures verdict_front { result ≡ Status.WriteFault → (shape : Shape)
+        → order_of (map string_bytes words.now) ≡ Some (Audit shape) → IfSome (S.left source.old) (λ input.
+        TellsVerdictFront shape input (K.held sink.old) (K.held sink.new)) }
+    // Of an audit no history is full, and no script is bad.
+    ensures audit_not_full { (shape : Shape) → order_of (map string_bytes words.now) ≡ Some (Audit shape)
+        → result ≢ Status.HistoryFull }
+    ensures audit_no_script { (shape : Shape) → order_of (map string_bytes words.now) ≡ Some (Audit shape)
+        → (line : ℕ) (cause : Cause) → result ≢ Status.BadScript line cause }
+    // A report that is not too long and no fault give what is to be said of it, or want of memory.
+    ensures complete_audit { (shape : Shape) → order_of (map string_bytes words.now) ≡ Some (Audit shape)
+        → ¬ Rose (S.faults source.old) (S.faults source.new) → ¬ Rose (K.faults sink.old) (K.faults sink.new)
+        → IfSome (S.left source.old) (λ input. length input ≤ most_bytes
+        → IsAudited shape input result ⊎ (result ≡ Status.Want)) }
     ensures front { result ≡ Status.WriteFault → IfSome (order_of (map string_bytes words.now)) (λ order.
         IsSingle order → OfInput order (S.left source.old) (λ input. IsOkAnd (answer_of order input)
         (λ printed. AppendsFront (K.held sink.old) (K.held sink.new) printed.text))) }
@@ -247,20 +321,29 @@ pub fn run_program<R: Threads + Wait + Sync, S: Source, K: Sink, G: Gate + Sync>
         → OfInput order (S.left source.old) (λ input. length input ≤ most_bytes
         → (result ≡ status_of (answer_of order input)) ⊎ (result ≡ Status.Want)) }
     // On threads the same, with the report of some history.
-    ensures complete_on_threads { (threads : ℕ) (shape : Shape)
-        → order_of (map string_bytes words.now) ≡ Some (Run threads shape) → 1 ≤ threads
+    ensures complete_on_threads { (threads : ℕ) (lock : LockKind) (shape : Shape)
+        → order_of (map string_bytes words.now) ≡ Some (Run threads lock shape) → 1 ≤ threads
         → ¬ Rose (S.faults source.old) (S.faults source.new) → ¬ Rose (K.faults sink.old) (K.faults sink.new)
         → IfSome (S.left source.old) (λ input. length input ≤ most_bytes
         → MayEnd (script_of shape input) result ⊎ (result ≡ Status.Want)) }
     // The same of a longer input.
-    ensures complete_too_long { (threads : ℕ) (shape : Shape)
-        → order_of (map string_bytes words.now) ≡ Some (Run threads shape)
-        → ¬ Rose (S.faults source.old) (S.faults source.new) → IfSome (S.left source.old) (λ input.
-        most_bytes < length input → (result ≡ Status.TooLong) ⊎ (result ≡ Status.Want)) }
+    ensures complete_too_long { (order : Order) → order_of (map string_bytes words.now) ≡ Some order
+        → ¬ Rose (S.faults source.old) (S.faults source.new)
+        → OfInput order (S.left source.old) (λ input. most_bytes < length input
+        → (result ≡ Status.TooLong) ⊎ (result ≡ Status.Want)) }
 {
     orders_fit();
-    match threads_asked(words) {
-        Some(asked) => run_threaded(rt, alloc, &asked.shape, asked.threads, source, sink, gate),
+    audited_reports_keep_the_promises();
+    reapers_collect_what_is_due();
+    match asked_for(words) {
+        Some(
+            Asked::Threads {
+                threads,
+                lock,
+                shape,
+            },
+        ) => run_threaded(rt, alloc, lock, &shape, threads, source, sink, gate),
+        Some(Asked::Audit { shape }) => run_audit(alloc, &shape, source, sink),
         None => run_single(alloc, words, source, sink),
     }
 }

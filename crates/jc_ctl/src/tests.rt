@@ -11,7 +11,21 @@ use std::sync::{Mutex, Wait};
 use std::test::Fail;
 use std::thread::Threads;
 
-// A Job of three pods on one of the lanes, each of which exits with 0.
+// The script's line that creates a Job of so many pods.
+fn create(alloc: Global, name: &str, completions: u32, lane: u32) -> Result<String, Fail> {
+    Ok(format!(in alloc;
+        r#"{{"do":"create","job":{{"apiVersion":"batch/v1","kind":"Job","metadata":{{"name":"{name}"}},"spec":{{"completions":{completions},"template":{{"spec":{{"restartPolicy":"Never","containers":[{{"name":"main"}}]}}}}}}}},"lane":{lane}}}"#
+    )?)
+}
+
+// The line that has each of its pods exit with 0.
+fn fate(alloc: Global, name: &str, lane: u32) -> Result<String, Fail> {
+    Ok(format!(in alloc;
+        "\n{{\"do\":\"fate\",\"name\":\"{name}\",\"ends\":[{{\"exitCode\":0}}],\"lane\":{lane}}}\n"
+    )?)
+}
+
+// Puts both lines.
 fn put_job(
     alloc: Global,
     script: &mut String,
@@ -19,24 +33,53 @@ fn put_job(
     completions: u32,
     lane: u32,
 ) -> Result<(), Fail> {
-    let create = format!(in alloc;
-        r#"{{"do":"create","job":{{"apiVersion":"batch/v1","kind":"Job","metadata":{{"name":"{name}"}},"spec":{{"completions":{completions},"template":{{"spec":{{"restartPolicy":"Never","containers":[{{"name":"main"}}]}}}}}}}},"lane":{lane}}}"#
-    )?;
-    script.push_str(&create)?;
-    let fate = format!(in alloc;
-        "\n{{\"do\":\"fate\",\"name\":\"{name}\",\"ends\":[{{\"exitCode\":0}}],\"lane\":{lane}}}\n"
-    )?;
-    script.push_str(&fate)?;
+    script.push_str(&create(alloc, name, completions, lane)?)?;
+    script.push_str(&fate(alloc, name, lane)?)?;
     Ok(())
 }
 
-// The words of a run of two workers on so many threads.
-fn words_of(alloc: Global, threads: u32) -> Result<Vec<String>, Fail> {
+// The locks by which seats may share the cluster.
+const LOCKS: [&str; 2] = ["mutex", "turn"];
+
+// The words of a run of two workers on so many threads, which share the cluster by the lock.
+fn words_of(alloc: Global, threads: u32, lock: &str) -> Result<Vec<String>, Fail> {
     let mut words = Vec::new(alloc);
     words.push(String::from_str(alloc, "run")?)?;
     words.push(format!(in alloc; "--threads={threads}")?)?;
     words.push(String::from_str(alloc, "--workers=2")?)?;
+    words.push(format!(in alloc; "--lock={lock}")?)?;
     Ok(words)
+}
+
+// Whether the run ends well.
+fn ends_well<R: Threads + Wait + Sync, G: Gate + Sync>(
+    rt: &R,
+    alloc: Global,
+    words: &[String],
+    source: &mut MemSource,
+    sink: &mut MemSink,
+    gate: &G,
+) -> bool {
+    matches!(
+        run_program(rt, alloc, words, source, sink, gate),
+        Status::Ok
+    )
+}
+
+// The report of a run that ends well.
+fn report<R: Threads + Wait + Sync, G: Gate + Sync>(
+    rt: &R,
+    alloc: Global,
+    words: &[String],
+    script: &str,
+    gate: &G,
+) -> Result<String, Fail> {
+    let mut source = MemSource::new(script.as_bytes().to_vec(alloc)?, Vec::new(alloc));
+    let mut sink = MemSink::new(alloc, 1_000_000, Vec::new(alloc))?;
+    if !ends_well(rt, alloc, words, &mut source, &mut sink, gate) {
+        return Err(Fail::new("the run does not end well"));
+    }
+    Ok(String::from_str(alloc, str::from_utf8(sink.held())?)?)
 }
 
 // How often the part stands in the text.
@@ -44,38 +87,49 @@ fn times(text: &str, part: &str) -> usize {
     text.split(part).count() - 1
 }
 
-// Twenty Jobs on three lanes come to their end on any number of threads.
-#[test]
-fn jobs_end_on_threads(rt: HostRuntime) -> Result<(), Fail> {
-    let alloc = rt.alloc();
+// Twenty Jobs on three lanes.
+fn twenty_jobs(alloc: Global) -> Result<String, Fail> {
     let mut script = String::new(alloc);
     for job in 0..20u32 {
         let name = format!(in alloc; "j{job}")?;
         put_job(alloc, &mut script, &name, 3, job % 3)?;
     }
-    for threads in [1u32, 2, 4, 16] {
-        let words = words_of(alloc, threads)?;
-        let mut source = MemSource::new(script.as_bytes().to_vec(alloc)?, Vec::new(alloc));
-        let mut sink = MemSink::new(alloc, 1_000_000, Vec::new(alloc))?;
-        let status = run_program(&rt, alloc, &words, &mut source, &mut sink, &FreeGate);
-        assert!(rt; matches!(status, Status::Ok), "{threads} threads");
-        let report = str::from_utf8(sink.held())?;
-        for job in 0..20u32 {
-            let verdicts = format!(in alloc; "\nverdicts default/j{job} succeeded 3 failed 0\n")?;
-            assert_eq!(rt;
-                times(report, &verdicts),
-                1,
-                "Job {job} on {threads} threads"
-            );
+    Ok(script)
+}
+
+// Each of them is Complete with three pods that were counted.
+fn see_jobs_end(rt: &impl Abort, alloc: Global, report: &str) -> Result<(), Fail> {
+    for job in 0..20u32 {
+        let verdicts = format!(in alloc; "\nverdicts default/j{job} succeeded 3 failed 0\n")?;
+        assert_eq!(rt; times(report, &verdicts), 1, "Job {job}");
+    }
+    let complete = "\"reason\":\"CompletionsReached\",\"status\":\"True\",\"type\":\"Complete\"";
+    assert_eq!(rt; times(report, complete), 20);
+    Ok(())
+}
+
+// Twenty Jobs come to their end on so many threads.
+fn see_threads<R: Threads + Wait + Sync + Abort>(
+    rt: &R,
+    alloc: Global,
+    script: &str,
+    threads: u32,
+    lock: &str,
+) -> Result<(), Fail> {
+    let words = words_of(alloc, threads, lock)?;
+    let told = report(rt, alloc, &words, script, &FreeGate)?;
+    see_jobs_end(rt, alloc, &told)
+}
+
+// Twenty Jobs come to their end on any number of threads, by either lock.
+#[test]
+fn jobs_end_on_threads(rt: HostRuntime) -> Result<(), Fail> {
+    let alloc = rt.alloc();
+    let script = twenty_jobs(alloc)?;
+    for lock in LOCKS {
+        for threads in [1u32, 2, 4, 16] {
+            see_threads(&rt, alloc, &script, threads, lock)?;
         }
-        assert_eq!(rt;
-            times(
-                report,
-                "\"reason\":\"CompletionsReached\",\"status\":\"True\",\"type\":\"Complete\""
-            ),
-            20,
-            "{threads} threads"
-        );
     }
     Ok(())
 }
@@ -101,6 +155,17 @@ struct Meeting<'a, R: Wait> {
 }
 
 impl<'a, R: Wait> Meeting<'a, R> {
+    // A gate to which no plan has come.
+    fn new(rt: &'a R, alloc: Global) -> Self {
+        Meeting {
+            rt,
+            alloc,
+            came: AtomicU32::new(0),
+            is_late: AtomicBool::new(false),
+            made: Mutex::new(Vec::new(alloc)),
+        }
+    }
+
     // Keeps that the plan was made. Where there is no memory for it, it is missed later.
     fn keep(&self, seat: u32, name: &str) {
         let Ok(name) = String::from_str(self.alloc, name) else {
@@ -129,33 +194,17 @@ impl<'a, R: Wait> Gate for Meeting<'a, R> {
     }
 }
 
-// Two seats make their plans beside each other: each holds up its first plan until the other's has come,
-// and no plan is made under the lock. Each sync that begins has its plan made so.
-#[test]
-fn plans_are_made_beside_each_other(rt: HostRuntime) -> Result<(), Fail> {
-    let alloc = rt.alloc();
+// Four Jobs of one pod, two on each of two lanes.
+fn four_jobs(alloc: Global) -> Result<String, Fail> {
     let mut script = String::new(alloc);
     for (name, lane) in [("a", 0u32), ("b", 0), ("c", 1), ("d", 1)] {
         put_job(alloc, &mut script, name, 1, lane)?;
     }
-    let words = words_of(alloc, 2)?;
-    let mut source = MemSource::new(script.as_bytes().to_vec(alloc)?, Vec::new(alloc));
-    let mut sink = MemSink::new(alloc, 1_000_000, Vec::new(alloc))?;
-    let gate = Meeting {
-        rt: &rt,
-        alloc,
-        came: AtomicU32::new(0),
-        is_late: AtomicBool::new(false),
-        made: Mutex::new(Vec::new(alloc)),
-    };
-    let status = run_program(&rt, alloc, &words, &mut source, &mut sink, &gate);
-    assert!(rt; matches!(status, Status::Ok), "the run ends well");
-    assert!(rt;
-        !gate.is_late.load(Ordering::SeqCst),
-        "two plans were made at once"
-    );
-    let report = str::from_utf8(sink.held())?;
-    let made = gate.made.lock(&rt);
+    Ok(script)
+}
+
+// The first two plans were made by two seats, and each sync of the report had its plan.
+fn see_plans(rt: &impl Abort, alloc: Global, made: &[Made], report: &str) -> Result<(), Fail> {
     assert!(rt; made.len() >= 2, "two plans were made");
     assert!(rt; made[0].seat != made[1].seat, "by two seats");
     assert_eq!(rt;
@@ -170,6 +219,36 @@ fn plans_are_made_beside_each_other(rt: HostRuntime) -> Result<(), Fail> {
             .filter(|plan| plan.name.as_str() == name)
             .count();
         assert_eq!(rt; count, times(report, &begun), "plans of {name}");
+    }
+    Ok(())
+}
+
+// Two seats make their plans beside each other: each holds up its first plan until the other's has come,
+// and no plan is made under the lock. Each sync that begins has its plan made so.
+fn see_meeting<R: Threads + Wait + Sync + Abort>(
+    rt: &R,
+    alloc: Global,
+    script: &str,
+    lock: &str,
+) -> Result<(), Fail> {
+    let words = words_of(alloc, 2, lock)?;
+    let gate = Meeting::new(rt, alloc);
+    let told = report(rt, alloc, &words, script, &gate)?;
+    assert!(rt;
+        !gate.is_late.load(Ordering::SeqCst),
+        "two plans were made at once"
+    );
+    let made = gate.made.lock(rt);
+    see_plans(rt, alloc, &made, &told)
+}
+
+// The same by either lock.
+#[test]
+fn plans_are_made_beside_each_other(rt: HostRuntime) -> Result<(), Fail> {
+    let alloc = rt.alloc();
+    let script = four_jobs(alloc)?;
+    for lock in LOCKS {
+        see_meeting(&rt, alloc, &script, lock)?;
     }
     Ok(())
 }

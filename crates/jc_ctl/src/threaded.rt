@@ -9,8 +9,9 @@ ghost use Rattle.jc_types.specs.declared.actions.Command.{Command};
 ghost use Rattle.jc_states.specs.ValidActions.{IsValidAction};
 ghost use Rattle.jc_history.specs.Available.{IsOrderly};
 ghost use Rattle.jc_order.specs.Plays.{IsProper};
-ghost use Rattle.jc_runs.specs.Seen.{deeds_seen};
-ghost use Rattle.jc_shared.specs.Runs.{IsWhole};
+ghost use Rattle.jc_runs.specs.Seen.{Seen, deeds_seen};
+ghost use Rattle.jc_shared.specs.Runs.{IsLeft, IsWhole};
+ghost use Rattle.jc_shared.specs.declared.threads.ThreadsFault.{ThreadsFault};
 ghost use Rattle.jc_script.specs.Scripts.{most_bytes, script_of};
 ghost use Rattle.jc_script.specs.declared.causes.Cause.{Cause};
 ghost use Rattle.jc_words.specs.Fits.{IsFitShape};
@@ -25,8 +26,9 @@ use jc_core::Cluster;
 use jc_io::{ReadEnd, Sink, Source, WriteFault, read_all, write_all};
 use jc_promise::legal_histories_keep_the_promises;
 use jc_script::{ScriptFault, read_script, scripts_fit_their_shape};
-use jc_shared::{Gate, ThreadsFault, run_threads};
+use jc_shared::{Gate, ThreadsFault, run_threads, run_turn};
 use jc_types::{Script, Shape, Want};
+use jc_words::LockKind;
 use std::alloc::{AllocError, Global};
 use std::sync::Wait;
 use std::thread::Threads;
@@ -52,10 +54,43 @@ fn told(alloc: Global, cluster: &Cluster, full: bool) -> Result<Output, Want>
     Ok(Output { text, full })
 }
 
+// The run on threads that share the cluster by the lock. Both locks promise the same.
+//
+// As `run_threads`.
+fn run_by<R: Threads + Wait + Sync, G: Gate + Sync>(
+    rt: &R,
+    alloc: Global,
+    lock: LockKind,
+    script: &Script,
+    shape: &Shape,
+    threads: u32,
+    gate: &G,
+) -> Result<Cluster, ThreadsFault>
+    requires some { 1 ≤ threads }
+    requires few { threads ≤ 16 }
+    requires fine { Each (λ (command : Command). IsValidAction command.action) script.now.commands }
+    requires proper { IsProper script.now shape.now }
+    requires fits { length script.now.commands < 2 ^ 32 }
+    requires bound { shape.now.events ≤ 200000 }
+    ensures left { IfOk result (λ cluster. IsLeft script.now shape.now cluster) }
+    ensures whole { IfOk result (λ cluster. IsWhole cluster) }
+    ensures full { (seen : Seen) → IsErrOf result (ThreadsFault.Full seen)
+        → IsLeft script.now shape.now seen }
+    ensures filled { (seen : Seen) → IsErrOf result (ThreadsFault.Full seen)
+        → length seen.pasts ≡ shape.now.events }
+    ensures to_come { (seen : Seen) → IsErrOf result (ThreadsFault.Full seen) → ¬ IsWhole seen }
+{
+    match lock {
+        LockKind::Mutex => run_threads(rt, alloc, script, shape, threads, gate),
+        LockKind::Turn => run_turn(rt, alloc, script, shape, threads, gate),
+    }
+}
+
 // The report of a run of the script on threads.
 fn threaded_report<R: Threads + Wait + Sync, G: Gate + Sync>(
     rt: &R,
     alloc: Global,
+    lock: LockKind,
     script: &Script,
     shape: &Shape,
     threads: u32,
@@ -70,7 +105,7 @@ fn threaded_report<R: Threads + Wait + Sync, G: Gate + Sync>(
     ensures { IfOk result (λ output.
         IsReport threads script.now shape.now output.full (string_bytes output.text)) }
 {
-    match run_threads(rt, alloc, script, shape, threads, gate) {
+    match run_by(rt, alloc, lock, script, shape, threads, gate) {
         Ok(cluster) => told(alloc, &cluster, false),
         Err(ThreadsFault::Full(cluster)) => told(alloc, &cluster, true),
         Err(ThreadsFault::Want) => Err(AllocError),
@@ -81,6 +116,7 @@ fn threaded_report<R: Threads + Wait + Sync, G: Gate + Sync>(
 fn threaded_answer<R: Threads + Wait + Sync, G: Gate + Sync>(
     rt: &R,
     alloc: Global,
+    lock: LockKind,
     shape: &Shape,
     threads: u32,
     input: &[u8],
@@ -99,13 +135,14 @@ fn threaded_answer<R: Threads + Wait + Sync, G: Gate + Sync>(
 {
     scripts_fit_their_shape();
     let script = read_script(alloc, input, shape)?;
-    Ok(threaded_report(rt, alloc, &script, shape, threads, gate)?)
+    Ok(threaded_report(rt, alloc, lock, &script, shape, threads, gate)?)
 }
 
 /// Reads a script, plays it on threads, and writes the report.
 pub(crate) fn run_threaded<R: Threads + Wait + Sync, S: Source, K: Sink, G: Gate + Sync>(
     rt: &R,
     alloc: Global,
+    lock: LockKind,
     shape: &Shape,
     threads: u32,
     source: &mut S,
@@ -124,6 +161,7 @@ pub(crate) fn run_threaded<R: Threads + Wait + Sync, S: Source, K: Sink, G: Gate
         TellsFront threads (record { commands = commands }) shape.now
         (K.held sink.old) (K.held sink.new))) }
     ensures good_words { result ≢ Status.BadWords }
+    ensures no_audit { (line : ℕ) → result ≢ Status.AuditNo line }
     ensures read_fault { result ≡ Status.ReadFault → Rose (S.faults source.old) (S.faults source.new) }
     ensures write_fault { result ≡ Status.WriteFault → Rose (K.faults sink.old) (K.faults sink.new) }
     ensures bad_script { (line : ℕ) (cause : Cause) → result ≡ Status.BadScript line cause
@@ -149,7 +187,7 @@ pub(crate) fn run_threaded<R: Threads + Wait + Sync, S: Source, K: Sink, G: Gate
         Err(ReadEnd::TooLong) => return Status::TooLong,
         Err(ReadEnd::Want) => return Status::Want,
     };
-    let output = match threaded_answer(rt, alloc, shape, threads, &input, gate) {
+    let output = match threaded_answer(rt, alloc, lock, shape, threads, &input, gate) {
         Ok(output) => output,
         Err(ScriptFault::BadLine { number, cause }) => {
             return Status::BadScript {

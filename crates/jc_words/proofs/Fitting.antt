@@ -5,12 +5,14 @@ use Rattle.std.specs.Str.Parse.{digits_value}
 use Rattle.jc_types.specs.declared.runs.Shape.{Shape}
 use Rattle.jc_words.specs.Fits.{IsFitOrder, IsFitShape}
 use Rattle.jc_words.specs.Options.{options_of, values_of}
-use Rattle.jc_words.specs.Values.{number_if, number_said, moment_said}
-use Rattle.jc_words.specs.Words.{default_shape, generate_order, most_threads, order_of, run_order, run_said, setting, shape_said, three_numbers}
+use Rattle.jc_words.specs.Values.{lock_said, number_if, number_said, moment_said}
+use Rattle.jc_words.specs.Words.{default_shape, generate_order, in_shape, most_threads, order_of, run_order, run_said, setting, shape_alone, shape_asked, shape_said, three_numbers, unless_given}
 use Rattle.jc_words.specs.declared.options.OptionName.{OptionName}
-use Rattle.jc_words.specs.declared.options.OptionName.TheVariants.{Threads, Controllers, Workers, Window, Events, Start}
+use Rattle.jc_words.specs.declared.options.OptionName.TheVariants.{Threads, Lock, Controllers, Workers, Window, Events, Start}
+use Rattle.jc_words.specs.declared.words.LockKind.{LockKind}
+use Rattle.jc_words.specs.declared.words.LockKind.TheVariants.{Mutex}
 use Rattle.jc_words.specs.declared.words.Order.{Order}
-use Rattle.jc_words.specs.declared.words.Order.TheVariants.{Run, Generate}
+use Rattle.jc_words.specs.declared.words.Order.TheVariants.{Run, Reap, Audit, Generate}
 
 if_fits : (low high n m : ℕ) (text : List ℕ) → number_if low high text n ≡ Some m → (low ≤ m) × (m ≤ high)
 if_fits low high n m text e = by (bytes_eq (decimal n) text) refl (nat_le low n) refl (nat_le n high) refl where
@@ -68,14 +70,16 @@ shape_fits values shape e =
 run_fits : (values : OptionName → List (List ℕ)) (order : Order) → run_said values ≡ Some order → IsFitOrder order
 unfolding run_said
 run_fits values order e =
-    by (setting 0 (number_said 0 most_threads) (values Threads)) refl (shape_said values) refl
+    by (setting 0 (number_said 0 most_threads) (values Threads)) refl (setting Mutex lock_said (values Lock)) refl (shape_said values) refl
   where
     by : (a : Option ℕ) → setting 0 (number_said 0 most_threads) (values Threads) ≡ a
+        → (l : Option LockKind) → setting Mutex lock_said (values Lock) ≡ l
         → (b : Option Shape) → shape_said values ≡ b → IsFitOrder order
-    by None ea b eb = absurd (none-some order (rw ea at e))
-    by (Some a) ea None eb = absurd (none-some order (rw (ea, eb) at e))
-    by (Some a) ea (Some b) eb =
-        let same : Some (Run a b) ≡ Some order = rw (ea, eb) at e in
+    by None ea l el b eb = absurd (none-some order (rw ea at e))
+    by (Some a) ea None el b eb = absurd (none-some order (rw (ea, el) at e))
+    by (Some a) ea (Some l) el None eb = absurd (none-some order (rw (ea, el, eb) at e))
+    by (Some a) ea (Some l) el (Some b) eb =
+        let same : Some (Run a l b) ≡ Some order = rw (ea, el, eb) at e in
         subst IsFitOrder (same_Some _ _ same) (record {
           few_threads = (setting_fits 0 most_threads 0 a (values Threads) (omega arith) (omega arith) ea).1;
           shape_fits = shape_fits values b eb;
@@ -89,6 +93,28 @@ options_fit (Some pairs) order e = run_fits (λ name. values_of name pairs) orde
 run_order_fits : (words : List (List ℕ)) (order : Order) → run_order words ≡ Some order → IsFitOrder order
 unfolding run_order
 run_order_fits words order e = options_fit (options_of words) order e
+
+alone_fits : (threads lock : List (List ℕ)) (values : OptionName → List (List ℕ)) (shape : Shape)
+    → unless_given threads (unless_given lock (shape_said values)) ≡ Some shape → IsFitShape shape
+alone_fits [] [] values shape e = shape_fits values shape e
+alone_fits [] (value ∷ more) values shape e = absurd (none-some shape e)
+alone_fits (value ∷ more) lock values shape e = absurd (none-some shape e)
+
+asked_fits : (o : Option (List (OptionName × List ℕ))) (shape : Shape)
+    → option_and_then (λ pairs. shape_alone (λ name. values_of name pairs)) o ≡ Some shape → IsFitShape shape
+asked_fits None shape e = absurd (none-some shape e)
+asked_fits (Some pairs) shape e =
+    alone_fits (values_of Threads pairs) (values_of Lock pairs) (λ name. values_of name pairs) shape e
+
+shape_asked_fits : (words : List (List ℕ)) (shape : Shape) → shape_asked words ≡ Some shape → IsFitShape shape
+unfolding shape_asked
+shape_asked_fits words shape e = asked_fits (options_of words) shape e
+
+in_shape_fits : (make : Shape → Order) → ((shape : Shape) → IsFitShape shape → IsFitOrder (make shape))
+    → (o : Option Shape) (order : Order) → ((shape : Shape) → o ≡ Some shape → IsFitShape shape)
+    → in_shape make o ≡ Some order → IsFitOrder order
+in_shape_fits make fit None order fits e = absurd (none-some order e)
+in_shape_fits make fit (Some shape) order fits e = subst IsFitOrder (same_Some _ _ e) (fit shape (fits shape refl))
 
 three_fit : (first second third : List ℕ) (order : Order) → three_numbers first second third ≡ Some order → IsFitOrder order
 unfolding three_numbers
@@ -121,8 +147,17 @@ generate_fits (a ∷ b ∷ c ∷ d ∷ words) order e = absurd (none-some order 
 pub order_fits : (words : List (List ℕ)) (order : Order) → order_of words ≡ Some order → IsFitOrder order
 unfolding order_of
 order_fits [] order e = absurd (none-some order e)
-order_fits (verb ∷ words) order e = by (bytes_eq verb (codes "run")) refl (bytes_eq verb (codes "generate")) refl where
-  by : (a : Bool) → bytes_eq verb (codes "run") ≡ a → (b : Bool) → bytes_eq verb (codes "generate") ≡ b → IsFitOrder order
-  by true ea b eb = run_order_fits words order (rw ea at e)
-  by false ea true eb = generate_fits words order (rw (ea, eb) at e)
-  by false ea false eb = absurd (none-some order (rw (ea, eb) at e))
+order_fits (verb ∷ words) order e =
+    by (bytes_eq verb (codes "run")) refl (bytes_eq verb (codes "reap")) refl (bytes_eq verb (codes "audit")) refl
+    (bytes_eq verb (codes "generate")) refl
+  where
+    by : (a : Bool) → bytes_eq verb (codes "run") ≡ a → (r : Bool) → bytes_eq verb (codes "reap") ≡ r
+        → (u : Bool) → bytes_eq verb (codes "audit") ≡ u → (b : Bool) → bytes_eq verb (codes "generate") ≡ b → IsFitOrder order
+    by true ea r er u eu b eb = run_order_fits words order (rw ea at e)
+    by false ea true er u eu b eb =
+        in_shape_fits (λ shape. Reap shape) (λ shape fits. fits) (shape_asked words) order (shape_asked_fits words) (rw (ea, er) at e)
+    by false ea false er true eu b eb =
+        in_shape_fits (λ shape. Audit shape) (λ shape fits. fits) (shape_asked words) order (shape_asked_fits words)
+        (rw (ea, er, eu) at e)
+    by false ea false er false eu true eb = generate_fits words order (rw (ea, er, eu, eb) at e)
+    by false ea false er false eu false eb = absurd (none-some order (rw (ea, er, eu, eb) at e))

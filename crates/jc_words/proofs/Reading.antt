@@ -4,22 +4,24 @@ use Rattle.std.specs.Borrow.{Bor}
 use Rattle.std.specs.List.{list_all}
 use Rattle.jc_words.specs.Options.{are_once, option_place, options_of, pairs_of, same_name, values_of, with_pair}
 use Rattle.jc_words.specs.Said.{IsSaidBy, given, values_in}
-use Rattle.jc_words.specs.Words.{run_order, run_said}
+use Rattle.jc_words.specs.Words.{run_order, run_said, shape_alone, shape_asked}
 use Rattle.jc_words.specs.declared.options.OptionName.{OptionName}
-use Rattle.jc_words.specs.declared.options.OptionName.TheVariants.{Threads, Controllers, Workers, Window, Events, Start}
+use Rattle.jc_words.specs.declared.options.OptionName.TheVariants.{Threads, Lock, Controllers, Workers, Window, Events, Start}
 use Rattle.jc_words.specs.declared.options.Said.{Said}
 
 -- Names at one place are one name.
 abbrev name_at : ℕ → OptionName
 name_at zero = Threads
-name_at (suc zero) = Controllers
-name_at (suc (suc zero)) = Workers
-name_at (suc (suc (suc zero))) = Window
-name_at (suc (suc (suc (suc zero)))) = Events
-name_at (suc (suc (suc (suc (suc n))))) = Start
+name_at (suc zero) = Lock
+name_at (suc (suc zero)) = Controllers
+name_at (suc (suc (suc zero))) = Workers
+name_at (suc (suc (suc (suc zero)))) = Window
+name_at (suc (suc (suc (suc (suc zero))))) = Events
+name_at (suc (suc (suc (suc (suc (suc n)))))) = Start
 
 at_place : (name : OptionName) → name_at (option_place name) ≡ name
 at_place Threads = refl
+at_place Lock = refl
 at_place Controllers = refl
 at_place Workers = refl
 at_place Window = refl
@@ -52,6 +54,7 @@ one_value name other value = by (same_name name other) refl where
 own_value : (name : OptionName) (value : List ℕ) → values_of name ((name, value) ∷ []) ≡ value ∷ []
 unfolding values_of
 own_value Threads value = refl
+own_value Lock value = refl
 own_value Controllers value = refl
 own_value Workers value = refl
 own_value Window value = refl
@@ -73,12 +76,13 @@ one_fails test (y ∷ front) x back e = later (test y) (list_all test (front ++ 
 
 not_few : (name : OptionName) (pairs : List (OptionName × List ℕ)) → few name pairs ≡ false → are_once pairs ≡ false
 unfolding are_once
-not_few Threads pairs e = one_fails (λ name. few name pairs) [] Threads (Controllers ∷ Workers ∷ Window ∷ Events ∷ Start ∷ []) e
-not_few Controllers pairs e = one_fails (λ name. few name pairs) (Threads ∷ []) Controllers (Workers ∷ Window ∷ Events ∷ Start ∷ []) e
-not_few Workers pairs e = one_fails (λ name. few name pairs) (Threads ∷ Controllers ∷ []) Workers (Window ∷ Events ∷ Start ∷ []) e
-not_few Window pairs e = one_fails (λ name. few name pairs) (Threads ∷ Controllers ∷ Workers ∷ []) Window (Events ∷ Start ∷ []) e
-not_few Events pairs e = one_fails (λ name. few name pairs) (Threads ∷ Controllers ∷ Workers ∷ Window ∷ []) Events (Start ∷ []) e
-not_few Start pairs e = one_fails (λ name. few name pairs) (Threads ∷ Controllers ∷ Workers ∷ Window ∷ Events ∷ []) Start [] e
+not_few Threads pairs e = one_fails (λ name. few name pairs) [] Threads (Lock ∷ Controllers ∷ Workers ∷ Window ∷ Events ∷ Start ∷ []) e
+not_few Lock pairs e = one_fails (λ name. few name pairs) (Threads ∷ []) Lock (Controllers ∷ Workers ∷ Window ∷ Events ∷ Start ∷ []) e
+not_few Controllers pairs e = one_fails (λ name. few name pairs) (Threads ∷ Lock ∷ []) Controllers (Workers ∷ Window ∷ Events ∷ Start ∷ []) e
+not_few Workers pairs e = one_fails (λ name. few name pairs) (Threads ∷ Lock ∷ Controllers ∷ []) Workers (Window ∷ Events ∷ Start ∷ []) e
+not_few Window pairs e = one_fails (λ name. few name pairs) (Threads ∷ Lock ∷ Controllers ∷ Workers ∷ []) Window (Events ∷ Start ∷ []) e
+not_few Events pairs e = one_fails (λ name. few name pairs) (Threads ∷ Lock ∷ Controllers ∷ Workers ∷ Window ∷ []) Events (Start ∷ []) e
+not_few Start pairs e = one_fails (λ name. few name pairs) (Threads ∷ Lock ∷ Controllers ∷ Workers ∷ Window ∷ Events ∷ []) Start [] e
 
 two_are_more : (n : ℕ) → nat_le (suc (suc n)) 1 ≡ false
 two_are_more n = search (rules, tests)
@@ -94,6 +98,7 @@ few_given (Some value) = refl
 
 few_kept : (said : Said) (name : OptionName) → nat_le (length (values_in said name)) 1 ≡ true
 few_kept said Threads = few_given said.threads
+few_kept said Lock = few_given said.lock
 few_kept said Controllers = few_given said.controllers
 few_kept said Workers = few_given said.workers
 few_kept said Window = few_given said.window
@@ -102,7 +107,7 @@ few_kept said Start = few_given said.start
 
 all_few : (pairs : List (OptionName × List ℕ)) → ((name : OptionName) → few name pairs ≡ true) → are_once pairs ≡ true
 unfolding are_once
-all_few pairs f = rw (f Threads, f Controllers, f Workers, f Window, f Events, f Start) refl
+all_few pairs f = rw (f Threads, f Lock, f Controllers, f Workers, f Window, f Events, f Start) refl
 
 -- Pairs in front of others.
 abbrev pub in_front : List (OptionName × List ℕ) → Option (List (OptionName × List ℕ)) → Option (List (OptionName × List ℕ))
@@ -195,3 +200,17 @@ ordered words said same = ordered_by said (options_of words) same
 pub unordered : (words : List (List ℕ)) → options_of words ≡ None → None ≡ run_order words
 unfolding run_order
 unordered words none = rw none refl
+
+-- So it is of the shape alone.
+alone_by : (said : Said) (o : Option (List (OptionName × List ℕ))) → IsSaidBy said o
+    → shape_alone (values_in said) ≡ option_and_then (λ pairs. shape_alone (λ name. values_of name pairs)) o
+alone_by said None none = absurd none
+alone_by said (Some pairs) same = ap shape_alone (λ i name. same name i)
+
+pub shaped : (words : List (List ℕ)) (said : Said) → IsSaidBy said (options_of words) → shape_alone (values_in said) ≡ shape_asked words
+unfolding shape_asked
+shaped words said same = alone_by said (options_of words) same
+
+pub unshaped : (words : List (List ℕ)) → options_of words ≡ None → None ≡ shape_asked words
+unfolding shape_asked
+unshaped words none = rw none refl

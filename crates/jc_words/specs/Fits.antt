@@ -5,7 +5,7 @@ use Rattle.std.specs.Prelude.{ℕ, ◌<◌, ◌≤◌, ◌^◌}
 use Rattle.jc_types.specs.declared.runs.Shape.{Shape}
 use Rattle.jc_words.specs.Words.{most_threads}
 use Rattle.jc_words.specs.declared.words.Order.{Order}
-use Rattle.jc_words.specs.declared.words.Order.TheVariants.{Run, Generate}
+use Rattle.jc_words.specs.declared.words.Order.TheVariants.{Run, Reap, Audit, Generate}
 
 pub record IsFitShape (shape : Shape) : Type 0 where
   pub some_controllers : 1 ≤ shape.controllers
@@ -31,5 +31,7 @@ pub record IsFitGenerate (number jobs pods : ℕ) : Type 0 where
   pub few_pods : pods ≤ 20
 
 abbrev pub IsFitOrder : Order → Type 0
-IsFitOrder (Run threads shape) = IsFitRun threads shape
+IsFitOrder (Run threads lock shape) = IsFitRun threads shape
+IsFitOrder (Reap shape) = IsFitShape shape
+IsFitOrder (Audit shape) = IsFitShape shape
 IsFitOrder (Generate number jobs pods) = IsFitGenerate number jobs pods

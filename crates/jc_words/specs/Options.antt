@@ -9,12 +9,13 @@
 use Rattle.std.specs.Prelude.{ℕ, Bool, ◌==◌, List, [], ◌∷◌, length, map, filter, find, is_some, position, Option, Some, None, option_and_then, nat_le, codes, bytes_eq, if◌then◌else◌}
 use Rattle.std.specs.List.{list_all, before_first, after_first}
 use Rattle.jc_words.specs.declared.options.OptionName.{OptionName}
-use Rattle.jc_words.specs.declared.options.OptionName.TheVariants.{Threads, Controllers, Workers, Window, Events, Start}
+use Rattle.jc_words.specs.declared.options.OptionName.TheVariants.{Threads, Lock, Controllers, Workers, Window, Events, Start}
 
 -- ---- names
 
 abbrev pub option_word : OptionName → List ℕ
 option_word Threads = codes "--threads"
+option_word Lock = codes "--lock"
 option_word Controllers = codes "--controllers"
 option_word Workers = codes "--workers"
 option_word Window = codes "--window"
@@ -22,7 +23,7 @@ option_word Events = codes "--events"
 option_word Start = codes "--start"
 
 abbrev pub option_names : List OptionName
-option_names = Threads ∷ Controllers ∷ Workers ∷ Window ∷ Events ∷ Start ∷ []
+option_names = Threads ∷ Lock ∷ Controllers ∷ Workers ∷ Window ∷ Events ∷ Start ∷ []
 
 abbrev pub option_named : List ℕ → Option OptionName
 option_named word = find (λ name. bytes_eq word (option_word name)) option_names
@@ -30,11 +31,12 @@ option_named word = find (λ name. bytes_eq word (option_word name)) option_name
 -- The place of a name among the names.
 abbrev pub option_place : OptionName → ℕ
 option_place Threads = 0
-option_place Controllers = 1
-option_place Workers = 2
-option_place Window = 3
-option_place Events = 4
-option_place Start = 5
+option_place Lock = 1
+option_place Controllers = 2
+option_place Workers = 3
+option_place Window = 4
+option_place Events = 5
+option_place Start = 6
 
 -- The names agree.
 abbrev pub same_name : OptionName → OptionName → Bool

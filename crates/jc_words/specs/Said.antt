@@ -6,7 +6,7 @@ use Rattle.std.specs.Prelude.{ℕ, ◌≡◌, List, Option, Some, None, option_m
 use Rattle.std.specs.Borrow.{Bor}
 use Rattle.jc_words.specs.Options.{values_of}
 use Rattle.jc_words.specs.declared.options.OptionName.{OptionName}
-use Rattle.jc_words.specs.declared.options.OptionName.TheVariants.{Threads, Controllers, Workers, Window, Events, Start}
+use Rattle.jc_words.specs.declared.options.OptionName.TheVariants.{Threads, Lock, Controllers, Workers, Window, Events, Start}
 use Rattle.jc_words.specs.declared.options.Said.{Said}
 
 -- The value, if any, as a list.
@@ -15,6 +15,7 @@ given value = option_to_list (option_map (λ text. text.now) value)
 
 abbrev pub values_in : Said → OptionName → List (List ℕ)
 values_in said Threads = given said.threads
+values_in said Lock = given said.lock
 values_in said Controllers = given said.controllers
 values_in said Workers = given said.workers
 values_in said Window = given said.window

@@ -1,17 +1,19 @@
 -- The grammar of the words: what they ask for, if anything.
 --     order_of words             what the words ask for
 --     run_order words            the same of the options of `run`
+--     shape_asked words          the shape that options ask for among which are neither threads nor a lock
 --     generate_order words       the same of the three numbers of `generate`
 --     default_shape              the shape where no option says another
 --     most_threads               the greatest number of threads
 use Rattle.std.specs.Prelude.{ℕ, List, [], ◌∷◌, Option, Some, None, option_and_then, codes, bytes_eq, if◌then◌else◌}
 use Rattle.jc_types.specs.declared.runs.Shape.{Shape}
 use Rattle.jc_words.specs.Options.{options_of, values_of}
-use Rattle.jc_words.specs.Values.{number_said, moment_said}
+use Rattle.jc_words.specs.Values.{lock_said, number_said, moment_said}
 use Rattle.jc_words.specs.declared.options.OptionName.{OptionName}
-use Rattle.jc_words.specs.declared.options.OptionName.TheVariants.{Threads, Controllers, Workers, Window, Events, Start}
+use Rattle.jc_words.specs.declared.options.OptionName.TheVariants.{Threads, Lock, Controllers, Workers, Window, Events, Start}
+use Rattle.jc_words.specs.declared.words.LockKind.TheVariants.{Mutex}
 use Rattle.jc_words.specs.declared.words.Order.{Order}
-use Rattle.jc_words.specs.declared.words.Order.TheVariants.{Run, Generate}
+use Rattle.jc_words.specs.declared.words.Order.TheVariants.{Run, Reap, Audit, Generate}
 
 -- Then: nothing where one step gives nothing.
 infixl 10 ◌>>=◌
@@ -46,11 +48,31 @@ shape_said values = do
 unfoldable pub run_said : (OptionName → List (List ℕ)) → Option Order
 run_said values = do
   threads ← setting 0 (number_said 0 most_threads) (values Threads)
+  lock ← setting Mutex lock_said (values Lock)
   shape ← shape_said values
-  Some (Run threads shape)
+  Some (Run threads lock shape)
 
 unfoldable pub run_order : List (List ℕ) → Option Order
 run_order words = option_and_then (λ pairs. run_said (λ name. values_of name pairs)) (options_of words)
+
+-- ---- reap, audit
+
+-- Nothing, where a value is given.
+abbrev pub unless_given : {A : Type 0} → List (List ℕ) → Option A → Option A
+unless_given [] said = said
+unless_given (value ∷ values) said = None
+
+-- The shape, where the values are of no other name.
+abbrev pub shape_alone : (OptionName → List (List ℕ)) → Option Shape
+shape_alone values = unless_given (values Threads) (unless_given (values Lock) (shape_said values))
+
+unfoldable pub shape_asked : List (List ℕ) → Option Shape
+shape_asked words = option_and_then (λ pairs. shape_alone (λ name. values_of name pairs)) (options_of words)
+
+-- What is to be done in the shape.
+abbrev pub in_shape : (Shape → Order) → Option Shape → Option Order
+in_shape order None = None
+in_shape order (Some shape) = Some (order shape)
 
 -- ---- generate
 
@@ -74,4 +96,6 @@ unfoldable pub order_of : List (List ℕ) → Option Order
 order_of [] = None
 order_of (verb ∷ words) =
     if bytes_eq verb (codes "run") then run_order words
-    else (if bytes_eq verb (codes "generate") then generate_order words else None)
+    else (if bytes_eq verb (codes "reap") then in_shape (λ shape. Reap shape) (shape_asked words)
+    else (if bytes_eq verb (codes "audit") then in_shape (λ shape. Audit shape) (shape_asked words)
+    else (if bytes_eq verb (codes "generate") then generate_order words else None)))

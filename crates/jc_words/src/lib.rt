@@ -1,7 +1,7 @@
 //! The words of the program: what it is asked to do.
 //!
-//! `run` and options play a script, and `generate NUMBER JOBS PODS` plays a generated one. All other words ask for
-//! nothing.
+//! `run` and options play a script, `reap` and options play it and collect what is finished, `audit` and options look
+//! at a report, and `generate NUMBER JOBS PODS` plays a generated script. All other words ask for nothing.
 #![tactic(auto)]
 
 mod laws;
@@ -10,4 +10,4 @@ mod options;
 mod words;
 
 pub use laws::{orders_fit, words_read};
-pub use words::{Order, default_shape, read_words};
+pub use words::{LockKind, Order, default_shape, read_words};

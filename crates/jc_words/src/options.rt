@@ -1,12 +1,14 @@
-//! The options of `run`.
+//! The options.
 
 ghost use Rattle.std.specs.Prelude.{◌≡◌, ◌≤◌, Some, None, IfSome, MatchOption, ◌∷◌, length, map, string_bytes};
 ghost use Rattle.jc_words.specs.Options.{cut_of, option_named, options_of, pairs_of, with_pair};
-ghost use Rattle.jc_words.specs.Values.{number_said, moment_said};
+ghost use Rattle.jc_words.specs.Values.{lock_said, moment_said, number_said};
+ghost use Rattle.jc_words.specs.declared.words.LockKind.TheVariants.{Mutex};
 ghost use Rattle.jc_words.specs.Words.{setting};
 ghost use Rattle.jc_words.specs.Said.{IsSaidBy, given};
 
 use crate::numbers::{read_moment, read_number};
+use crate::words::LockKind;
 use jc_moment::Moment;
 use jc_types::Shape;
 
@@ -17,6 +19,7 @@ const MOST_THREADS: u32 = 16;
 #[derive(Clone, Copy, PartialEq, Eq, Debug)]
 pub enum OptionName {
     Threads,
+    Lock,
     Controllers,
     Workers,
     Window,
@@ -28,6 +31,7 @@ pub enum OptionName {
 #[derive(Clone, Copy)]
 pub struct Said<'w> {
     threads: Option<&'w str>,
+    lock: Option<&'w str>,
     controllers: Option<&'w str>,
     workers: Option<&'w str>,
     window: Option<&'w str>,
@@ -41,6 +45,7 @@ fn name_of(word: &str) -> Option<OptionName>
 {
     match word {
         "--threads" => Some(OptionName::Threads),
+        "--lock" => Some(OptionName::Lock),
         "--controllers" => Some(OptionName::Controllers),
         "--workers" => Some(OptionName::Workers),
         "--window" => Some(OptionName::Window),
@@ -114,14 +119,36 @@ fn moment_or(value: Option<&str>, default: Moment) -> Option<Moment>
     }
 }
 
+// The lock that the text names.
+fn read_lock(text: &str) -> Option<LockKind>
+    ensures { result ≡ lock_said text.now }
+{
+    match text {
+        "mutex" => Some(LockKind::Mutex),
+        "turn" => Some(LockKind::Turn),
+        _ => None,
+    }
+}
+
+// The same of a lock.
+fn lock_or(value: Option<&str>) -> Option<LockKind>
+    ensures { result ≡ setting Mutex lock_said (given value.entry) }
+{
+    match value {
+        Some(text) => read_lock(text),
+        None => Some(LockKind::Mutex),
+    }
+}
+
 impl<'w> Said<'w> {
     ghost use Rattle.std.specs.Prelude.{◌≡◌, [], ◌∷◌, if◌then◌else◌};
     ghost use Rattle.jc_words.specs.Options.{same_name};
     ghost use Rattle.jc_words.specs.Said.{given, values_in};
-    ghost use Rattle.jc_words.specs.Words.{setting, shape_said, default_shape, most_threads};
-    ghost use Rattle.jc_words.specs.Values.{number_said};
+    ghost use Rattle.jc_words.specs.Words.{setting, shape_alone, shape_said, default_shape, most_threads};
+    ghost use Rattle.jc_words.specs.Values.{lock_said, number_said};
+    ghost use Rattle.jc_words.specs.declared.words.LockKind.TheVariants.{Mutex};
     ghost use Rattle.jc_words.specs.declared.options.OptionName.{OptionName};
-    ghost use Rattle.jc_words.specs.declared.options.OptionName.TheVariants.{Threads};
+    ghost use Rattle.jc_words.specs.declared.options.OptionName.TheVariants.{Lock, Threads};
 
     // Nothing yet.
     fn new() -> Said<'w>
@@ -129,6 +156,7 @@ impl<'w> Said<'w> {
     {
         Said {
             threads: None,
+            lock: None,
             controllers: None,
             workers: None,
             window: None,
@@ -143,6 +171,7 @@ impl<'w> Said<'w> {
     {
         match name {
             OptionName::Threads => self.threads,
+            OptionName::Lock => self.lock,
             OptionName::Controllers => self.controllers,
             OptionName::Workers => self.workers,
             OptionName::Window => self.window,
@@ -158,6 +187,7 @@ impl<'w> Said<'w> {
     {
         match name {
             OptionName::Threads => self.threads = Some(value),
+            OptionName::Lock => self.lock = Some(value),
             OptionName::Controllers => self.controllers = Some(value),
             OptionName::Workers => self.workers = Some(value),
             OptionName::Window => self.window = Some(value),
@@ -173,6 +203,13 @@ impl<'w> Said<'w> {
         number_or(self.threads, 0, MOST_THREADS, 0)
     }
 
+    /// The lock.
+    pub fn lock(&self) -> Option<LockKind>
+        ensures { result ≡ setting Mutex lock_said (values_in self.now Lock) }
+    {
+        lock_or(self.lock)
+    }
+
     /// The shape; what no option says is as in `default`.
     #[tactic(auto, unfolding(crate::specs::Words::shape_said))]
     pub fn shape(&self, default: Shape) -> Option<Shape>
@@ -186,5 +223,16 @@ impl<'w> Said<'w> {
             events: number_or(self.events, 1, 200_000, default.events)?,
             start: moment_or(self.start, default.start)?,
         })
+    }
+
+    /// The shape, where neither threads nor a lock are given.
+    pub fn shape_alone(&self, default: Shape) -> Option<Shape>
+        requires { default ≡ default_shape }
+        ensures { result ≡ shape_alone (values_in self.now) }
+    {
+        if self.threads.is_some() || self.lock.is_some() {
+            return None;
+        }
+        self.shape(default)
     }
 }

@@ -1,5 +1,5 @@
-//! `jobctl`: plays a script of a cluster, read from standard input, and prints the report; or plays a generated script,
-//! and prints its summary.
+//! `jobctl`: plays a script of a cluster, read from standard input, and prints the report; or audits such a report; or
+//! plays a generated script, and prints its summary.
 #![tactic(auto)]
 
 use jc_ctl::{Status, run_program};
@@ -36,6 +36,7 @@ fn tell(rt: &HostRuntime, status: &Status) {
             Ok(())
         }
         Status::HistoryFull => eprintln!(rt; "jobctl: history full"),
+        Status::AuditNo { line } => eprintln!(rt; "jobctl: no at line {line}"),
         Status::Want => eprintln!(rt; "jobctl: no memory"),
         Status::TooLong => eprintln!(rt; "jobctl: input too long"),
     };
@@ -52,6 +53,7 @@ fn value(status: &Status) -> u8 {
         Status::HistoryFull => 6,
         Status::Want => 7,
         Status::TooLong => 8,
+        Status::AuditNo { .. } => 9,
     }
 }
 

@@ -1,9 +1,22 @@
--- The script is what the text says.
-use Rattle.std.proofs.Common.{◌≡◌, List, Result, Ok, Err, ap, refl, subst, sym, true≢false}
-use Rattle.std.specs.Prelude.{IsOkAnd, is_ok}
+-- The script is what the text says, or what a reaper makes of it.
+use Rattle.std.proofs.Common.{◌≡◌, ℕ, List, Option, Result, Ok, Err, ap, refl, subst, sym, true≢false}
+use Rattle.std.specs.Prelude.{IfOk, IsOkAnd, is_ok}
 use Rattle.jc_types.specs.declared.actions.Command.{Command}
+use Rattle.jc_types.specs.declared.actions.Script.{Script}
+use Rattle.jc_types.specs.declared.runs.Shape.{Shape}
+use Rattle.jc_log.specs.Deeds.{act_of_action}
+use Rattle.jc_states.specs.ValidActions.{IsValidAction}
+use Rattle.jc_history.specs.Legal.{IsOfShape}
+use Rattle.jc_order.specs.Plays.{AreWithin}
+use Rattle.jc_reap.specs.Finds.{seen_at_end}
+use Rattle.jc_reap.specs.Reaping.{reap_list}
+use Rattle.jc_reap.specs.TtlLines.{ttls_of}
+use Rattle.jc_runs.specs.Seen.{Seen}
 use Rattle.jc_script.specs.Scripts.{BadLine, script_of}
+use Rattle.jc_words.specs.declared.words.Order.TheVariants as order
+use Rattle.jc_ctl.proofs.ReapFacts.{AreValid, both, last-holds, settled_valid, settled_within}
 use Rattle.jc_ctl.proofs.ShapeFacts.{read_within}
+use Rattle.jc_ctl.specs.Played.{as_script, at_rest, reaped_of}
 use Rattle.jc_ctl.specs.Runs.{Printed, answer_of, report_printed, reported}
 use Rattle.jc_ctl.specs.Told.{IsReport}
 use Rattle.jc_ctl.proofs.laws.runs_tell_their_history.Goals as goal
@@ -12,17 +25,70 @@ printed-in : Result Printed BadLine → Printed → Printed
 printed-in (Ok printed) other = printed
 printed-in (Err bad) other = other
 
+-- What the play of a script asks of its commands.
+record IsFine (shape : Shape) (commands : List Command) : Type 0 where
+  valid : AreValid commands
+  within : AreWithin shape commands
+
+module _ (shape : Shape) where
+  -- The commands of a text are fine.
+  read-fine : (r : Result (List Command) BadLine) → ((commands : List Command) → r ≡ Ok commands → IsFine shape commands)
+      → IfOk (as_script r) (λ script. IsFine shape script.commands)
+  read-fine (Ok commands) fine = fine commands refl
+  read-fine (Err bad) fine = tt
+
+  -- So are a settle and a reaper's behind them.
+  module _ (valid : (seen : Seen) (ttls : List (Option ℕ)) → AreValid (reap_list seen ttls))
+      (within : (seen : Seen) (ttls : List (Option ℕ)) → AreWithin shape (reap_list seen ttls)) where
+    last-fine : (script : Script) (ttls : List (Option ℕ)) → IsFine shape script.commands
+        → IfOk (reaped_of shape (Ok script.commands) (Ok ttls)) (λ script. IsFine shape script.commands)
+    last-fine script ttls fine =
+        let first = at_rest script.commands in
+        let rested : IsFine shape first.commands = record {
+          valid = settled_valid script.commands fine.valid;
+          within = settled_within shape script.commands fine.within;
+        } in
+        last-holds (λ s. IsFine shape s.commands) first shape ttls rested (record {
+          valid = both (λ (c : Command). IsValidAction c.action) first.commands (reap_list (seen_at_end first shape) ttls)
+              rested.valid (valid (seen_at_end first shape) ttls);
+          within = both (λ (c : Command). IsOfShape shape (act_of_action c.action)) first.commands
+              (reap_list (seen_at_end first shape) ttls) rested.within (within (seen_at_end first shape) ttls);
+        })
+
+    reaped-fine : (r : Result (List Command) BadLine) (t : Result (List (Option ℕ)) BadLine)
+        → ((commands : List Command) → r ≡ Ok commands → IsFine shape commands)
+        → IfOk (reaped_of shape r t) (λ script. IsFine shape script.commands)
+    reaped-fine (Err bad) t fine = tt
+    reaped-fine (Ok commands) (Err bad) fine = tt
+    reaped-fine (Ok commands) (Ok ttls) fine = last-fine (record { commands = commands }) ttls (fine commands refl)
+
+  -- What is printed of a script whose commands are fine is the report of a history of it.
+  told-of : (printed : Printed) (r : Result Script BadLine) → IfOk r (λ script. IsFine shape script.commands)
+      → ((script : Script) → IsFine shape script.commands
+      → IsReport 0 script shape (report_printed script shape).full (report_printed script shape).text)
+      → reported shape r ≡ Ok printed → IsOkAnd r (λ script. IsReport 0 script shape printed.full printed.text)
+  unfolding printed-in
+  told-of printed (Err bad) fine tells said = absurd (true≢false (sym (ap is_ok said)))
+  told-of printed (Ok script) fine tells said =
+      subst (λ (p : Printed). IsReport 0 script shape p.full p.text) (ap (λ r. printed-in r printed) said) (tells script fine)
+
 pub returns : goal.returns
-unfolding answer_of report_printed printed-in
-returns c threads shape input printed fits said = by (script_of shape input) refl said
-  where
-    by : (r : Result (List Command) BadLine) → script_of shape input ≡ r → reported shape r ≡ Ok printed
-        → IsOkAnd r (λ commands. IsReport 0 (record { commands = commands }) shape printed.full printed.text)
-    by (Err bad) e s = absurd (true≢false (sym (ap is_ok s)))
-    by (Ok commands) e s =
-        let same = ap (λ r. printed-in r printed) s in
-        let valid = c.scripts_fit_their_shape.ensures.valid shape input commands e in
-        let within = c.scripts_fit_their_shape.ensures.within shape input commands fits.some_controllers fits.some_workers e in
-        subst (λ (p : Printed). IsReport 0 (record { commands = commands }) shape p.full p.text) same
-        (c.plays_tell_their_history.ensures (record { commands = commands }) shape valid
-        (read_within shape commands within) fits.some_controllers fits.some_workers fits.few_events)
+unfolding answer_of report_printed
+returns c (order.Generate number jobs pods) input printed fits said = tt
+returns c (order.Audit shape) input printed fits said = tt
+returns c (order.Run threads lock shape) input printed fits said =
+    told-of shape printed (as_script (script_of shape input)) (read-fine shape (script_of shape input) (λ commands e. record {
+      valid = c.scripts_fit_their_shape.ensures.valid shape input commands e;
+      within = read_within shape commands (c.scripts_fit_their_shape.ensures.within shape input commands fits.shape_fits.some_controllers
+          fits.shape_fits.some_workers e);
+    })) (λ script fine. c.plays_tell_their_history.ensures script shape fine.valid fine.within fits.shape_fits.some_controllers
+    fits.shape_fits.some_workers fits.shape_fits.few_events) said
+returns c (order.Reap shape) input printed fits said =
+    told-of shape printed (reaped_of shape (script_of shape input) (ttls_of shape input))
+    (reaped-fine shape c.reaped_commands_fit.ensures.valid (c.reaped_commands_fit.ensures.within shape)
+    (script_of shape input) (ttls_of shape input) (λ commands e. record {
+      valid = c.scripts_fit_their_shape.ensures.valid shape input commands e;
+      within = read_within shape commands (c.scripts_fit_their_shape.ensures.within shape input commands fits.some_controllers
+          fits.some_workers e);
+    })) (λ script fine. c.plays_tell_their_history.ensures script shape fine.valid fine.within fits.some_controllers
+    fits.some_workers fits.few_events) said
