@@ -1,19 +1,10 @@
-//! Worked stories of the machine: whole scripts, event by event, with each reply, and the status of
-//! each Job at the end. They stand apart from the crates that they test, which would be proved
-//! twice with them.
+//! Calls of the machine that no script makes: a whole sync at once, and events of seats that know what came before.
+//! They stand apart from the machine, which would be proved twice with them.
 #![tactic(auto)]
 
 #[cfg(test)]
-mod counting;
+mod scripts;
 #[cfg(test)]
-mod endings;
+mod seen;
 #[cfg(test)]
-mod faults;
-#[cfg(test)]
-mod plays;
-#[cfg(test)]
-mod requests;
-#[cfg(test)]
-mod settling;
-#[cfg(test)]
-mod stories;
+mod syncs;

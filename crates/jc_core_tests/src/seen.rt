@@ -1,0 +1,140 @@
+//! What two seats of a turn lock see of the one history of a cluster.
+
+ghost use Rattle.std.specs.Prelude.{◌≡◌, ◌≤◌, ◌<◌, ◌^◌, OnOk, false, length};
+ghost use Rattle.jc_history.specs.Available.{IsOrderly};
+ghost use Rattle.jc_kept.specs.Names.{IsOfName};
+ghost use Rattle.jc_runs.specs.Seen.{deeds_seen};
+ghost use Rattle.jc_turn.specs.Seats.{IsSameSeat};
+
+use crate::scripts::{script_of, shape};
+use jc_core::{ApplyFault, Cluster};
+use jc_shared::{Kept, Naming, SeenReply, apply_seen, keep};
+use jc_turn::{Booked, Seat, Taken, Turn, make};
+use jc_types::{Event, Kind, Reply, Sys, Uid, Version};
+use std::alloc::Global;
+use std::marker::Brand;
+use std::process::Abort;
+use std::test::Fail;
+
+// The first command creates a Job.
+const ONE_JOB: &str = concat!(
+    r#"{"do":"create","job":{"apiVersion":"batch/v1","kind":"Job","metadata":{"name":"pi"},"#,
+    r#""spec":{"template":{"spec":{"restartPolicy":"Never","containers":[{"name":"main"}]}}}}}"#,
+);
+
+// What was answered.
+#[derive(Clone, Copy, PartialEq, Eq, Debug)]
+enum Answered {
+    Created,
+    Listed,
+    NotNow,
+    Out,
+    Other,
+}
+
+// What the answer is.
+fn told(answer: Result<SeenReply, ApplyFault>) -> Answered {
+    match answer {
+        Ok(
+            SeenReply::Reply(
+                Reply::Created {
+                    uid: Uid(1),
+                    version: Version(1),
+                },
+            ),
+        ) => Answered::Created,
+        Ok(SeenReply::Reply(Reply::Listed { at: Version(1) })) => Answered::Listed,
+        Ok(SeenReply::NotNow) => Answered::NotNow,
+        Ok(SeenReply::Out) => Answered::Out,
+        _ => Answered::Other,
+    }
+}
+
+// Does the event, and tells what was answered.
+fn told_of<J: Naming>(turn: &Turn<Kept<J>>, seat: &mut Seat, event: Event) -> Answered
+    requires turn { seat.old.turn ≡ turn.now.name }
+    requires free { seat.old.holds ≡ false }
+    ensures { IsSameSeat seat.old seat.new × (seat.new.holds ≡ false) }
+{
+    told(apply_seen(turn, seat, event))
+}
+
+// What the seat is answered while the other has the cluster, and how many events that one finds.
+fn while_out<J: Naming>(
+    turn: &Turn<Kept<J>>,
+    holder: &mut Seat,
+    other: &mut Seat,
+    event: Event,
+) -> Option<(Answered, usize)>
+    requires turn { (holder.old.turn ≡ turn.now.name) × (other.old.turn ≡ turn.now.name) }
+    requires free { (holder.old.holds ≡ false) × (other.old.holds ≡ false) }
+    ensures holder { IsSameSeat holder.old holder.new × (holder.new.holds ≡ false) }
+    ensures other { IsSameSeat other.old other.new × (other.new.holds ≡ false) }
+{
+    let Taken::Value(kept) = turn.take(holder) else {
+        return None;
+    };
+    let found = kept.history().events.len();
+    let out = told_of(turn, other, event);
+    turn.give(holder, kept);
+    Some((out, found))
+}
+
+// The first seat creates the Job, and tells the second, which lists the Jobs then. The command cannot
+// come again. While the first has the cluster, the second finds it out.
+fn play_seen<J: Naming>(
+    rt: &impl Abort,
+    turn: &Turn<Kept<J>>,
+    a: &mut Seat,
+    b: &mut Seat,
+) -> Result<(), Fail>
+    requires turn { (a.old.turn ≡ turn.now.name) × (b.old.turn ≡ turn.now.name) }
+    requires free { (a.old.holds ≡ false) × (b.old.holds ≡ false) }
+    ensures first { OnOk result (IsSameSeat a.old a.new × (a.new.holds ≡ false)) }
+    ensures second { OnOk result (IsSameSeat b.old b.new × (b.new.holds ≡ false)) }
+{
+    let create = Event::Command { lane: 0, number: 0 };
+    let list = Event::System(Sys::List {
+        controller: 0,
+        kind: Kind::Jobs,
+    });
+    assert_eq!(rt; told_of(turn, a, create), Answered::Created);
+    turn.meet(a, b)?;
+    assert_eq!(rt; told_of(turn, b, list), Answered::Listed);
+    assert_eq!(rt; told_of(turn, a, create), Answered::NotNow);
+    let seen = while_out(turn, a, b, create);
+    assert_eq!(rt; seen, Some((Answered::Out, 2)));
+    Ok(())
+}
+
+// What two seats see of the one history of the cluster, which has two events in the end.
+fn see_one_history<J: Naming>(rt: &impl Abort, alloc: Global, cluster: Cluster) -> Result<(), Fail>
+    requires named { IsOfName J.script J.shape cluster }
+    requires orderly { IsOrderly cluster.shape (deeds_seen cluster) }
+{
+    let Ok((turn, mut seats)) = make(alloc, keep::<J>(cluster), 2) else {
+        return Err(Fail::new("no memory"));
+    };
+    let (first, second) = seats.as_mut_slice().split_at_mut(1);
+    play_seen(rt, &turn, &mut first[0], &mut second[0])?;
+    let cluster = turn.close(seats).into_cluster();
+    assert_eq!(rt; cluster.history().events.len(), 2);
+    Ok(())
+}
+
+// The same, of the script and the shape of the cluster.
+fn share(rt: &impl Abort, alloc: Global, cluster: Cluster) -> Result<(), Fail>
+    requires { IsOrderly cluster.shape (deeds_seen cluster) }
+{
+    see_one_history::<Brand>(rt, alloc, cluster)
+}
+
+#[test]
+fn seats_see_one_history(rt: HostRuntime) -> Result<(), Fail> {
+    let alloc = rt.alloc();
+    let shape = shape()?;
+    let script = script_of(&rt, alloc, ONE_JOB, &shape)?;
+    assert!(rt; script.commands.len() < 1_000 && shape.events <= 200_000);
+    let cluster = Cluster::new(alloc, script, shape)?;
+    share(&rt, alloc, cluster)
+}
