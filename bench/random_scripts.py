@@ -3,8 +3,8 @@
 
 Writes COUNT scripts to FOLDER, each as NUMBER.script with its words in NUMBER.args, one a line. Equal seeds give
 equal scripts. They mix all commands, with one to four controllers, lagging caches, faults, restarts, narrow windows
-and short histories, over Jobs of both modes with policies, limits, deadlines and suspension; one in ten has a bad
-line."""
+and short histories, over Jobs of both modes with policies, limits (of each index too), deadlines and suspension, and
+change the number of indexes; one in ten has a bad line."""
 import json
 import os
 import random
@@ -42,8 +42,13 @@ def job(r, name):
         spec["activeDeadlineSeconds"] = r.choice([0, 1, 10, 30, 100])
     if r.random() < 0.15:
         spec["suspend"] = True
+    by_index = indexed and pod["restartPolicy"] == "Never" and r.random() < 0.5
+    if by_index:
+        spec["backoffLimitPerIndex"] = r.choice([0, 0, 1, 2])
+        if r.random() < 0.4:
+            spec["maxFailedIndexes"] = r.randint(0, spec["completions"])
     if pod["restartPolicy"] == "Never" and r.random() < 0.35:
-        spec["podFailurePolicy"] = {"rules": [failure_rule(r) for _ in range(r.randint(1, 3))]}
+        spec["podFailurePolicy"] = {"rules": [failure_rule(r, by_index) for _ in range(r.randint(1, 3))]}
     elif r.random() < 0.3:
         spec["podReplacementPolicy"] = r.choice(["Failed", "TerminatingOrFailed"])
     if indexed and r.random() < 0.3:
@@ -54,8 +59,9 @@ def job(r, name):
     return manifest
 
 
-def failure_rule(r):
-    rule = {"action": r.choice(["FailJob", "Ignore", "Count", "Ignore"])}
+def failure_rule(r, by_index):
+    actions = ["FailJob", "Ignore", "Count", "Ignore"]
+    rule = {"action": r.choice(actions + ["FailIndex", "FailIndex"] if by_index else actions)}
     if r.random() < 0.6:
         codes = {"operator": r.choice(["In", "NotIn"]), "values": sorted(r.sample([1, 2, 3, 42, 137], r.randint(1, 3)))}
         if r.random() < 0.3:
@@ -136,6 +142,8 @@ class Script:
                                    ("activeDeadlineSeconds", [5, 50]), ("backoffLimit", [0, 2])):
                 if r.random() < 0.35:
                     spec[member] = r.choice(values)
+            if r.random() < 0.3:
+                spec["parallelism"] = spec["completions"] = r.randint(1, 5)
             more = {"version": r.randint(1, 12)} if r.random() < 0.3 else {}
             self.say(do, name=r.choice(self.names), spec=spec, **more)
         elif do == "delete":

@@ -1,0 +1,157 @@
+#!/usr/bin/env python3
+"""check_documents.py: holds the documents to the repository. Each failure is a line; the last line says how many held.
+
+Each link leads to a file, and to a heading where it names one. Each path in backquotes is there. MAP.md and PROVED.md have the
+crates in the order of crates.txt, MAP.md all of them, and PROVED.md no call or clause that its crate does not have. The
+table of what is proved again in CHANGING.md is the one of crates.txt. Prose is at most 120 wide.
+"""
+import glob
+import os
+import re
+import sys
+
+sys.dont_write_bytecode = True
+from checks import TOP, Checks, text_of
+
+PAGES = ["README.md", "bench/README.md", "tools/README.md", "examples/README.md"]
+WIDTH = 120
+checks = Checks("documents")
+holds = checks.holds
+
+
+def pages():
+    return PAGES + sorted(os.path.relpath(it, TOP) for it in glob.glob(f"{TOP}/docs/*.md"))
+
+
+def crates():
+    """Returns what each crate stands on, in the order of crates.txt."""
+    found = {}
+    for line in text_of("crates.txt").split("\n"):
+        name, colon, below = line.partition("#")[0].partition(":")
+        if colon:
+            found[name.split()[0]] = below.split()
+    return found
+
+
+def anchors(path):
+    """Returns the names by which links can lead to a page's headings."""
+    heads = re.findall(r"(?m)^#+ (.*)$", text_of(path))
+    return {re.sub(r"[^\w\- ]", "", it.lower()).replace(" ", "-") for it in heads}
+
+
+def check_links(page):
+    for text, to in re.findall(r"\[([^\]]*)\]\(([^)\s]+)\)", text_of(page)):
+        if re.match(r"https?:", to):
+            continue
+        path, _, anchor = to.partition("#")
+        file = os.path.normpath(os.path.join(os.path.dirname(page), path)) if path else page
+        holds(f"{page}: [{text}]({to}) leads nowhere", os.path.exists(os.path.join(TOP, file)))
+        if anchor and file.endswith(".md") and os.path.exists(os.path.join(TOP, file)):
+            holds(f"{page}: {to}: no such heading", anchor in anchors(file))
+
+
+def check_paths(page):
+    """What looks like a file of the repository is one, from the top, from crates/ or beside another of the same crate."""
+    for path in set(re.findall(r"`((?:[\w.]+/)+[\w.]+\.(?:antt|rt|md|py|sh|script|report|svg))`", text_of(page))):
+        places = [path, f"crates/{path}", *glob.glob(f"{TOP}/crates/*/{path}")]
+        holds(f"{page}: there is no {path}", any(os.path.exists(os.path.join(TOP, it)) for it in places))
+    for name in set(re.findall(r"`([A-Z]\w+\.antt)`", text_of(page))):
+        holds(f"{page}: there is no {name}", bool(glob.glob(f"{TOP}/crates/*/*/{name}") + glob.glob(f"{TOP}/crates/*/*/*/{name}")))
+
+
+def check_width(page):
+    in_code = False
+    for number, line in enumerate(text_of(page).split("\n"), 1):
+        in_code = in_code != line.startswith("```")
+        is_prose = not in_code and not line.startswith(("|", "    ", "#", "!["))
+        if is_prose and len(line) > WIDTH and " " in line.strip():
+            holds(f"{page}:{number}: {len(line)} wide", False)
+    holds(page, True)
+
+
+def rows(page):
+    """Returns the cells of each table row of a page that begins with a crate."""
+    found = []
+    for line in text_of(page).split("\n"):
+        first = re.match(r"\| \[?`(jc_\w+|jobctl)`", line)
+        if first:
+            found.append((first[1], [cell.strip() for cell in line.strip().strip("|").split(" | ")]))
+    return found
+
+
+def check_map():
+    named = [name for name, _ in rows("docs/MAP.md")]
+    holds(f"docs/MAP.md: its table has other crates than crates.txt, or another order: {set(named) ^ set(crates())}", named == [*crates()])
+    layers = text_of("docs/MAP.md").partition("## The layers")[2].partition("## The crates")[0]
+    picture = re.findall(r"\bjc_\w+|\bjobctl\b", "\n".join(it[27:] for it in layers.split("\n") if it.startswith("    ")))
+    ordered = [it for it in crates() if it in picture]
+    holds("docs/MAP.md: its picture has another order than crates.txt", picture == ordered)
+    missing = [it for it in crates() if it not in picture and not it.endswith("_tests")]
+    holds(f"docs/MAP.md: its picture lacks {missing}", not missing)
+    for name, cells in rows("docs/MAP.md"):
+        # (a law may cite other laws)
+        has_code = any(not re.fullmatch(r"(\s*\w+\(\);)*\s*", body) for body in bodies(name))
+        kinds = ("code", "tests", "stories") if has_code else ("laws",)
+        holds(f"docs/MAP.md: {name} is no crate of {cells[1]}", cells[1] in kinds)
+
+
+def bodies(name):
+    """Returns the bodies of a crate's functions that stand at the left."""
+    found = []
+    for file in glob.glob(f"{TOP}/crates/{name}/src/*.rt"):
+        with open(file, encoding="utf-8") as it:
+            found += re.findall(r"(?m)^(?:    )?\{\n?((?:    .*\n|\n)*?)(?:    )?\}$", it.read())
+    return found or ["code"]
+
+
+def check_proved():
+    order = [*crates()]
+    named = [name for name, _ in rows("docs/PROVED.md")]
+    places = [order.index(it) for it in named if it in order]
+    holds(f"docs/PROVED.md: crates that are not there: {set(named) - set(order)}", len(places) == len(named))
+    holds("docs/PROVED.md: its crates have another order than crates.txt", places == sorted(places))
+    without = {it for it in order if it not in named and not it.endswith("_tests")} - {"jobctl", "jc_stories"}
+    holds(f"docs/PROVED.md: nothing on {sorted(without)}", not without)
+    for name, cells in rows("docs/PROVED.md"):
+        source = "".join(text_of(it) for it in glob.glob(f"{TOP}/crates/{name}/src/*.rt"))
+        for word in re.findall(r"`(?:\w+::)?(\w+)`", cells[1]):
+            holds(f"docs/PROVED.md: {name} has no {word}", bool(re.search(rf"\b{word}\b", source)))
+
+
+def above(name, below):
+    """Returns how many crates stand on this one."""
+    found, last = {name}, 0
+    while len(found) > last:
+        last = len(found)
+        found |= {it for it, names in below.items() if found & set(names)}
+    return len(found) - 1
+
+
+def again():
+    """Returns the lines of the table of what is proved again after a change of a crate."""
+    below, groups = crates(), {}
+    for name in below:
+        groups.setdefault(above(name, below), []).append(name)
+    return [f"| {count} | {', '.join(f'`{it}`' for it in groups[count])} |" for count in sorted(groups, reverse=True)]
+
+
+def check_again():
+    found = re.findall(r"(?m)^\| [0-9]+ \| `.*$", text_of("docs/CHANGING.md"))
+    holds("docs/CHANGING.md: the table of crates above is not that of crates.txt: tools/check_documents.py --again prints it", found == again())
+
+
+def main():
+    if sys.argv[1:] == ["--again"]:
+        print(*again(), sep="\n")
+        return
+    for page in pages():
+        check_links(page)
+        check_paths(page)
+        check_width(page)
+    check_map()
+    check_proved()
+    check_again()
+    checks.end(300)
+
+
+main()
