@@ -1,7 +1,6 @@
 -- Lists of which nothing is left.
 use Rattle.std.proofs.Common.{◌≡◌, ℕ, zero, suc, ◌<◌, Bool, true, false, cond, ◌||◌, List, [], ◌∷◌, map, filter, length, take, replicate, refl, sym, ap, ◌∙◌, arith, true≢false}
 use Rattle.std.specs.List.{list_any}
-use Rattle.jc_plan.proofs.PlanBounds.{none-passes}
 
 -- Where nothing passes, no filter of it maps to anything.
 pub none-mapped : {A B : Type 0} (f : A → B) (test : A → Bool) (xs : List A) → map f (filter test xs) ≡ [] → list_any test xs ≡ false
@@ -23,9 +22,6 @@ none-either f g h imp (x ∷ xs) a b = by (f x) refl (g x) refl (h x) refl a b (
     by false e true i r j a b ih = absurd (true≢false b)
     by false e false i true j a b ih = absurd (true≢false (sym (imp x j) ∙ (λ t. e t || i t)))
     by false e false i false j a b ih = ih a b
-
-pub none-length : {A : Type 0} (test : A → Bool) (xs : List A) → list_any test xs ≡ false → length (filter test xs) ≡ 0
-none-length test xs h = ap length (none-passes test test (λ x e. e) xs h)
 
 pub some-replicated : {A : Type 0} (n : ℕ) (x : A) → 0 < n → replicate n x ≡ [] → ⊥
 some-replicated zero x lt e = omega (arith, lt)

@@ -45,7 +45,8 @@ use Rattle.jc_plan.proofs.PlanFacts.{plan-backoff, plan-creates, plan-marks, pla
 use Rattle.jc_plan.proofs.Targets.{target-kind}
 use Rattle.jc_plan.proofs.ValueFacts.{second-lists_none}
 use Rattle.jc_idle.specs.Waits.{AsksNothing, Waits, ForActive, ForEnding, ForEver}
-use Rattle.jc_idle.proofs.Lists.{none-either, none-length, none-mapped, some-replicated, some-taken}
+use Rattle.jc_idle.proofs.Lists.{none-either, none-mapped, some-replicated, some-taken}
+use Rattle.jc_plan.proofs.PlanBounds.{none-length}
 use Rattle.jc_idle.proofs.Numbers.{none-free}
 
 -- ---- what is lacking

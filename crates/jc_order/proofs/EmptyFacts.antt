@@ -20,10 +20,6 @@ module _ {A : Type 0} where
   empty-is [] e = refl
   empty-is (x ∷ xs) e = absurd (true≢false (sym e))
 
-  pub none-is : (o : Option A) → is_some o ≡ false → o ≡ None
-  none-is None e = refl
-  none-is (Some x) e = absurd (true≢false e)
-
   pub flat-none : (f : ℕ → List A) (a n c : ℕ) → flat_map f (range_with_len a n) ≡ [] → a ≤ c → c < a + n → f c ≡ []
   flat-none f a zero c e le lt = absurd (omega (arith, le, lt))
   flat-none f a (suc n) c e le lt = by (c == a) refl (λ w. flat-none f (a + 1) n c (nil-rest (f a) _ e) w (omega (arith, lt)))

@@ -7,7 +7,7 @@ use Rattle.jc_control.specs.declared.begins.Begin.TheVariants as begin
 use Rattle.jc_control.specs.declared.begins.Lag.{Lag}
 use Rattle.jc_control.specs.declared.ends.SyncEnd.{SyncEnd}
 use Rattle.jc_control.specs.ControllerCalls.{behind, first_lag, pods_need}
-use Rattle.jc_moment.specs.Range.{end_of_moments}
+use Rattle.jc_log.specs.Range.{end_of_moments}
 use Rattle.jc_plan.specs.Plans.{planned}
 use Rattle.jc_types.specs.declared.actions.ContainerChange.{ContainerChange}
 use Rattle.jc_types.specs.declared.actions.Fault.{Fault}
@@ -57,8 +57,9 @@ use Rattle.jc_history.specs.Numbers.{number}
 use Rattle.jc_history.specs.Registers.{floor, asks_status, later_if, made, pending, register, version_told}
 use Rattle.jc_history.specs.Replies.{begin_gives, deliver_gives, finish_gives, gives, log_given, node_gives, step_done, step_gives}
 use Rattle.jc_control.specs.Schedules.{log_end}
-use Rattle.jc_history.proofs.DiaryFacts.{each-append, either, legal-told, notes-within, number-within, grown-longer}
+use Rattle.jc_history.proofs.DiaryFacts.{either, legal-told, notes-within, number-within, grown-longer}
 use Rattle.jc_order.specs.Ends.{IsAtMost, IsUpToDate, Placed}
+use Rattle.jc_types.proofs.ListFacts.{Each-append as each-append}
 
 -- ---- the versions of what the log has
 

@@ -1,5 +1,5 @@
 -- At rest no ended pod of a Job that is there is forgotten, but where a sync that saw it succeeded.
-use Rattle.std.proofs.Common.{◌≡◌, ℕ, suc, ◌+◌, ◌≤◌, ◌<◌, ◌==◌, nat_lt, Bool, true, false, cond, ◌&&◌, ◌||◌, List, [], ◌∷◌, ◌++◌, length, map, Option, Some, None, option_and_then, refl, sym, ap, ◌∙◌, subst, arith, eq-eqb, eqb-true, ltb-true, ltb-false, true≢false}
+use Rattle.std.proofs.Common.{◌≡◌, ℕ, suc, ◌≤◌, ◌<◌, ◌==◌, nat_lt, Bool, true, false, cond, ◌&&◌, ◌||◌, List, [], ◌∷◌, ◌++◌, length, map, Option, Some, None, option_and_then, refl, sym, ap, ◌∙◌, subst, arith, eq-eqb, eqb-true, ltb-true, ltb-false, true≢false}
 use Rattle.std.specs.List.{AllByRecursion as Each}
 use Rattle.std.specs.Option.{option_map, option_map_or, option_or, option_to_list, unwrap_or}
 use Rattle.jc_log.specs.Acts as does
@@ -37,15 +37,16 @@ use Rattle.jc_history.specs.Lines.{line}
 use Rattle.jc_history.specs.Notes.{Note, Listed, Told, Expired, Began, SentBack, Asked, Ended, Faulted, Ticked, newest}
 use Rattle.jc_history.specs.Registers.{AllFit, begins_for, asks_status, register, register_told}
 use Rattle.jc_history.specs.Replies.{log_given}
-use Rattle.jc_history.proofs.DiaryFacts.{each-append, either}
+use Rattle.jc_history.proofs.DiaryFacts.{either}
 use Rattle.jc_history.proofs.LegalFacts.{legal-fit}
 use Rattle.jc_order.specs.Rest.{HasNothingToDo}
 use Rattle.jc_order.specs.Restless.{StandTogether, EndWell, FailsIf, HasCacheSeen, Stands, has_forgotten, has_job_of, is_forgotten, point}
 use Rattle.jc_order.proofs.HonestFacts.{honest}
 use Rattle.jc_order.proofs.RestFacts.{at-rest}
-use Rattle.jc_order.proofs.RetryFacts.{all-well, notes-by}
-use Rattle.jc_moment.specs.Range.{end_of_moments}
+use Rattle.jc_order.proofs.LastFacts.{last_told, last-from, last-told_at, last-within}
+use Rattle.jc_order.proofs.RetryFacts.{all-well, none-retried}
 use Rattle.jc_order.proofs.RestlessFacts.{busy, not-busy}
+use Rattle.jc_types.proofs.ListFacts.{Each-append as each-append}
 
 -- ---- since when it is so
 
@@ -307,9 +308,24 @@ not-forgotten shape deeds legal some quiet c lt k a b job pod stands well =
         by true s = idle.registers w (ltb-true w shape.workers s)
         by false s = never-begins w _ (notes-none shape w (ltb-false w shape.workers s) c deeds (log_given shape deeds) legal)
 
--- Where no sync of the key that saw both succeeded, and no retry fell past the last moment.
-pub no-rest : (shape : Shape) (deeds : List Deed) → IsLegal shape deeds → 0 < shape.workers → is_quiescent shape deeds (log_given shape deeds) ≡ true → moment shape deeds + 60 < end_of_moments → (c : ℕ) → c < shape.controllers
+-- Where no sync of the key that saw both succeeded: one that saw the last entry of the Job was told of no conflict.
+pub no-rest : (shape : Shape) (deeds : List Deed) → IsLegal shape deeds → 0 < shape.workers → is_quiescent shape deeds (log_given shape deeds) ≡ true → (c : ℕ) → c < shape.controllers
     → (k : Key) (j u : Uid) (h : StandTogether k j u (log_given shape deeds)) → Each (FailsIf k h.job_from h.pod_from) (notes shape c deeds (log_given shape deeds)) → ⊥
-no-rest shape deeds legal some quiet room c lt k j u h fails =
-    not-forgotten shape deeds legal some quiet c lt k h.job_from h.pod_from h.job_by h.pod_by h.stands
-    (all-well k h.job_from h.pod_from (moment shape deeds) room (notes shape c deeds (log_given shape deeds)) fails (notes-by shape c deeds (log_given shape deeds)))
+no-rest shape deeds legal some quiet c lt k j u h fails =
+    not-forgotten shape deeds legal some quiet c lt k last h.pod_from (last-within Jobs k (log_given shape deeds)) h.pod_by (record { listed = listed; told_at = told-at })
+    (all-well k last h.job_from h.pod_from from.1 (notes shape c deeds (log_given shape deeds)) fails (none-retried k last shape c deeds legal (omega arith)))
+  where
+    last : ℕ
+    last = last_told Jobs k (log_given shape deeds)
+
+    from : (0 < h.job_from) × (h.job_from ≤ last_told Jobs k (log_given shape deeds))
+    from = last-from Jobs k (log_given shape deeds) h.job_from (h.stands.told_at Jobs h.job_by)
+
+    listed : (kind : Kind) (n : ℕ) → point kind (last_told Jobs k (log_given shape deeds)) h.pod_from ≤ n → n ≤ length (log_given shape deeds) → has_key k (listed_keys kind (upto n (log_given shape deeds))) ≡ true
+    listed Jobs n low high = let le = from.1 in h.job_since n (omega (arith, le, low)) high
+    listed Pods n low high = h.stands.listed Pods n low high
+
+    told-at : (kind : Kind) → point kind (last_told Jobs k (log_given shape deeds)) h.pod_from ≤ length (log_given shape deeds)
+        → option_and_then (told kind) (entry_at (point kind (last_told Jobs k (log_given shape deeds)) h.pod_from) (log_given shape deeds)) ≡ Some k
+    told-at Jobs w = let some = from.0 in let le = from.1 in last-told_at Jobs k (log_given shape deeds) (omega (arith, some, le))
+    told-at Pods w = h.stands.told_at Pods w

@@ -9,12 +9,7 @@ use Rattle.jc_types.specs.declared.runs.Event.TheVariants as event
 use Rattle.jc_types.specs.declared.runs.Past.{Past}
 use Rattle.jc_history.specs.Legal.{AreUsed, ComesNext, InLanes, is_of_lane, lane_places, next_place, places_from, lane_count}
 use Rattle.jc_history.specs.Play.{is_command}
-
-none-some : {A : Type 0} (x : A) → None ≡ Some x → ⊥
-none-some x e = true≢false (sym (ap is_some e))
-
-some-same : {A : Type 0} (x y : A) → Some x ≡ Some y → x ≡ y
-some-same x y e = ap (λ o. unwrap_or o x) e
+use Rattle.std.proofs.lemmas.Option.{none-some, same_Some as some-same}
 
 -- ---- the places of a lane
 

@@ -3,6 +3,7 @@ use Rattle.std.proofs.Common.{◌≡◌, ℕ, zero, suc, ◌+◌, ◌<◌, nat_l
 use Rattle.std.specs.List.{cons_option, filter_map, flat_map, range_with_len}
 use Rattle.std.specs.Option.{option_map, option_to_list}
 use Rattle.jc_queue.specs.Delayed.{first_of}
+use Rattle.jc_table.proofs.RowFacts.{none_from as none-is}
 use Rattle.jc_types.specs.declared.numbers.Version.{Version}
 use Rattle.jc_types.specs.declared.objects.Entry.{Entry}
 use Rattle.jc_types.specs.declared.objects.Key.{Key}
@@ -33,7 +34,7 @@ use Rattle.jc_history.proofs.DelayFacts.{at-delays}
 use Rattle.jc_order.specs.Ends.{IsAtMost, IsUpToDate}
 use Rattle.jc_order.specs.Rest.{IsSystemAtRest, HasNothingToDo}
 use Rattle.jc_order.proofs.EndFacts.{end-begins, numbers-within}
-use Rattle.jc_order.proofs.EmptyFacts.{no-cons, nil-first, nil-rest, empty-is, none-is, flat-none, flat-all, some-none, some-all}
+use Rattle.jc_order.proofs.EmptyFacts.{no-cons, nil-first, nil-rest, empty-is, flat-none, flat-all, some-none, some-all}
 
 -- ---- of one controller
 
@@ -74,7 +75,7 @@ none-least notes h = ap (λ rows. option_map (λ (row : Key × ℕ). row.1) (fir
     all [] = refl
     all (k ∷ keys) = (λ i. cons_option (option_map (row k) (h k i)) (all keys i))
 
-earliest-none : (found : Option ℕ) (moments : List ℕ) → earliest found moments ≡ None → moments ≡ []
+pub earliest-none : (found : Option ℕ) (moments : List ℕ) → earliest found moments ≡ None → moments ≡ []
 earliest-none found [] e = refl
 earliest-none found (moment ∷ more) e = absurd (later (Some _) more refl e)
   where

@@ -1,6 +1,6 @@
 -- A key finds no rest while something of it is left to do.
 use Rattle.std.proofs.Common.{◌≡◌, ℕ, ◌+◌, ◌≤◌, ◌==◌, nat_le, min, Bool, true, false, cond, not, ◌&&◌, ◌||◌, List, [], ◌∷◌, ◌++◌, filter, Option, Some, None, is_some, refl, sym, ap, ◌∙◌, subst, arith, eq-eqb, eqb-true, true≢false, ◌⊎◌, inl, inr}
-use Rattle.std.proofs.lemmas.Bool.{eqb-false}
+use Rattle.std.proofs.lemmas.Bool.{eqb-false, or_right as or-right, or_left as or-left}
 use Rattle.std.proofs.lemmas.List.Folds.{list_any-append}
 use Rattle.std.specs.Map.{keys_of}
 use Rattle.std.specs.Option.{option_or, option_to_list, unwrap_or}
@@ -28,14 +28,6 @@ use Rattle.jc_history.proofs.DelayFacts.{apart-delays, at-delays, at-filter, kep
 use Rattle.jc_order.specs.Restless.{AreHonest, HasCacheSeen, IsBusy, Dirty, Waiting, Syncing, StoodBefore, point}
 
 -- ---- what is due is added
-
-or-right : (a b : Bool) → b ≡ true → (a || b) ≡ true
-or-right true b e = refl
-or-right false b e = e
-
-or-left : (a b : Bool) → a ≡ true → (a || b) ≡ true
-or-left true b e = refl
-or-left false b e = absurd (true≢false (sym e))
 
 turn-has : (k : Key) (row : Key × ℕ) (rows : List (Key × ℕ)) → has_key k (keys_of (put_in_turn row rows)) ≡ (same_key k row.0 || has_key k (keys_of rows))
 turn-has k row [] = refl
@@ -74,13 +66,13 @@ due-in k now m notes e le =
 
 module _ (k : Key) (a b : ℕ) where
   -- The same, where these are.
-  same-busy : (note : Note) (older : List Note) → (is_dirty k older ≡ true → is_dirty k (note ∷ older) ≡ true) → delay k (note ∷ older) ≡ delay k older
+  pub same-busy : (note : Note) (older : List Note) → (is_dirty k older ≡ true → is_dirty k (note ∷ older) ≡ true) → delay k (note ∷ older) ≡ delay k older
       → ((w : ℕ) → register w (note ∷ older) ≡ register w older) → IsBusy k a b older → IsBusy k a b (note ∷ older)
   same-busy note older d e f (Dirty h) = Dirty (d h)
   same-busy note older d e f (Waiting h) = Waiting (ap is_some e ∙ h)
   same-busy note older d e f (Syncing w basis r same j p) = Syncing w basis (f w ∙ r) same j p
 
-  listed : (kind : Kind) (at : Version) (keys : List Key) (older : List Note) → has_key k keys ≡ true → IsBusy k a b (Listed kind at keys ∷ older)
+  pub listed : (kind : Kind) (at : Version) (keys : List Key) (older : List Note) → has_key k keys ≡ true → IsBusy k a b (Listed kind at keys ∷ older)
   listed kind at keys older e = Dirty (or-left (has_key k keys) (is_dirty k older) e)
 
   told-it : (kind : Kind) (version : Version) (key : Option Key) (older : List Note) → key ≡ Some k → IsBusy k a b (Told kind version key ∷ older)
@@ -90,7 +82,7 @@ module _ (k : Key) (a b : ℕ) where
   told-other kind version key older h = same-busy (Told kind version key) older (or-right (has_key k (option_to_list key)) (is_dirty k older)) refl (λ w. refl) h
 
   -- A cache is told of one more version: that one, or it had seen it before.
-  told-more : (kind : Kind) (version : Version) (key : Option Key) (older : List Note) (o : Option Version) → StoodBefore o version → (version.0 ≡ point kind a b → key ≡ Some k) → point kind a b ≤ version.0
+  pub told-more : (kind : Kind) (version : Version) (key : Option Key) (older : List Note) (o : Option Version) → StoodBefore o version → (version.0 ≡ point kind a b → key ≡ Some k) → point kind a b ≤ version.0
       → (HasCacheSeen o (point kind a b) → IsBusy k a b older) → IsBusy k a b (Told kind version key ∷ older)
   told-more kind version key older None stood adds seen ih = absurd stood
   told-more kind version key older (Some before) stood adds seen ih = by (version.0 == point kind a b) refl
@@ -100,7 +92,7 @@ module _ (k : Key) (a b : ℕ) where
       by false s = let other = eqb-false version.0 (point kind a b) s in told-other kind version key older (ih (omega (arith, stood, seen, other)))
 
   -- A sync begins.
-  began : (w : ℕ) (basis : Basis) (older : List Note) → register w older ≡ None → HasCacheSeen (Some basis.jobs_at) a → HasCacheSeen (Some basis.pods_at) b → IsBusy k a b older → IsBusy k a b (Began w basis ∷ older)
+  pub began : (w : ℕ) (basis : Basis) (older : List Note) → register w older ≡ None → HasCacheSeen (Some basis.jobs_at) a → HasCacheSeen (Some basis.pods_at) b → IsBusy k a b older → IsBusy k a b (Began w basis ∷ older)
   began w basis older free j p (Waiting h) = Waiting h
   began w basis older free j p (Dirty h) = by (same_key basis.key k) refl
     where
@@ -113,7 +105,7 @@ module _ (k : Key) (a b : ℕ) where
       by true s = absurd (true≢false (sym (ap is_some r) ∙ ap (λ v. is_some (register v older)) (sym (eqb-true w v s)) ∙ ap is_some free))
       by false s = Syncing v other (ap (λ t. unwrap_or (option_or (cond t (Some (Some basis)) None) (newest (register_told v) older)) None) s ∙ r) same x y
 
-  sent : (first : Key) (older : List Note) → IsBusy k a b older → IsBusy k a b (SentBack first ∷ older)
+  pub sent : (first : Key) (older : List Note) → IsBusy k a b older → IsBusy k a b (SentBack first ∷ older)
   sent first older h = same-busy (SentBack first) older (by (same_key first k) refl) refl (λ w. refl) h
     where
       by : (t : Bool) → same_key first k ≡ t → is_dirty k older ≡ true → ((same_key k first || false) || (not (same_key first k) && is_dirty k older)) ≡ true
@@ -121,7 +113,7 @@ module _ (k : Key) (a b : ℕ) where
       by false s h = or-right (same_key k first || false) (not (same_key first k) && is_dirty k older) (ap (λ t. not t && is_dirty k older) s ∙ h)
 
   -- A sync ends.
-  ended : (w : ℕ) (basis : Basis) (end : SyncEnd) (now : ℕ) (older : List Note) → register w older ≡ Some basis → forgets_caches end ≡ false
+  pub ended : (w : ℕ) (basis : Basis) (end : SyncEnd) (now : ℕ) (older : List Note) → register w older ≡ Some basis → forgets_caches end ≡ false
       → (same_key basis.key k ≡ true → a ≤ basis.jobs_at.0 → b ≤ basis.pods_at.0 → (forgets_caches end ≡ true) ⊎ (is_some (added_by_end end now (min (tries k older + 1) 7)) ≡ true))
       → IsBusy k a b older → IsBusy k a b (Ended w basis end now ∷ older)
   ended w basis end now older its kept honest (Dirty h) = Dirty h
@@ -151,7 +143,7 @@ module _ (k : Key) (a b : ℕ) where
       by false s = Syncing v other (ap (λ t. unwrap_or (option_or (cond t (Some None) None) (newest (register_told v) older)) None) s ∙ r) same x y
 
   -- The clock goes on.
-  ticked : (now : ℕ) (older : List Note) → IsBusy k a b older → IsBusy k a b (Ticked now ∷ older)
+  pub ticked : (now : ℕ) (older : List Note) → IsBusy k a b older → IsBusy k a b (Ticked now ∷ older)
   ticked now older (Dirty h) = Dirty (or-right (has_key k (keys_due now older)) (is_dirty k older) h)
   ticked now older (Syncing w basis r same x y) = Syncing w basis r same x y
   ticked now older (Waiting h) = by (delay k older) refl h

@@ -13,7 +13,6 @@
 --     has_forgotten k j u log    the pod u of the Job j is there, tracked, and has ended
 --     StandTogether k j u log    the versions since when both are so
 --     FailsIf k a b note         a sync that saw both fails
---     IsBy n note                a sync ended at the moment n at the latest
 use Rattle.std.specs.Prelude.{◌≡◌, ℕ, ◌+◌, ◌≤◌, Bool, true, false, ◌&&◌, min, List, [], ◌∷◌, length, Option, Some, None, is_some, option_and_then, ◌⊎◌}
 use Rattle.jc_control.specs.ControllerCalls.{forgets_caches, told}
 use Rattle.jc_queue.specs.Queued.{has_key}
@@ -122,8 +121,3 @@ abbrev pub FailsIf : Key → ℕ → ℕ → Note → Type 0
 FailsIf k a b (Ended w basis end now) =
     same_key basis.key k ≡ true → a ≤ basis.jobs_at.0 → b ≤ basis.pods_at.0 → is_retried end ≡ true
 FailsIf k a b note = Unit {0}
-
--- The sync ended at the moment n at the latest.
-abbrev pub IsBy : ℕ → Note → Type 0
-IsBy n (Ended w basis end now) = now ≤ n
-IsBy n note = Unit {0}

@@ -1,9 +1,8 @@
 //! Laws on histories at rest, on the play of a script, and on what is left to do. Each function is
 //! empty: what it ensures holds of every history, and its callers may cite it.
 
-ghost use Rattle.std.specs.Prelude.{◌≡◌, ◌+◌, ◌∷◌, ◌<◌, ◌≤◌, ◌⊎◌, List, None, false, length, reverse, true, ℕ};
+ghost use Rattle.std.specs.Prelude.{◌≡◌, ◌∷◌, ◌<◌, ◌≤◌, ◌⊎◌, List, None, false, length, reverse, true, ℕ};
 ghost use Rattle.std.specs.List.{AllByRecursion as Each};
-ghost use Rattle.jc_moment.specs.Range.{end_of_moments};
 ghost use Rattle.jc_types.specs.declared.actions.Script.{Script};
 ghost use Rattle.jc_types.specs.declared.numbers.Uid.{Uid};
 ghost use Rattle.jc_types.specs.declared.objects.Entry.{Entry};
@@ -16,7 +15,6 @@ ghost use Rattle.jc_log.specs.Deeds.{Deed, deeds};
 ghost use Rattle.jc_control.specs.Schedules.{log_end};
 ghost use Rattle.jc_control.specs.declared.begins.Begin.TheVariants.{Begun};
 ghost use Rattle.jc_history.specs.Available.{IsOrderly, is_quiescent};
-ghost use Rattle.jc_history.specs.Diaries.{moment};
 ghost use Rattle.jc_history.specs.Fresh.{basis, begin, cache_lag};
 ghost use Rattle.jc_history.specs.Legal.{AreUsed, IsHistory, IsLegal};
 ghost use Rattle.jc_history.specs.Lines.{line};
@@ -119,8 +117,7 @@ pub fn histories_settle()
 
 /// No ended pod of a Job that is there is forgotten (KEP-2307): from when a controller has seen
 /// both, the key is dirty, delayed or under way until a sync that saw both succeeds. So where all
-/// such syncs fail, the system does not come to rest, as long as the clock stands more than a
-/// minute before the last moment.
+/// such syncs fail, the system does not come to rest.
 pub fn no_ended_pod_is_forgotten()
     ensures since { (k : Key) (j u : Uid) (log : List Entry) → has_job_of k log ≡ true
         → has_forgotten k j u log ≡ true → StandTogether k j u log }
@@ -132,7 +129,6 @@ pub fn no_ended_pod_is_forgotten()
         → EndWell k a b (diary shape c deeds) → AreHonest k a b (diary shape c deeds) }
     ensures rest { (shape : Shape) (deeds : List Deed) → IsLegal shape deeds → 0 < shape.workers
         → is_quiescent shape deeds (log_given shape deeds) ≡ true
-        → moment shape deeds + 60 < end_of_moments
         → (c : ℕ) → c < shape.controllers
         → (k : Key) (j u : Uid) (both : StandTogether k j u (log_given shape deeds))
         → Each (FailsIf k both.job_from both.pod_from) (diary shape c deeds) → ⊥ }

@@ -2,3 +2,5 @@ pub mod DeedFacts
 mod SampleFacts
 mod WrongFacts
 mod WrongSyncFacts
+-- Lemmas of the crates below, handed on to those above.
+pub use Rattle.jc_runs.proofs.BackoffFacts

@@ -9,9 +9,9 @@ use Rattle.jc_types.specs.declared.objects.Pod.{Pod}
 use Rattle.jc_types.specs.declared.replies.Reply.TheVariants.{Ended}
 use Rattle.jc_types.specs.declared.runs.Shape.{Shape}
 use Rattle.jc_states.specs.Conditions.{has_end}
-use Rattle.jc_account.specs.Accounts.{counted_in, counted_out}
-use Rattle.jc_manage.specs.Backoffs.{pause}
-use Rattle.jc_perindex.specs.Failures.{failing_in, failures_in}
+use Rattle.jc_plan.specs.Accounts.{counted_in, counted_out}
+use Rattle.jc_plan.specs.Backoffs.{pause}
+use Rattle.jc_plan.specs.Failures.{failing_in, failures_in}
 use Rattle.jc_plan.specs.Plans.{planned}
 use Rattle.jc_plan.specs.Statuses.{first_value, second_value}
 use Rattle.jc_log.specs.Acts as does

@@ -14,10 +14,10 @@ use Rattle.jc_log.specs.Acts.{Act}
 use Rattle.jc_log.specs.Acts as does
 use Rattle.jc_log.specs.Deeds.{Deed}
 use Rattle.jc_log.specs.Log.{Life, Live, Gone, Never, entry_at}
-use Rattle.jc_failpol.specs.declared.outcomes.Outcome.TheVariants as outcome
-use Rattle.jc_failpol.specs.Outcomes.{outcome_of, same_outcome}
-use Rattle.jc_ledger.specs.Once.{Cause, IsIgnored, NeedsNone, OnceAtEach, PutBefore, WasActive, WasJudged, taking_of}
-use Rattle.jc_ledger.specs.Syncs.{request_of}
+use Rattle.jc_plan.specs.Outcome.TheVariants as outcome
+use Rattle.jc_plan.specs.Outcomes.{outcome_of, same_outcome}
+use Rattle.jc_runs.specs.Once.{Cause, IsIgnored, NeedsNone, OnceAtEach, PutBefore, WasActive, WasJudged, taking_of}
+use Rattle.jc_runs.specs.Syncs.{request_of}
 use Rattle.jc_rest.specs.Lost.{AreLostWell, ByCommand, BySync, HowLost, WasLost}
 use Rattle.jc_history.specs.Samples.{failing_spec, pi_key, sample_spec, uid_of}
 use Rattle.jc_promise.specs.Wrong.{in_phase, pi_job, pi_pod}

@@ -13,33 +13,32 @@ use Rattle.jc_types.specs.declared.runs.Past.{Past}
 use Rattle.jc_types.specs.declared.runs.Shape.{Shape}
 use Rattle.jc_states.specs.declared.bases.Basis.{Basis}
 use Rattle.jc_states.specs.Pods.{is_final, is_tracked_active}
-use Rattle.jc_account.specs.Accounts.{counted_in, counted_out}
-use Rattle.jc_manage.specs.Backoffs.{opening, pause}
-use Rattle.jc_perindex.specs.Failures.{failing_in, failures_in}
+use Rattle.jc_plan.specs.Accounts.{counted_in, counted_out}
+use Rattle.jc_plan.specs.Backoffs.{opening, pause}
+use Rattle.jc_plan.specs.Failures.{failing_in, failures_in}
 use Rattle.jc_plan.specs.Plans.{planned}
 use Rattle.jc_plan.specs.Statuses.{first_value, second_value}
 use Rattle.jc_log.specs.Acts.{Act}
 use Rattle.jc_log.specs.Deeds.{Deed, deed}
 use Rattle.jc_log.specs.Log.{job_in, life, pods_of}
 use Rattle.jc_history.specs.Available.{available, is_quiescent}
-use Rattle.jc_history.specs.Diaries.{moment}
 use Rattle.jc_history.specs.Legal.{IsHistory}
 use Rattle.jc_history.specs.Registers.{backoff, made, register}
 use Rattle.jc_history.specs.Replies.{diary, gives, log_given}
 use Rattle.jc_history.specs.Samples.{pi_key, pod_made, sample_spec, uid_of, usual_shape, version_at}
 use Rattle.jc_types.specs.declared.replies.Request.TheVariants.{Status}
-use Rattle.jc_asks.specs.declared.asks.Ask.TheVariants.{WriteFirst}
-use Rattle.jc_asks.specs.Readings.{next_ask}
-use Rattle.jc_asks.specs.Sends.{sends_of}
+use Rattle.jc_runs.specs.Ask.TheVariants.{WriteFirst}
+use Rattle.jc_runs.specs.Readings.{next_ask}
+use Rattle.jc_runs.specs.Sends.{sends_of}
 use Rattle.jc_runs.specs.Conflicts.{AreToldLater}
 use Rattle.jc_bounds.specs.Fitting.{IsMade}
 use Rattle.jc_bounds.specs.Histories.{HoldsBounds}
 use Rattle.jc_bounds.specs.Kept.{IsShut}
-use Rattle.jc_lines.specs.Events.{event_lines}
+use Rattle.jc_report.specs.Events.{event_lines}
 use Rattle.jc_rest.specs.LetGo.{IsLetGoOnceEnded}
 use Rattle.jc_rest.specs.Stuck.{HasEnded, HasPod, IsHeldBack, IsSuspended, IsWaiting, MayRunNone, is_sure}
 use Rattle.jc_promise.specs.Promises.{IsToldAlone, RestsWell, WaitsWell}
-use Rattle.jc_promise.specs.Wrong.{done, pi_job, pi_pod, stepped}
+use Rattle.jc_promise.specs.Wrong.{done, pi_job, pi_pod, sync_steps}
 use Rattle.jc_promise.specs.WrongEnds.{early_end, failed_job, first_command, skipped_command, twice_script}
 use Rattle.jc_promise.specs.WrongSyncs.{false_conflict, forgotten_pod, old_caches, stuck_job, two_syncs, two_workers}
 
@@ -90,7 +89,7 @@ unfolding failing_in failures_in gives log_given planned first_value second_valu
 caches-job = refl
 
 pub old_caches-refused : HoldsBounds usual_shape old_caches → ⊥
-old_caches-refused h = second-refused usual_shape (drop 1 old_caches) (stepped (pod_made None 3 3) 3) 0 refl caches-before caches-after caches-job h
+old_caches-refused h = second-refused usual_shape (drop 1 old_caches) (sync_steps (pod_made None 3 3) 3) 0 refl caches-before caches-after caches-job h
 
 syncs-before : log_given two_workers (drop 1 two_syncs) ≡ one_pod_there
 unfolding failing_in failures_in gives log_given planned first_value second_value counted_in counted_out pause
@@ -157,16 +156,13 @@ forgotten-kept : list_any is_kept (pods_of (uid_of 1) (log_given usual_shape for
 unfolding failing_in failures_in gives log_given planned first_value second_value counted_in counted_out pause
 forgotten-kept = refl
 
-forgotten-now : moment usual_shape forgotten_pod ≡ 1704067200
-forgotten-now = refl
-
 pub forgotten_pod-refused : RestsWell usual_shape forgotten_pod → ⊥
 forgotten_pod-refused h = by (job_in pi_key (log_given usual_shape forgotten_pod)) refl forgotten-job
   where
     by : (o : Option Job) → job_in pi_key (log_given usual_shape forgotten_pod) ≡ o → option_map (λ (job : Job). job.uid) o ≡ Some (uid_of 1) → ⊥
     by None is uid = absurd (true≢false (sym (ap (λ o. elim o [ None ↦ false | Some u ↦ true ]) uid)))
     by (Some job) is uid =
-        none-kept (pods_of job.uid (log_given usual_shape forgotten_pod)) (h forgotten-rests (let now = forgotten-now in omega (arith, now)) pi_key job is)
+        none-kept (pods_of job.uid (log_given usual_shape forgotten_pod)) (h forgotten-rests pi_key job is)
         (ap (λ o. list_any is_kept (pods_of (unwrap_or o job.uid) (log_given usual_shape forgotten_pod))) uid ∙ forgotten-kept)
 
 -- ---- a Job that is stuck
@@ -192,11 +188,8 @@ stuck-open : opening (backoff pi_key (diary usual_shape 0 stuck_job)) ≡ None
 unfolding failing_in failures_in gives log_given planned first_value second_value counted_in counted_out pause
 stuck-open = refl
 
-stuck-now : moment usual_shape stuck_job ≡ 1704067200
-stuck-now = refl
-
 pub stuck_job-refused : WaitsWell usual_shape stuck_job → ⊥
-stuck_job-refused h = by (h stuck-rests (let now = stuck-now in omega (arith, now)) 0 (omega arith) pi_key (pi_job sample_spec) stuck-there stuck-sure)
+stuck_job-refused h = by (h stuck-rests 0 (omega arith) pi_key (pi_job sample_spec) stuck-there stuck-sure)
   where
     none-in : (pods : List Pod) (pod : Pod) → pods ≡ [] → Contains pods pod → ⊥
     none-in [] pod e (i, lt, is) = omega (arith, lt)

@@ -3,8 +3,7 @@
 --     RestsWell shape deeds            where nothing is left to do, no ended pod is forgotten
 --     WaitsWell shape deeds            where nothing is left to do, no Job is stuck
 --     KeepsPromises script shape h     all together
-use Rattle.std.specs.Prelude.{◌≡◌, ◌+◌, ◌<◌, ℕ, true, List, map, Some}
-use Rattle.jc_moment.specs.Range.{end_of_moments}
+use Rattle.std.specs.Prelude.{◌≡◌, ◌<◌, ℕ, true, List, map, Some}
 use Rattle.jc_types.specs.declared.actions.Script.{Script}
 use Rattle.jc_types.specs.declared.objects.Job.{Job}
 use Rattle.jc_types.specs.declared.objects.Key.{Key}
@@ -12,9 +11,8 @@ use Rattle.jc_types.specs.declared.runs.History.{History}
 use Rattle.jc_types.specs.declared.runs.Shape.{Shape}
 use Rattle.jc_log.specs.Deeds.{Deed, deed, deeds}
 use Rattle.jc_log.specs.Log.{job_in}
-use Rattle.jc_ledger.specs.Once.{OnceAtEach}
+use Rattle.jc_runs.specs.Once.{OnceAtEach}
 use Rattle.jc_history.specs.Available.{is_quiescent}
-use Rattle.jc_history.specs.Diaries.{moment}
 use Rattle.jc_history.specs.Legal.{IsHistory}
 use Rattle.jc_history.specs.Registers.{backoff}
 use Rattle.jc_history.specs.Replies.{diary, log_given}
@@ -23,8 +21,8 @@ use Rattle.jc_bounds.specs.Histories.{HoldsBounds}
 use Rattle.jc_rest.specs.LetGo.{EndedAreLetGo}
 use Rattle.jc_rest.specs.Lost.{AreLostWell}
 use Rattle.jc_rest.specs.Stuck.{IsWaiting, is_sure}
-use Rattle.jc_lines.specs.Events.{event_lines}
-use Rattle.jc_lines.specs.Told.{AreEvents}
+use Rattle.jc_report.specs.Events.{event_lines}
+use Rattle.jc_report.specs.Told.{AreEvents}
 
 -- The lines of its events tell the history: no other one of the script has the same.
 abbrev pub IsToldAlone : Script → Shape → History → Type 0
@@ -35,19 +33,17 @@ IsToldAlone script shape history = (other : History) → IsHistory script shape 
     → other.events.items ≡ history.events.items
 
 -- Where nothing is left to do, each pod that has ended, of a Job that is there, has lost its
--- finalizer. The clock stands more than a minute before the last moment.
+-- finalizer.
 abbrev pub RestsWell : Shape → List Deed → Type 0
 RestsWell shape past = is_quiescent shape past (log_given shape past) ≡ true
-    → moment shape past + 60 < end_of_moments
     → (k : Key) (job : Job) → job_in k (log_given shape past) ≡ Some job
     → EndedAreLetGo job (log_given shape past)
 
 -- Where nothing is left to do, each Job that is there has ended, or it waits for something that only the
 -- outside can give: so it is for each controller that has added the Job's key since its pod cache last
--- skipped entries of the log. The clock stands more than a minute before the last moment.
+-- skipped entries of the log.
 abbrev pub WaitsWell : Shape → List Deed → Type 0
 WaitsWell shape past = is_quiescent shape past (log_given shape past) ≡ true
-    → moment shape past + 60 < end_of_moments
     → (c : ℕ) → c < shape.controllers
     → (k : Key) (job : Job) → job_in k (log_given shape past) ≡ Some job
     → is_sure k (diary shape c past) ≡ true

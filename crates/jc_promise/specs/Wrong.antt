@@ -4,10 +4,10 @@
 --     pi_job spec                    the Job as it is made, by the first entry
 --     pi_pod uid index version       a pod of it as it is made
 --     in_phase, stripped, with_marked    the pod after a later entry
---     job_put, status_put            the entries of the Job: as it is made, and with a status
+--     pi_put, status_put            the entries of the Job: as it is made, and with a status
 --     lists succeeded failed         the status that lists these UIDs, and no more
 --     done act reply length          a deed, and how many entries the log has after it
---     created .. exits               those of which the histories consist
+--     job_is_made .. exits               those of which the histories consist
 use Rattle.std.specs.Prelude.{ℕ, pos, false, true, List, [], ◌∷◌, map, Option, None, Some}
 use Rattle.jc_log.specs.Acts as does
 use Rattle.jc_types.specs.declared.objects.Entry.{Entry}
@@ -74,8 +74,8 @@ abbrev pub with_marked : ℕ → Pod → Pod
 with_marked version pod = record pod { marked = Some sample_start; version = version_at version }
 
 -- The entry that makes the Job.
-abbrev pub job_put : JobSpec → Entry
-job_put spec = JobPut (pi_job spec)
+abbrev pub pi_put : JobSpec → Entry
+pi_put spec = JobPut (pi_job spec)
 
 -- The entry that puts it with the status.
 abbrev pub status_put : ℕ → JobStatus → JobSpec → Entry
@@ -94,17 +94,17 @@ abbrev pub done : Act → Reply → ℕ → Deed
 done act reply length = record { lane = None; act = act; reply = reply; length = version_at length }
 
 -- The Job is created.
-abbrev pub created : JobSpec → Deed
-created spec = done (does.Create pi_key spec) (job_created 1 1) 1
+abbrev pub job_is_made : JobSpec → Deed
+job_is_made spec = done (does.Create pi_key spec) (job_created 1 1) 1
 
 -- A sync begins, with the caches at these versions.
-abbrev pub began : ℕ → ℕ → ℕ → Deed
-began jobs_at pods_at length = done (does.Begin 0 0) (sync_begun jobs_at pods_at) length
+abbrev pub sync_begins : ℕ → ℕ → ℕ → Deed
+sync_begins jobs_at pods_at length = done (does.Begin 0 0) (sync_begun jobs_at pods_at) length
 
 -- A step of it.
-abbrev pub stepped : Reply → ℕ → Deed
-stepped reply length = done (does.Step 0 0) reply length
+abbrev pub sync_steps : Reply → ℕ → Deed
+sync_steps reply length = done (does.Step 0 0) reply length
 
 -- The pod exits with the code.
-abbrev pub exits : ℕ → ℕ → ℕ → Deed
-exits uid code length = done (does.Finish (uid_of uid) (pos code)) (written_at length) length
+abbrev pub pod_exits : ℕ → ℕ → ℕ → Deed
+pod_exits uid code length = done (does.Finish (uid_of uid) (pos code)) (written_at length) length

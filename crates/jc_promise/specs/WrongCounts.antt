@@ -12,30 +12,30 @@ use Rattle.jc_types.specs.declared.replies.Reply.TheVariants as reply
 use Rattle.jc_types.specs.declared.specifications.JobSpec.{JobSpec}
 use Rattle.jc_log.specs.Requests.{empty_status}
 use Rattle.jc_history.specs.Samples.{pod_made, pod_released, sample_spec, status_written, sync_begun, uid_of, written_at}
-use Rattle.jc_promise.specs.Wrong.{Wrong, began, done, exits, in_phase, job_put, created, lists, pi_pod, status_put, stepped, stripped, with_marked}
+use Rattle.jc_promise.specs.Wrong.{Wrong, sync_begins, done, pod_exits, in_phase, pi_put, job_is_made, lists, pi_pod, status_put, sync_steps, stripped, with_marked}
 
 -- A pod succeeds, and a sync releases it at once: where it stops then, nothing counts the pod.
 abbrev pub early_release : Wrong
 early_release = record {
   deeds =
-      stepped (pod_released 2 4) 4 ∷ began 3 3 3 ∷ exits 2 0 3 ∷ stepped (pod_made None 2 2) 2
-      ∷ began 1 1 1 ∷ created sample_spec ∷ [];
+      sync_steps (pod_released 2 4) 4 ∷ sync_begins 3 3 3 ∷ pod_exits 2 0 3 ∷ sync_steps (pod_made None 2 2) 2
+      ∷ sync_begins 1 1 1 ∷ job_is_made sample_spec ∷ [];
   log =
       PodPut (stripped 4 (in_phase Succeeded 3 (pi_pod 2 None 2)))
       ∷ PodPut (in_phase Succeeded 3 (pi_pod 2 None 2)) ∷ PodPut (pi_pod 2 None 2)
-      ∷ job_put sample_spec ∷ [];
+      ∷ pi_put sample_spec ∷ [];
 }
 
 -- A pod succeeds, and the status has it in its total while it still has its finalizer.
 abbrev pub early_total : Wrong
 early_total = record {
   deeds =
-      stepped (status_written 4) 4 ∷ began 3 3 3 ∷ exits 2 0 3 ∷ stepped (pod_made None 2 2) 2
-      ∷ began 1 1 1 ∷ created sample_spec ∷ [];
+      sync_steps (status_written 4) 4 ∷ sync_begins 3 3 3 ∷ pod_exits 2 0 3 ∷ sync_steps (pod_made None 2 2) 2
+      ∷ sync_begins 1 1 1 ∷ job_is_made sample_spec ∷ [];
   log =
       status_put 4 (record empty_status { succeeded = 1 }) sample_spec
       ∷ PodPut (in_phase Succeeded 3 (pi_pod 2 None 2)) ∷ PodPut (pi_pod 2 None 2)
-      ∷ job_put sample_spec ∷ [];
+      ∷ pi_put sample_spec ∷ [];
 }
 
 -- A pod is counted, and its list is empty again. The next sync sees it as it was before, and lists it once
@@ -43,16 +43,16 @@ early_total = record {
 abbrev pub stale_pod_cache : Wrong
 stale_pod_cache = record {
   deeds =
-      stepped (status_written 7) 7 ∷ began 6 3 6 ∷ stepped reply.Ended 6 ∷ stepped (status_written 6) 6
-      ∷ stepped (pod_released 2 5) 5 ∷ stepped (status_written 4) 4 ∷ began 3 3 3 ∷ exits 2 0 3
-      ∷ stepped (pod_made None 2 2) 2 ∷ began 1 1 1 ∷ created sample_spec ∷ [];
+      sync_steps (status_written 7) 7 ∷ sync_begins 6 3 6 ∷ sync_steps reply.Ended 6 ∷ sync_steps (status_written 6) 6
+      ∷ sync_steps (pod_released 2 5) 5 ∷ sync_steps (status_written 4) 4 ∷ sync_begins 3 3 3 ∷ pod_exits 2 0 3
+      ∷ sync_steps (pod_made None 2 2) 2 ∷ sync_begins 1 1 1 ∷ job_is_made sample_spec ∷ [];
   log =
       status_put 7 (record (lists (2 ∷ []) []) { succeeded = 1 }) sample_spec
       ∷ status_put 6 (record empty_status { succeeded = 1 }) sample_spec
       ∷ PodPut (stripped 5 (in_phase Succeeded 3 (pi_pod 2 None 2)))
       ∷ status_put 4 (lists (2 ∷ []) []) sample_spec
       ∷ PodPut (in_phase Succeeded 3 (pi_pod 2 None 2)) ∷ PodPut (pi_pod 2 None 2)
-      ∷ job_put sample_spec ∷ [];
+      ∷ pi_put sample_spec ∷ [];
 }
 
 -- Two pods may run.
@@ -64,26 +64,26 @@ two_pods_spec = record sample_spec { parallelism = 2; completions = Some 2 }
 abbrev pub stale_write : Wrong
 stale_write = record {
   deeds =
-      done (does.Step 1 0) (status_written 7) 7 ∷ stepped (status_written 6) 6 ∷ began 1 5 5 ∷ exits 3 0 5
-      ∷ done (does.Begin 1 0) (sync_begun 1 4) 4 ∷ exits 2 0 4 ∷ stepped (pod_made None 3 3) 3
-      ∷ stepped (pod_made None 2 2) 2 ∷ began 1 1 1 ∷ created two_pods_spec ∷ [];
+      done (does.Step 1 0) (status_written 7) 7 ∷ sync_steps (status_written 6) 6 ∷ sync_begins 1 5 5 ∷ pod_exits 3 0 5
+      ∷ done (does.Begin 1 0) (sync_begun 1 4) 4 ∷ pod_exits 2 0 4 ∷ sync_steps (pod_made None 3 3) 3
+      ∷ sync_steps (pod_made None 2 2) 2 ∷ sync_begins 1 1 1 ∷ job_is_made two_pods_spec ∷ [];
   log =
       status_put 7 (lists (2 ∷ []) []) two_pods_spec
       ∷ status_put 6 (lists (2 ∷ 3 ∷ []) []) two_pods_spec
       ∷ PodPut (in_phase Succeeded 5 (pi_pod 3 None 3)) ∷ PodPut (in_phase Succeeded 4 (pi_pod 2 None 2))
-      ∷ PodPut (pi_pod 3 None 3) ∷ PodPut (pi_pod 2 None 2) ∷ job_put two_pods_spec ∷ [];
+      ∷ PodPut (pi_pod 3 None 3) ∷ PodPut (pi_pod 2 None 2) ∷ pi_put two_pods_spec ∷ [];
 }
 
 -- A marked pod counts as failed and is listed so. It exits with 0, and is listed as a success too.
 abbrev pub recount : Wrong
 recount = record {
   deeds =
-      stepped (status_written 6) 6 ∷ began 4 5 5 ∷ exits 2 0 5 ∷ stepped (status_written 4) 4 ∷ began 1 3 3
-      ∷ done (does.Mark (uid_of 2)) (written_at 3) 3 ∷ stepped (pod_made None 2 2) 2 ∷ began 1 1 1
-      ∷ created sample_spec ∷ [];
+      sync_steps (status_written 6) 6 ∷ sync_begins 4 5 5 ∷ pod_exits 2 0 5 ∷ sync_steps (status_written 4) 4 ∷ sync_begins 1 3 3
+      ∷ done (does.Mark (uid_of 2)) (written_at 3) 3 ∷ sync_steps (pod_made None 2 2) 2 ∷ sync_begins 1 1 1
+      ∷ job_is_made sample_spec ∷ [];
   log =
       status_put 6 (lists (2 ∷ []) (2 ∷ [])) sample_spec
       ∷ PodPut (in_phase Succeeded 5 (with_marked 3 (pi_pod 2 None 2)))
       ∷ status_put 4 (lists [] (2 ∷ [])) sample_spec
-      ∷ PodPut (with_marked 3 (pi_pod 2 None 2)) ∷ PodPut (pi_pod 2 None 2) ∷ job_put sample_spec ∷ [];
+      ∷ PodPut (with_marked 3 (pi_pod 2 None 2)) ∷ PodPut (pi_pod 2 None 2) ∷ pi_put sample_spec ∷ [];
 }

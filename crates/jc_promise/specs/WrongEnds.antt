@@ -17,7 +17,7 @@ use Rattle.jc_types.specs.declared.statuses.Condition.{Condition}
 use Rattle.jc_types.specs.declared.statuses.Reason.TheVariants.{DeadlineExceeded}
 use Rattle.jc_log.specs.Requests.{empty_status}
 use Rattle.jc_history.specs.Samples.{pi_key, pod_made, pod_marked, sample_script, sample_spec, sample_start, status_written, version_at}
-use Rattle.jc_promise.specs.Wrong.{Wrong, began, done, job_put, created, pi_job, pi_pod, stepped, with_marked}
+use Rattle.jc_promise.specs.Wrong.{Wrong, sync_begins, done, pi_put, job_is_made, pi_job, pi_pod, sync_steps, with_marked}
 
 -- A Job with a deadline of a minute.
 abbrev pub minute_spec : JobSpec
@@ -39,12 +39,12 @@ failed_job = record (pi_job minute_spec) {
 abbrev pub early_end : Wrong
 early_end = record {
   deeds =
-      stepped (status_written 4) 4 ∷ stepped (pod_marked 2 3) 3 ∷ began 1 2 2
-      ∷ done (does.Clock 60) (reply.Now (sample_start + 60)) 2 ∷ stepped (pod_made None 2 2) 2 ∷ began 1 1 1
-      ∷ created minute_spec ∷ [];
+      sync_steps (status_written 4) 4 ∷ sync_steps (pod_marked 2 3) 3 ∷ sync_begins 1 2 2
+      ∷ done (does.Clock 60) (reply.Now (sample_start + 60)) 2 ∷ sync_steps (pod_made None 2 2) 2 ∷ sync_begins 1 1 1
+      ∷ job_is_made minute_spec ∷ [];
   log =
       JobPut failed_job ∷ PodPut (with_marked 3 (pi_pod 2 None 2)) ∷ PodPut (pi_pod 2 None 2)
-      ∷ job_put minute_spec ∷ [];
+      ∷ pi_put minute_spec ∷ [];
 }
 
 -- ---- commands

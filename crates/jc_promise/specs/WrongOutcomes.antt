@@ -14,7 +14,7 @@ use Rattle.jc_types.specs.declared.specifications.JobSpec.{JobSpec}
 use Rattle.jc_types.specs.declared.specifications.Mode.TheVariants.{Indexed}
 use Rattle.jc_log.specs.Requests.{empty_status}
 use Rattle.jc_history.specs.Samples.{disruption, failing_spec, ignoring_spec, main_name, pod_made, pod_released, sample_spec, status_written, sync_begun, uid_of, version_at, written_at}
-use Rattle.jc_promise.specs.Wrong.{Wrong, began, done, exits, in_phase, job_put, created, lists, pi_pod, status_put, stepped, stripped, with_marked}
+use Rattle.jc_promise.specs.Wrong.{Wrong, sync_begins, done, pod_exits, in_phase, pi_put, job_is_made, lists, pi_pod, status_put, sync_steps, stripped, with_marked}
 
 -- One index is wanted.
 abbrev pub one_index_spec : JobSpec
@@ -24,15 +24,15 @@ one_index_spec = record sample_spec { mode = Indexed }
 abbrev pub index_twice : Wrong
 index_twice = record {
   deeds =
-      stepped (status_written 6) 6 ∷ began 1 5 5 ∷ exits 3 0 5 ∷ exits 2 0 4
-      ∷ done (does.Step 1 0) (pod_made (Some 0) 3 3) 3 ∷ stepped (pod_made (Some 0) 2 2) 2
-      ∷ done (does.Begin 1 0) (sync_begun 1 1) 1 ∷ began 1 1 1
-      ∷ created one_index_spec ∷ [];
+      sync_steps (status_written 6) 6 ∷ sync_begins 1 5 5 ∷ pod_exits 3 0 5 ∷ pod_exits 2 0 4
+      ∷ done (does.Step 1 0) (pod_made (Some 0) 3 3) 3 ∷ sync_steps (pod_made (Some 0) 2 2) 2
+      ∷ done (does.Begin 1 0) (sync_begun 1 1) 1 ∷ sync_begins 1 1 1
+      ∷ job_is_made one_index_spec ∷ [];
   log =
       status_put 6 (record empty_status { succeeded = 2; completed = 0 ∷ [] }) one_index_spec
       ∷ PodPut (in_phase Succeeded 5 (pi_pod 3 (Some 0) 3))
       ∷ PodPut (in_phase Succeeded 4 (pi_pod 2 (Some 0) 2))
-      ∷ PodPut (pi_pod 3 (Some 0) 3) ∷ PodPut (pi_pod 2 (Some 0) 2) ∷ job_put one_index_spec ∷ [];
+      ∷ PodPut (pi_pod 3 (Some 0) 3) ∷ PodPut (pi_pod 2 (Some 0) 2) ∷ pi_put one_index_spec ∷ [];
 }
 
 -- A pod that was disrupted.
@@ -46,12 +46,12 @@ disrupted_pod =
 abbrev pub ignored_counted : Wrong
 ignored_counted = record {
   deeds =
-      stepped (status_written 4) 4 ∷ began 1 3 3
+      sync_steps (status_written 4) 4 ∷ sync_begins 1 3 3
       ∷ done does.Node (reply.NodeDone (uid_of 2) Failed (version_at 3)) 3
-      ∷ stepped (pod_made None 2 2) 2 ∷ began 1 1 1 ∷ created ignoring_spec ∷ [];
+      ∷ sync_steps (pod_made None 2 2) 2 ∷ sync_begins 1 1 1 ∷ job_is_made ignoring_spec ∷ [];
   log =
       status_put 4 (lists [] (2 ∷ [])) ignoring_spec
-      ∷ PodPut disrupted_pod ∷ PodPut (pi_pod 2 None 2) ∷ job_put ignoring_spec ∷ [];
+      ∷ PodPut disrupted_pod ∷ PodPut (pi_pod 2 None 2) ∷ pi_put ignoring_spec ∷ [];
 }
 
 -- A pod whose container has exited with 42.
@@ -65,21 +65,21 @@ failing_pod =
 abbrev pub early_fail_job : Wrong
 early_fail_job = record {
   deeds =
-      stepped (pod_released 2 5) 5 ∷ stepped (status_written 4) 4 ∷ began 1 3 3 ∷ exits 2 42 3
-      ∷ stepped (pod_made None 2 2) 2 ∷ began 1 1 1 ∷ created failing_spec ∷ [];
+      sync_steps (pod_released 2 5) 5 ∷ sync_steps (status_written 4) 4 ∷ sync_begins 1 3 3 ∷ pod_exits 2 42 3
+      ∷ sync_steps (pod_made None 2 2) 2 ∷ sync_begins 1 1 1 ∷ job_is_made failing_spec ∷ [];
   log =
       PodPut (stripped 5 failing_pod)
       ∷ status_put 4 (lists [] (2 ∷ [])) failing_spec
-      ∷ PodPut failing_pod ∷ PodPut (pi_pod 2 None 2) ∷ job_put failing_spec ∷ [];
+      ∷ PodPut failing_pod ∷ PodPut (pi_pod 2 None 2) ∷ pi_put failing_spec ∷ [];
 }
 
 -- A pod is marked, and is without its finalizer at once.
 abbrev pub finalizer_vanishes : Wrong
 finalizer_vanishes = record {
   deeds =
-      done (does.Mark (uid_of 2)) (written_at 3) 3 ∷ stepped (pod_made None 2 2) 2 ∷ began 1 1 1
-      ∷ created sample_spec ∷ [];
+      done (does.Mark (uid_of 2)) (written_at 3) 3 ∷ sync_steps (pod_made None 2 2) 2 ∷ sync_begins 1 1 1
+      ∷ job_is_made sample_spec ∷ [];
   log =
       PodPut (stripped 3 (with_marked 3 (pi_pod 2 None 2))) ∷ PodPut (pi_pod 2 None 2)
-      ∷ job_put sample_spec ∷ [];
+      ∷ pi_put sample_spec ∷ [];
 }

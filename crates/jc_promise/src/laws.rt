@@ -16,7 +16,7 @@ ghost use Rattle.jc_history.specs.Available.{is_quiescent};
 ghost use Rattle.jc_history.specs.Legal.{IsHistory, IsLegal};
 ghost use Rattle.jc_history.specs.Replies.{diary, log_given};
 ghost use Rattle.jc_history.specs.Samples.{pi_key, usual_shape};
-ghost use Rattle.jc_ledger.specs.Once.{OnceAtEach};
+ghost use Rattle.jc_runs.specs.Once.{OnceAtEach};
 ghost use Rattle.jc_history.specs.Samples.{sample_spec};
 ghost use Rattle.jc_runs.specs.Conflicts.{AreToldLater};
 ghost use Rattle.jc_bounds.specs.Histories.{HoldsBounds};

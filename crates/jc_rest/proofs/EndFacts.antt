@@ -5,10 +5,10 @@ use Rattle.std.proofs.Common.{◌≡◌, ℕ, zero, suc, ◌≤◌, ◌<◌, Boo
 use Rattle.std.specs.Option.{option_map_or, unwrap_or}
 use Rattle.std.proofs.lemmas.Bool.{and_from, and_parts, and_right, cond-true, not_from_false, not_from_true, or_left}
 use Rattle.std.proofs.lemmas.List.{append-nil}
-use Rattle.jc_failpol.specs.declared.outcomes.Outcome.{Outcome}
-use Rattle.jc_failpol.specs.declared.outcomes.Outcome.TheVariants.{Alive, Succeeded, Failed, Ignored}
-use Rattle.jc_failpol.specs.Outcomes.{counts_marked, failure_of, is_failed, is_ignore, is_succeeded, outcome_of, same_outcome}
-use Rattle.jc_failpol.specs.Rules.{action_of}
+use Rattle.jc_plan.specs.Outcome.{Outcome}
+use Rattle.jc_plan.specs.Outcome.TheVariants.{Alive, Succeeded, Failed, Ignored}
+use Rattle.jc_plan.specs.Outcomes.{counts_marked, failure_of, is_failed, is_ignore, is_succeeded, outcome_of, same_outcome}
+use Rattle.jc_plan.specs.Rules.{action_of}
 use Rattle.jc_types.specs.declared.actions.Fault.{Fault}
 use Rattle.jc_types.specs.declared.actions.Fault.TheVariants.{Drop, Lose}
 use Rattle.jc_types.specs.declared.numbers.Uid.{Uid}
@@ -40,21 +40,21 @@ use Rattle.jc_log.proofs.LogFacts.{entry_at-place, length-upto, upto-all, upto-e
 use Rattle.jc_log.proofs.PlaceFacts.{job_in-within}
 use Rattle.jc_log.proofs.PodFacts.{living-live, pods_in-among}
 use Rattle.jc_log.proofs.WriteFacts.{Follows-upto, life-uid, place_is_version}
-use Rattle.jc_account.specs.Judged.{fits, is_candidate, is_left_over}
+use Rattle.jc_plan.specs.Judged.{fits, is_candidate, is_left_over}
 use Rattle.jc_plan.specs.Plans.{WritesNothing, planned}
 use Rattle.jc_plan.specs.Statuses.{first_value}
 use Rattle.jc_plan.proofs.LeftFacts.{all-fit}
 use Rattle.jc_plan.proofs.OrderFacts.{due-released}
 use Rattle.jc_plan.proofs.PlanFacts.{plan-first}
-use Rattle.jc_ledger.specs.declared.flights.Flight.{Flight}
-use Rattle.jc_ledger.specs.Flights.{Flies, known}
-use Rattle.jc_ledger.proofs.DuePods.{due_in}
-use Rattle.jc_ledger.proofs.OwnFacts.{basis-rises}
-use Rattle.jc_ledger.proofs.QuietFacts.{IfSome-at}
-use Rattle.jc_asks.specs.declared.asks.Ask.{Ask}
-use Rattle.jc_asks.specs.declared.asks.Ask.TheVariants.{MakePod, MarkPod, LetPodGo, WriteFirst, ReleasePod, WriteSecond}
-use Rattle.jc_asks.specs.Asks.{as_request, second_asks}
-use Rattle.jc_asks.specs.Steps.{as_answer, answered_to, status_gives, stepped_at, written_gives}
+use Rattle.jc_sync.specs.Flight.{Flight}
+use Rattle.jc_sync.specs.Flights.{Flies, known}
+use Rattle.jc_sync.proofs.DuePods.{due_in}
+use Rattle.jc_sync.proofs.OwnFacts.{basis-rises}
+use Rattle.jc_sync.proofs.QuietFacts.{IfSome-at}
+use Rattle.jc_sync.specs.Ask.{Ask}
+use Rattle.jc_sync.specs.Ask.TheVariants.{MakePod, MarkPod, LetPodGo, WriteFirst, ReleasePod, WriteSecond}
+use Rattle.jc_sync.specs.Asks.{as_request, second_asks}
+use Rattle.jc_sync.specs.Steps.{as_answer, answered_to, status_gives, stepped_at, written_gives}
 use Rattle.jc_sync.specs.Places.{AreReleased, IsAt, IsUnder, KnowsFirst, Over, Under}
 use Rattle.jc_sync.specs.Registers.{NoneWritten, PutLater, WritesShow}
 use Rattle.jc_sync.proofs.ApiFacts.{Absent, Accepted, Conflicts, Same, StatusCases, status_cases}

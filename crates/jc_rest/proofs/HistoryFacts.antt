@@ -1,11 +1,10 @@
 -- At rest no ended pod of a Job that is there is forgotten.
-use Rattle.std.proofs.Common.{◌≡◌, ℕ, ◌+◌, ◌≤◌, ◌<◌, ◌==◌, Bool, true, false, cond, ◌&&◌, List, [], ◌∷◌, ◌++◌, length, slice_get, Option, Some, None, IfSome, is_some, refl, sym, ap, ◌∙◌, subst, arith, eqb-true, true≢false}
+use Rattle.std.proofs.Common.{◌≡◌, ℕ, ◌≤◌, ◌<◌, ◌==◌, Bool, true, false, cond, ◌&&◌, List, [], ◌∷◌, ◌++◌, length, slice_get, Option, Some, None, IfSome, is_some, refl, sym, ap, ◌∙◌, subst, arith, eqb-true, true≢false}
 use Rattle.std.specs.List.{AllByRecursion as Each}
 use Rattle.std.specs.Option.{option_map, option_to_list, unwrap_or, option_map_or}
 use Rattle.std.proofs.lemmas.Bool.{and_from}
 use Rattle.jc_log.specs.Acts as does
 use Rattle.jc_control.specs.declared.ends.SyncEnd.{SyncEnd}
-use Rattle.jc_moment.specs.Range.{end_of_moments}
 use Rattle.jc_types.specs.declared.actions.Fault.{Fault}
 use Rattle.jc_types.specs.declared.actions.SpecChange.{SpecChange}
 use Rattle.jc_types.specs.declared.numbers.Uid.{Uid}
@@ -19,7 +18,7 @@ use Rattle.jc_types.specs.declared.runs.Shape.{Shape}
 use Rattle.jc_types.specs.declared.specifications.JobSpec.{JobSpec}
 use Rattle.jc_types.specs.Keys.{same_key, same_uid}
 use Rattle.jc_types.proofs.KeyFacts.{same_key-eq, same_key-itself, same_uid-itself}
-use Rattle.jc_types.proofs.ListFacts.{Each-both, Each-weaker}
+use Rattle.jc_types.proofs.ListFacts.{Each-both, Each-weaker, Each-append as each-append}
 use Rattle.jc_states.specs.declared.bases.Basis.{Basis}
 use Rattle.jc_states.specs.Pods.{is_final}
 use Rattle.jc_states.specs.ValidSpecs.{IsValidSpec}
@@ -31,11 +30,11 @@ use Rattle.jc_log.specs.Writes.{Legal}
 use Rattle.jc_log.proofs.WriteFacts.{Stored-from_legal}
 use Rattle.jc_log.proofs.LogFacts.{upto-all, upto-fixed}
 use Rattle.jc_log.proofs.PodFacts.{pods_of-live, pods_of-owned}
-use Rattle.jc_ledger.specs.Flights.{Flies}
-use Rattle.jc_ledger.specs.Once.{AllJustified}
-use Rattle.jc_ledger.proofs.FrameFacts.{AllFly-one}
-use Rattle.jc_ledger.proofs.OwnFacts.{owner-key}
-use Rattle.jc_asks.specs.Steps.{Sync, stepped_at}
+use Rattle.jc_sync.specs.Flights.{Flies}
+use Rattle.jc_sync.specs.Once.{AllJustified}
+use Rattle.jc_sync.proofs.FrameFacts.{AllFly-one}
+use Rattle.jc_sync.proofs.OwnFacts.{owner-key}
+use Rattle.jc_sync.specs.Steps.{Sync, stepped_at}
 use Rattle.jc_sync.specs.Registers.{flights_of_all, put_at, register_at}
 use Rattle.jc_sync.proofs.RegisterFacts.{Around, around}
 use Rattle.jc_history.specs.Available.{is_quiescent}
@@ -46,7 +45,7 @@ use Rattle.jc_history.specs.Lines.{line}
 use Rattle.jc_history.specs.Notes.{Note, Asked, Ended}
 use Rattle.jc_history.specs.Registers.{asks_status, register}
 use Rattle.jc_history.specs.Replies.{gives, log_given}
-use Rattle.jc_history.proofs.DiaryFacts.{each-append, either}
+use Rattle.jc_history.proofs.DiaryFacts.{either}
 use Rattle.jc_history.proofs.LegalFacts.{notes-next}
 use Rattle.jc_order.specs.Restless.{FailsIf, has_forgotten, is_forgotten}
 use Rattle.jc_order.proofs.ForgetFacts.{no-rest}
@@ -218,10 +217,10 @@ module _ (stay : Stay) (shape : Shape) (k : Key) (job : Job) (u : Uid) (a b : �
 -- ---- at rest
 
 module _ (stay : Stay) (shape : Shape) (deeds : List Deed) (legal : IsLegal shape deeds) (valid : AllAskValid deeds) (some : 0 < shape.controllers) (working : 0 < shape.workers)
-    (quiet : is_quiescent shape deeds (log_given shape deeds) ≡ true) (room : moment shape deeds + 60 < end_of_moments) where
+    (quiet : is_quiescent shape deeds (log_given shape deeds) ≡ true) where
   not-both : (k : Key) (job : Job) (u : Uid) → job_in k (log_given shape deeds) ≡ Some job → has_forgotten k job.uid u (log_given shape deeds) ≡ true → ⊥
   not-both k job u its p =
-      no-rest shape deeds legal working quiet room 0 some k job.uid u both.together
+      no-rest shape deeds legal working quiet 0 some k job.uid u both.together
       (all-fail stay shape k job u both.together.job_from both.together.pod_from 0 deeds legal valid (record { stays = both.stays; pod = both.together.pod_since }))
     where
       both : Standing k job u (log_given shape deeds)

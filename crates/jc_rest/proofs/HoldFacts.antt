@@ -3,7 +3,7 @@ use Rattle.std.proofs.Common.{◌≡◌, ℕ, ◌+◌, ◌-◌, ◌==◌, nat_lt
 use Rattle.std.proofs.lemmas.Bool.{and_parts, not-false, not-true, not_from_true}
 use Rattle.jc_log.specs.Acts as does
 use Rattle.jc_control.specs.declared.begins.Begin.{Begin}
-use Rattle.jc_moment.specs.Range.{end_of_moments}
+use Rattle.jc_log.specs.Range.{end_of_moments}
 use Rattle.jc_types.specs.declared.actions.ContainerChange.{ContainerChange}
 use Rattle.jc_types.specs.declared.actions.Fault.{Fault}
 use Rattle.jc_types.specs.declared.actions.Fault.TheVariants.{Drop, Lose}
@@ -34,13 +34,13 @@ use Rattle.jc_log.specs.Requests.{Answered, changed_spec, create_job_at, create_
 use Rattle.jc_log.proofs.PodFacts.{living-live}
 use Rattle.jc_log.proofs.WriteFacts.{life-uid}
 use Rattle.jc_plan.specs.Plans.{planned}
-use Rattle.jc_ledger.specs.declared.flights.Flight.{Flight}
-use Rattle.jc_ledger.specs.Once.{Taking, taking_of}
-use Rattle.jc_ledger.specs.Syncs.{request_of}
-use Rattle.jc_asks.specs.declared.asks.Ask.{Ask}
-use Rattle.jc_asks.specs.declared.asks.Ask.TheVariants.{MakePod, MarkPod, LetPodGo, WriteFirst, ReleasePod, WriteSecond}
-use Rattle.jc_asks.specs.Asks.{as_request}
-use Rattle.jc_asks.specs.Steps.{answered_to, make_gives, status_gives, stepped_at, written_gives}
+use Rattle.jc_sync.specs.Flight.{Flight}
+use Rattle.jc_sync.specs.Once.{Taking, taking_of}
+use Rattle.jc_sync.specs.Syncs.{request_of}
+use Rattle.jc_sync.specs.Ask.{Ask}
+use Rattle.jc_sync.specs.Ask.TheVariants.{MakePod, MarkPod, LetPodGo, WriteFirst, ReleasePod, WriteSecond}
+use Rattle.jc_sync.specs.Asks.{as_request}
+use Rattle.jc_sync.specs.Steps.{answered_to, make_gives, status_gives, stepped_at, written_gives}
 use Rattle.jc_sync.proofs.ApiFacts.{LetGoCases, LetGone, NotThere, Other, Refused, ReleaseCases, Took, let_go_cases, release_cases}
 use Rattle.jc_history.specs.Asks.{so_far}
 use Rattle.jc_history.specs.Diaries.{moment, notes}

@@ -12,10 +12,10 @@ use Rattle.jc_log.specs.Requests.{grown}
 use Rattle.jc_log.specs.Writes.{Stored}
 use Rattle.jc_log.proofs.LogFacts.{upto-all, upto-fixed, upto-upto}
 use Rattle.jc_log.proofs.WriteFacts.{Kept, kept_to}
-use Rattle.jc_ledger.specs.Ledger.{ledger_of}
-use Rattle.jc_ledger.specs.Once.{AllJustified, IsJustified, Taking, taking_of}
-use Rattle.jc_ledger.specs.Syncs.{appends, reach, request_of}
-use Rattle.jc_ledger.proofs.QuietFacts.{IfSome-at}
+use Rattle.jc_sync.specs.Ledger.{ledger_of}
+use Rattle.jc_sync.specs.Once.{AllJustified, IsJustified, Taking, taking_of}
+use Rattle.jc_sync.specs.Syncs.{appends, reach, request_of}
+use Rattle.jc_sync.proofs.QuietFacts.{IfSome-at}
 use Rattle.jc_history.specs.Legal.{IsLegal}
 use Rattle.jc_history.specs.Replies.{gives, log_given}
 use Rattle.jc_rest.specs.Lost.{AreLostWell, ByCommand, BySync, HowLost, Takes, WasLost}

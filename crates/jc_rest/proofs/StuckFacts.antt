@@ -1,5 +1,5 @@
 -- No Job is stuck at rest: a key of which nothing is told any more is busy, or its last sync asked for nothing.
-use Rattle.std.proofs.Common.{◌≡◌, inl, inr, ℕ, zero, suc, ◌+◌, ◌<◌, ◌≤◌, Bool, true, false, cond, not, ◌&&◌, ◌||◌, List, [], ◌∷◌, filter, length, Option, Some, None, is_some, option_and_then, option_map, refl, sym, ap, ◌∙◌, subst, arith, true≢false, nat_lt, ltb-true}
+use Rattle.std.proofs.Common.{◌≡◌, inl, inr, ℕ, zero, suc, ◌<◌, ◌≤◌, Bool, true, false, cond, not, ◌&&◌, ◌||◌, List, [], ◌∷◌, filter, length, Option, Some, None, is_some, option_and_then, option_map, refl, sym, ap, ◌∙◌, subst, arith, true≢false, nat_lt, ltb-true}
 use Rattle.std.specs.List.{AllByRecursion as Each, Contains, list_any}
 use Rattle.std.specs.Option.{option_or}
 use Rattle.std.proofs.lemmas.Bool.{and_parts}
@@ -7,10 +7,9 @@ use Rattle.jc_types.specs.declared.actions.End.{End}
 use Rattle.jc_types.specs.Keys.{same_key, same_uid}
 use Rattle.jc_types.proofs.ListFacts.{Each-both}
 use Rattle.std.proofs.lemmas.List.Elements.{All-contains_itself, recursion_from_All}
-use Rattle.jc_manage.specs.Backoffs.{opening}
+use Rattle.jc_plan.specs.Backoffs.{opening}
 use Rattle.jc_history.specs.Notes.{newest}
 use Rattle.std.proofs.lemmas.Bool.{ltb-false}
-use Rattle.jc_moment.specs.Range.{end_of_moments}
 use Rattle.jc_types.specs.declared.objects.Job.{Job}
 use Rattle.jc_types.specs.declared.objects.Key.{Key}
 use Rattle.jc_types.specs.declared.objects.Kind.{Kind}
@@ -31,7 +30,7 @@ use Rattle.jc_log.specs.Writes.{Legal, Stored}
 use Rattle.jc_log.proofs.LogFacts.{upto-all}
 use Rattle.jc_log.proofs.PodFacts.{pods_in-rises}
 use Rattle.jc_log.proofs.WriteFacts.{Stored-from_legal}
-use Rattle.jc_ledger.proofs.OwnFacts.{own-is}
+use Rattle.jc_sync.proofs.OwnFacts.{own-is}
 use Rattle.jc_idle.proofs.WaitFacts.{waits}
 use Rattle.jc_idle.specs.Waits.{Waits, ForActive, ForEnding, ForEver}
 use Rattle.jc_history.specs.Available.{is_quiescent}
@@ -50,14 +49,14 @@ use Rattle.jc_runs.specs.Runs.{AllAskValid}
 use Rattle.jc_rest.specs.Stuck.{IsWaiting, HasEnded, IsSuspended, MayRunNone, HasPod, IsHeldBack, is_sure}
 use Rattle.jc_rest.proofs.HistoryFacts.{Stay}
 use Rattle.jc_runs.proofs.LegalRuns.{Machine, legal_run}
-use Rattle.jc_rest.proofs.LastFacts.{last_told, last-job, last-told_at, last-within}
+use Rattle.jc_order.proofs.LastFacts.{last_told, last-job, last-told_at, last-within}
 use Rattle.jc_rest.proofs.PlainFacts.{TellsFrom, plain}
 use Rattle.jc_rest.proofs.StandFacts.{job-listed, last-put}
 use Rattle.jc_rest.proofs.WatchFacts.{IsLastOf, Stance, stands}
 use Rattle.jc_rest.proofs.SureFacts.{sure-busy}
 
 module _ (stay : Stay) (shape : Shape) (deeds : List Deed) (legal : IsLegal shape deeds) (valid : AllAskValid deeds) (working : 0 < shape.workers)
-    (quiet : is_quiescent shape deeds (log_given shape deeds) ≡ true) (room : moment shape deeds + 60 < end_of_moments) (c : ℕ) (within : c < shape.controllers)
+    (quiet : is_quiescent shape deeds (log_given shape deeds) ≡ true) (c : ℕ) (within : c < shape.controllers)
     (k : Key) (job : Job) (there : job_in k (log_given shape deeds) ≡ Some job) where
   -- What a sync that saw the last of the key, asked for nothing and named no moment says of the Job.
   module _ (basis : Basis) (sees : basis.job ≡ Some job) (own : own_pods job basis.pods ≡ pods_of job.uid (log_given shape deeds))

@@ -28,22 +28,22 @@ use Rattle.jc_log.specs.Log.{Live, job_in, life, living, next_version, pods_in, 
 use Rattle.jc_log.specs.Requests.{Answered, accepted, let_go_at, made_pod, mark_pod_at, pod_entry, refused, release_at, released, with_mark, with_status, without_finalizer, write_status_at}
 use Rattle.jc_log.proofs.PodFacts.{pods_in-live}
 use Rattle.jc_log.proofs.WriteFacts.{job_in-key}
-use Rattle.jc_manage.specs.Creations.{job_wants}
-use Rattle.jc_manage.specs.LetGoes.{is_let_go, is_needless, is_to_mark, seen}
+use Rattle.jc_plan.specs.Creations.{job_wants}
+use Rattle.jc_plan.specs.LetGoes.{is_let_go, is_needless, is_to_mark, seen}
 use Rattle.jc_plan.specs.declared.plans.Planned.{Planned}
 use Rattle.jc_plan.specs.Plans.{changed, planned}
 use Rattle.jc_plan.specs.Releases.{due_uids, is_released}
 use Rattle.jc_plan.specs.Statuses.{accounted, decided_in, first_value, is_settled, second_value}
 use Rattle.jc_plan.proofs.BackoffFacts.{first-unneeded}
 use Rattle.jc_plan.proofs.PlanFacts.{plan-first, plan-let_goes, plan-marks, plan-releases, plan-second}
-use Rattle.jc_ledger.specs.declared.flights.Flight.{Flight}
-use Rattle.jc_asks.specs.declared.asks.Ask.{Ask}
-use Rattle.jc_asks.specs.declared.asks.Ask.TheVariants.{MakePod, MarkPod, WriteFirst, ReleasePod, WriteSecond}
-use Rattle.jc_asks.specs.Asks.{asks_of, first_asks, last_asks, let_go_ask}
-use Rattle.jc_asks.specs.Steps.{answered_to, as_answer, make_gives, status_gives, written_gives}
+use Rattle.jc_sync.specs.Flight.{Flight}
+use Rattle.jc_sync.specs.Ask.{Ask}
+use Rattle.jc_sync.specs.Ask.TheVariants.{MakePod, MarkPod, WriteFirst, ReleasePod, WriteSecond}
+use Rattle.jc_sync.specs.Asks.{asks_of, first_asks, last_asks, let_go_ask}
+use Rattle.jc_sync.specs.Steps.{answered_to, as_answer, make_gives, status_gives, written_gives}
 use Rattle.jc_history.specs.Registers.{tells_written}
 use Rattle.jc_sync.proofs.ApiFacts.{Absent, Accepted, Conflicts, Same, StatusCases, status_cases}
-use Rattle.jc_rest.proofs.LastFacts.{tells}
+use Rattle.jc_order.proofs.LastFacts.{tells}
 
 -- The answer appends an entry that a cache tells under the key.
 pub record ShowsIn (k : Key) (a : Answered) : Type 0 where

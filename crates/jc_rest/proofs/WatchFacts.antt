@@ -34,13 +34,13 @@ use Rattle.jc_log.specs.Requests.{Answered, grown}
 use Rattle.jc_log.specs.Writes.{Stored}
 use Rattle.jc_plan.specs.Plans.{planned}
 use Rattle.jc_idle.specs.Waits.{AsksNothing}
-use Rattle.jc_ledger.specs.declared.flights.Flight.{Flight}
-use Rattle.jc_asks.specs.declared.asks.Ask.{Ask}
-use Rattle.jc_asks.specs.declared.asks.Ask.TheVariants.{MakePod, MarkPod, LetPodGo, WriteFirst, ReleasePod, WriteSecond}
-use Rattle.jc_asks.specs.Asks.{as_request, asks_of}
-use Rattle.jc_asks.specs.Readings.{with_marks}
-use Rattle.jc_asks.specs.Sends.{sent_first}
-use Rattle.jc_asks.specs.Steps.{answered_to, as_answer, stepped_at, written_gives}
+use Rattle.jc_sync.specs.Flight.{Flight}
+use Rattle.jc_sync.specs.Ask.{Ask}
+use Rattle.jc_sync.specs.Ask.TheVariants.{MakePod, MarkPod, LetPodGo, WriteFirst, ReleasePod, WriteSecond}
+use Rattle.jc_sync.specs.Asks.{as_request, asks_of}
+use Rattle.jc_sync.specs.Readings.{with_marks}
+use Rattle.jc_sync.specs.Sends.{sent_first}
+use Rattle.jc_sync.specs.Steps.{answered_to, as_answer, stepped_at, written_gives}
 use Rattle.jc_history.specs.Asks.{so_far}
 use Rattle.jc_history.specs.Bounds.{TellsWithin, IsTold}
 use Rattle.jc_history.specs.Diaries.{end_by, moment, notes, notes_taken, on_begin, on_clock, on_delivery, on_lag, on_list, on_step, restarts}
@@ -49,29 +49,22 @@ use Rattle.jc_history.specs.Legal.{IsLegal}
 use Rattle.jc_history.specs.Lines.{line}
 use Rattle.jc_history.specs.Notes.{Note, Began, Asked, Ended, Faulted, newest}
 use Rattle.jc_history.specs.Registers.{asks_status, backoff, is_first, made, pending, register, register_told, tells_written}
-use Rattle.jc_history.specs.Replies.{gives, log_given, reply_given, step_gives, step_with}
-use Rattle.jc_asks.specs.Readings.{with_step}
+use Rattle.jc_history.specs.Replies.{gives, log_given, step_gives}
+use Rattle.jc_sync.specs.Readings.{with_step}
 use Rattle.jc_history.proofs.DiaryFacts.{legal-told}
 use Rattle.jc_history.proofs.LegalFacts.{notes-next}
 use Rattle.jc_order.specs.Restless.{EndWell}
-use Rattle.jc_rest.proofs.LastFacts.{job-kept, last_told, last-grows, last-job, last-new, last-pods, pods-kept, tells}
+use Rattle.jc_order.proofs.HonestFacts.{longer-log}
+use Rattle.jc_order.proofs.LastFacts.{job-kept, last_told, last-grows, last-job, last-new, tells}
+use Rattle.jc_order.proofs.RetryFacts.{step-log, step-reply}
+use Rattle.jc_rest.proofs.LastFacts.{last-pods, pods-kept}
 use Rattle.jc_rest.proofs.NoAskFacts.{asks-empty}
-use Rattle.jc_rest.proofs.PlainFacts.{longer-log}
 use Rattle.jc_rest.proofs.TellFacts.{ShowsIn, first-shows, written-shows}
+use Rattle.jc_sync.proofs.ReadFacts.{with_marks-none as with-none}
 
 -- A plan without requests and without a moment asks for nothing.
 asks-nothing : (basis : Basis) → asks_of (planned basis) ≡ [] → (planned basis).next ≡ None → AsksNothing (planned basis)
 asks-nothing basis none at = let empty = asks-empty (planned basis) none in record { idles = empty.0; releases = empty.1; next = at }
-
--- No mark stands behind a let-go that was not made.
-with-none : (asks : List Ask) → with_marks [] asks ≡ asks
-with-none [] = refl
-with-none (MakePod index ∷ asks) = ap (λ l. MakePod index ∷ l) (with-none asks)
-with-none (MarkPod u ∷ asks) = ap (λ l. MarkPod u ∷ l) (with-none asks)
-with-none (LetPodGo u v ∷ asks) = ap (λ l. LetPodGo u v ∷ l) (with-none asks)
-with-none (WriteFirst ∷ asks) = ap (λ l. WriteFirst ∷ l) (with-none asks)
-with-none (ReleasePod u ∷ asks) = ap (λ l. ReleasePod u ∷ l) (with-none asks)
-with-none (WriteSecond ∷ asks) = ap (λ l. WriteSecond ∷ l) (with-none asks)
 
 module _ (k : Key) (job : Job) (pods : List Pod) (a b : ℕ) where
   -- ---- the log
@@ -427,17 +420,6 @@ module _ (k : Key) (job : Job) (pods : List Pod) (a b : ℕ) where
       by : (o : Option Entry) → Stored (grown (log_given shape past) o) → IsLastOf (grown (log_given shape past) o) → IsLastOf (log_given shape past)
       by None stored h = h
       by (Some e) stored h = last-older e (log_given shape past) stored h
-
-  -- The log after a step.
-  step-log : (shape : Shape) (d : Deed) (past : List Deed) (c worker : ℕ) → d.act ≡ does.Step c worker
-      → log_given shape (d ∷ past) ≡ grown (log_given shape past) (step_with (notes shape c past (log_given shape past)) (log_given shape past) (moment shape past) worker).entry
-  unfolding log_given gives
-  step-log shape d past c worker e = ap (λ act. grown (log_given shape past) (gives shape past (log_given shape past) act).entry) e
-
-  step-reply : (shape : Shape) (d : Deed) (past : List Deed) (c worker : ℕ) → d.act ≡ does.Step c worker → d.reply ≡ reply_given shape past (log_given shape past) d.act
-      → d.reply ≡ (step_with (notes shape c past (log_given shape past)) (log_given shape past) (moment shape past) worker).reply
-  unfolding gives
-  step-reply shape d past c worker e r = r ∙ ap (reply_given shape past (log_given shape past)) e
 
   module _ (shape : Shape) (c : ℕ) (d : Deed) (past : List Deed) (legal : IsLegal shape (d ∷ past)) (stored : Stored (log_given shape (d ∷ past))) (last : IsLastOf (log_given shape (d ∷ past)))
       (before : Stance (notes shape c past (log_given shape past)) (length (log_given shape past))) where

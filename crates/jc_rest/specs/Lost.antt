@@ -11,9 +11,9 @@ use Rattle.jc_types.specs.declared.objects.Job.{Job}
 use Rattle.jc_types.specs.declared.objects.Pod.{Pod}
 use Rattle.jc_log.specs.Deeds.{Deed}
 use Rattle.jc_log.specs.Log.{Live, is_lost, life, upto}
-use Rattle.jc_ledger.specs.Ledger.{ledger_of}
-use Rattle.jc_ledger.specs.Once.{IsJustified, taking_of}
-use Rattle.jc_ledger.specs.Syncs.{appends, reach, request_of}
+use Rattle.jc_sync.specs.Ledger.{ledger_of}
+use Rattle.jc_sync.specs.Once.{IsJustified, taking_of}
+use Rattle.jc_sync.specs.Syncs.{appends, reach, request_of}
 
 -- Just before the deed the pod of the UID had its finalizer. The deed wrote an entry, and just after it the
 -- pod was without it, or gone.

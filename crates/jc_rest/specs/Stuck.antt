@@ -6,8 +6,8 @@ use Rattle.std.specs.Prelude.{◌≡◌, ℕ, ◌≤◌, Bool, true, false, not,
 use Rattle.std.specs.Option.{option_map_or}
 use Rattle.std.specs.List.{Contains}
 use Rattle.jc_control.specs.ControllerCalls.{forgets_caches}
-use Rattle.jc_moment.specs.Range.{end_of_moments}
-use Rattle.jc_queue.specs.Queued.{has_key}
+use Rattle.jc_log.specs.Range.{end_of_moments}
+use Rattle.jc_control.specs.Queued.{has_key}
 use Rattle.jc_types.specs.declared.objects.Entry.{Entry}
 use Rattle.jc_types.specs.declared.objects.Job.{Job}
 use Rattle.jc_types.specs.declared.objects.Key.{Key}
@@ -18,7 +18,7 @@ use Rattle.jc_states.specs.Conditions.{has_end}
 use Rattle.jc_states.specs.Pods.{is_active}
 use Rattle.jc_log.specs.Deeds.{Deed}
 use Rattle.jc_log.specs.Log.{pods_of}
-use Rattle.jc_manage.specs.Backoffs.{opening}
+use Rattle.jc_plan.specs.Backoffs.{opening}
 use Rattle.jc_history.specs.Lines.{adds}
 use Rattle.jc_history.specs.Nodes.{fate, pod_end}
 use Rattle.jc_history.specs.Notes.{Note, Listed, Expired, Ended}

@@ -1,15 +1,13 @@
 //! Laws on histories at rest. Each function is empty: what it ensures holds of every history, and
 //! its callers may cite it.
 
-ghost use Rattle.std.specs.Prelude.{◌≡◌, ◌+◌, ◌<◌, List, Some, true, ℕ};
-ghost use Rattle.jc_moment.specs.Range.{end_of_moments};
+ghost use Rattle.std.specs.Prelude.{◌≡◌, ◌<◌, List, Some, true, ℕ};
 ghost use Rattle.jc_types.specs.declared.objects.Job.{Job};
 ghost use Rattle.jc_types.specs.declared.objects.Key.{Key};
 ghost use Rattle.jc_types.specs.declared.runs.Shape.{Shape};
 ghost use Rattle.jc_log.specs.Deeds.{Deed};
 ghost use Rattle.jc_log.specs.Log.{job_in};
 ghost use Rattle.jc_history.specs.Available.{is_quiescent};
-ghost use Rattle.jc_history.specs.Diaries.{moment};
 ghost use Rattle.jc_history.specs.Registers.{backoff};
 ghost use Rattle.jc_history.specs.Legal.{IsLegal};
 ghost use Rattle.jc_history.specs.Replies.{diary, log_given};
@@ -18,14 +16,13 @@ ghost use Rattle.jc_rest.specs.LetGo.{EndedAreLetGo};
 ghost use Rattle.jc_rest.specs.Lost.{AreLostWell};
 ghost use Rattle.jc_rest.specs.Stuck.{IsWaiting, is_sure};
 
-use jc_manifest::allowed_updates_stay_valid;
+use jc_runs::allowed_updates_stay_valid;
 
 /// **At rest no ended pod is forgotten (KEP-2307)**: where nothing is available any more, each pod
 /// that has ended, of a Job that is there, has lost its finalizer. So it is for any number of
 /// controllers and workers, with faults, lost replies, restarts, pods that lose their finalizers by
 /// commands, and caches that are listed anew; and however many pods have ended, though a sync counts
-/// in no more of them than fit into the lists, and leaves the others over. The clock stands more than
-/// a minute before the last moment, since a retry past it is not added.
+/// in no more of them than fit into the lists, and leaves the others over.
 ///
 /// The Job's status need not be the next one: where a pod came and went between two lists of the
 /// pod cache, no list adds its owner's key.
@@ -33,7 +30,6 @@ pub fn no_ended_pod_is_forgotten_at_rest()
     ensures { (shape : Shape) (deeds : List Deed) → IsLegal shape deeds → AllAskValid deeds
         → 0 < shape.controllers → 0 < shape.workers
         → is_quiescent shape deeds (log_given shape deeds) ≡ true
-        → moment shape deeds + 60 < end_of_moments
         → (k : Key) (job : Job) → job_in k (log_given shape deeds) ≡ Some job
         → EndedAreLetGo job (log_given shape deeds) }
 {
@@ -67,7 +63,6 @@ pub fn no_job_is_stuck_at_rest()
     ensures { (shape : Shape) (deeds : List Deed) → IsLegal shape deeds → AllAskValid deeds
         → 0 < shape.workers
         → is_quiescent shape deeds (log_given shape deeds) ≡ true
-        → moment shape deeds + 60 < end_of_moments
         → (c : ℕ) → c < shape.controllers
         → (k : Key) (job : Job) → job_in k (log_given shape deeds) ≡ Some job
         → is_sure k (diary shape c deeds) ≡ true

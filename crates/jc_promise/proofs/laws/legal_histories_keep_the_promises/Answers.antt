@@ -17,6 +17,6 @@ returns c = λ script shape history valid some working few follows.
           let short : 1 + length other.events.items < 2 ^ 64 = omega (arith, legal.few, few) in
           c.lines_determine_histories.ensures script shape other history legal follows others events short same;
       bounds = λ one. c.one_controller_holds_the_bounds.ensures shape (deeds script history) one follows.legal;
-      rests = λ quiet room. c.no_ended_pod_is_forgotten_at_rest.ensures shape (deeds script history) follows.legal asks some working quiet room;
-      waits = λ quiet room. c.no_job_is_stuck_at_rest.ensures shape (deeds script history) follows.legal asks working quiet room;
+      rests = λ quiet. c.no_ended_pod_is_forgotten_at_rest.ensures shape (deeds script history) follows.legal asks some working quiet;
+      waits = λ quiet. c.no_job_is_stuck_at_rest.ensures shape (deeds script history) follows.legal asks working quiet;
     }
