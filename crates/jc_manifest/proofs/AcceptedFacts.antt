@@ -4,7 +4,7 @@ use Rattle.std.specs.Prelude.{All, IfOk, AllPairs, int_le, is_none, nat_lt, nat_
 use Rattle.std.specs.Option.{option_or, option_map_or}
 use Rattle.std.specs.Result.{result_unwrap_or}
 use Rattle.std.specs.Cmp.Lexicographic.{bytes_decides}
-use Rattle.std.proofs.lemmas.Bool.{leb-true, ltb-true}
+use Rattle.std.proofs.lemmas.Bool.{leb-true, ltb-true, or_parts as or_false}
 use Rattle.std.proofs.lemmas.List.{append-nil}
 use Rattle.std.proofs.lemmas.List.Elements.{All-nil, All-cons}
 use Rattle.std.proofs.lemmas.List.Quantifiers.{all_pairs_push}
@@ -12,7 +12,7 @@ use Rattle.serde_json.specs.Data.{Data, null, boolean, number, string, array, ob
 use Rattle.serde_json.specs.Events.{items_len}
 use Rattle.serde_json.specs.Find.{get, as_array, as_integer, as_number}
 use Rattle.jc_json.specs.Place.{path_to, path_at}
-use Rattle.jc_json.specs.Field.{Refusal, wrong_type, out_of_range, ◌>>=◌, member_of, unless_null, within, bounded_number, items_in, list_of, may_be, optional_number, optional_list, optional_object, needed_text, needed_list}
+use Rattle.jc_json.specs.Field.{Refusal, wrong_type, out_of_range, ◌>>=◌, member_of, unless_null, within_bounds, bounded_number, items_in, list_of, may_be, optional_number, optional_list, optional_object, needed_text, needed_list}
 use Rattle.jc_types.specs.declared.limits.TheConstants.{GREATEST_COMPLETIONS, GREATEST_LIMIT, GREATEST_PARALLELISM, MOST_CONTAINERS}
 use Rattle.jc_types.specs.declared.objects.Key.{Key}
 use Rattle.jc_types.specs.declared.policies.Action.{Action}
@@ -28,33 +28,34 @@ use Rattle.jc_types.specs.declared.specifications.Restart.{Restart}
 use Rattle.jc_types.specs.declared.specifications.Restart.TheVariants.{Never, OnFailure}
 use Rattle.jc_types.specs.declared.specifications.Template.{Template}
 use Rattle.jc_states.specs.ValidSpecs.{FailsNoIndex, IsSuccessCount, IsValidSpec}
-use Rattle.jc_manifest.specs.declared.counts.Counts.{Counts}
+use Rattle.jc_rows.specs.declared.counts.Counts.{Counts}
 use Rattle.jc_manifest.specs.declared.index_limits.IndexLimits.{IndexLimits}
 use Rattle.jc_manifest.specs.declared.manifests.Head.{Head}
-use Rattle.jc_manifest.specs.declared.refusals.ManifestFault.{ManifestFault}
+use Rattle.jc_rows.specs.declared.refusals.ManifestFault.{ManifestFault}
 use Rattle.jc_log.specs.Requests.{is_indexed}
-use Rattle.jc_manifest.specs.Counts.{is_mode, completions_of, completions_or, indexed_row, numbers_refusal, parallelism_in, completions_in, mode_in, counts_refusal, counts_in}
-use Rattle.jc_manifest.specs.FailurePolicies.{is_fail_index, action_in, action_refusal, failure_rule_refusal, failure_rule_in, failure_rule_row, failure_rules_from, failure_rules_refusal, given_failure_refusal, failure_refusal, failure_rules_in, failure_in}
+use Rattle.jc_rows.specs.Counts.{is_mode, completions_of, completions_or, indexed_row, numbers_refusal, parallelism_in, completions_in, mode_in, counts_refusal, counts_in}
+use Rattle.jc_policies.specs.FailurePolicies.{is_fail_index, action_in, action_refusal, failure_rule_refusal, failure_rule_in, failure_rule_row, failure_rules_from, failure_rules_refusal, given_failure_refusal, failure_refusal, failure_rules_in, failure_in}
 use Rattle.jc_manifest.specs.IndexLimits.{index_limits_refusal, index_limits_in, is_by_index, has_indexes_to_limit, by_index_refusal}
 use Rattle.jc_manifest.specs.Limits.{managed_row, usual_backoff, limits_in}
 use Rattle.jc_manifest.specs.Manifests.{is_early, replacement_in, replacement_refusal, head_refusal, head_in, policies_refusal, policies_in, spec_refusal, spec_in, metadata_part_refusal, spec_part_refusal, manifest_refusal, key_of, spec_of}
 use Rattle.jc_manifest.specs.Metadata.{type_refusal}
-use Rattle.jc_manifest.specs.Rows.{Row, Reads, each, rule_row, passes, number_in, object_in, rows_of_given, given_in, text_row, given_text_row, object_row}
-use Rattle.jc_manifest.specs.SuccessPolicies.{count_in, success_rule_in, success_rules_from, success_rules_in, given_success_refusal, success_refusal, success_in}
-use Rattle.jc_manifest.specs.Templates.{never_restarts, restart_in, restart_refusal, init_count, list_in, given_list_in, are_right_many, containers_refusal, is_among, is_new_label, name_row, container_name, names_row, names_in, all_names_refusal, all_containers_refusal, pod_refusal, names_of_both, all_names_in, template_in_pod, pod_path, pod_spec_in, template_refusal, template_in}
-use Rattle.jc_manifest.specs.Words.{is_label}
+use Rattle.jc_rows.specs.Rows.{Row, Reads, each, rule_row, passes, number_in, object_in, rows_of_given, given_in, text_row, given_text_row, object_row}
+use Rattle.jc_policies.specs.SuccessPolicies.{count_in, success_rule_in, success_rules_from, success_rules_in, given_success_refusal, success_refusal, success_in}
+use Rattle.jc_rows.specs.Templates.{never_restarts, restart_in, restart_refusal, init_count, list_in, given_list_in, are_right_many, containers_refusal, is_among, is_new_label, name_row, container_name, names_row, names_in, all_names_refusal, all_containers_refusal, pod_refusal, names_of_both, all_names_in, template_in_pod, pod_path, pod_spec_in, template_refusal, template_in}
+use Rattle.jc_rows.specs.Words.{is_label}
+use Rattle.jc_policies.proofs.IndexSetFacts.{left, right}
 
 -- ---- rows that refuse nothing
 
-parts : (row rest : Row) → option_or row rest ≡ None → (row ≡ None) × (rest ≡ None)
+pub parts : (row rest : Row) → option_or row rest ≡ None → (row ≡ None) × (rest ≡ None)
 parts None rest e = (refl, e)
 parts (Some r) rest e = absurd (cc (e))
 
-kept : (path : List ℕ) (rule : ℕ) (b : Bool) → rule_row path rule b ≡ None → b ≡ true
+pub kept : (path : List ℕ) (rule : ℕ) (b : Bool) → rule_row path rule b ≡ None → b ≡ true
 kept path rule true e = refl
 kept path rule false e = absurd (cc (e))
 
-passed : {A : Type 0} (path : List ℕ) (rule : ℕ) (test : A → Bool) (read : Result A Refusal) (filler : A)
+pub passed : {A : Type 0} (path : List ℕ) (rule : ℕ) (test : A → Bool) (read : Result A Refusal) (filler : A)
     → passes path rule test read ≡ None → test (result_unwrap_or read filler) ≡ true
 passed path rule test (Ok a) filler e = kept path rule (test a) e
 passed path rule test (Err refusal) filler e = absurd (cc (e))
@@ -72,14 +73,6 @@ given_holds P f (Ok None) rows holds e = tt
 given_holds P f (Ok (Some d)) rows holds e = holds d e
 given_holds P f (Err refusal) rows holds e = tt
 
-left : (a b : Bool) → (a && b) ≡ true → a ≡ true
-left true b e = refl
-left false b e = e
-
-right : (a b : Bool) → (a && b) ≡ true → b ≡ true
-right true b e = e
-right false b e = absurd (true≢false (sym e))
-
 -- ---- numbers
 
 bounded : (path : List ℕ) (least greatest : ℕ) (z : ℤ) (b : Bool) → (int_le (pos least) z && int_le z (pos greatest)) ≡ b
@@ -91,7 +84,7 @@ bounded path least greatest (negsuc n) true e = absurd (true≢false (sym e))
 bounded path least greatest z false e = tt
 
 number_bounded : (path : List ℕ) (least greatest : ℕ) (w : Option ℤ)
-    → IfSome (option_map nat_abs (result_unwrap_or ((ok_or w (wrong_type path) >>= within path (pos least) (pos greatest)) >>= (λ a. Ok (Some a))) None))
+    → IfSome (option_map nat_abs (result_unwrap_or ((ok_or w (wrong_type path) >>= within_bounds path (pos least) (pos greatest)) >>= (λ a. Ok (Some a))) None))
     (λ n. (least ≤ n) × (n ≤ greatest))
 number_bounded path least greatest None = tt
 number_bounded path least greatest (Some z) = bounded path least greatest z (int_le (pos least) z && int_le z (pos greatest)) refl
@@ -115,8 +108,8 @@ unfolding number_in
 number_fits path d name greatest = below greatest _ (optional_bounded path name d 0 greatest)
 
 or_fits : (o : Option ℕ) (usual greatest : ℕ) → IfSome o (λ n. n ≤ greatest) → usual ≤ greatest → unwrap_or o usual ≤ greatest
-or_fits None usual greatest h within = within
-or_fits (Some n) usual greatest h within = h
+or_fits None usual greatest h within_bounds = within_bounds
+or_fits (Some n) usual greatest h within_bounds = h
 
 completions_fit : (p c : Option ℕ) → IfSome c (λ n. n ≤ GREATEST_COMPLETIONS) → IfSome (completions_or p c) (λ n. n ≤ GREATEST_COMPLETIONS)
 completions_fit p (Some c) h = h
@@ -130,17 +123,13 @@ among_or true b e = absurd (true≢false (sym e))
 among_or false true e = absurd (true≢false (sym e))
 among_or false false e = (refl, refl)
 
-or_false : (a b : Bool) → (a || b) ≡ false → (a ≡ false) × (b ≡ false)
-or_false true b e = absurd (true≢false e)
-or_false false b e = (refl, e)
-
 -- what is not among names differs from each of them
 not_among : (names : List (List ℕ)) (s : List ℕ) → is_among names s ≡ false → (k : ℕ) (d : List ℕ) → k < length names → get_or names k d ≢ s
-not_among [] s e k d within = absurd (omega arith)
-not_among (name ∷ names) s e zero d within =
+not_among [] s e k d within_bounds = absurd (omega arith)
+not_among (name ∷ names) s e zero d within_bounds =
     let apart = or_false (bytes_eq name s) (is_among names s) e in
     λ same. true≢false (sym ((bytes_decides name s).1 same) ∙ apart.0)
-not_among (name ∷ names) s e (suc k) d within =
+not_among (name ∷ names) s e (suc k) d within_bounds =
     not_among names s (or_false (bytes_eq name s) (is_among names s) e).1 k d (omega arith)
 
 among_append : (a b : List (List ℕ)) (s : List ℕ) → is_among a s ≡ false → is_among b s ≡ false → is_among (a ++ b) s ≡ false
@@ -180,7 +169,7 @@ names_counted : (path : List ℕ) (place : ℕ) (ds : List Data) → length (nam
 names_counted path place [] = refl
 names_counted path place (d ∷ ds) = ap suc (names_counted path (place + 1) ds)
 
-items_counted_in : (items : Items) → length (items_in items) ≡ items_len items
+pub items_counted_in : (items : Items) → length (items_in items) ≡ items_len items
 items_counted_in no_items = refl
 items_counted_in (item d ds) = ap suc (items_counted_in ds)
 
@@ -206,7 +195,7 @@ record IsValidTemplate (template : Template) : Type 0 where
   distinct : Distinct (template.containers ++ template.inits)
 
 none_differ : Distinct []
-none_differ i j d less within = absurd (omega arith)
+none_differ i j d less within_bounds = absurd (omega arith)
 
 pod_valid : (by_index : Bool) (path : List ℕ) (pod : Data) → pod_refusal by_index path pod ≡ None → IsValidTemplate (template_in_pod path pod)
 unfolding pod_refusal template_in_pod all_containers_refusal all_names_refusal all_names_in names_of_both containers_refusal list_in

@@ -1,13 +1,5 @@
 pub mod AcceptedFacts
 pub mod CountFacts
-pub mod IndexFacts
-pub mod IndexSetFacts
-pub mod Lists
-pub mod NameFacts
-pub mod NamedFacts
-pub mod CleanMembers
-pub mod NoFloats
-pub mod PolicyFacts
-pub mod Puts
-pub mod RowFacts
 pub mod Valid
+-- The lemmas on sets of indexes in a text, handed on to the crates above.
+pub use Rattle.jc_policies.proofs.IndexSetFacts

@@ -1,15 +1,9 @@
-pub mod Counts
-pub mod FailurePolicies
 pub mod Faults
 pub mod IndexLimits
-pub mod IndexSets
 pub mod Limits
 pub mod Manifests
-pub mod Members
 pub mod Metadata
-pub mod PrintedSpecs
-pub mod PrintedStatuses
-pub mod Rows
-pub mod SuccessPolicies
-pub mod Templates
-pub mod Words
+-- The words of policies, handed on to the crates above.
+pub use Rattle.jc_policies.specs.FailurePolicies
+pub use Rattle.jc_policies.specs.IndexSets
+pub use Rattle.jc_policies.specs.SuccessPolicies

@@ -2,12 +2,11 @@
 
 ghost use Rattle.std.specs.Prelude.{◌≡◌, codes};
 ghost use Rattle.serde_json.specs.View.{view};
-ghost use Rattle.jc_manifest.specs.Rows.{Checks, Reads, bool_row};
+ghost use Rattle.jc_rows.specs.Rows.{Checks, Reads, bool_row};
 ghost use Rattle.jc_manifest.specs.Limits.{managed_row, limits_refusal, suspend_in, usual_backoff, limits_in};
 
-use crate::counts::may_count;
-use crate::refusals::{ManifestFault, broken};
 use jc_json::{Path, may_bool, may_text};
+use jc_rows::{ManifestFault, broken, may_count};
 use jc_types::GREATEST_LIMIT;
 use serde_json::Value;
 use std::alloc::Global;
@@ -21,7 +20,7 @@ pub struct Limits {
 }
 
 /// That this controller manages the Job.
-#[tactic(auto, unfolding(crate::specs::Rows::given_text_row))]
+#[tactic(auto, unfolding(jc_rows::specs::Rows::given_text_row))]
 pub fn check_managed(alloc: Global, spec: &Value, path: &Path) -> Result<(), ManifestFault>
     ensures { Checks result (managed_row path.now (view spec.now)) }
 {
@@ -35,7 +34,7 @@ pub fn check_managed(alloc: Global, spec: &Value, path: &Path) -> Result<(), Man
 }
 
 // Whether the Job makes no pods for now.
-#[tactic(auto, unfolding(crate::specs::Rows::bool_row, crate::specs::Limits::suspend_in))]
+#[tactic(auto, unfolding(jc_rows::specs::Rows::bool_row, crate::specs::Limits::suspend_in))]
 fn read_suspend(alloc: Global, spec: &Value, path: &Path) -> Result<bool, ManifestFault>
     ensures { Reads (λ suspend. suspend) result
         (bool_row path.now (view spec.now) (codes "suspend"))

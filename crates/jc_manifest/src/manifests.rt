@@ -4,19 +4,16 @@ ghost use Rattle.std.specs.Prelude.{◌≡◌, ◌&&◌, IfOk, codes, is_some, n
 ghost use Rattle.serde_json.specs.View.{view};
 ghost use Rattle.jc_json.specs.Place.{path_to};
 ghost use Rattle.jc_states.specs.ValidSpecs.{IsValidSpec};
-ghost use Rattle.jc_manifest.specs.Counts.{counts_in};
-ghost use Rattle.jc_manifest.specs.Rows.{Checks, Reads, rule_row, given_text_row};
+ghost use Rattle.jc_rows.specs.Counts.{counts_in};
+ghost use Rattle.jc_rows.specs.Rows.{Checks, Reads, rule_row, given_text_row};
 ghost use Rattle.jc_manifest.specs.Manifests.{replacement_of, is_replacement, usual_replacement, replacement_in, is_early, replacement_refusal, policies_refusal, policies_in, head_refusal, head_in, spec_refusal, spec_with, spec_in, metadata_part_refusal, spec_part_refusal, manifest_refusal, key_of, spec_of};
 
-use crate::counts::{Counts, read_counts};
-use crate::failure_policies::read_failure;
 use crate::index_limits::{IndexLimits, check_by_index, is_by_index, read_index_limits};
 use crate::limits::{Limits, check_managed, read_limits};
 use crate::metadata::{check_type, read_key};
-use crate::refusals::{ManifestFault, broken};
-use crate::success_policies::read_success;
-use crate::templates::{read_object, read_template};
 use jc_json::{Path, may_text};
+use jc_policies::{read_failure, read_success};
+use jc_rows::{Counts, ManifestFault, broken, read_counts, read_object, read_template};
 use jc_types::{FailurePolicy, JobSpec, Key, Replacement, SuccessPolicy, Template};
 use serde_json::Value;
 use std::alloc::Global;
@@ -61,7 +58,7 @@ fn usual_replacement(has_failure: bool) -> Replacement
 }
 
 // The replacement policy that a manifest says.
-#[tactic(auto, unfolding(crate::specs::Rows::given_text_row, crate::specs::Manifests::replacement_in))]
+#[tactic(auto, unfolding(jc_rows::specs::Rows::given_text_row, crate::specs::Manifests::replacement_in))]
 fn read_known_replacement(
     alloc: Global,
     spec: &Value,

@@ -2,7 +2,7 @@ use Rattle.std.proofs.Common.{refl}
 use Rattle.std.proofs.lemmas.Result.{err_from_is_err_and}
 use Rattle.jc_manifest.specs.IndexLimits.{index_limits_refusal}
 use Rattle.jc_manifest.proofs.CountFacts.{index_limits_said}
-use Rattle.jc_manifest.proofs.RowFacts.{refuses_or, refuses_later, reads_err, none_or}
+use Rattle.jc_rows.proofs.RowFacts.{refuses_or, refuses_later, reads_err, none_or}
 use Rattle.jc_manifest.proofs.index_limits.read_index_limits.Goals as goal
 
 pub returns-in_err-max_failed : goal.returns-in_err-max_failed

@@ -2,7 +2,7 @@ use Rattle.std.proofs.Common.{refl}
 use Rattle.std.proofs.lemmas.Result.{err_from_is_err_and}
 use Rattle.jc_manifest.specs.Limits.{limits_refusal}
 use Rattle.jc_manifest.proofs.CountFacts.{limits_said}
-use Rattle.jc_manifest.proofs.RowFacts.{refuses_or, refuses_later, reads_err, none_or}
+use Rattle.jc_rows.proofs.RowFacts.{refuses_or, refuses_later, reads_err, none_or}
 use Rattle.jc_manifest.proofs.limits.read_limits.Goals as goal
 
 pub returns-in_err-deadline : goal.returns-in_err-deadline

@@ -1,7 +1,0 @@
-use Rattle.std.proofs.Common.{◌≡◌, None, drop}
-use Rattle.jc_manifest.specs.FailurePolicies.{rises_from}
-use Rattle.jc_manifest.proofs.failure_policies.rises.Given as goal
-
--- the codes so far rise
-abbrev pub invariant-loop-code : goal.invariant-loop-code
-invariant-loop-code l = rises_from l.low (drop l.code-index l.codes) ≡ rises_from None l.codes

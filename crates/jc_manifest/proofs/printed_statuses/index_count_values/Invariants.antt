@@ -1,7 +1,0 @@
-use Rattle.std.proofs.Common.{◌≡◌, map, take}
-use Rattle.serde_json.specs.View.{view}
-use Rattle.jc_manifest.specs.PrintedStatuses.{index_count_data}
-use Rattle.jc_manifest.proofs.printed_statuses.index_count_values.Given as goal
-
-abbrev pub invariant-loop-count : goal.invariant-loop-count
-invariant-loop-count l = map view l.values.items ≡ map index_count_data (take l.count-index l.counts)

@@ -1,0 +1,5 @@
+pub mod IndexFacts
+pub mod IndexSetFacts
+pub mod Lists
+pub mod NamedFacts
+pub mod PolicyFacts

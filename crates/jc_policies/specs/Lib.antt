@@ -1,0 +1,3 @@
+pub mod FailurePolicies
+pub mod IndexSets
+pub mod SuccessPolicies

@@ -1,0 +1,3 @@
+pub mod CleanMembers
+pub mod NoFloats
+pub mod Puts

@@ -1,0 +1,4 @@
+pub mod CountFacts
+pub mod Lists
+pub mod NameFacts
+pub mod RowFacts
