@@ -1,16 +1,17 @@
 -- The audit: what holds after each line, and what is said at last.
 use Rattle.std.proofs.Common.{◌≡◌, ℕ, zero, suc, ◌+◌, ◌-◌, ◌<◌, ◌≤◌, true, false, List, [], ◌∷◌, ◌++◌, length, map, reverse, take, drop, refl, sym, ap, ap₂, ◌∙◌, subst, arith, ◌⊎◌, inl, inr}
-use Rattle.std.proofs.lemmas.List.{length-reverse}
+use Rattle.std.proofs.lemmas.List.{length-reverse, length_push as one_longer}
 use Rattle.jc_types.specs.declared.runs.Past.{Past}
 use Rattle.jc_types.specs.declared.runs.Shape.{Shape}
 use Rattle.jc_log.specs.Deeds.{deed}
 use Rattle.jc_runs.specs.Seen.{Seen, deeds_seen}
 use Rattle.jc_audit.specs.declared.verdicts.Verdict.{Verdict}
 use Rattle.jc_audit.specs.declared.verdicts.Verdict.TheVariants.{Yes, No}
-use Rattle.jc_audit.specs.Audits.{Says, begins_event}
+use Rattle.jc_audit.specs.Audits.{VerdictHolds, begins_event}
 use Rattle.jc_audit.specs.Tails.{tail_verdict}
 use Rattle.jc_audit.specs.Walks.{Begins, GoesOn, HasTaken, NoneIsTaken, TakesLine, TakesCommand, TakesSystem, Walks, at_first, begun_command, last_line}
 use Rattle.jc_audit.proofs.TailFacts.{tail_yes}
+use Rattle.std.proofs.Math.Seq.{take-append_seam as take_whole}
 
 -- The lines in front of this place were taken.
 pub record IsUnderWay (shape : Shape) (bytes : List ℕ) (at : ℕ) (seen : Seen) : Type 0 where
@@ -25,11 +26,7 @@ at_begin shape bytes seen is = subst (IsUnderWay shape bytes 0) (sym is)
 
 -- ---- a line more
 
-take_whole : (xs ys : List ℕ) → take (length xs) (xs ++ ys) ≡ xs
-take_whole [] ys = refl
-take_whole (x ∷ xs) ys = ap (λ l. x ∷ l) (take_whole xs ys)
-
-long : (xs ys : List ℕ) → length (xs ++ ys) ≡ length xs + length ys
+pub long : (xs ys : List ℕ) → length (xs ++ ys) ≡ length xs + length ys
 long [] ys = omega arith
 long (x ∷ xs) ys = let more = long xs ys in omega (arith, more)
 
@@ -60,10 +57,6 @@ same_shape old new t = by t.one
     by : TakesCommand old new ⊎ TakesSystem old new → new.shape ≡ old.shape
     by (inl c) = ap (λ (s : Seen). s.shape) c.is
     by (inr s) = ap (λ (s : Seen). s.shape) s.is
-
-one_longer : {A : Type 0} (xs : List A) (x : A) → length (xs ++ x ∷ []) ≡ length xs + 1
-one_longer [] x = refl
-one_longer (y ∷ xs) x = let more = one_longer xs x in omega (arith, more)
 
 still_used : (old new : Seen) → TakesLine old new → length old.script.commands ≤ length old.pasts → length new.script.commands ≤ length new.pasts
 still_used old new t used = by t.one
@@ -116,7 +109,7 @@ module _ (shape : Shape) (bytes : List ℕ) (at n : ℕ) (old new : Seen) (rest 
 
 -- ---- what is said
 
-cut_back : (n : ℕ) (xs : List ℕ) → xs ≡ take n xs ++ drop n xs
+pub cut_back : (n : ℕ) (xs : List ℕ) → xs ≡ take n xs ++ drop n xs
 cut_back zero xs = refl
 cut_back (suc n) [] = refl
 cut_back (suc n) (x ∷ xs) = ap (λ l. x ∷ l) (cut_back n xs)
@@ -129,7 +122,7 @@ line_number items pasts n turned is =
     omega (arith, is, long, same)
 
 pub not_taken : (shape : Shape) (bytes : List ℕ) (at line : ℕ) (seen : Seen) (rest here : List ℕ) → IsUnderWay shape bytes at seen → rest ≡ drop at bytes → here ≡ drop at bytes
-    → begins_event rest ≡ true → NoneIsTaken seen here → line ≡ 1 + length seen.pasts → Says shape bytes (No line)
+    → begins_event rest ≡ true → NoneIsTaken seen here → line ≡ 1 + length seen.pasts → VerdictHolds shape bytes (No line)
 not_taken shape bytes at line seen rest here h of_rest of_here begins none is = record {
   last = seen;
   text = take at bytes;
@@ -147,14 +140,14 @@ many seen = by seen.pasts
     by (p ∷ pasts) = let more = by pasts in omega (arith, more)
 
 pub said_at_last : (shape : Shape) (bytes : List ℕ) (at : ℕ) (seen : Seen) (v : Verdict) (rest here : List ℕ) → IsUnderWay shape bytes at seen → rest ≡ drop at bytes → here ≡ drop at bytes
-    → begins_event rest ≡ false → v ≡ tail_verdict seen.shape (deeds_seen seen) here → Says shape bytes v
+    → begins_event rest ≡ false → v ≡ tail_verdict seen.shape (deeds_seen seen) here → VerdictHolds shape bytes v
 said_at_last shape bytes at seen v rest here h of_rest of_here none is =
     by v (is ∙ ap (tail_verdict seen.shape (deeds_seen seen)) of_here ∙ ap (λ (s : Shape). tail_verdict s (deeds_seen seen) (drop at bytes)) h.of_shape)
   where
     begins : begins_event (drop at bytes) ≡ false
     begins = ap begins_event (sym of_rest) ∙ none
 
-    by : (v : Verdict) → v ≡ tail_verdict shape (deeds_seen seen) (drop at bytes) → Says shape bytes v
+    by : (v : Verdict) → v ≡ tail_verdict shape (deeds_seen seen) (drop at bytes) → VerdictHolds shape bytes v
     by Yes e =
         let t = tail_yes shape (deeds_seen seen) (drop at bytes) (sym e) in
         record {

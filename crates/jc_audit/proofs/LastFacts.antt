@@ -14,7 +14,8 @@ use Rattle.jc_log.specs.Acts.{Act}
 use Rattle.jc_log.specs.Deeds.{Deed, act_of_action, act_of_system, lane_of}
 use Rattle.jc_history.specs.Legal.{IsLegal, IsLegalNext, lane_places, places_from}
 use Rattle.jc_history.specs.Replies.{log_given, next_deed}
-use Rattle.jc_lines.specs.Proper.{IsProperAction, as_begin}
+use Rattle.jc_reading.specs.Proper.{IsProperAction, as_begin}
+use Rattle.jc_log.proofs.LogFacts.{slice_get-after as get_last}
 use Rattle.jc_runs.specs.Seen.{Admits, IsDoable, Seen, act_seen, deeds_seen, happened}
 
 -- ---- deeds
@@ -37,10 +38,6 @@ unfolding log_given
 happened_is_legal seen e admits legal = (record { within = admits.within; settled = admits.settled; reply = refl; length = refl }, legal)
 
 -- ---- the command at the end
-
-pub get_last : {A : Type 0} (xs : List A) (x : A) → slice_get (xs ++ x ∷ []) (length xs) ≡ Some x
-get_last [] x = refl
-get_last (y ∷ xs) x = get_last xs x
 
 -- ---- begins in the place of syncs
 
@@ -84,34 +81,6 @@ begun_proper (act.Restart controller) p = p
 begun_proper (act.PutFault controller worker fault) p = p
 begun_proper act.Settle p = p
 
-pub doable : (a : Action1) → IsDoable (act_of_action a)
-doable (act.Create key spec) = tt
-doable (act.Update key version change) = tt
-doable (act.Delete key) = tt
-doable (act.Mark pod) = tt
-doable (act.Strip pod) = tt
-doable (act.Finish pod exit) = tt
-doable (act.Report pod change) = tt
-doable (act.Fate key ends) = tt
-doable (act.Clock add) = tt
-doable (act.List controller kind) = tt
-doable (act.Deliver controller kind) = tt
-doable (act.Begin controller worker) = tt
-doable (act.Sync controller worker) = tt
-doable (act.Step controller worker) = tt
-doable act.Node = tt
-doable (act.Restart controller) = tt
-doable (act.PutFault controller worker fault) = tt
-doable act.Settle = tt
-
-pub system_doable : (s : Sys) → IsDoable (act_of_system s)
-system_doable (sys.List controller kind) = tt
-system_doable (sys.Deliver controller kind) = tt
-system_doable (sys.Begin controller worker) = tt
-system_doable (sys.Step controller worker) = tt
-system_doable sys.Node = tt
-system_doable (sys.Clock add) = tt
-
 -- ---- places of lanes
 
 -- A command of the script at that place, and its lane.
@@ -142,11 +111,6 @@ lane_at lane cs k n e =
     let far = t.1 in
     let same : t.0 ≡ n = omega (arith, far) in
     subst (IsAt cs lane) same t.2
-
-pub each_at : {A : Type 0} (P : A → Type 0) (xs : List A) (i : ℕ) (x : A) → Each P xs → slice_get xs i ≡ Some x → P x
-each_at P [] i x all e = absurd (true≢false (sym (ap is_some e)))
-each_at P (y ∷ xs) zero x all e = subst P (ap (λ o. unwrap_or o x) e) all.0
-each_at P (y ∷ xs) (suc i) x all e = each_at P xs i x all.1 e
 
 pub each_more : {A : Type 0} (P : A → Type 0) (xs : List A) (x : A) → Each P xs → P x → Each P (xs ++ x ∷ [])
 each_more P [] x all one = (one, tt)

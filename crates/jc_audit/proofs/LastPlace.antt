@@ -1,6 +1,6 @@
 -- The newest event of a history: where it stands, its place in the script, and its line.
 use Rattle.std.proofs.Common.{◌≡◌, ℕ, zero, suc, ◌+◌, ◌-◌, ◌<◌, List, [], ◌∷◌, ◌++◌, length, map, reverse, get_or, slice_get, Some, is_some, refl, sym, ap, ◌∙◌, subst, arith, true≢false}
-use Rattle.std.proofs.lemmas.List.{reverse-append, length-reverse}
+use Rattle.std.proofs.lemmas.List.{reverse-append, length-reverse, reverse-reverse as turned}
 use Rattle.jc_types.specs.declared.actions.Script.{Script}
 use Rattle.jc_types.specs.declared.runs.Event.{Event}
 use Rattle.jc_types.specs.declared.runs.Event.TheVariants as event
@@ -11,11 +11,7 @@ use Rattle.jc_lines.specs.Events.{HasPlace, event_line}
 use Rattle.jc_runs.specs.Seen.{Seen}
 use Rattle.jc_audit.specs.Walks.{last_line, line_of_last}
 use Rattle.jc_audit.proofs.LastFacts.{lane_at}
-
-within : {A : Type 0} (xs : List A) (i : ℕ) (x : A) → slice_get xs i ≡ Some x → i < length xs
-within [] i x e = absurd (true≢false (sym (ap is_some e)))
-within (y ∷ xs) zero x e = omega arith
-within (y ∷ xs) (suc i) x e = let less = within xs i x e in omega (arith, less)
+use Rattle.std.proofs.lemmas.Option.{slice_get_within as within}
 
 pub has_place : (script : Script) (before : List Past) (e : Event) → ComesNext script.commands before e → HasPlace script e
 has_place script before (event.Command lane number) next =
@@ -37,10 +33,6 @@ last_get {A} xs y d = ap (λ n. get_or (xs ++ y ∷ []) n d) (one_less xs) ∙ a
     at [] = refl
     at (x ∷ xs) = at xs
 
-turned : {A : Type 0} (xs : List A) → reverse (reverse xs) ≡ xs
-turned [] = refl
-turned (x ∷ xs) = ap reverse (reverse-append (x ∷ []) xs) ∙ reverse-append (reverse xs) (x ∷ []) ∙ ap (λ l. x ∷ l) (turned xs)
-
 module _ (script : Script) (items pasts : List Past) (p : Past) (is : reverse items ≡ pasts) (found : p ≡ get_or items (length items - 1) p) where
   back : items ≡ reverse pasts
   back = sym (turned items) ∙ ap reverse is
@@ -55,7 +47,7 @@ newest_has_place script items [] p is found some lanes = absurd (omega (arith, s
 newest_has_place script items (first ∷ before) p is found some lanes =
     subst (λ (q : Past). HasPlace script q.event) (sym (newest_is script items (first ∷ before) p is found first before refl)) (has_place script before first.event lanes.0)
 
-lengths : (s : Script) (xs : List Past) → length (map (deed s) xs) ≡ length xs
+pub lengths : (s : Script) (xs : List Past) → length (map (deed s) xs) ≡ length xs
 lengths s [] = refl
 lengths s (x ∷ xs) = let more = lengths s xs in omega (arith, more)
 

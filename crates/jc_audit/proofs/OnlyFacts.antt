@@ -6,13 +6,15 @@ use Rattle.jc_types.specs.declared.runs.Past.{Past}
 use Rattle.jc_log.specs.Deeds.{Deed, act_of_command, deed}
 use Rattle.jc_lines.specs.Acts.{act_text}
 use Rattle.jc_lines.specs.Events.{event_line, tag_text}
-use Rattle.jc_lines.specs.Reads.{BeginsWith, IsProperRead, act_of_line, front_text}
-use Rattle.jc_lines.specs.declared.reads.LineRead.{LineRead}
+use Rattle.jc_reading.specs.Reads.{BeginsWith, IsProperRead, act_of_line, front_text}
+use Rattle.jc_reading.specs.declared.reads.LineRead.{LineRead}
 use Rattle.jc_lines.specs.Replies.{reply_text}
 use Rattle.jc_runs.specs.Seen.{Seen, deeds_seen, past_seen}
 use Rattle.jc_core.specs.Longer.{extended}
 use Rattle.jc_audit.specs.Walks.{TakesCommand, TakesSystem, begun_command, last_line, read_of_command, read_of_system}
-use Rattle.jc_audit.proofs.LastFacts.{begun_act, get_last}
+use Rattle.jc_audit.proofs.LastFacts.{begun_act}
+use Rattle.jc_log.proofs.LogFacts.{slice_get-after as get_last}
+use Rattle.jc_audit.proofs.LastPlace.{lengths}
 
 -- The line of an event is its front, its reply and a line feed.
 front_of_line : (n : ℕ) (d : Deed) → event_line n d ≡ front_text n d.lane d.act ++ (reply_text d.reply ++ codes "\n")
@@ -21,10 +23,6 @@ front_of_line n d =
     sym (append_assoc (decimal n) (32 ∷ (tag_text d.lane ++ 32 ∷ (act_text d.act ++ 32 ∷ 45 ∷ 62 ∷ 32 ∷ []))) tail
     ∙ ap (λ l. decimal n ++ 32 ∷ l) (append_assoc (tag_text d.lane) (32 ∷ (act_text d.act ++ 32 ∷ 45 ∷ 62 ∷ 32 ∷ [])) tail
     ∙ ap (λ l. tag_text d.lane ++ 32 ∷ l) (append_assoc (act_text d.act) (32 ∷ 45 ∷ 62 ∷ 32 ∷ []) tail)))
-
-lengths : (s : Script) (xs : List Past) → length (map (deed s) xs) ≡ length xs
-lengths s [] = refl
-lengths s (x ∷ xs) = let more = lengths s xs in omega (arith, more)
 
 begins : (n : ℕ) (d : Deed) (rest more : List ℕ) (read : LineRead) → n < 2 ^ 64 → d.lane ≡ read.lane → d.act ≡ act_of_line read.act → rest ≡ event_line n d ++ more → BeginsWith rest read
 begins n d rest more read few lane does is = record {

@@ -1,6 +1,6 @@
 -- The two laws on reports.
 use Rattle.std.proofs.Common.{◌≡◌, ℕ, ◌≤◌, Bool, true, List, [], ◌∷◌, ◌++◌, length, map, reverse, refl, sym, ap, ap₂, ◌∙◌, subst, arith}
-use Rattle.std.proofs.lemmas.List.{length-reverse, map-append, reverse-append}
+use Rattle.std.proofs.lemmas.List.{length-reverse, map-append, reverse-append, reverse-reverse as twice}
 use Rattle.std.specs.List.{AllByRecursion as Each}
 use Rattle.jc_types.specs.declared.actions.Script.{Script}
 use Rattle.jc_types.specs.declared.objects.Entry.{Entry}
@@ -12,9 +12,9 @@ use Rattle.jc_history.specs.Available.{IsOrderly}
 use Rattle.jc_history.specs.Legal.{InLanes, IsHistory, IsLegal}
 use Rattle.jc_history.specs.Replies.{log_given}
 use Rattle.jc_lines.specs.Events.{event_lines}
-use Rattle.jc_lines.specs.Proper.{IsProperCommand}
+use Rattle.jc_reading.specs.Proper.{IsProperCommand}
 use Rattle.jc_lines.specs.Summaries.{full_line}
-use Rattle.jc_ledger.specs.Ledger.{ledger_of, verdicts_of}
+use Rattle.jc_runs.specs.Ledger.{ledger_of, verdicts_of}
 use Rattle.jc_log.specs.Log.{jobs_in}
 use Rattle.jc_report.specs.Reports.{in_order, jobs_text, report_text, verdicts_in}
 use Rattle.jc_runs.specs.Seen.{Seen, deeds_seen, log_seen}
@@ -23,15 +23,7 @@ use Rattle.jc_audit.specs.Reported.{IsReported}
 use Rattle.jc_audit.specs.Tails.{tail_text}
 use Rattle.jc_audit.proofs.BackFacts.{Comes, comes_back}
 use Rattle.jc_audit.proofs.WalkFacts.{IsWalked, walked}
-
-map-reverse : {A B : Type 0} (f : A → B) (xs : List A) → reverse (map f xs) ≡ map f (reverse xs)
-map-reverse f [] = refl
-map-reverse f (x ∷ xs) =
-    reverse-append (f x ∷ []) (map f xs) ∙ ap (λ l. l ++ f x ∷ []) (map-reverse f xs) ∙ sym (map-append f (reverse xs) (x ∷ [])) ∙ ap (map f) (sym (reverse-append (x ∷ []) xs))
-
-twice : {A : Type 0} (xs : List A) → reverse (reverse xs) ≡ xs
-twice [] = refl
-twice (x ∷ xs) = ap reverse (reverse-append (x ∷ []) xs) ∙ reverse-append (reverse xs) (x ∷ []) ∙ ap (λ l. x ∷ l) (twice xs)
+use Rattle.jc_core.proofs.Starts.{map-reverse}
 
 -- The text of a report, by its deeds, newest first.
 text_is : (script : Script) (shape : Shape) (items : List Past) (full : Bool)

@@ -10,33 +10,26 @@ use Rattle.jc_types.specs.declared.runs.Sys.{Sys}
 use Rattle.jc_types.specs.declared.runs.Sys.TheVariants as sys
 use Rattle.jc_log.specs.Deeds.{Deed, act_of_system, deed}
 use Rattle.jc_lines.specs.Acts.{act_text}
-use Rattle.jc_lines.specs.Cuts.{IsWord, behind_word, first_word_in}
+use Rattle.jc_reading.specs.Cuts.{IsWord, behind_word, first_word_in}
 use Rattle.jc_lines.specs.Events.{tag_text}
-use Rattle.jc_lines.specs.Proper.{IsProperSystem, as_begin}
-use Rattle.jc_lines.specs.Reads.{BeginsWith, IsProperOf, IsProperRead, act_of_line, begun_read, front_text}
-use Rattle.jc_lines.specs.declared.reads.LineAct.{LineAct}
-use Rattle.jc_lines.specs.declared.reads.LineAct.TheVariants as read
-use Rattle.jc_lines.specs.declared.reads.LineRead.{LineRead}
-use Rattle.jc_lines.proofs.CutFacts.{after_word, decimal_word, first_word, take_front}
+use Rattle.jc_reading.specs.Proper.{IsProperSystem, as_begin}
+use Rattle.jc_reading.specs.Reads.{BeginsWith, IsProperOf, IsProperRead, act_of_line, begun_read, front_text}
+use Rattle.jc_reading.specs.declared.reads.LineAct.{LineAct}
+use Rattle.jc_reading.specs.declared.reads.LineAct.TheVariants as read
+use Rattle.jc_reading.specs.declared.reads.LineRead.{LineRead}
+use Rattle.jc_reading.proofs.CutFacts.{after_word, decimal_word, first_word}
 use Rattle.jc_core.specs.Longer.{extended}
 use Rattle.jc_runs.specs.Seen.{Admits, Seen, deeds_seen, happened}
-use Rattle.jc_turns.specs.Actors.{CanCome}
+use Rattle.jc_play.specs.Actors.{CanCome}
 use Rattle.jc_audit.specs.Limits.{IsSmallShape}
 use Rattle.jc_audit.specs.Clocks.{FitsClock, IsClock}
 use Rattle.jc_audit.specs.Walks.{HasTaken, IsLineLen, IsOnlyTaken, IsRead, NoneIsTaken, TakesLine, TakesCommand, TakesSystem, begun_command, last_line, line_of_last, read_of_command, read_of_system, with_command}
 use Rattle.jc_audit.proofs.OnlyFacts.{command_begins, command_proper, system_begins}
+use Rattle.jc_audit.proofs.AuditFacts.{cut_back}
+use Rattle.jc_reading.proofs.ReadFacts.{front_parts, tag_word as tag_is_word}
+use Rattle.std.proofs.Math.Seq.{take-append_seam as take_front}
 
 -- ---- two fronts of the same bytes
-
--- A front with a blank between its parts, and what follows it.
-front_parts : (a b c rest : List ℕ) → (a ++ 32 ∷ (b ++ 32 ∷ (c ++ 32 ∷ 45 ∷ 62 ∷ 32 ∷ []))) ++ rest ≡ a ++ 32 ∷ (b ++ 32 ∷ (c ++ 32 ∷ (45 ∷ 62 ∷ 32 ∷ rest)))
-front_parts a b c rest =
-    append_assoc a (32 ∷ (b ++ 32 ∷ (c ++ 32 ∷ 45 ∷ 62 ∷ 32 ∷ []))) rest
-    ∙ ap (λ l. a ++ 32 ∷ l) (append_assoc b (32 ∷ (c ++ 32 ∷ 45 ∷ 62 ∷ 32 ∷ [])) rest ∙ ap (λ l. b ++ 32 ∷ l) (append_assoc c (32 ∷ 45 ∷ 62 ∷ 32 ∷ []) rest))
-
-tag_is_word : (lane : Option ℕ) → IsWord (tag_text lane)
-tag_is_word None = refl
-tag_is_word (Some lane) = decimal_word lane
 
 front_same : (n : ℕ) (read : LineRead) (rest line : List ℕ) → line ≡ front_text n read.lane (act_of_line read.act) ++ rest
     → line ≡ decimal n ++ 32 ∷ (tag_text read.lane ++ 32 ∷ (act_text (act_of_line read.act) ++ 32 ∷ (45 ∷ 62 ∷ 32 ∷ rest)))
@@ -305,11 +298,6 @@ if_taken old new rest (Some n) t is = has_taken old new rest n t is
 if_taken old new rest None t is = tt
 
 -- ---- the line that stands there
-
-cut_back : (n : ℕ) (xs : List ℕ) → xs ≡ take n xs ++ drop n xs
-cut_back zero xs = refl
-cut_back (suc n) [] = refl
-cut_back (suc n) (x ∷ xs) = ap (λ l. x ∷ l) (cut_back n xs)
 
 pub begins_len : (rest line text : List ℕ) (n : ℕ) → text ≡ line → n ≡ length text → bytes_eq text (take (length text) rest) ≡ true
     → (rest ≡ line ++ drop n rest) × (n ≡ length line) × (n ≤ length rest)

@@ -10,32 +10,32 @@ use Rattle.jc_types.specs.declared.runs.Event.TheVariants as event
 use Rattle.jc_types.specs.declared.runs.Shape.{Shape}
 use Rattle.jc_types.specs.declared.runs.Sys.{Sys}
 use Rattle.jc_types.specs.declared.runs.Sys.TheVariants as sys
-use Rattle.jc_ledger.specs.declared.counts.Verdicts.{Verdicts}
+use Rattle.jc_runs.specs.Verdicts.{Verdicts}
 use Rattle.jc_log.specs.Deeds.{Deed, act_of_system}
 use Rattle.jc_history.specs.Available.{available}
 use Rattle.jc_lines.specs.Events.{event_line}
 use Rattle.jc_lines.specs.Jobs.{job_line}
 use Rattle.jc_lines.specs.Summaries.{full_line, indexes_text}
 use Rattle.jc_lines.specs.Words.{key_text}
-use Rattle.jc_lines.specs.Proper.{as_begin}
-use Rattle.jc_lines.specs.Reads.{BeginsWith, IsProperRead, act_of_line, begun_read, event_said, front_text}
-use Rattle.jc_lines.specs.declared.reads.LineAct.TheVariants as read
-use Rattle.jc_lines.specs.declared.reads.LineRead.{LineRead}
+use Rattle.jc_reading.specs.Proper.{as_begin}
+use Rattle.jc_reading.specs.Reads.{BeginsWith, IsProperRead, act_of_line, begun_read, event_said, front_text}
+use Rattle.jc_reading.specs.declared.reads.LineAct.TheVariants as read
+use Rattle.jc_reading.specs.declared.reads.LineRead.{LineRead}
 use Rattle.jc_history.specs.Replies.{log_given}
-use Rattle.jc_ledger.specs.Ledger.{ledger_of, verdicts_of}
+use Rattle.jc_runs.specs.Ledger.{ledger_of, verdicts_of}
 use Rattle.jc_log.specs.Log.{jobs_in}
 use Rattle.jc_report.specs.Reports.{in_order, job_lines, jobs_text}
 use Rattle.jc_runs.specs.Seen.{Seen, deeds_seen, happened, log_seen}
-use Rattle.jc_turns.specs.Actors.{CanCome}
-use Rattle.jc_turns.proofs.TellFacts.{Tells, all-tell, known}
+use Rattle.jc_play.specs.Actors.{CanCome}
+use Rattle.jc_play.proofs.TellFacts.{Tells, all-tell, known}
 use Rattle.jc_audit.specs.Limits.{IsSmallShape}
 use Rattle.jc_audit.specs.declared.verdicts.Verdict.{Verdict}
 use Rattle.jc_audit.specs.declared.verdicts.Verdict.TheVariants.{Yes, No}
-use Rattle.jc_audit.specs.Audits.{IsNoTail, IsNotTaken, Says, begins_event}
+use Rattle.jc_audit.specs.Audits.{IsNoTail, IsNotTaken, VerdictHolds, begins_event}
 use Rattle.jc_audit.specs.Clocks.{IsClock}
 use Rattle.jc_audit.specs.Tails.{at_end, lines_compared, byte_in_front, line_len, whole_lines, tail_text, tail_verdict}
 use Rattle.jc_audit.specs.Walks.{Begins, GoesOn, NoneIsTaken, TakesLine, TakesCommand, TakesSystem, Walks, last_line, line_of_last, read_of_command, with_command}
-use Rattle.jc_audit.proofs.AuditFacts.{many}
+use Rattle.jc_audit.proofs.AuditFacts.{many, long as long_both}
 use Rattle.jc_audit.proofs.OnlyFacts.{command_begins, command_proper, system_begins}
 use Rattle.jc_audit.proofs.TakeFacts.{clock_verb, command_of, fits, no_lane, same_action, same_number, same_system, same_verbs, system_read, verb_of}
 use Rattle.jc_audit.proofs.TailFacts.{first_line, none_wanted}
@@ -271,10 +271,6 @@ behind_ends [] c cs e = e
 behind_ends (x ∷ []) c cs e = e
 behind_ends (x ∷ y ∷ a) c cs e = behind_ends (y ∷ a) c cs e
 
-long_both : (a b : List ℕ) → length (a ++ b) ≡ length a + length b
-long_both [] b = omega arith
-long_both (x ∷ a) b = let more = long_both a b in omega (arith, more)
-
 behind : (a b : List ℕ) → IsEnded b → IsEnded (a ++ b)
 behind a [] h = let some = h.some in absurd (omega (arith, some))
 behind a (c ∷ cs) h = let all = long_both a (c ∷ cs) in record { some = omega (arith, all); ends = behind_ends a c cs h.ends }
@@ -379,7 +375,7 @@ small_seen shape seen text fit walk =
     let bound = (fit_seen shape seen text fit walk).few_events in
     omega (arith, few, bound)
 
-found : (shape : Shape) (fit : IsSmallShape shape) (bytes : List ℕ) (v : Verdict) → Says shape bytes v → IsFound shape bytes v
+found : (shape : Shape) (fit : IsSmallShape shape) (bytes : List ℕ) (v : Verdict) → VerdictHolds shape bytes v → IsFound shape bytes v
 found shape fit bytes Yes h =
     let rest = tail_text shape (deeds_seen h.last) ++ full_line h.full in
     let no : begins_event rest ≡ false = no_event _ _ h.full in
@@ -416,7 +412,7 @@ found shape fit bytes (No n) h = by h.line
       says = sym (ap (λ t. cond t (No (1 + length h.last.pasts)) (tail_verdict shape (deeds_seen h.last) h.rest)) nt.begins ∙ nt.other);
     }
 
-pub one_verdict : AreReadBack → (shape : Shape) → IsSmallShape shape → (bytes : List ℕ) (v w : Verdict) → Says shape bytes v → Says shape bytes w → v ≡ w
+pub one_verdict : AreReadBack → (shape : Shape) → IsSmallShape shape → (bytes : List ℕ) (v w : Verdict) → VerdictHolds shape bytes v → VerdictHolds shape bytes w → v ≡ w
 one_verdict again shape fit bytes v w one other =
     let a = found shape fit bytes v one in
     let b = found shape fit bytes w other in

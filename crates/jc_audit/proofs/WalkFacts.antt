@@ -13,13 +13,14 @@ use Rattle.jc_history.specs.Available.{IsOrderly, WasAvailable, available}
 use Rattle.jc_history.specs.Legal.{InLanes, IsLegal, next_place, places_from}
 use Rattle.jc_types.specs.declared.runs.Sys.{Sys}
 use Rattle.jc_lines.specs.Events.{event_line, event_lines}
-use Rattle.jc_lines.specs.Proper.{IsProperCommand}
+use Rattle.jc_reading.specs.Proper.{IsProperCommand}
 use Rattle.jc_runs.specs.Seen.{Admits, Seen, deeds_seen, happened, log_seen, past_seen}
 use Rattle.jc_core.specs.Longer.{extended}
 use Rattle.jc_core.proofs.LaneFacts.{next_after, other_after}
 use Rattle.jc_core.proofs.LongerScripts.{longer_next, same_deeds, still_in_lanes}
 use Rattle.jc_audit.specs.Walks.{TakesLine, TakesCommand, TakesSystem, Walks, Begins, GoesOn, at_first, begun_command, last_line, line_of_last, with_command}
 use Rattle.jc_audit.proofs.LastFacts.{begun_proper, each_more, happened_is_legal}
+use Rattle.jc_report.proofs.Texts.{event_lines-more as lines_more}
 
 -- What holds after each line.
 pub record IsWalked (shape : Shape) (seen : Seen) (text : List ℕ) : Type 0 where
@@ -33,13 +34,6 @@ pub record IsWalked (shape : Shape) (seen : Seen) (text : List ℕ) : Type 0 whe
   pub lines : text ≡ event_lines 1 (reverse (deeds_seen seen))
 
 -- ---- one line more
-
-lines_more : (n : ℕ) (ds : List Deed) (d : Deed) → event_lines n (ds ++ d ∷ []) ≡ event_lines n ds ++ event_line (n + length ds) d
-lines_more n [] d = let same : n ≡ n + 0 = omega arith in append-nil (event_line n d) ∙ ap (λ m. event_line m d) same
-lines_more n (e ∷ ds) d =
-    let same : n + 1 + length ds ≡ n + length (e ∷ ds) = omega arith in
-    ap (λ l. event_line n e ++ l) (lines_more (n + 1) ds d ∙ ap (λ m. event_lines (n + 1) ds ++ event_line m d) same)
-    ∙ sym (append_assoc (event_line n e) (event_lines (n + 1) ds) (event_line (n + length (e ∷ ds)) d))
 
 pub line_more : (past : List Deed) (d : Deed) → event_lines 1 (reverse past) ++ line_of_last (d ∷ past) ≡ event_lines 1 (reverse (d ∷ past))
 line_more past d =

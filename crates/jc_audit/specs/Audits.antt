@@ -2,7 +2,7 @@
 --     begins_event bytes         the first line is that of an event: it begins with a digit
 --     IsRecognised shape bytes   the bytes are a report
 --     NamesLine shape bytes n    they are none, and the line is the first that differs
---     Says shape bytes verdict   what the auditor is to say
+--     VerdictHolds shape bytes verdict   what the auditor is to say
 use Rattle.std.specs.Prelude.{◌≡◌, ℕ, ◌+◌, Bool, true, false, ◌&&◌, nat_le, List, [], ◌∷◌, ◌++◌, length, ◌⊎◌}
 use Rattle.jc_types.specs.declared.runs.Shape.{Shape}
 use Rattle.jc_lines.specs.Summaries.{full_line}
@@ -47,6 +47,6 @@ pub record NamesLine (shape : Shape) (bytes : List ℕ) (n : ℕ) : Type 0 where
   pub are : bytes ≡ text ++ rest
   pub line : (IsNotTaken last rest × (n ≡ 1 + length last.pasts)) ⊎ IsNoTail shape last rest n
 
-abbrev pub Says : Shape → List ℕ → Verdict → Type 0
-Says shape bytes Yes = IsRecognised shape bytes
-Says shape bytes (No line) = NamesLine shape bytes line
+abbrev pub VerdictHolds : Shape → List ℕ → Verdict → Type 0
+VerdictHolds shape bytes Yes = IsRecognised shape bytes
+VerdictHolds shape bytes (No line) = NamesLine shape bytes line

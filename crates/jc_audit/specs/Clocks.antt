@@ -6,7 +6,7 @@ use Rattle.jc_types.specs.declared.runs.Event.TheVariants.{System}
 use Rattle.jc_types.specs.declared.runs.Sys.{Sys}
 use Rattle.jc_types.specs.declared.runs.Sys.TheVariants as sys
 use Rattle.jc_runs.specs.Seen.{Seen}
-use Rattle.jc_turns.specs.Actors.{CanCome}
+use Rattle.jc_play.specs.Actors.{CanCome}
 
 abbrev pub IsClock : Sys → Type 0
 IsClock (sys.Clock add) = Unit {0}

@@ -8,7 +8,7 @@ use Rattle.std.specs.Prelude.{ℕ, suc, ◌+◌, ◌==◌, Bool, true, false, Li
 use Rattle.jc_types.specs.declared.runs.Shape.{Shape}
 use Rattle.jc_log.specs.Deeds.{Deed}
 use Rattle.jc_log.specs.Log.{jobs_in}
-use Rattle.jc_ledger.specs.Ledger.{ledger_of, verdicts_of}
+use Rattle.jc_runs.specs.Ledger.{ledger_of, verdicts_of}
 use Rattle.jc_history.specs.Replies.{log_given}
 use Rattle.jc_report.specs.Reports.{in_order, jobs_text}
 use Rattle.jc_audit.specs.declared.verdicts.Verdict.{Verdict}

@@ -15,10 +15,10 @@ use Rattle.jc_log.specs.Deeds.{Deed, act_of_system}
 use Rattle.jc_history.specs.Available.{WasAvailable, available}
 use Rattle.jc_runs.specs.Seen.{Admits, Seen, deeds_seen, happened, log_seen}
 use Rattle.jc_lines.specs.Events.{event_line}
-use Rattle.jc_lines.specs.Proper.{IsProperCommand, as_begin}
-use Rattle.jc_lines.specs.Reads.{BeginsWith, IsProperRead, begun_read}
-use Rattle.jc_lines.specs.declared.reads.LineAct.TheVariants as read
-use Rattle.jc_lines.specs.declared.reads.LineRead.{LineRead}
+use Rattle.jc_reading.specs.Proper.{IsProperCommand, as_begin}
+use Rattle.jc_reading.specs.Reads.{BeginsWith, IsProperRead, begun_read}
+use Rattle.jc_reading.specs.declared.reads.LineAct.TheVariants as read
+use Rattle.jc_reading.specs.declared.reads.LineRead.{LineRead}
 use Rattle.jc_core.specs.Longer.{extended}
 
 -- Nothing has happened, and the script has no command.

@@ -1,7 +1,7 @@
 //! The audit of bytes.
 
 ghost use Rattle.std.specs.Prelude.{◌≡◌, ◌≤◌, IfOk, length};
-ghost use Rattle.jc_audit.specs.Audits.{Says, begins_event};
+ghost use Rattle.jc_audit.specs.Audits.{VerdictHolds, begins_event};
 ghost use Rattle.jc_audit.specs.Walks.{at_first};
 
 use crate::tails::{rest_at, tail_verdict};
@@ -47,7 +47,7 @@ pub fn audit(alloc: Global, bytes: &[u8], shape: Shape) -> Result<Verdict, Want>
     requires few_controllers { shape.controllers ≤ 4 }
     requires few_workers { shape.workers ≤ 16 }
     requires few_events { shape.events ≤ 200000 }
-    ensures { IfOk result (λ v. Says shape bytes.now v) }
+    ensures { IfOk result (λ v. VerdictHolds shape bytes.now v) }
 {
     let mut cluster = first_cluster(alloc, shape)?;
     let mut at = 0;

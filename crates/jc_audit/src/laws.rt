@@ -5,17 +5,17 @@ ghost use Rattle.std.specs.List.{AllByRecursion as Each};
 ghost use Rattle.jc_history.specs.Available.{IsOrderly};
 ghost use Rattle.jc_history.specs.Legal.{IsHistory};
 ghost use Rattle.jc_history.specs.Replies.{log_given};
-ghost use Rattle.jc_lines.specs.Proper.{IsProperCommand};
+ghost use Rattle.jc_reading.specs.Proper.{IsProperCommand};
 ghost use Rattle.jc_log.specs.Deeds.{deeds};
 ghost use Rattle.jc_report.specs.Reports.{report_text};
 ghost use Rattle.jc_types.specs.declared.actions.Script.{Script};
 ghost use Rattle.jc_types.specs.declared.runs.History.{History};
 ghost use Rattle.jc_types.specs.declared.runs.Shape.{Shape};
-ghost use Rattle.jc_audit.specs.Audits.{IsRecognised, Says};
+ghost use Rattle.jc_audit.specs.Audits.{IsRecognised, VerdictHolds};
 ghost use Rattle.jc_audit.specs.Reported.{IsReported};
 ghost use Rattle.jc_audit.specs.declared.verdicts.Verdict.{Verdict};
 
-use jc_lines::printed_fronts_are_read_back;
+use jc_reading::printed_fronts_are_read_back;
 
 /// Of a script whose commands are proper, each legal and orderly history prints as a report.
 pub fn histories_print_reports()
@@ -37,7 +37,7 @@ pub fn reports_are_of_histories()
 pub fn verdicts_are_unique()
     ensures { (shape : Shape) → shape.controllers ≤ 4 → shape.workers ≤ 16
         → shape.events ≤ 200000 → (bytes : List ℕ) (v w : Verdict)
-        → Says shape bytes v → Says shape bytes w → v ≡ w }
+        → VerdictHolds shape bytes v → VerdictHolds shape bytes w → v ≡ w }
 {
     printed_fronts_are_read_back();
 }

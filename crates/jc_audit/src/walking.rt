@@ -2,13 +2,13 @@
 //! be that of it.
 
 ghost use Rattle.std.specs.Prelude.{◌≡◌, ◌<◌, ◌≤◌, IfOk, IfSome, IsTrue, None, Some, bytes_eq, length, take};
-ghost use Rattle.jc_lines.specs.declared.reads.LineAct.TheVariants as read;
+ghost use Rattle.jc_reading.specs.declared.reads.LineAct.TheVariants as read;
 ghost use Rattle.jc_audit.specs.Limits.{IsSmallShape};
 ghost use Rattle.jc_audit.specs.Walks.{HasTaken, IsLineLen, IsOnlyTaken, IsRead, NoneIsTaken, TakesLine};
 
 use crate::taking::{clock_fits, last_text, take_command, take_system};
 use jc_core::Cluster;
-use jc_lines::{LineAct, LineRead, proper_actions_are_valid, read_event};
+use jc_reading::{LineAct, LineRead, proper_actions_are_valid, read_event};
 use jc_types::{Action1, Command, Sys, Want};
 use std::alloc::Global;
 

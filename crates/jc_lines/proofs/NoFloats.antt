@@ -7,8 +7,8 @@ use Rattle.jc_types.specs.declared.actions.End.{End}
 use Rattle.jc_types.specs.declared.actions.PhaseChange.{PhaseChange}
 use Rattle.jc_types.specs.declared.policies.Pattern.{Pattern}
 use Rattle.jc_lines.specs.Changes.{pod_condition_data, container_data, end_data, ends_data, exit_data, phase_change_data, with_container, with_exit_member}
-use Rattle.jc_manifest.specs.Members.{number_data}
-use Rattle.jc_manifest.proofs.CleanMembers.{with_clean, given_clean, list_clean, exit_clean}
+use Rattle.jc_print.specs.Members.{number_data}
+use Rattle.jc_print.proofs.CleanMembers.{with_clean, given_clean, list_clean, exit_clean}
 
 -- ---- changes and ends
 

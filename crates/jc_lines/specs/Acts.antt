@@ -5,7 +5,7 @@ use Rattle.std.specs.Fmt.{signed_decimal}
 use Rattle.serde_json.specs.Written.{compact_text}
 use Rattle.jc_log.specs.Acts.{Act}
 use Rattle.jc_log.specs.Acts as does
-use Rattle.jc_manifest.specs.PrintedSpecs.{change_data, spec_data}
+use Rattle.jc_print.specs.PrintedSpecs.{change_data, spec_data}
 use Rattle.jc_types.specs.declared.numbers.Version.{Version}
 use Rattle.jc_lines.specs.Changes.{ends_data, phase_change_data}
 use Rattle.jc_lines.specs.Words.{fault_word, key_text, objects_word, version_text}

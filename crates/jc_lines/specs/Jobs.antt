@@ -5,7 +5,7 @@ use Rattle.std.specs.Prelude.{List, ℕ, ◌++◌, codes}
 use Rattle.std.specs.Int.{to_be_bytes, w128}
 use Rattle.serde_json.specs.Written.{compact_text}
 use Rattle.uuid.specs.Text.{hyphenated_text, lower}
-use Rattle.jc_manifest.specs.PrintedStatuses.{status_data}
+use Rattle.jc_print.specs.PrintedStatuses.{status_data}
 use Rattle.jc_types.specs.declared.numbers.Uid.{Uid}
 use Rattle.jc_types.specs.declared.objects.Job.{Job}
 use Rattle.jc_lines.specs.Words.{key_text, version_text}

@@ -1,14 +1,7 @@
 pub mod Acts
-pub mod Allowed
 pub mod Changes
-pub mod Compact
-pub mod Cuts
 pub mod Events
 pub mod Jobs
-pub mod Manifested
-pub mod Proper
-pub mod Readings
-pub mod Reads
 pub mod Replies
 pub mod Summaries
 pub mod Told

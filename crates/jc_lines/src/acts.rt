@@ -9,7 +9,7 @@ ghost use Rattle.jc_lines.specs.Words.{key_text, objects_word};
 use crate::changes::{print_ends, print_phase_change};
 use crate::keys::print_key;
 use crate::words::{fault_word, kind_word};
-use jc_manifest::{print_change, print_spec};
+use jc_print::{print_change, print_spec};
 use jc_types::{
     Action1, Ends, Fault, JobSpec, Key, Kind, PhaseChange, SpecChange, Sys, Uid, Version, Want,
 };

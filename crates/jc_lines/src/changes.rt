@@ -6,10 +6,11 @@ ghost use Rattle.serde_json.specs.View.{members_view, view};
 ghost use Rattle.serde_json.specs.Written.{compact_text};
 ghost use Rattle.jc_lines.specs.Changes.{pod_condition_data, container_data, phase_change_data};
 ghost use Rattle.jc_lines.specs.Changes.{end_data, ends_data, with_container, with_exit_member};
-ghost use Rattle.jc_manifest.specs.Members.{list_data};
+ghost use Rattle.jc_print.specs.Members.{list_data};
 
-use crate::members::{Members, put_given, put_given_exit, put_given_number, put_text, put_value};
+use crate::members::put_given_exit;
 use crate::words::{phase_word, truth_word};
+use jc_print::{Members, put_given, put_given_number, put_text, put_value};
 use jc_types::{ContainerChange, End, PhaseChange, PodCondition, Text, Want};
 use serde_json::{Map, Value};
 use std::alloc::Global;

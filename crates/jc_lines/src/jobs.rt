@@ -2,12 +2,12 @@
 
 ghost use Rattle.std.specs.Prelude.{◌≡◌, ◌++◌, OnErr, OnOk, codes, string_bytes};
 ghost use Rattle.serde_json.specs.Written.{compact_text};
-ghost use Rattle.jc_manifest.specs.PrintedStatuses.{status_data};
+ghost use Rattle.jc_print.specs.PrintedStatuses.{status_data};
 ghost use Rattle.jc_lines.specs.Jobs.{job_line, uid_words};
 ghost use Rattle.jc_lines.specs.Words.{version_text};
 
 use crate::keys::print_key;
-use jc_manifest::print_status;
+use jc_print::print_status;
 use jc_types::{Job, Want, uid_text};
 use std::alloc::Global;
 

@@ -1,7 +1,7 @@
 //! The words of a report that stand for one thing.
 
 ghost use Rattle.std.specs.Prelude.{◌≡◌};
-ghost use Rattle.jc_manifest.specs.PrintedSpecs.{truth_word};
+ghost use Rattle.jc_print.specs.PrintedSpecs.{truth_word};
 ghost use Rattle.jc_lines.specs.Words.{fault_word, field_word, objects_word, phase_word};
 
 use jc_types::{Fault, Field, Kind, Phase, Truth};

@@ -17,9 +17,9 @@ use Rattle.jc_types.specs.declared.runs.Shape.{Shape}
 use Rattle.jc_types.specs.Keys.{same_key, same_uid}
 use Rattle.jc_types.proofs.KeyFacts.{same_uid-eq, same_uid-itself}
 use Rattle.jc_types.proofs.ListFacts.{Each-append, Each-both, Each-filter, Each-passes, Each-weaker}
-use Rattle.jc_states.specs.PodLists.{RisesFrom}
-use Rattle.jc_states.specs.Pods.{goes, is_marked}
-use Rattle.jc_states.proofs.PodListFacts.{rises_filter}
+use Rattle.jc_runs.specs.PodLists.{RisesFrom}
+use Rattle.jc_runs.specs.Pods.{goes, is_marked}
+use Rattle.jc_runs.proofs.PodListFacts.{rises_filter}
 use Rattle.jc_log.specs.Acts.{Act}
 use Rattle.jc_log.specs.Acts as does
 use Rattle.jc_log.specs.Deeds.{Deed, act_of_action}
@@ -31,14 +31,15 @@ use Rattle.jc_log.proofs.JobFacts.{jobs_in-rise, rows_takes}
 use Rattle.jc_log.proofs.ObjectFacts.{jobs_in-at}
 use Rattle.jc_log.proofs.PodFacts.{pods_in-live, pods_in-rises, pods_of-owned}
 use Rattle.jc_log.proofs.WriteFacts.{job_in-key}
-use Rattle.jc_history.specs.Diaries.{all_jobs, is_now, moment, ticks}
-use Rattle.jc_history.specs.Legal.{IsLegal, IsLegalNext}
-use Rattle.jc_history.specs.Replies.{clock_gives, gives, log_given}
+use Rattle.jc_runs.specs.Diaries.{all_jobs, is_now, moment, ticks}
+use Rattle.jc_runs.specs.Legal.{IsLegal, IsLegalNext}
+use Rattle.jc_runs.specs.Replies.{clock_gives, gives, log_given}
 use Rattle.jc_reap.specs.declared.expiries.Expiry.{Expiry}
 use Rattle.jc_reap.specs.Expiries.{MayGo, expired}
 use Rattle.jc_reap.specs.Finds.{AreDue, FindsDue}
-use Rattle.jc_reap.specs.Reaping.{command, is_ownerless, is_present, marks, ownerless, removal, removals, then_settle}
+use Rattle.jc_reap.specs.Reaping.{command, is_ownerless, is_present, mark_commands, ownerless, removal, removals, then_settle}
 use Rattle.jc_reap.proofs.ExpiredFacts.{ApartBy, each-may_go, rows-apart, uids-apart}
+use Rattle.jc_runs.proofs.ClockFacts.{gives_clock as clock-is}
 
 -- ---- one more deed
 
@@ -64,10 +65,6 @@ mark-is shape past log u = refl
 delete-is : (shape : Shape) (past : List Deed) (log : List Entry) (k : Key) → gives shape past log (does.Delete k) ≡ delete_job_gives log k
 unfolding gives
 delete-is shape past log k = refl
-
-clock-is : (shape : Shape) (past : List Deed) (log : List Entry) (add : ℕ) → gives shape past log (does.Clock add) ≡ clock_gives (moment shape past + add)
-unfolding gives
-clock-is shape past log add = refl
 
 -- The moment stays where the reply tells none.
 still : (shape : Shape) (past : List Deed) (d : Deed) (b : Bool) → is_now d.reply ≡ b → b ≡ false → moment shape (d ∷ past) ≡ moment shape past
@@ -204,7 +201,7 @@ module _ (ttl : Uid → Option ℕ) (shape : Shape) where
       → ((p : List Deed) → moment shape p ≡ now → Holds ttl (log_given shape p) rows left → Good p acts)
       → Each (λ (pod : Pod). is_ownerless (all_jobs (log_given shape past)) pod ≡ true) mine
       → ApartBy same_pod (mine ++ left) → moment shape past ≡ now → Holds ttl (log_given shape past) rows (mine ++ left)
-      → Good past (acts_of (marks mine) ++ acts)
+      → Good past (acts_of (mark_commands mine) ++ acts)
   marks-good [] left rows now past acts next gone apart at_now h = next past at_now h
   marks-good (pod ∷ mine) left rows now past acts next gone apart at_now h = λ d is legal.
       let log = log_given shape past in
@@ -273,7 +270,7 @@ module _ (ttl : Uid → Option ℕ) (shape : Shape) where
             over = omega (arith, over, due, at_now);
             removed = g.told;
           },
-          subst (Good (d ∷ past)) (sym (acts-append (marks (pods_of row.1 log0)) (removals log0 now rows) tail))
+          subst (Good (d ∷ past)) (sym (acts-append (mark_commands (pods_of row.1 log0)) (removals log0 now rows) tail))
               (marks-good (pods_of row.1 log0) (pods_of_all log0 rows) rows now (d ∷ past) (acts_of (removals log0 now rows) ++ tail) next
               (Each-weaker (λ (pod : Pod). pod.owner_uid ≡ row.1) (λ (pod : Pod). is_ownerless (all_jobs (log_given shape (d ∷ past))) pod ≡ true)
               (λ pod owned. ap (λ (u : Uid). not (is_present u (all_jobs (log_given shape (d ∷ past))))) owned ∙ ap not new.gone)
@@ -429,10 +426,10 @@ module _ (ttl : Uid → Option ℕ) (shape : Shape) (start : List Deed) (stored 
   pods-apart = all-apart log rows (uids-apart ttl (jobs_in log) (jobs_in-rise log stored))
 
   pub whole-good : (tail : List Act) → ((p : List Deed) → Good ttl shape p tail)
-      → Good ttl shape start (acts_of (marks (ownerless log) ++ removals log (moment shape start) rows) ++ tail)
+      → Good ttl shape start (acts_of (mark_commands (ownerless log) ++ removals log (moment shape start) rows) ++ tail)
   whole-good tail last =
       let now = moment shape start in
-      subst (Good ttl shape start) (sym (acts-append (marks (ownerless log)) (removals log now rows) tail))
+      subst (Good ttl shape start) (sym (acts-append (mark_commands (ownerless log)) (removals log now rows) tail))
       (marks-good ttl shape (ownerless log) (pods_of_all log rows) rows now start (acts_of (removals log now rows) ++ tail)
       (λ p at_now h. rows-good ttl shape log rows p now tail last (rows-apart ttl log) pods-apart at_now h)
       (Each-passes (is_ownerless (all_jobs log)) (pods_in log))
@@ -449,8 +446,8 @@ module _ (ttl : Uid → Option ℕ) (shape : Shape) (start : List Deed) (stored 
       }))
 
   -- With the settle at the end.
-  pub listed-good : Good ttl shape start (acts_of (then_settle (marks (ownerless log) ++ removals log (moment shape start) rows)))
-  listed-good = by (marks (ownerless log) ++ removals log (moment shape start) rows) (whole-good (does.Settle ∷ []) (λ p d is legal. (tt, tt)))
+  pub listed-good : Good ttl shape start (acts_of (then_settle (mark_commands (ownerless log) ++ removals log (moment shape start) rows)))
+  listed-good = by (mark_commands (ownerless log) ++ removals log (moment shape start) rows) (whole-good (does.Settle ∷ []) (λ p d is legal. (tt, tt)))
     where
       by : (commands : List Command) → Good ttl shape start (acts_of commands ++ does.Settle ∷ []) → Good ttl shape start (acts_of (then_settle commands))
       by [] good = tt

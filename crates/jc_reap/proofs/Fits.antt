@@ -10,11 +10,11 @@ use Rattle.jc_types.specs.declared.objects.Entry.{Entry}
 use Rattle.jc_types.specs.declared.objects.Key.{Key}
 use Rattle.jc_types.specs.declared.objects.Pod.{Pod}
 use Rattle.jc_log.specs.Log.{jobs_in, pods_of}
-use Rattle.jc_history.specs.Diaries.{moment}
+use Rattle.jc_runs.specs.Diaries.{moment}
 use Rattle.jc_runs.specs.Seen.{Seen, deeds_seen, log_seen}
 use Rattle.jc_reap.specs.declared.expiries.Expiry.{Expiry}
 use Rattle.jc_reap.specs.Expiries.{expired}
-use Rattle.jc_reap.specs.Reaping.{clock_to, command, later, marks, ownerless, reap_list, removal, removals, then_settle, ttl_seen, unsettled}
+use Rattle.jc_reap.specs.Reaping.{clock_to, command, later_moment, mark_commands, ownerless, reap_list, removal, removals, then_settle, ttl_seen, unsettled}
 
 -- What holds of a mark, a clock and a delete holds of each command of a reaper but the settle at the end; what holds of
 -- a settle too holds of each.
@@ -27,7 +27,7 @@ module _ (P : Action1 → Type 0) (mark : (u : Uid) → P (act.Mark u)) (clock :
   joined [] ys a b = b
   joined (x ∷ xs) ys a b = (a.0, joined xs ys a.1 b)
 
-  of-marks : (pods : List Pod) → Hold (marks pods)
+  of-marks : (pods : List Pod) → Hold (mark_commands pods)
   of-marks [] = tt
   of-marks (pod ∷ pods) = (mark pod.uid, of-marks pods)
 
@@ -41,11 +41,11 @@ module _ (P : Action1 → Type 0) (mark : (u : Uid) → P (act.Mark u)) (clock :
   of-removals : (log : List Entry) (reached : ℕ) (rows : List (Expiry × Uid)) → Hold (removals log reached rows)
   of-removals log reached [] = tt
   of-removals log reached (row ∷ rows) =
-      let next = removals log (later reached row.0.moment) rows in
+      let next = removals log (later_moment reached row.0.moment) rows in
       joined (clock_to reached row.0.moment) (removal log row ++ next) (of-clock reached row.0.moment) (
         delete row.0.key,
-        joined (marks (pods_of row.1 log)) next (of-marks (pods_of row.1 log))
-            (of-removals log (later reached row.0.moment) rows),
+        joined (mark_commands (pods_of row.1 log)) next (of-marks (pods_of row.1 log))
+            (of-removals log (later_moment reached row.0.moment) rows),
       )
 
   pub of-unsettled : (seen : Seen) (ttls : List (Option ℕ)) → Hold (unsettled seen ttls)
@@ -53,7 +53,7 @@ module _ (P : Action1 → Type 0) (mark : (u : Uid) → P (act.Mark u)) (clock :
       let log = log_seen seen in
       let rows = expired (ttl_seen seen ttls) (jobs_in log) in
       let now = moment seen.shape (deeds_seen seen) in
-      joined (marks (ownerless log)) (removals log now rows) (of-marks (ownerless log)) (of-removals log now rows)
+      joined (mark_commands (ownerless log)) (removals log now rows) (of-marks (ownerless log)) (of-removals log now rows)
 
   module _ (settle : P act.Settle) where
     of-settled : (commands : List Command) → Hold commands → Hold (then_settle commands)

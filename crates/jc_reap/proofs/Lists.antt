@@ -14,7 +14,7 @@ use Rattle.jc_types.specs.Keys.{same_uid}
 use Rattle.jc_reap.specs.declared.expiries.Expiry.{Expiry}
 use Rattle.jc_reap.specs.Expiries.{expired, expires_at, with_expiry}
 use Rattle.jc_reap.specs.Makers.{maker}
-use Rattle.jc_reap.specs.Reaping.{clock_to, is_present, later, reached_after, removal, removals}
+use Rattle.jc_reap.specs.Reaping.{clock_to, is_present, later_moment, reached_after, removal, removals}
 
 -- ---- events
 
@@ -65,9 +65,9 @@ expired-same f g same (row ∷ rows) =
 
 -- The moment that one more removal reaches.
 pub reached-more : (reached : ℕ) (rows : List (Expiry × Uid)) (row : Expiry × Uid)
-    → later (reached_after reached rows) row.0.moment ≡ reached_after reached (rows ++ row ∷ [])
+    → later_moment (reached_after reached rows) row.0.moment ≡ reached_after reached (rows ++ row ∷ [])
 reached-more reached [] row = refl
-reached-more reached (first ∷ rows) row = reached-more (later reached first.0.moment) rows row
+reached-more reached (first ∷ rows) row = reached-more (later_moment reached first.0.moment) rows row
 
 -- One more removal comes last.
 removals-last : (log : List Entry) (reached : ℕ) (rows : List (Expiry × Uid)) (row : Expiry × Uid)
@@ -78,7 +78,7 @@ removals-last log reached [] row =
 removals-last log reached (first ∷ rows) row =
     let clock = clock_to reached first.0.moment in
     let gone = removal log first in
-    let next = later reached first.0.moment in
+    let next = later_moment reached first.0.moment in
     let last = clock_to (reached_after next rows) row.0.moment ++ removal log row in
     ap (λ l. clock ++ (gone ++ l)) (removals-last log next rows row)
     ∙ ap (λ l. clock ++ l) (sym (append_assoc gone (removals log next rows) last))

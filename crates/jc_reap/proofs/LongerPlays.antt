@@ -17,12 +17,12 @@ use Rattle.jc_types.specs.declared.runs.Sys.{Sys}
 use Rattle.jc_types.specs.declared.runs.Sys.TheVariants as sys
 use Rattle.jc_log.specs.Acts.{Act}
 use Rattle.jc_log.specs.Deeds.{Deed, act_of_command, act_of_event, deed}
-use Rattle.jc_history.specs.Available.{available}
-use Rattle.jc_history.specs.Diaries.{notes}
-use Rattle.jc_history.specs.Numbers.{number}
-use Rattle.jc_history.specs.Play.{Playing, after_begin, brings, brought_up, commanded, deeds_played, does_if, event_played, first_event, has_just_begun, is_command, next_step, nothing, on_and_on, past_of, rest_played, settled_down, stepped_if, stepped_through, whole_play, with_answer}
-use Rattle.jc_history.specs.Registers.{register}
-use Rattle.jc_history.specs.Replies.{gives}
+use Rattle.jc_runs.specs.Available.{available}
+use Rattle.jc_runs.specs.Diaries.{notes}
+use Rattle.jc_runs.specs.Numbers.{number}
+use Rattle.jc_runs.specs.Play.{Playing, after_begin, brings, brought_up, commanded, deeds_played, does_if, event_played, first_event, has_just_begun, is_command, next_step, nothing, on_and_on, past_of, rest_played, settled_down, stepped_if, stepped_through, whole_play, with_answer}
+use Rattle.jc_runs.specs.Registers.{register}
+use Rattle.jc_runs.specs.Replies.{gives}
 
 module _ (a b : Script) (shape : Shape) (bound : ℕ) (alike : (n : ℕ) → n < bound → slice_get a.commands n ≡ slice_get b.commands n) where
   -- The play has the same deeds in both, and no command from the bound on.

@@ -16,10 +16,10 @@ use Rattle.jc_types.specs.declared.runs.Sys.TheVariants as sys
 use Rattle.jc_log.specs.Acts.{Act}
 use Rattle.jc_log.specs.Acts as does
 use Rattle.jc_log.specs.Deeds.{Deed, act_of_action, act_of_command, act_of_event, act_of_system, deed}
-use Rattle.jc_history.specs.Available.{available, is_quiescent}
-use Rattle.jc_history.specs.Legal.{IsLegalNext, IsOfShape, MaySettle}
-use Rattle.jc_history.specs.Play.{Playing, commanded, deeds_played, does_if, event_played, first_event, is_command, on_and_on, past_of, rest_played, settled_down, with_answer}
-use Rattle.jc_history.specs.Replies.{gives, log_after, log_given, reply_given}
+use Rattle.jc_runs.specs.Available.{available, is_quiescent}
+use Rattle.jc_runs.specs.Legal.{IsLegalNext, IsOfShape, MaySettle}
+use Rattle.jc_runs.specs.Play.{Playing, commanded, deeds_played, does_if, event_played, first_event, is_command, on_and_on, past_of, rest_played, settled_down, with_answer}
+use Rattle.jc_runs.specs.Replies.{gives, log_after, log_given, reply_given}
 use Rattle.jc_reap.specs.Finds.{FindsDue, IsCollected}
 use Rattle.jc_reap.specs.Reaping.{command, then_settle}
 use Rattle.jc_reap.proofs.FindFacts.{Good, acts_of}

@@ -4,12 +4,12 @@ use Rattle.std.specs.Prelude.{◌&&◌, codes, int_le, nat_abs, ok_or, option_an
 use Rattle.std.specs.Str.Lines.{strip_carriage_return}
 use Rattle.serde_json.specs.Data.{Data}
 use Rattle.serde_json.specs.Find.{as_integer, as_number}
-use Rattle.jc_json.specs.Field.{◌>>=◌, bounded_number, may_be, member_of, optional_number, out_of_range, within, wrong_type}
+use Rattle.jc_json.specs.Field.{◌>>=◌, bounded_number, may_be, member_of, optional_number, out_of_range, within_bounds, wrong_type}
 use Rattle.jc_json.specs.Line.{data_of}
 use Rattle.jc_types.specs.declared.actions.Command.{Command}
 use Rattle.jc_types.specs.declared.runs.Shape.{Shape}
-use Rattle.jc_script.specs.declared.causes.Cause.{Cause}
-use Rattle.jc_script.specs.declared.causes.Cause.TheVariants.{OutOfRange, TooMany, WrongType}
+use Rattle.jc_script.specs.Cause.{Cause}
+use Rattle.jc_script.specs.Cause.TheVariants.{OutOfRange, TooMany, WrongType}
 use Rattle.jc_script.specs.declared.commands.Said.{Said}
 use Rattle.jc_script.specs.Causes.{read_as}
 use Rattle.jc_script.specs.Commands.{commands_of}
@@ -17,7 +17,7 @@ use Rattle.jc_script.specs.Items.{with_front}
 use Rattle.jc_script.specs.Lines.{lines_of}
 use Rattle.jc_script.specs.Members.{given_number_in}
 use Rattle.jc_script.specs.Scripts.{BadLine, commands_said, line_before, line_says, lines_say, most_commands, script_of, text_says}
-use Rattle.jc_reap.specs.TtlLines.{RefusesTtl, greatest_ttl, line_ttls, makes_job, spec_in, spec_path, text_ttls, ttl_given, ttl_of_command, ttl_of_spec, ttl_path, ttls_before, ttls_of, ttls_say}
+use Rattle.jc_reap.specs.TtlLines.{RefusesTtl, greatest_ttl, line_ttls, makes_job, spec_member, spec_path, text_ttls, ttl_given, ttl_of_command, ttl_of_spec, ttl_path, ttls_before, ttls_of, ttls_say}
 use Rattle.jc_reap.proofs.TtlReading.{behind}
 
 -- ---- one value
@@ -30,7 +30,7 @@ of-number d cause e = by (member_of (codes "ttlSecondsAfterFinished") d) e
     ranged n true e = absurd (cc)
     ranged n false e = let is : OutOfRange ttl_path ≡ cause = cc in inr (sym is)
 
-    number : (o : Option ℤ) → (read_as ((ok_or o (wrong_type ttl_path) >>= λ n. within ttl_path (pos 0) (pos greatest_ttl) n) >>= λ n. Ok (Some n)) >>= λ o. Ok (option_map nat_abs o)) ≡ Err cause → RefusesTtl cause
+    number : (o : Option ℤ) → (read_as ((ok_or o (wrong_type ttl_path) >>= λ n. within_bounds ttl_path (pos 0) (pos greatest_ttl) n) >>= λ n. Ok (Some n)) >>= λ o. Ok (option_map nat_abs o)) ≡ Err cause → RefusesTtl cause
     number None e = let is : WrongType ttl_path ≡ cause = cc in inl (sym is)
     number (Some n) e = ranged n (int_le (pos 0) n && int_le n (pos greatest_ttl)) e
 
@@ -44,7 +44,7 @@ of-spec (Some spec) cause e = of-number spec cause e
 
 of-given : (o : Option Data) (cause : Cause) → ttl_given o ≡ Err cause → RefusesTtl cause
 of-given None cause e = absurd (cc)
-of-given (Some d) cause e = of-spec (spec_in d) cause e
+of-given (Some d) cause e = of-spec (spec_member d) cause e
 
 of-command : (command : Command) (o : Option Data) (cause : Cause) → ttl_of_command command o ≡ Err cause → RefusesTtl cause
 of-command command o cause e = by (makes_job command.action) e

@@ -6,14 +6,15 @@ use Rattle.jc_json.specs.Field.{◌>>=◌}
 use Rattle.jc_json.specs.Line.{data_of}
 use Rattle.jc_types.specs.declared.actions.Command.{Command}
 use Rattle.jc_types.specs.declared.runs.Shape.{Shape}
-use Rattle.jc_script.specs.declared.causes.Cause.{Cause}
-use Rattle.jc_script.specs.declared.causes.Cause.TheVariants.{TooMany}
+use Rattle.jc_script.specs.Cause.{Cause}
+use Rattle.jc_script.specs.Cause.TheVariants.{TooMany}
 use Rattle.jc_script.specs.declared.commands.Said.{Said}
 use Rattle.jc_script.specs.Commands.{commands_of}
 use Rattle.jc_script.specs.Items.{with_front}
 use Rattle.jc_script.specs.Lines.{lines_of, lines_left}
 use Rattle.jc_script.specs.Scripts.{BadLine, commands_said, line_before, line_says, lines_say, most_commands, script_of, text_says}
 use Rattle.jc_reap.specs.TtlLines.{line_ttls, text_ttls, ttl_of_command, ttls_before, ttls_of, ttls_say}
+use Rattle.jc_script.proofs.Reading.{front_nil, front_twice}
 
 -- how much is left to read
 abbrev pub left_len : Option (List ℕ) → ℕ
@@ -21,18 +22,9 @@ left_len None = 0
 left_len (Some rest) = length rest + 1
 
 -- What was read and what is left make the TTLs, and the number of the line is small.
-pub record IsReading (shape : Shape) (bytes : List ℕ) (ttls : List (Option ℕ)) (number : ℕ) (left : Option (List ℕ)) : Type 0 where
+pub record IsTtlReading (shape : Shape) (bytes : List ℕ) (ttls : List (Option ℕ)) (number : ℕ) (left : Option (List ℕ)) : Type 0 where
   pub read : with_front ttls (ttls_say shape number (lines_left left)) ≡ ttls_of shape bytes
   pub within : number + left_len left ≤ length bytes + 2
-
-front_nil : {A E : Type 0} (said : Result (List A) E) → with_front [] said ≡ said
-front_nil (Ok rest) = refl
-front_nil (Err fault) = refl
-
-front_twice : {A E : Type 0} (front more : List A) (said : Result (List A) E)
-    → with_front (front ++ more) said ≡ with_front front (with_front more said)
-front_twice front more (Ok rest) = ap (λ xs. Ok xs) (append_assoc front more rest)
-front_twice front more (Err fault) = refl
 
 -- A line's entries go behind those before it.
 pub taken : (shape : Shape) (number : ℕ) (before said after : List (Option ℕ)) (line : List ℕ)
@@ -49,14 +41,14 @@ pub refused : (shape : Shape) (number : ℕ) (line : List ℕ) (cause : Cause) �
 refused shape number line cause says more =
     ap (λ r. ttls_before number r (ttls_say shape (number + 1) more)) says
 
-pub begins : (shape : Shape) (bytes : List ℕ) → IsReading shape bytes [] 1 (Some bytes)
+pub begins : (shape : Shape) (bytes : List ℕ) → IsTtlReading shape bytes [] 1 (Some bytes)
 unfolding ttls_of
 begins shape bytes = record { read = front_nil _; within = omega arith }
 
 -- The line that is read is the first bad one.
 pub ends_bad : (shape : Shape) (bytes : List ℕ) (ttls : List (Option ℕ)) (number : ℕ) (left : Option (List ℕ))
     (text line : List ℕ) (after : Option (List ℕ)) (bad : BadLine)
-    → IsReading shape bytes ttls number left → left ≡ Some text → lines_of text ≡ line ∷ lines_left after
+    → IsTtlReading shape bytes ttls number left → left ≡ Some text → lines_of text ≡ line ∷ lines_left after
     → ((more : List (List ℕ)) → ttls_say shape number (line ∷ more) ≡ Err bad)
     → ttls_of shape bytes ≡ Err bad
 ends_bad shape bytes ttls number left text line after bad reading left_is lines refuses =
@@ -67,7 +59,7 @@ ends_bad shape bytes ttls number left text line after bad reading left_is lines 
 
 -- Nothing is left.
 pub ends_well : (shape : Shape) (bytes : List ℕ) (ttls : List (Option ℕ)) (number : ℕ) (left : Option (List ℕ))
-    → IsReading shape bytes ttls number left → left ≡ None → ttls_of shape bytes ≡ Ok ttls
+    → IsTtlReading shape bytes ttls number left → left ≡ None → ttls_of shape bytes ≡ Ok ttls
 ends_well shape bytes ttls number left reading left_is =
     sym reading.read
     ∙ ap (λ l. with_front ttls (ttls_say shape number (lines_left l))) left_is

@@ -11,12 +11,12 @@ use Rattle.jc_types.specs.declared.runs.Past.{Past}
 use Rattle.jc_types.specs.Keys.{same_uid}
 use Rattle.jc_log.specs.Log.{jobs_in, pods_in}
 use Rattle.jc_log.specs.Tables.{at}
-use Rattle.jc_history.specs.Diaries.{all_jobs, moment}
+use Rattle.jc_runs.specs.Diaries.{all_jobs, moment}
 use Rattle.jc_runs.specs.Seen.{Seen, deeds_seen, log_seen}
 use Rattle.jc_reap.specs.declared.expiries.Expiry.{Expiry}
 use Rattle.jc_reap.specs.Expiries.{expired, ttl_at}
 use Rattle.jc_reap.specs.Makers.{maker}
-use Rattle.jc_reap.specs.Reaping.{is_ownerless, marks, ownerless, removals, ttl_seen, unsettled}
+use Rattle.jc_reap.specs.Reaping.{is_ownerless, mark_commands, ownerless, removals, ttl_seen, unsettled}
 use Rattle.jc_reap.proofs.Lists.{expired-same}
 
 -- What the reader of a table of makers finds is what the history says.
@@ -31,10 +31,10 @@ ttls-are seen ttls found commands events makers tell said past same u =
 -- The marks of ownerless are those of the log.
 marks-are : (log last : List Entry) (jobs : List (Key × Job)) (pods : List Pod)
     → log ≡ last → jobs ≡ jobs_in log → pods ≡ pods_in log
-    → marks (filter (is_ownerless (map (λ row. row.1) jobs)) pods) ≡ marks (ownerless last)
+    → mark_commands (filter (is_ownerless (map (λ row. row.1) jobs)) pods) ≡ mark_commands (ownerless last)
 marks-are log last jobs pods at-end some all =
-    ap (λ js. marks (filter (is_ownerless (map (λ row. row.1) js)) pods)) (some ∙ ap jobs_in at-end)
-    ∙ ap (λ ps. marks (filter (is_ownerless (all_jobs last)) ps)) (all ∙ ap pods_in at-end)
+    ap (λ js. mark_commands (filter (is_ownerless (map (λ row. row.1) js)) pods)) (some ∙ ap jobs_in at-end)
+    ∙ ap (λ ps. mark_commands (filter (is_ownerless (all_jobs last)) ps)) (all ∙ ap pods_in at-end)
 
 -- Marks, and then removals.
 pub both-are : (seen : Seen) (ttls : List (Option ℕ)) (log : List Entry) (now : ℕ) (rows : List (Expiry × Uid))
@@ -42,15 +42,15 @@ pub both-are : (seen : Seen) (ttls : List (Option ℕ)) (log : List Entry) (now 
     → log ≡ log_seen seen → now ≡ moment seen.shape (deeds_seen seen)
     → rows ≡ expired (ttl_seen seen ttls) (jobs_in (log_seen seen))
     → jobs ≡ jobs_in log → pods ≡ pods_in log → first ≡ []
-    → second ≡ first ++ marks (filter (is_ownerless (map (λ row. row.1) jobs)) pods)
+    → second ≡ first ++ mark_commands (filter (is_ownerless (map (λ row. row.1) jobs)) pods)
     → third ≡ second ++ removals log now rows
     → third ≡ unsettled seen ttls
 both-are seen ttls log now rows jobs pods first second third at-end by due some all none marked removed =
     let last = log_seen seen in
-    let left = marks (filter (is_ownerless (map (λ row. row.1) jobs)) pods) in
+    let left = mark_commands (filter (is_ownerless (map (λ row. row.1) jobs)) pods) in
     removed
     ∙ ap (λ l. l ++ removals log now rows) (marked ∙ ap (λ l. l ++ left) none ∙ marks-are log last jobs pods at-end some all)
-    ∙ ap (λ l. marks (ownerless last) ++ l)
+    ∙ ap (λ l. mark_commands (ownerless last) ++ l)
     (ap (λ l. removals l now rows) at-end
     ∙ ap (λ n. removals last n rows) by
     ∙ ap (removals last (moment seen.shape (deeds_seen seen))) due)

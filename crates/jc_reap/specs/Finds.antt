@@ -19,9 +19,9 @@ use Rattle.jc_log.specs.Acts.{Act}
 use Rattle.jc_log.specs.Acts as does
 use Rattle.jc_log.specs.Deeds.{Deed}
 use Rattle.jc_log.specs.Log.{job_in, next_version, pod_in}
-use Rattle.jc_history.specs.Diaries.{all_jobs, moment}
-use Rattle.jc_history.specs.Play.{whole_play}
-use Rattle.jc_history.specs.Replies.{log_given}
+use Rattle.jc_runs.specs.Diaries.{all_jobs, moment}
+use Rattle.jc_runs.specs.Play.{whole_play}
+use Rattle.jc_runs.specs.Replies.{log_given}
 use Rattle.jc_runs.specs.Seen.{Seen}
 use Rattle.jc_reap.specs.Expiries.{ended_at}
 use Rattle.jc_reap.specs.Reaping.{is_ownerless}

@@ -1,5 +1,5 @@
 -- Which command of a script made each Job.
---     made commands past          the UID of the Job that the event made, and the place of its command
+--     made_at commands past          the UID of the Job that the event made, and the place of its command
 --     maker commands pasts u      the place of the command that made the Job of the UID u; the events
 --                                 are newest first
 use Rattle.std.specs.Prelude.{ℕ, Bool, true, false, List, [], ◌∷◌, Option, Some, None, if◌then◌else◌}
@@ -22,9 +22,9 @@ is_create (does.Create key spec) = true
 is_create other = false
 
 -- The UID of the object that the reply says was made.
-abbrev pub created : Reply → Option Uid
-created (reply.Created uid version) = Some uid
-created other = None
+abbrev pub created_uid : Reply → Option Uid
+created_uid (reply.Created uid version) = Some uid
+created_uid other = None
 
 -- The place of the event's command in the script; an event of the system has none, and makes no Job.
 abbrev pub place_of : Event → ℕ
@@ -32,10 +32,10 @@ place_of (event.Command lane number) = number
 place_of (event.System system) = 0
 
 -- The UID of the Job that the event made, and the place of the create command that made it.
-abbrev pub made : List Command → Past → Option (Uid × ℕ)
-made commands past =
+abbrev pub made_at : List Command → Past → Option (Uid × ℕ)
+made_at commands past =
     if is_create (act_of_event commands past.event)
-    then option_map (λ uid. (uid, place_of past.event)) (created past.reply)
+    then option_map (λ uid. (uid, place_of past.event)) (created_uid past.reply)
     else None
 
 -- The place for the UID, where an event has made this.
@@ -46,4 +46,4 @@ maker_after (Some row) u before = if same_uid row.0 u then Some row.1 else befor
 -- The place of the create command that made the Job of the UID.
 abbrev pub maker : List Command → List Past → Uid → Option ℕ
 maker commands [] u = None
-maker commands (past ∷ before) u = maker_after (made commands past) u (maker commands before u)
+maker commands (past ∷ before) u = maker_after (made_at commands past) u (maker commands before u)

@@ -3,8 +3,8 @@
 --     HasUids uids jobs           a table has just the UIDs of the Jobs
 --     ownerless log               the pods whose Job is gone, in ascending UID
 --     command action              the command of lane 0
---     marks pods                  a mark of each of the pods
---     later a b                   the later of two moments
+--     mark_commands pods                  a mark of each of the pods
+--     later_moment a b                   the later of two moments
 --     clock_to reached moment     a clock to the moment, where it is later than the one reached
 --     removal log row             the delete of a Job, and marks of its pods
 --     removals log reached rows   those of all Jobs, each at its moment
@@ -23,7 +23,7 @@ use Rattle.jc_types.specs.declared.objects.Pod.{Pod}
 use Rattle.jc_types.specs.Keys.{same_uid}
 use Rattle.jc_log.specs.Log.{jobs_in, pods_in, pods_of}
 use Rattle.jc_log.specs.Tables.{at}
-use Rattle.jc_history.specs.Diaries.{all_jobs, moment}
+use Rattle.jc_runs.specs.Diaries.{all_jobs, moment}
 use Rattle.jc_runs.specs.Seen.{Seen, deeds_seen, log_seen}
 use Rattle.jc_reap.specs.declared.expiries.Expiry.{Expiry}
 use Rattle.jc_reap.specs.Expiries.{expired, ttl_at}
@@ -54,12 +54,12 @@ abbrev pub command : Action1 → Command
 command action = record { lane = 0; action = action }
 
 -- A mark of each of the pods.
-abbrev pub marks : List Pod → List Command
-marks pods = map (λ pod. command (act.Mark pod.uid)) pods
+abbrev pub mark_commands : List Pod → List Command
+mark_commands pods = map (λ pod. command (act.Mark pod.uid)) pods
 
 -- The later of two moments.
-abbrev pub later : ℕ → ℕ → ℕ
-later a b = if nat_lt a b then b else a
+abbrev pub later_moment : ℕ → ℕ → ℕ
+later_moment a b = if nat_lt a b then b else a
 
 -- A clock to the moment, where it is later than the one that was reached.
 abbrev pub clock_to : ℕ → ℕ → List Command
@@ -67,13 +67,13 @@ clock_to reached due = if nat_lt reached due then command (act.Clock (due - reac
 
 -- The delete of the Job's key, and marks of its pods in ascending UID.
 abbrev pub removal : List Entry → Expiry × Uid → List Command
-removal log row = command (act.Delete row.0.key) ∷ marks (pods_of row.1 log)
+removal log row = command (act.Delete row.0.key) ∷ mark_commands (pods_of row.1 log)
 
 -- One Job after the other is removed, each at its moment.
 abbrev pub removals : List Entry → ℕ → List (Expiry × Uid) → List Command
 removals log reached [] = []
 removals log reached (row ∷ rows) =
-    clock_to reached row.0.moment ++ (removal log row ++ removals log (later reached row.0.moment) rows)
+    clock_to reached row.0.moment ++ (removal log row ++ removals log (later_moment reached row.0.moment) rows)
 
 -- A settle ends a list that is not empty.
 abbrev pub then_settle : List Command → List Command
@@ -83,7 +83,7 @@ then_settle (first ∷ more) = (first ∷ more) ++ command act.Settle ∷ []
 -- The moment that is reached once the Jobs are gone.
 abbrev pub reached_after : ℕ → List (Expiry × Uid) → ℕ
 reached_after reached [] = reached
-reached_after reached (row ∷ rows) = reached_after (later reached row.0.moment) rows
+reached_after reached (row ∷ rows) = reached_after (later_moment reached row.0.moment) rows
 
 -- ---- the whole list
 
@@ -95,7 +95,7 @@ ttl_seen seen ttls u = ttl_at ttls (maker seen.script.commands seen.pasts u)
 abbrev pub unsettled : Seen → List (Option ℕ) → List Command
 unsettled seen ttls =
     let log = log_seen seen in
-    marks (ownerless log)
+    mark_commands (ownerless log)
     ++ removals log (moment seen.shape (deeds_seen seen)) (expired (ttl_seen seen ttls) (jobs_in log))
 
 -- All commands: behind them the cluster comes to rest again.

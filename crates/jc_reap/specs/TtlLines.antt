@@ -1,5 +1,5 @@
 -- The TTLs that a script gives (`ttlSecondsAfterFinished` of batch/v1): one entry a command.
---     spec_in d                   the specification in the value of a line
+--     spec_member d                   the specification in the value of a line
 --     ttl_in d                    its TTL, or the cause that it is refused
 --     text_ttls shape text        the entries of the commands of a text
 --     line_ttls shape line        those of a line
@@ -17,8 +17,8 @@ use Rattle.jc_types.specs.declared.actions.Action1.{Action1}
 use Rattle.jc_types.specs.declared.actions.Action1.TheVariants as act
 use Rattle.jc_types.specs.declared.actions.Command.{Command}
 use Rattle.jc_types.specs.declared.runs.Shape.{Shape}
-use Rattle.jc_script.specs.declared.causes.Cause.{Cause}
-use Rattle.jc_script.specs.declared.causes.Cause.TheVariants.{OutOfRange, WrongType}
+use Rattle.jc_script.specs.Cause.{Cause}
+use Rattle.jc_script.specs.Cause.TheVariants.{OutOfRange, WrongType}
 use Rattle.jc_reap.specs.declared.ttls.Given.{Given}
 use Rattle.jc_script.specs.Items.{with_front}
 use Rattle.jc_script.specs.Lines.{lines_of}
@@ -32,8 +32,8 @@ abbrev pub greatest_ttl : ℕ
 greatest_ttl = 2147483647
 
 -- The specification of the Job in the value of a line.
-abbrev pub spec_in : Data → Option Data
-spec_in d = option_and_then (member_of (codes "spec")) (member_of (codes "job") d)
+abbrev pub spec_member : Data → Option Data
+spec_member d = option_and_then (member_of (codes "spec")) (member_of (codes "job") d)
 
 -- Where the specification stands in a line.
 abbrev pub spec_path : List ℕ
@@ -47,7 +47,7 @@ ttl_of_spec (Some spec) =
 
 -- The TTL in the value of a line.
 abbrev pub ttl_in : Data → Result (Option ℕ) Cause
-ttl_in d = ttl_of_spec (spec_in d)
+ttl_in d = ttl_of_spec (spec_member d)
 
 -- The TTL in the value of a line that has one.
 abbrev pub ttl_given : Option Data → Result (Option ℕ) Cause

@@ -13,10 +13,10 @@ ghost use Rattle.jc_types.specs.declared.runs.Shape.{Shape};
 ghost use Rattle.jc_log.specs.Acts.{Act};
 ghost use Rattle.jc_log.specs.Deeds.{Deed, act_of_action};
 ghost use Rattle.jc_log.specs.Log.{jobs_in};
-ghost use Rattle.jc_states.specs.ValidActions.{IsValidAction};
-ghost use Rattle.jc_history.specs.Legal.{IsLegal, IsOfShape};
-ghost use Rattle.jc_history.specs.Play.{Playing, deeds_played, is_command, rest_played, whole_play};
-ghost use Rattle.jc_order.specs.Plays.{IsProper};
+ghost use Rattle.jc_runs.specs.ValidActions.{IsValidAction};
+ghost use Rattle.jc_runs.specs.Legal.{IsLegal, IsOfShape};
+ghost use Rattle.jc_runs.specs.Play.{Playing, deeds_played, is_command, rest_played, whole_play};
+ghost use Rattle.jc_core.specs.Plays.{IsProper};
 ghost use Rattle.jc_runs.specs.Runs.{AllAskValid};
 ghost use Rattle.jc_runs.specs.Seen.{Seen, deeds_seen, log_seen};
 ghost use Rattle.jc_script.specs.Scripts.{BadLine, script_of};
@@ -26,8 +26,7 @@ ghost use Rattle.jc_reap.specs.Finds.{AreDue, IsCollected, seen_at_end};
 ghost use Rattle.jc_reap.specs.Reaping.{reap_list, ttl_seen};
 ghost use Rattle.jc_reap.specs.TtlLines.{RefusesTtl, ttls_of};
 
-use jc_manifest::allowed_updates_stay_valid;
-use jc_runs::valid_scripts_ask_valid;
+use jc_runs::{allowed_updates_stay_valid, valid_scripts_ask_valid};
 
 /// The commands that a reaper gives are valid, and name no controller and no worker that a shape does not have: so a
 /// script that can be played can be played with them behind it.

@@ -5,7 +5,7 @@ ghost use Rattle.jc_types.specs.declared.numbers.Uid.{Uid};
 ghost use Rattle.jc_types.specs.declared.runs.Past.{Past};
 ghost use Rattle.jc_types.specs.Keys.{same_uid};
 ghost use Rattle.jc_log.specs.Tables.{at};
-ghost use Rattle.jc_reap.specs.Makers.{made, maker};
+ghost use Rattle.jc_reap.specs.Makers.{made_at, maker};
 
 use jc_table::Table;
 use jc_types::{Action1, Command, Event, Past, Reply, Uid, Want};
@@ -13,7 +13,7 @@ use std::alloc::Global;
 
 // The UID of the Job that the event made, and the place of the create command that made it.
 fn made(commands: &[Command], past: &Past) -> Option<(Uid, u32)>
-    ensures { result ≡ made commands.now past.now }
+    ensures { result ≡ made_at commands.now past.now }
 {
     let Event::Command { number, .. } = past.event else {
         return None;

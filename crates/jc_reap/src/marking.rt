@@ -2,7 +2,7 @@
 
 ghost use Rattle.std.specs.Prelude.{◌≡◌, ◌∷◌, ◌++◌, [], IfOk, List, OnOk, filter, map};
 ghost use Rattle.jc_types.specs.declared.objects.Job.{Job};
-ghost use Rattle.jc_reap.specs.Reaping.{HasUids, command, is_ownerless, marks};
+ghost use Rattle.jc_reap.specs.Reaping.{HasUids, command, is_ownerless, mark_commands};
 
 use jc_table::{PodTable, Table};
 use jc_types::{Action1, Command, Commands, Job, Key, Pod, Uid, Want};
@@ -17,14 +17,14 @@ pub(crate) fn give(commands: &mut Commands, action: Action1) -> Result<(), Want>
 
 // Adds a mark of the pod.
 fn mark(commands: &mut Commands, pod: &Pod) -> Result<(), Want>
-    ensures { OnOk result (commands.new ≡ commands.old ++ marks (pod.now ∷ [])) }
+    ensures { OnOk result (commands.new ≡ commands.old ++ mark_commands (pod.now ∷ [])) }
 {
     give(commands, Action1::Mark { pod: pod.uid })
 }
 
 // Adds marks of all these pods.
 pub(crate) fn mark_all(commands: &mut Commands, pods: &[Pod]) -> Result<(), Want>
-    ensures { OnOk result (commands.new ≡ commands.old ++ marks pods.now) }
+    ensures { OnOk result (commands.new ≡ commands.old ++ mark_commands pods.now) }
 {
     for pod in pods {
         mark(commands, pod)?;
@@ -53,7 +53,7 @@ fn is_ownerless(uids: &Table<Uid, ()>, pod: &Pod) -> bool
 // Adds a mark of the pod, where its Job is gone.
 fn mark_ownerless(commands: &mut Commands, uids: &Table<Uid, ()>, pod: &Pod) -> Result<(), Want>
     ensures { OnOk result ((jobs : List Job) → HasUids uids.now jobs
-        → commands.new ≡ commands.old ++ marks (filter (is_ownerless jobs) (pod.now ∷ []))) }
+        → commands.new ≡ commands.old ++ mark_commands (filter (is_ownerless jobs) (pod.now ∷ []))) }
 {
     if is_ownerless(uids, pod) {
         mark(commands, pod)
@@ -70,7 +70,7 @@ pub(crate) fn mark_all_ownerless(
     pods: &PodTable,
 ) -> Result<(), Want>
     ensures { OnOk result (commands.new ≡ commands.old
-        ++ marks (filter (is_ownerless (map (λ row. row.1) jobs.now)) pods.now)) }
+        ++ mark_commands (filter (is_ownerless (map (λ row. row.1) jobs.now)) pods.now)) }
 {
     let uids = present(alloc, jobs)?;
     for pod in pods.values() {

@@ -1,7 +1,7 @@
 //! The commands that a reaper gives to a cluster at rest.
 
 ghost use Rattle.std.specs.Prelude.{◌≡◌, ◌≤◌, IfOk, OnOk, length, true};
-ghost use Rattle.jc_history.specs.Available.{is_quiescent};
+ghost use Rattle.jc_runs.specs.Available.{is_quiescent};
 ghost use Rattle.jc_runs.specs.Seen.{deeds_seen, log_seen};
 ghost use Rattle.jc_reap.specs.Reaping.{reap_list, then_settle, unsettled};
 

@@ -1,7 +1,7 @@
 //! The removal of Jobs whose time is over.
 
 ghost use Rattle.std.specs.Prelude.{◌≡◌, ◌++◌, OnOk};
-ghost use Rattle.jc_reap.specs.Reaping.{clock_to, later, removal, removals};
+ghost use Rattle.jc_reap.specs.Reaping.{clock_to, later_moment, removal, removals};
 
 use crate::expiries::Expiry;
 use crate::marking::{give, mark_all};
@@ -12,7 +12,7 @@ use std::collections::BTreeMap;
 
 // The later of two moments.
 fn later(reached: Moment, due: Moment) -> Moment
-    ensures { result ≡ later reached due }
+    ensures { result ≡ later_moment reached due }
 {
     if reached < due { due } else { reached }
 }

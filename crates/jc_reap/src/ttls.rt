@@ -6,12 +6,13 @@ ghost use Rattle.serde_json.specs.View.{view};
 ghost use Rattle.jc_json.specs.Line.{data_of};
 ghost use Rattle.jc_script.specs.Causes.{Says};
 ghost use Rattle.jc_script.specs.Items.{with_front};
-ghost use Rattle.jc_script.specs.Members.{given_number_in};
 ghost use Rattle.jc_script.specs.Scripts.{most_bytes, script_of};
-ghost use Rattle.jc_reap.specs.TtlLines.{entries_of, line_ttls, makes_job, some_ttls, spec_in, spec_path, ttl_given, ttl_in, ttl_of_command, ttl_of_spec, ttls_of, ttls_say};
+ghost use Rattle.jc_reap.specs.TtlLines.{entries_of, line_ttls, makes_job, some_ttls, spec_member, spec_path, ttl_given, ttl_in, ttl_of_command, ttl_of_spec, ttls_of, ttls_say};
 
-use jc_json::{JsonFault, Path, may_number, member, read_line};
-use jc_script::{Cause, LineFault, Said, ScriptFault, first_line, read_text, trimmed};
+use jc_json::{JsonFault, Path, member, read_line};
+use jc_script::{
+    Cause, LineFault, Said, ScriptFault, first_line, read_given_number, read_text, trimmed,
+};
 use jc_types::{Action1, ListOf, Shape, Want};
 use serde_json::Value;
 use std::alloc::Global;
@@ -22,32 +23,6 @@ pub type Ttls = ListOf<Option<u32>>;
 
 // The greatest TTL.
 const GREATEST_TTL: u32 = 2_147_483_647;
-
-// A whole number from `least` to `greatest`, where it is given.
-#[tactic(auto, unfolding(jc_script::specs::Members::given_number_in))]
-fn read_number(
-    alloc: Global,
-    object: &Value,
-    path: &Path,
-    name: &str,
-    least: u32,
-    greatest: u32,
-) -> Result<Option<u32>, LineFault>
-    ensures { Says (λ n. n) result
-        (given_number_in path.now name.now least greatest (view object.now)) }
-{
-    match may_number(
-        alloc,
-        object,
-        path,
-        name,
-        i64::from(least),
-        i64::from(greatest),
-    )? {
-        None => Ok(None),
-        Some(number) => Ok(Some(number as u32)),
-    }
-}
 
 // Where the specification stands.
 fn spec_path(alloc: Global) -> Result<Path, Want>
@@ -61,7 +36,7 @@ fn read_in_spec(alloc: Global, spec: &Value) -> Result<Option<u32>, LineFault>
     ensures { Says (λ ttl. ttl) result (ttl_of_spec (Some (view spec.now))) }
 {
     let path = spec_path(alloc)?;
-    read_number(
+    read_given_number(
         alloc,
         spec,
         &path,
@@ -73,7 +48,7 @@ fn read_in_spec(alloc: Global, spec: &Value) -> Result<Option<u32>, LineFault>
 
 // The specification of the Job in the value of a line.
 fn spec_in(value: &Value) -> Option<&Value>
-    ensures { option_map (λ v. view v.now) result ≡ spec_in (view value.now) }
+    ensures { option_map (λ v. view v.now) result ≡ spec_member (view value.now) }
 {
     member(member(value, "job")?, "spec")
 }

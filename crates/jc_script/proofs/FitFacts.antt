@@ -1,19 +1,18 @@
 -- What each command of a script keeps.
-use Rattle.std.proofs.Common.{◌≡◌, ◌≢◌, refl, sym, ap, ℕ, zero, suc, ◌+◌, ◌-◌, ◌<◌, ◌≤◌, ℤ, pos, negsuc, nat_abs, List, [], ◌∷◌, ◌++◌, length, nat_lt, nat_le, Bool, true, false, ◌&&◌, cond, Option, Some, None, IfSome, Result, Ok, Err, codes, replicate, true≢false, arith}
-use Rattle.std.specs.Prelude.{IfOk, int_le, ok_or, option_map, option_and_then, unwrap_or}
+use Rattle.std.proofs.Common.{◌≡◌, ◌≢◌, refl, ap, ℕ, zero, suc, ◌+◌, ◌-◌, ◌<◌, ◌≤◌, pos, List, [], ◌∷◌, ◌++◌, length, nat_lt, nat_le, Bool, true, false, cond, Option, Some, None, Result, Ok, Err, codes, replicate, arith}
+use Rattle.std.specs.Prelude.{IfOk, unwrap_or}
 use Rattle.std.specs.List.{AllByRecursion as Each}
 use Rattle.std.specs.Str.Lines.{strip_carriage_return}
 use Rattle.std.proofs.lemmas.Bool.{leb-true}
 use Rattle.std.proofs.lemmas.List.{length-append}
 use Rattle.std.proofs.lemmas.Result.{IfOk-at_ok}
 use Rattle.serde_json.specs.Data.{Data}
-use Rattle.serde_json.specs.Find.{as_integer, as_number}
-use Rattle.jc_json.specs.Field.{◌>>=◌, wrong_type, out_of_range, member_of, bounded_number, may_be, within, needed_number, needed_list, needed_object, object_of, optional_number}
+use Rattle.jc_json.specs.Field.{◌>>=◌, needed_number, needed_list, needed_object, object_of}
 use Rattle.jc_json.specs.Line.{data_of}
 use Rattle.jc_json.specs.Place.{path_to}
 use Rattle.jc_manifest.proofs.AcceptedFacts.{accepted_is_valid}
 use Rattle.jc_manifest.specs.Manifests.{manifest_refusal, spec_of, key_of}
-use Rattle.jc_manifest.specs.Rows.{Row, unread, invalid}
+use Rattle.jc_rows.specs.Rows.{Row, unread, invalid}
 use Rattle.jc_states.specs.ValidActions.{IsValidAction}
 use Rattle.jc_states.specs.ValidSpecs.{IsValidSpec}
 use Rattle.jc_types.specs.declared.actions.Action1.{Action1}
@@ -22,80 +21,25 @@ use Rattle.jc_types.specs.declared.actions.Command.{Command}
 use Rattle.jc_types.specs.declared.objects.Key.{Key}
 use Rattle.jc_types.specs.declared.runs.Shape.{Shape}
 use Rattle.jc_types.specs.declared.specifications.JobSpec.{JobSpec}
-use Rattle.jc_script.specs.declared.causes.Cause.{Cause}
-use Rattle.jc_script.specs.declared.causes.Cause.TheVariants.{LineTooLong, TooMany}
+use Rattle.jc_members.specs.declared.causes.Cause.{Cause}
+use Rattle.jc_members.specs.declared.causes.Cause.TheVariants.{LineTooLong, TooMany}
 use Rattle.jc_script.specs.declared.commands.Said.{Said}
-use Rattle.jc_script.specs.declared.names.Seat.{Seat}
+use Rattle.jc_members.specs.declared.names.Seat.{Seat}
 use Rattle.jc_script.specs.declared.verbs.Verb.{Verb}
 use Rattle.jc_script.specs.declared.verbs.Verb.TheVariants as verb
-use Rattle.jc_script.specs.Causes.{read_as}
+use Rattle.jc_members.specs.Causes.{read_as}
 use Rattle.jc_script.specs.Commands.{said_unless, job_said, create_in, update_in, delete_in, fate_in, mark_in, strip_in, finish_in, phase_in, clock_in, list_command_in, deliver_in, begin_in, sync_in, step_in, restart_command_in, fault_in, kind_in, fault_kind_in, action_said, lane_in, command_in, object_says, value_says}
-use Rattle.jc_script.specs.Ends.{rightly_many, end_said_at, ends_said}
+use Rattle.jc_members.specs.Ends.{rightly_many, end_said_at, ends_said}
 use Rattle.jc_script.specs.Fits.{NamesShape}
-use Rattle.jc_script.specs.Items.{with_front, then_each, each_said}
+use Rattle.jc_members.specs.Items.{with_front, then_each, each_said}
 use Rattle.jc_script.specs.Lines.{lines_of}
-use Rattle.jc_script.specs.Members.{given_number_in, whole_number_in}
-use Rattle.jc_script.specs.Named.{job_key_in, pod_named, controller_in, worker_in, seat_in, times_in}
-use Rattle.jc_script.specs.Phases.{report_in}
+use Rattle.jc_members.specs.Members.{given_number_in, whole_number_in}
+use Rattle.jc_members.specs.Named.{job_key_in, pod_named, controller_in, worker_in, seat_in, times_in}
+use Rattle.jc_members.specs.Phases.{report_in}
 use Rattle.jc_script.specs.Scripts.{BadLine, most_line_bytes, most_commands, json_says, text_says, commands_said, line_says, line_before, lines_say, script_of}
 use Rattle.jc_script.specs.Updates.{version_said, change_in}
 use Rattle.jc_script.specs.Verbs.{verb_in}
-
--- ---- answers one after the other
-
--- what follows from what is known of the first one
-using_first : {A B E : Type 0} (P : B → Type 0) (Q : A → Type 0) (first : Result A E) (next : A → Result B E)
-    → IfOk first Q → ((a : A) → Q a → IfOk (next a) P) → IfOk (first >>= next) P
-using_first P Q (Ok a) next known holds = holds a known
-using_first P Q (Err fault) next known holds = tt
-
--- nothing need be known of it
-whatever : {A B E : Type 0} (P : B → Type 0) (first : Result A E) (next : A → Result B E)
-    → ((a : A) → IfOk (next a) P) → IfOk (first >>= next) P
-whatever P (Ok a) next holds = holds a
-whatever P (Err fault) next holds = tt
-
--- ---- numbers within bounds
-
-and_parts : (a b : Bool) → (a && b) ≡ true → (a ≡ true) × (b ≡ true)
-and_parts true b e = (refl, e)
-and_parts false b e = absurd (true≢false (sym e))
-
-abbrev IsUpTo : ℕ → Option ℕ → Type 0
-IsUpTo greatest o = IfSome o (λ n. n ≤ greatest)
-
-whole_is_within : (path : List ℕ) (least greatest : ℕ) (z : ℤ) (b : Bool)
-    → (int_le (pos least) z && int_le z (pos greatest)) ≡ b
-    → IfOk (read_as (cond b (Ok z) (Err (out_of_range path)) >>= (λ a. Ok (Some a))) >>= λ o. Ok (option_map nat_abs o))
-    (IsUpTo greatest)
-whole_is_within path least greatest (pos n) true e =
-    leb-true n greatest ((and_parts (nat_le least n) (nat_le n greatest) e).1)
-whole_is_within path least greatest (negsuc n) true e = absurd (true≢false (sym e))
-whole_is_within path least greatest z false e = tt
-
-number_is_within : (path : List ℕ) (least greatest : ℕ) (w : Option ℤ)
-    → IfOk (read_as ((ok_or w (wrong_type path) >>= within path (pos least) (pos greatest)) >>= (λ a. Ok (Some a)))
-    >>= λ o. Ok (option_map nat_abs o)) (IsUpTo greatest)
-number_is_within path least greatest None = tt
-number_is_within path least greatest (Some z) =
-    whole_is_within path least greatest z (int_le (pos least) z && int_le z (pos greatest)) refl
-
-member_is_within : (path : List ℕ) (least greatest : ℕ) (o : Option Data)
-    → IfOk (read_as (may_be (bounded_number path (pos least) (pos greatest)) o) >>= λ o. Ok (option_map nat_abs o))
-    (IsUpTo greatest)
-member_is_within path least greatest None = tt
-member_is_within path least greatest (Some d) =
-    number_is_within path least greatest (option_and_then as_integer (as_number d))
-
-given_is_within : (path name : List ℕ) (least greatest : ℕ) (d : Data)
-    → IfOk (given_number_in path name least greatest d) (IsUpTo greatest)
-unfolding given_number_in optional_number
-given_is_within path name least greatest d =
-    member_is_within (path_to path name) least greatest (member_of name d)
-
-or_zero : (o : Option ℕ) (greatest : ℕ) → IsUpTo greatest o → unwrap_or o 0 ≤ greatest
-or_zero None greatest within = omega arith
-or_zero (Some n) greatest within = within
+use Rattle.jc_members.proofs.Within.{IsUpTo, given_is_within, or_zero, using_first, whatever}
 
 -- ---- lanes, controllers and workers
 
@@ -104,7 +48,7 @@ unfolding lane_in
 lane_is_small d =
     using_first (λ lane. lane < 16) (IsUpTo 15) (given_number_in [] (codes "lane") 0 15 d) (λ o. Ok (unwrap_or o 0))
     (given_is_within [] (codes "lane") 0 15 d)
-    (λ o within. let small = or_zero o 15 within in omega (arith, small))
+    (λ o within_bounds. let small = or_zero o 15 within_bounds in omega (arith, small))
 
 abbrev IsController : Shape → ℕ → Type 0
 IsController shape controller = 0 < shape.controllers → controller < shape.controllers
@@ -117,7 +61,7 @@ IsSeat shape seat =
     0 < shape.controllers → 0 < shape.workers → (seat.controller < shape.controllers) × (seat.worker < shape.workers)
 
 is_below : (o : Option ℕ) (n : ℕ) → IsUpTo (n - 1) o → 0 < n → unwrap_or o 0 < n
-is_below o n within some = let small = or_zero o (n - 1) within in omega (arith, small, some)
+is_below o n within_bounds some = let small = or_zero o (n - 1) within_bounds in omega (arith, small, some)
 
 controller_is_within : (shape : Shape) (d : Data) → IfOk (controller_in shape d) (IsController shape)
 unfolding controller_in

@@ -5,13 +5,13 @@ use Rattle.std.proofs.lemmas.Bool.{leb-true}
 use Rattle.std.proofs.lemmas.List.{append-nil, length-append, length-replicate}
 use Rattle.jc_types.specs.declared.actions.Command.{Command}
 use Rattle.jc_types.specs.declared.runs.Shape.{Shape}
-use Rattle.jc_script.specs.declared.causes.Cause.{Cause}
-use Rattle.jc_script.specs.declared.causes.Cause.TheVariants.{TooMany}
+use Rattle.jc_members.specs.declared.causes.Cause.{Cause}
+use Rattle.jc_members.specs.declared.causes.Cause.TheVariants.{TooMany}
 use Rattle.jc_script.specs.declared.commands.Said.{Said}
 use Rattle.jc_script.specs.declared.scripts.ScriptFault.{ScriptFault}
 use Rattle.jc_script.specs.declared.scripts.ScriptFault.TheVariants as fault
 use Rattle.jc_script.specs.Commands.{commands_of}
-use Rattle.jc_script.specs.Items.{with_front}
+use Rattle.jc_members.specs.Items.{with_front}
 use Rattle.jc_script.specs.Lines.{lines_of, lines_left}
 use Rattle.jc_script.specs.Scripts.{BadLine, line_before, line_says, lines_say, script_of, most_commands}
 
@@ -28,11 +28,11 @@ pub record IsReading (shape : Shape) (bytes : List ℕ) (commands : List Command
 
 -- ---- fronts
 
-front_nil : {A E : Type 0} (said : Result (List A) E) → with_front [] said ≡ said
+pub front_nil : {A E : Type 0} (said : Result (List A) E) → with_front [] said ≡ said
 front_nil (Ok rest) = refl
 front_nil (Err fault) = refl
 
-front_twice : {A E : Type 0} (front more : List A) (said : Result (List A) E)
+pub front_twice : {A E : Type 0} (front more : List A) (said : Result (List A) E)
     → with_front (front ++ more) said ≡ with_front front (with_front more said)
 front_twice front more (Ok rest) = ap (λ xs. Ok xs) (append_assoc front more rest)
 front_twice front more (Err fault) = refl

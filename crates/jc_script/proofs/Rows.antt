@@ -4,10 +4,10 @@ use Rattle.serde_json.specs.Data.{number, string, array, object, unsigned, no_it
 use Rattle.jc_json.specs.Field.{member_of, needed_text, needed_number, needed_object, optional_number}
 use Rattle.jc_json.specs.Place.{path_to}
 use Rattle.jc_types.specs.declared.runs.Shape.{Shape}
-use Rattle.jc_script.specs.declared.causes.Cause.TheVariants.{Missing, WrongType, OutOfRange, Invalid}
+use Rattle.jc_members.specs.declared.causes.Cause.TheVariants.{Missing, WrongType, OutOfRange, Invalid}
 use Rattle.jc_script.specs.Commands.{value_says, object_says, command_in, lane_in, create_in, mark_in}
-use Rattle.jc_script.specs.Members.{only_known, unknown_in, word_in, whole_number_in, given_number_in}
-use Rattle.jc_script.specs.Named.{pod_named}
+use Rattle.jc_members.specs.Members.{only_known, unknown_in, word_in, whole_number_in, given_number_in}
+use Rattle.jc_members.specs.Named.{pod_named}
 use Rattle.jc_script.specs.Verbs.{verb_in}
 
 -- `[]`

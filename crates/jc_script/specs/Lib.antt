@@ -1,12 +1,13 @@
-pub mod Causes
 pub mod Commands
-pub mod Ends
 pub mod Fits
-pub mod Items
 pub mod Lines
-pub mod Members
-pub mod Named
-pub mod Phases
 pub mod Scripts
 pub mod Updates
 pub mod Verbs
+-- Words of the crates below, handed on to those above.
+pub use Rattle.jc_members.specs.declared.causes.Cause
+pub use Rattle.jc_members.specs.Causes
+pub use Rattle.jc_members.specs.Ends
+pub use Rattle.jc_members.specs.Items
+pub use Rattle.jc_members.specs.Members
+pub use Rattle.jc_members.specs.Phases

@@ -8,11 +8,11 @@ use Rattle.jc_json.specs.Field.{◌>>=◌}
 use Rattle.jc_json.specs.Line.{data_of}
 use Rattle.jc_types.specs.declared.actions.Command.{Command}
 use Rattle.jc_types.specs.declared.runs.Shape.{Shape}
-use Rattle.jc_script.specs.declared.causes.Cause.{Cause}
-use Rattle.jc_script.specs.declared.causes.Cause.TheVariants.{NotJson, LineTooLong, TooMany}
+use Rattle.jc_members.specs.declared.causes.Cause.{Cause}
+use Rattle.jc_members.specs.declared.causes.Cause.TheVariants.{NotJson, LineTooLong, TooMany}
 use Rattle.jc_script.specs.declared.commands.Said.{Said}
 use Rattle.jc_script.specs.Commands.{commands_of, value_says}
-use Rattle.jc_script.specs.Items.{with_front}
+use Rattle.jc_members.specs.Items.{with_front}
 use Rattle.jc_script.specs.Lines.{lines_of}
 
 -- a line has at most this many bytes

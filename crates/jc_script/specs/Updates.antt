@@ -8,11 +8,11 @@ use Rattle.jc_json.specs.Place.{path_to}
 use Rattle.jc_types.specs.declared.actions.SpecChange.{SpecChange}
 use Rattle.jc_types.specs.declared.limits.TheConstants.{GREATEST_COMPLETIONS, GREATEST_PARALLELISM, GREATEST_LIMIT}
 use Rattle.jc_types.specs.declared.numbers.Version.{Version}
-use Rattle.jc_script.specs.declared.causes.Cause.{Cause}
+use Rattle.jc_members.specs.declared.causes.Cause.{Cause}
 use Rattle.jc_script.specs.declared.updates.NewCounts.{NewCounts}
 use Rattle.jc_script.specs.declared.updates.NewLimits.{NewLimits}
-use Rattle.jc_script.specs.Causes.{read_as}
-use Rattle.jc_script.specs.Members.{only_known, given_number_in}
+use Rattle.jc_members.specs.Causes.{read_as}
+use Rattle.jc_members.specs.Members.{only_known, given_number_in}
 
 abbrev pub as_version : ℕ → Version
 as_version n = record { 0 = n }

@@ -4,10 +4,10 @@
 use Rattle.std.specs.Prelude.{ℕ, List, [], ◌∷◌, bytes_eq, codes, Option, Some, None, Result, Ok, if◌then◌else◌}
 use Rattle.serde_json.specs.Data.{Data}
 use Rattle.jc_json.specs.Field.{◌>>=◌}
-use Rattle.jc_script.specs.declared.causes.Cause.{Cause}
+use Rattle.jc_members.specs.declared.causes.Cause.{Cause}
 use Rattle.jc_script.specs.declared.verbs.Verb.{Verb}
 use Rattle.jc_script.specs.declared.verbs.Verb.TheVariants as verb
-use Rattle.jc_script.specs.Members.{word_in, only_known}
+use Rattle.jc_members.specs.Members.{word_in, only_known}
 
 abbrev pub verb_of : List ℕ → Option Verb
 verb_of s =

@@ -2,18 +2,17 @@
 
 ghost use Rattle.std.specs.Prelude.{◌≡◌};
 ghost use Rattle.serde_json.specs.View.{view};
-ghost use Rattle.jc_script.specs.Causes.{Says};
+ghost use Rattle.jc_members.specs.Causes.{Says};
 ghost use Rattle.jc_script.specs.Commands.{kind_named, fault_of, kind_in, fault_kind_in, create_in, update_in, delete_in, fate_in, mark_in, strip_in, finish_in, phase_in, clock_in, list_command_in, deliver_in, begin_in, sync_in, step_in, restart_command_in, fault_in, action_said, lane_in, command_in, object_says, value_says};
 
-use crate::causes::{Cause, LineFault, broken};
-use crate::ends::read_ends;
-use crate::members::{read_number, read_object};
-use crate::names::{read_controller, read_key, read_pod, read_seat, read_times};
-use crate::phases::read_report;
 use crate::updates::{read_change, read_version};
 use crate::verbs::{Verb, read_verb};
 use jc_json::{Path, may_number, need_number, need_text};
 use jc_manifest::read_job;
+use jc_members::{
+    Cause, LineFault, broken, read_controller, read_ends, read_key, read_number, read_object,
+    read_pod, read_report, read_seat, read_times,
+};
 use jc_types::{Action1, Arc, Command, Fault, Kind, Shape};
 use serde_json::Value;
 use std::alloc::Global;
@@ -48,7 +47,7 @@ fn fault_of(text: &str) -> Option<Fault>
 }
 
 // The kind of objects.
-#[tactic(auto, unfolding(crate::specs::Members::word_in, crate::specs::Commands::kind_in))]
+#[tactic(auto, unfolding(jc_members::specs::Members::word_in, crate::specs::Commands::kind_in))]
 fn read_kind(alloc: Global, value: &Value) -> Result<Kind, LineFault>
     ensures { Says (λ kind. kind) result (kind_in (view value.now)) }
 {
@@ -61,7 +60,7 @@ fn read_kind(alloc: Global, value: &Value) -> Result<Kind, LineFault>
 }
 
 // The fault that befalls a request.
-#[tactic(auto, unfolding(crate::specs::Members::word_in, crate::specs::Commands::fault_kind_in))]
+#[tactic(auto, unfolding(jc_members::specs::Members::word_in, crate::specs::Commands::fault_kind_in))]
 fn read_fault_kind(alloc: Global, value: &Value) -> Result<Fault, LineFault>
     ensures { Says (λ fault. fault) result (fault_kind_in (view value.now)) }
 {
@@ -282,7 +281,7 @@ fn read_action(
 }
 
 // The lane of a command; the first where none is given.
-#[tactic(auto, unfolding(crate::specs::Members::given_number_in, crate::specs::Commands::lane_in))]
+#[tactic(auto, unfolding(jc_members::specs::Members::given_number_in, crate::specs::Commands::lane_in))]
 fn read_lane(alloc: Global, value: &Value) -> Result<u8, LineFault>
     ensures { Says (λ lane. lane) result (lane_in (view value.now)) }
 {

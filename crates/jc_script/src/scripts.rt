@@ -2,15 +2,15 @@
 
 ghost use Rattle.std.specs.Prelude.{◌≡◌, ◌≤◌, ◌+◌, ◌++◌, [], ◌∷◌, ℕ, List, IfOk, OnOk, IsErrOf, Ok, Err, length, nat_le};
 ghost use Rattle.std.specs.Option.{option_map_or};
-ghost use Rattle.jc_script.specs.Causes.{Says};
+ghost use Rattle.jc_members.specs.Causes.{Says};
 ghost use Rattle.jc_script.specs.Commands.{commands_of};
-ghost use Rattle.jc_script.specs.Items.{with_front};
+ghost use Rattle.jc_members.specs.Items.{with_front};
 ghost use Rattle.jc_script.specs.Scripts.{most_bytes, most_commands, text_says, line_says, lines_say, script_of};
 
-use crate::causes::{Cause, LineFault};
 use crate::commands::{Said, read_value};
 use crate::lines::{first_line, trimmed};
 use jc_json::{JsonFault, read_line};
+use jc_members::{Cause, LineFault};
 use jc_types::{Commands, Copied, Script, Shape, Want};
 use std::alloc::{AllocError, Global};
 

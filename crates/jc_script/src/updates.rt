@@ -1,13 +1,12 @@
 //! What an update says.
 
 ghost use Rattle.serde_json.specs.View.{view};
-ghost use Rattle.jc_script.specs.Causes.{Says};
+ghost use Rattle.jc_members.specs.Causes.{Says};
 ghost use Rattle.jc_script.specs.Updates.{version_said, change_members, counts_of, limits_of, change_at, change_in};
-ghost use Rattle.jc_script.specs.Members.{only_known};
+ghost use Rattle.jc_members.specs.Members.{only_known};
 
-use crate::causes::LineFault;
-use crate::members::{check_known, read_given_number, read_object};
 use jc_json::{Path, may_bool};
+use jc_members::{LineFault, check_known, read_given_number, read_object};
 use jc_types::{GREATEST_COMPLETIONS, GREATEST_LIMIT, GREATEST_PARALLELISM, SpecChange, Version};
 use serde_json::Value;
 use std::alloc::Global;

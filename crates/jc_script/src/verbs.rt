@@ -2,13 +2,12 @@
 
 ghost use Rattle.std.specs.Prelude.{◌≡◌, codes, map};
 ghost use Rattle.serde_json.specs.View.{view};
-ghost use Rattle.jc_script.specs.Causes.{Says};
-ghost use Rattle.jc_script.specs.Members.{word_in};
+ghost use Rattle.jc_members.specs.Causes.{Says};
+ghost use Rattle.jc_members.specs.Members.{word_in};
 ghost use Rattle.jc_script.specs.Verbs.{verb_of, members_of, verb_in};
 
-use crate::causes::{LineFault, broken};
-use crate::members::check_known;
 use jc_json::{Path, need_text};
+use jc_members::{LineFault, broken, check_known};
 use serde_json::Value;
 use std::alloc::Global;
 
@@ -97,7 +96,7 @@ fn members_of(verb: Verb) -> &'static [&'static str]
 }
 
 // The command that a line gives, by its member `do`.
-#[tactic(auto, unfolding(crate::specs::Members::word_in))]
+#[tactic(auto, unfolding(jc_members::specs::Members::word_in))]
 fn read_word(alloc: Global, value: &Value, path: &Path) -> Result<Verb, LineFault>
     ensures { Says (λ verb. verb) result
         (word_in path.now (codes "do") verb_of (view value.now)) }

@@ -1,7 +1,7 @@
 use Rattle.std.proofs.Common.{◌<◌, ◌^◌, ap, eq-eqb, eqb-true, is_some, subst, sym, true≢false}
 use Rattle.jc_types.specs.declared.runs.Event.TheVariants as event
 use Rattle.jc_types.specs.declared.runs.Sys.TheVariants as sys
-use Rattle.jc_turns.specs.Actors.{CanCome}
+use Rattle.jc_play.specs.Actors.{CanCome}
 use Rattle.jc_audit.proofs.TakeFacts.{same_number}
 use Rattle.jc_audit.proofs.taking.can_pass.Goals as goal
 

@@ -3,9 +3,9 @@ use Rattle.jc_log.specs.Acts as does
 use Rattle.jc_log.specs.Deeds.{Deed}
 use Rattle.jc_log.specs.Writes.{Stored}
 use Rattle.jc_log.proofs.WriteFacts.{Stored-from_legal}
-use Rattle.jc_history.specs.Play.{Playing, deeds_played, whole_play}
-use Rattle.jc_history.specs.Replies.{log_given}
-use Rattle.jc_order.proofs.PlayFacts.{plays-whole}
+use Rattle.jc_runs.specs.Play.{Playing, deeds_played, whole_play}
+use Rattle.jc_runs.specs.Replies.{log_given}
+use Rattle.jc_core.proofs.PlayFacts.{plays-whole}
 use Rattle.jc_runs.specs.Seen.{deeds_seen}
 use Rattle.jc_runs.proofs.LegalRuns.{legal_run}
 use Rattle.jc_reap.specs.Finds.{IsCollected, seen_at_end}

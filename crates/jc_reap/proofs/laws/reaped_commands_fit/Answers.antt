@@ -1,7 +1,7 @@
 use Rattle.jc_types.specs.declared.actions.Action1.{Action1}
 use Rattle.jc_log.specs.Deeds.{act_of_action}
-use Rattle.jc_states.specs.ValidActions.{IsValidAction}
-use Rattle.jc_history.specs.Legal.{IsOfShape}
+use Rattle.jc_runs.specs.ValidActions.{IsValidAction}
+use Rattle.jc_runs.specs.Legal.{IsOfShape}
 use Rattle.jc_reap.proofs.Fits.{of-all}
 use Rattle.jc_reap.proofs.laws.reaped_commands_fit.Goals as goal
 

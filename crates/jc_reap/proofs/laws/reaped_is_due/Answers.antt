@@ -3,18 +3,14 @@ use Rattle.jc_log.specs.Deeds.{Deed}
 use Rattle.jc_log.specs.Writes.{Stored}
 use Rattle.jc_log.proofs.WriteFacts.{Stored-from_legal}
 use Rattle.jc_types.specs.declared.runs.Shape.{Shape}
-use Rattle.jc_history.specs.Legal.{IsLegal}
+use Rattle.jc_runs.specs.Legal.{IsLegal}
 use Rattle.jc_runs.specs.Seen.{deeds_seen}
 use Rattle.jc_runs.proofs.LegalRuns.{legal_run}
 use Rattle.jc_reap.specs.Reaping.{ttl_seen}
 use Rattle.jc_reap.proofs.FindFacts.{acts_of, front-due, listed-good}
 use Rattle.jc_reap.specs.Reaping.{reap_list}
 use Rattle.jc_reap.proofs.laws.reaped_is_due.Goals as goal
-
--- What was legal first.
-before : (shape : Shape) (more start : List Deed) → IsLegal shape (more ++ start) → IsLegal shape start
-before shape [] start legal = legal
-before shape (d ∷ more) start legal = before shape more start legal.1
+use Rattle.jc_core.proofs.QuietSyncs.{legal-before as before}
 
 pub returns : goal.returns
 returns c = λ seen ttls more left valid legal is.

@@ -2,7 +2,7 @@ use Rattle.std.proofs.Common.{List, [], ◌∷◌, ◌++◌, ap, subst, ◌∙�
 use Rattle.jc_log.specs.Acts as does
 use Rattle.jc_log.specs.Writes.{Stored}
 use Rattle.jc_log.proofs.WriteFacts.{Stored-from_legal}
-use Rattle.jc_history.specs.Replies.{log_given}
+use Rattle.jc_runs.specs.Replies.{log_given}
 use Rattle.jc_runs.specs.Seen.{deeds_seen}
 use Rattle.jc_runs.proofs.LegalRuns.{legal_run}
 use Rattle.jc_log.specs.Deeds.{Deed}

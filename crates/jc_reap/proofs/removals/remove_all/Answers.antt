@@ -1,7 +1,7 @@
 use Rattle.std.proofs.Common.{ap, ◌∙◌}
 use Rattle.jc_types.specs.declared.numbers.Uid.{Uid}
 use Rattle.jc_reap.specs.declared.expiries.Expiry.{Expiry}
-use Rattle.jc_reap.specs.Reaping.{later}
+use Rattle.jc_reap.specs.Reaping.{later_moment}
 use Rattle.jc_reap.proofs.Lists.{reached-more, removals-more}
 use Rattle.jc_reap.proofs.removals.remove_all.Goals as goal
 
@@ -12,6 +12,6 @@ loop-expiry-preserved c =
       removals-more c.args.store.now c.args.now c.loop-expiry.yielded row c.loop-expiry.reached c.args.commands.now _ c.wait.new.commands _
           c.loop-expiry.invariant.0 c.loop-expiry.invariant.1 c.in_ok-wait.ensures c.in_ok-remove.ensures,
       c.later-reached.ensures
-          ∙ ap (λ m. later m c.in-Some.expiry.moment) c.loop-expiry.invariant.1
+          ∙ ap (λ m. later_moment m c.in-Some.expiry.moment) c.loop-expiry.invariant.1
           ∙ reached-more c.args.now c.loop-expiry.yielded row,
     )

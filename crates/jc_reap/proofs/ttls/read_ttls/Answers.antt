@@ -1,11 +1,11 @@
 use Rattle.std.proofs.Common.{ℕ, ap, sym, subst, List, Option, Some, option_copied}
 use Rattle.std.proofs.lemmas.Result.{err_from_is_err_and}
-use Rattle.jc_reap.proofs.TtlReading.{IsReading, begins, ends_bad, ends_well}
+use Rattle.jc_reap.proofs.TtlReading.{IsTtlReading, begins, ends_bad, ends_well}
 use Rattle.jc_reap.proofs.ttls.read_ttls.Goals as goal
 
 pub lines-init : goal.lines-init
 lines-init c =
-    let P : List (Option ℕ) → Type 0 = λ ttls. IsReading c.args.shape.now c.args.bytes.now ttls 1 (Some c.args.bytes.now)
+    let P : List (Option ℕ) → Type 0 = λ ttls. IsTtlReading c.args.shape.now c.args.bytes.now ttls 1 (Some c.args.bytes.now)
     in subst P (sym c.new-ttls.ensures) (begins c.args.shape.now c.args.bytes.now)
 
 pub returns-in_err-take_line-clause-bad_line : goal.returns-in_err-take_line-clause-bad_line

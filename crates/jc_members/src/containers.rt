@@ -1,0 +1,249 @@
+//! What is reported of a pod's containers.
+
+ghost use Rattle.std.specs.Prelude.{◌≡◌, ◌≤◌, ◌<◌, ◌≤ℤ◌, IfOk, IfSome, OnOk, is_some, length, map, pos};
+ghost use Rattle.serde_json.specs.Data.{null, object, no_members};
+ghost use Rattle.serde_json.specs.View.{view, members_view};
+ghost use Rattle.jc_json.specs.Field.{unless_null};
+ghost use Rattle.jc_members.specs.Causes.{Says};
+ghost use Rattle.jc_members.specs.Items.{all_said};
+ghost use Rattle.jc_members.specs.Phases.{given_names, member_names, entry_in, entries_fit, container_numbers, put_names, names_in_either, exit_in, container_restarts, container_count, container_change, containers_in};
+
+use crate::causes::{LineFault, broken};
+use jc_json::{Path, may_number, may_object};
+use jc_rows::is_label;
+use jc_types::{ContainerChange, ContainerChanges, Name, Want};
+use serde_json::{Map, Value};
+use std::alloc::Global;
+
+// Exit codes and numbers of restarts are those of 32 bits.
+const LEAST_EXIT: i64 = -2_147_483_648;
+
+const GREATEST: i64 = 2_147_483_647;
+
+// Whether a member counts as given.
+fn is_given(value: &Value) -> bool
+    ensures { result ≡ is_some (unless_null (view value.now)) }
+{
+    match value {
+        Value::Null => false,
+        _ => true,
+    }
+}
+
+// The names of the members that are given.
+fn given_names<'v>(alloc: Global, members: &'v Map<String, Value>) -> Result<Vec<&'v str>, Want>
+    ensures { IfOk result (λ names. map (λ name. name.now) names.items
+        ≡ given_names (members_view members.now.entries)) }
+{
+    let mut names = Vec::new(alloc);
+    for (name, value) in members.iter() {
+        if is_given(value) {
+            names.push(name.as_str())?;
+        }
+    }
+    Ok(names)
+}
+
+// The names of the members of an object that are given.
+#[tactic(auto, unfolding(crate::specs::Phases::member_names))]
+fn names_in<'v>(alloc: Global, value: &'v Value) -> Result<Vec<&'v str>, Want>
+    ensures { IfOk result (λ names. map (λ name. name.now) names.items
+        ≡ member_names (view value.now)) }
+{
+    match value.as_object() {
+        Some(members) => given_names(alloc, members),
+        None => Ok(Vec::new(alloc)),
+    }
+}
+
+// The number that an object gives a container, where it gives one.
+#[tactic(auto, unfolding(crate::specs::Phases::entry_in))]
+fn read_entry(
+    alloc: Global,
+    numbers: &Value,
+    path: &Path,
+    name: &str,
+    least: i64,
+    greatest: i64,
+) -> Result<Option<i64>, LineFault>
+    ensures read { Says (λ number. number) result
+        (entry_in path.now least greatest (view numbers.now) name.now) }
+    ensures fits { IfOk result (λ o. IfSome o (λ n. (least ≤ℤ n) × (n ≤ℤ greatest))) }
+    ensures some { IfOk result (λ _. 0 < length name.now) }
+    ensures short { IfOk result (λ _. length name.now ≤ 63) }
+{
+    if !is_label(name.as_bytes()) {
+        return Err(broken(path, name, 11));
+    }
+    Ok(may_number(alloc, numbers, path, name, least, greatest)?)
+}
+
+// That each container's number is right.
+fn check_entries(
+    alloc: Global,
+    numbers: &Value,
+    path: &Path,
+    names: &[&str],
+    least: i64,
+    greatest: i64,
+) -> Result<(), LineFault>
+    ensures { Says (λ u. u) result
+        (entries_fit path.now least greatest (view numbers.now)
+        (map (λ name. name.now) names.now)) }
+{
+    for name in names {
+        read_entry(alloc, numbers, path, name, least, greatest)?;
+    }
+    Ok(())
+}
+
+// An object of numbers, each of which is right; `nothing` where none is given.
+#[tactic(auto, unfolding(crate::specs::Phases::container_numbers))]
+fn read_numbers<'v>(
+    alloc: Global,
+    value: &'v Value,
+    nothing: &'v Value,
+    name: &str,
+    least: i64,
+    greatest: i64,
+) -> Result<&'v Value, LineFault>
+    requires { view nothing.now ≡ null }
+    ensures { Says (λ numbers. view numbers.now) result
+        (container_numbers name.now least greatest (view value.now)) }
+{
+    let path = Path::new(alloc);
+    let numbers = match may_object(alloc, value, &path, name)? {
+        Some(numbers) => numbers,
+        None => nothing,
+    };
+    let names = names_in(alloc, numbers)?;
+    check_entries(
+        alloc,
+        numbers,
+        &path.member(name)?,
+        names.as_slice(),
+        least,
+        greatest,
+    )?;
+    Ok(numbers)
+}
+
+// Puts names among the members.
+fn put_names(alloc: Global, members: &mut Map<String, Value>, names: &[&str]) -> Result<(), Want>
+    ensures { OnOk result (members_view members.new.entries
+        ≡ put_names (map (λ name. name.now) names.now) (members_view members.old.entries)) }
+{
+    for name in names {
+        serde_json::put(members, alloc, name, Value::Bool(true))?;
+    }
+    Ok(())
+}
+
+// An object whose members are named as those of both.
+fn both_of(alloc: Global, exits: &Value, restarts: &Value) -> Result<Value, Want>
+    ensures { IfOk result (λ both. view both ≡ object
+        (put_names (member_names (view restarts.now))
+        (put_names (member_names (view exits.now)) no_members))) }
+{
+    let mut both = Map::new(alloc);
+    put_names(alloc, &mut both, names_in(alloc, exits)?.as_slice())?;
+    put_names(alloc, &mut both, names_in(alloc, restarts)?.as_slice())?;
+    Ok(Value::Object(both))
+}
+
+// The exit code of a container, where one is given.
+#[tactic(auto, unfolding(crate::specs::Phases::exit_in))]
+fn read_exit(alloc: Global, exits: &Value, name: &str) -> Result<Option<i32>, LineFault>
+    ensures read { Says (λ exit. exit) result (exit_in (view exits.now) name.now) }
+    ensures some { IfOk result (λ _. 0 < length name.now) }
+    ensures short { IfOk result (λ _. length name.now ≤ 63) }
+{
+    let path = Path::new(alloc).member("exitCodes")?;
+    match read_entry(alloc, exits, &path, name, LEAST_EXIT, GREATEST)? {
+        None => Ok(None),
+        Some(exit) => Ok(Some(exit as i32)),
+    }
+}
+
+// How often a container was restarted, as a whole number, where that is given.
+#[tactic(auto, unfolding(crate::specs::Phases::container_restarts))]
+fn read_restarts(alloc: Global, restarts: &Value, name: &str) -> Result<Option<i64>, LineFault>
+    ensures read { Says (λ count. count) result (container_restarts (view restarts.now) name.now) }
+    ensures fits { IfOk result (λ o. IfSome o (λ n. (pos 0 ≤ℤ n) × (n ≤ℤ pos 2147483647))) }
+{
+    let path = Path::new(alloc).member("restartCounts")?;
+    read_entry(alloc, restarts, &path, name, 0, GREATEST)
+}
+
+// How often a container was restarted, where that is given.
+#[tactic(auto, unfolding(crate::specs::Phases::container_count))]
+fn read_count(alloc: Global, restarts: &Value, name: &str) -> Result<Option<u32>, LineFault>
+    ensures { Says (λ count. count) result (container_count (view restarts.now) name.now) }
+{
+    match read_restarts(alloc, restarts, name)? {
+        None => Ok(None),
+        Some(count) => Ok(Some(count as u32)),
+    }
+}
+
+// What is said of one container.
+#[tactic(auto, unfolding(crate::specs::Phases::container_change))]
+fn read_change(
+    alloc: Global,
+    exits: &Value,
+    restarts: &Value,
+    name: &str,
+) -> Result<ContainerChange, LineFault>
+    ensures { Says (λ change. change) result
+        (container_change (view exits.now) (view restarts.now) name.now) }
+{
+    let exit = read_exit(alloc, exits, name)?;
+    let restarts = read_count(alloc, restarts, name)?;
+    Ok(ContainerChange {
+        name: Name::from_text(alloc, name)?,
+        exit,
+        restarts,
+    })
+}
+
+// What is said of each of the containers.
+#[tactic(auto, using(crate::proofs::Fronts::one_more))]
+fn read_changes(
+    alloc: Global,
+    exits: &Value,
+    restarts: &Value,
+    names: &[&str],
+) -> Result<ContainerChanges, LineFault>
+    ensures { Says (λ changes. changes) result
+        (all_said (container_change (view exits.now) (view restarts.now))
+        (map (λ name. name.now) names.now)) }
+{
+    let mut changes = ContainerChanges::new(alloc);
+    for name in names {
+        let change = read_change(alloc, exits, restarts, name)?;
+        changes.push(change)?;
+    }
+    Ok(changes)
+}
+
+// What is said of each container that either object names.
+fn read_both(alloc: Global, exits: &Value, restarts: &Value) -> Result<ContainerChanges, LineFault>
+    ensures { Says (λ changes. changes) result
+        (all_said (container_change (view exits.now) (view restarts.now))
+        (names_in_either (view exits.now) (view restarts.now))) }
+{
+    let both = both_of(alloc, exits, restarts)?;
+    let names = names_in(alloc, &both)?;
+    read_changes(alloc, exits, restarts, names.as_slice())
+}
+
+/// What the members `exitCodes` and `restartCounts` say together, a change for each container.
+#[tactic(auto, unfolding(crate::specs::Phases::containers_in))]
+pub fn read_containers(alloc: Global, value: &Value) -> Result<ContainerChanges, LineFault>
+    ensures { Says (λ changes. changes) result (containers_in (view value.now)) }
+{
+    let nothing = Value::Null;
+    let exits = read_numbers(alloc, value, &nothing, "exitCodes", LEAST_EXIT, GREATEST)?;
+    let restarts = read_numbers(alloc, value, &nothing, "restartCounts", 0, GREATEST)?;
+    read_both(alloc, exits, restarts)
+}

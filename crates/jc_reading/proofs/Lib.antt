@@ -1,0 +1,20 @@
+pub mod CompactFacts
+pub mod CutFacts
+pub mod ReadFacts
+pub mod VerbFacts
+pub mod Found
+pub mod AgainHead
+pub mod AgainTemplate
+pub mod AgainFailures
+pub mod AgainSuccess
+pub mod AgainSpec
+pub mod AllowedFacts
+pub mod AllowedSets
+pub mod AllowedWhole
+pub mod ToldFacts
+mod FoundFacts
+mod ItemFacts
+mod KeyFacts
+mod NumberFacts
+mod SaidFacts
+mod ValidFacts

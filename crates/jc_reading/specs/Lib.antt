@@ -1,0 +1,7 @@
+pub mod Allowed
+pub mod Compact
+pub mod Cuts
+pub mod Manifested
+pub mod Proper
+pub mod Readings
+pub mod Reads

@@ -1,0 +1,17 @@
+//! What the line of an event says, read back: its number, its lane and its act, exactly.
+#![tactic(auto)]
+
+mod cuts;
+mod laws;
+mod manifests;
+mod parts;
+mod pod_reports;
+mod reading;
+mod reads;
+
+pub use laws::{
+    accepted_jobs_are_proper, accepted_manifests_are_allowed, compact_texts_are_words,
+    compact_texts_tell, printed_acts_are_read_back, printed_fronts_are_read_back,
+    printed_specs_are_read_back, proper_actions_are_valid,
+};
+pub use reads::{LineAct, LineRead, read_event};
