@@ -23,7 +23,7 @@ use Rattle.jc_runs.specs.Runs.{IsMachine, IsTeam}
 use Rattle.jc_runs.specs.Seen.{Admits, Seen, act_seen, deeds_in, happened, reply_seen}
 use Rattle.jc_runs.specs.Teams.{Team}
 use Rattle.jc_core.specs.Kept.{IsClusterKept, fates_in}
-use Rattle.jc_core.specs.Places.{HasPlaces, MovesOn}
+use Rattle.jc_lanes.specs.Places.{HasPlaces, MovesOn}
 use Rattle.jc_runs.proofs.ClusterFacts.{act_is, closed_by, few_deeds, few_entries, member_at, reply_is, seen_after, settled_is, within_is}
 
 -- What a contract sees of a cluster.

@@ -10,7 +10,7 @@ use Rattle.jc_types.specs.declared.objects.Kind.TheVariants.{Jobs, Pods}
 use Rattle.jc_types.specs.declared.runs.Shape.{Shape}
 use Rattle.jc_types.specs.declared.runs.Sys.{Sys}
 use Rattle.jc_types.specs.declared.runs.Sys.TheVariants as sys
-use Rattle.jc_states.specs.declared.bases.Basis.{Basis}
+use Rattle.jc_runs.specs.Basis.{Basis}
 use Rattle.jc_log.specs.Deeds.{Deed}
 use Rattle.jc_history.specs.Available.{available, begin_events, below, but_clock, clock_events, delivery_events, delivery_event, earliest, free_worker, is_empty, is_quiescent, least_of_all, list_event, list_events, node_events, or_clock, step_event, step_events}
 use Rattle.jc_history.specs.Delays.{least_delay}
@@ -23,6 +23,8 @@ use Rattle.jc_history.specs.Registers.{register}
 use Rattle.jc_runs.specs.Seen.{Seen, deeds_seen, log_seen}
 use Rattle.jc_core.specs.Idle.{HaveNoSyncs, AreIdle, IsTeamIdle, has_seen}
 use Rattle.jc_order.proofs.EmptyFacts.{no-cons, nil-first, nil-rest, empty-is, flat-none, flat-all, some-none, some-all}
+use Rattle.jc_core.proofs.QuietSyncs.{none-is as of-none}
+use Rattle.jc_order.proofs.RestFacts.{earliest-none}
 
 -- ---- of one controller
 
@@ -84,10 +86,6 @@ none-begins notes log (suc n) c e = ap (λ b. cond b (option_to_list (option_map
 none-of : {A : Type 0} (o : Option A) → o ≡ None → is_none o ≡ true
 none-of o e = ap is_none e
 
-of-none : {A : Type 0} (o : Option A) → is_none o ≡ true → o ≡ None
-of-none None e = refl
-of-none (Some x) e = absurd (true≢false (sym e))
-
 -- A test that finds none, where it tells when some is there.
 pub none-by : {A : Type 0} (o p : Option A) (b : Bool) → not b ≡ is_some o → o ≡ p → (b ≡ true → is_none p ≡ true) × (is_none p ≡ true → b ≡ true)
 none-by {A} o p b is same = subst (λ p. (b ≡ true → is_none p ≡ true) × (is_none p ≡ true → b ≡ true)) same (by o b is)
@@ -97,14 +95,6 @@ none-by {A} o p b is same = subst (λ p. (b ≡ true → is_none p ≡ true) × 
     by None false e = absurd (true≢false e)
     by (Some x) true e = absurd (true≢false (sym e))
     by (Some x) false e = (λ t. absurd (true≢false (sym t)), λ t. absurd (true≢false (sym t)))
-
-earliest-none : (found : Option ℕ) (moments : List ℕ) → earliest found moments ≡ None → moments ≡ []
-earliest-none found [] e = refl
-earliest-none found (moment ∷ more) e = absurd (later (Some _) more refl e)
-  where
-    later : (o : Option ℕ) (more : List ℕ) → is_some o ≡ true → earliest o more ≡ None → ⊥
-    later o [] s e = true≢false (sym s ∙ ap is_some e)
-    later o (moment ∷ more) s e = later (Some _) more refl e
 
 -- What holds below a number and at it holds up to it.
 pub up_to : (P : ℕ → Type 0) (n : ℕ) → ((w : ℕ) → w < n → P w) → P n → (w : ℕ) → w < n + 1 → P w

@@ -9,7 +9,7 @@ use Rattle.jc_types.specs.declared.objects.Entry.{Entry}
 use Rattle.jc_types.specs.declared.objects.Key.{Key}
 use Rattle.jc_types.specs.declared.objects.Pod.{Pod}
 use Rattle.jc_types.proofs.ListFacts.{Each-weaker}
-use Rattle.jc_states.specs.Pods.{is_marked, is_open, is_pending}
+use Rattle.jc_runs.specs.Pods.{is_marked, is_open, is_pending}
 use Rattle.jc_log.specs.Log.{Life, Live, life, living, pod_in, pods_in}
 use Rattle.jc_log.specs.Requests.{Answered, grown, report_phase_gives}
 use Rattle.jc_log.proofs.PodFacts.{pods_in-live}
@@ -22,18 +22,8 @@ use Rattle.jc_history.specs.Notes.{newest}
 use Rattle.jc_history.specs.Replies.{node_gives, version_in}
 use Rattle.jc_node.specs.declared.acts.NodeStep.{NodeStep}
 use Rattle.jc_node.specs.Steps.{act_of, act_kind, step_of}
-
--- The value of an option that is some.
-of_some : {X : Type 0} (x y : X) → Some x ≡ Some y → x ≡ y
-of_some x y e = ap (λ o. unwrap_or o x) e
-
--- A finish is told.
-is_finish : Option Act → Bool
-is_finish None = false
-is_finish (Some does.Stop) = false
-is_finish (Some does.Start) = false
-is_finish (Some does.Again) = false
-is_finish (Some (does.Finish end)) = true
+use Rattle.jc_node.proofs.LawFacts.{act-again}
+use Rattle.std.proofs.lemmas.Option.{same_Some as of_some}
 
 module _ (fates : Key → Option (List End)) where
   abbrev tells : Pod → Option (Pod × Act)
@@ -47,25 +37,6 @@ module _ (fates : Key → Option (List End)) where
       by : (newest tells pods ≡ Some step → P step.0 × (act_on fates step.0 ≡ Some step.1)) → (o : Option Act) → act_on fates q ≡ o → option_or (option_map (λ act. (q, act)) o) (newest tells pods) ≡ Some step → P step.0 × (act_on fates step.0 ≡ Some step.1)
       by rest None t e = rest e
       by rest (Some act) t e = subst (λ (s : Pod × Act). P s.0 × (act_on fates s.0 ≡ Some s.1)) (of_some (q, act) step e) (all.0, t)
-
-  -- The act without its end tells it, with the pod's end.
-  again : (pod : Pod) (act : Act) → act_on fates pod ≡ Some act → act_of (act_kind act) (pod_end fates pod) ≡ Some act
-  unfolding is_finish
-  again pod does.Stop e = refl
-  again pod does.Start e = refl
-  again pod does.Again e = refl
-  again pod (does.Finish end) e = by (is_open pod) (is_marked pod) (pod_end fates pod) e
-    where
-      at_end : (one : End) (p a : Bool) → cond p (Some does.Start) (cond a (Some does.Again) (Some (does.Finish one))) ≡ Some (does.Finish end) → Some (does.Finish one) ≡ Some (does.Finish end)
-      at_end one true a e = absurd (true≢false (sym (ap is_finish e)))
-      at_end one false true e = absurd (true≢false (sym (ap is_finish e)))
-      at_end one false false e = e
-
-      by : (o m : Bool) (p : Option End) → cond (not o) None (cond m (Some does.Stop) (act_with pod p)) ≡ Some (does.Finish end) → option_map does.Finish p ≡ Some (does.Finish end)
-      by false m p e = absurd (true≢false (sym (ap is_some e)))
-      by true true p e = absurd (true≢false (sym (ap is_finish e)))
-      by true false None e = absurd (true≢false (sym (ap is_some e)))
-      by true false (Some one) e = at_end one (is_pending pod.phase) (is_again pod one) e
 
 -- The pod of the step is there, and what befalls it is told by the step with the pod's end.
 pub record Next (log : List Entry) (fates : Key → Option (List End)) (step : NodeStep) : Type 0 where
@@ -93,7 +64,7 @@ next_of log fates step e = by (node_step log fates) refl e
           is = t;
           uid = sym (ap (λ (s : NodeStep). s.pod) same);
           there = ap (λ (s : NodeStep). pod_in s.pod log) (sym same) ∙ both.0;
-          kind = ap (λ (s : NodeStep). act_of s.act (pod_end fates next.0)) (sym same) ∙ again fates next.0 next.1 both.1;
+          kind = ap (λ (s : NodeStep). act_of s.act (pod_end fates next.0)) (sym same) ∙ act-again fates next.0 next.1 both.1;
         }
 
 module _ (log : List Entry) (fates : Key → Option (List End)) (step : NodeStep) (n : Next log fates step) (pod : Pod) (there : Some pod ≡ pod_in step.pod log) where

@@ -6,7 +6,7 @@ use Rattle.std.proofs.lemmas.List.{map-append}
 use Rattle.std.specs.List.{AllByRecursion as Each}
 use Rattle.std.specs.Option.{option_or, unwrap_or}
 use Rattle.jc_log.specs.Acts as does
-use Rattle.jc_control.specs.Schedules.{log_end}
+use Rattle.jc_team.specs.Schedules.{log_end}
 use Rattle.jc_types.specs.declared.objects.Entry.{Entry}
 use Rattle.jc_types.specs.declared.objects.Job.{Job}
 use Rattle.jc_types.specs.declared.objects.Key.{Key}
@@ -14,12 +14,12 @@ use Rattle.jc_types.specs.declared.replies.Reply.{Reply}
 use Rattle.jc_types.specs.declared.replies.Reply.TheVariants as reply
 use Rattle.jc_types.specs.declared.runs.Past.{Past}
 use Rattle.jc_types.specs.declared.runs.Shape.{Shape}
-use Rattle.jc_states.specs.declared.bases.Basis.{Basis}
-use Rattle.jc_states.specs.Bases.{own_pods}
+use Rattle.jc_runs.specs.Basis.{Basis}
+use Rattle.jc_runs.specs.Bases.{own_pods}
 use Rattle.jc_log.specs.Deeds.{Deed, deed}
 use Rattle.jc_log.specs.Log.{job_in, pods_under}
 use Rattle.jc_log.specs.Requests.{Answered, grown, refused}
-use Rattle.jc_plan.specs.Next.{next_status}
+use Rattle.jc_runs.specs.Next.{next_status}
 use Rattle.jc_history.specs.Diaries.{moment, notes, notes_after}
 use Rattle.jc_history.specs.Fresh.{basis}
 use Rattle.jc_history.specs.Legal.{IsLegal}
@@ -53,11 +53,11 @@ first-is : (keys : List Key) (k : Key) → slice_get keys 0 ≡ Some k → keys 
 first-is [] k e = absurd (true≢false (sym (ap is_some e)))
 first-is (x ∷ keys) k e = ap (λ o. unwrap_or o x ∷ keys) e
 
-legal-before : (shape : Shape) (run past : List Deed) → IsLegal shape (run ++ past) → IsLegal shape past
+pub legal-before : (shape : Shape) (run past : List Deed) → IsLegal shape (run ++ past) → IsLegal shape past
 legal-before shape [] past legal = legal
 legal-before shape (d ∷ run) past legal = legal-before shape run past legal.1
 
-none-is : {A : Type 0} (o : Option A) → is_none o ≡ true → o ≡ None
+pub none-is : {A : Type 0} (o : Option A) → is_none o ≡ true → o ≡ None
 none-is None e = refl
 none-is (Some x) e = absurd (true≢false (sym e))
 

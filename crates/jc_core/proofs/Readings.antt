@@ -12,14 +12,14 @@ use Rattle.jc_types.specs.declared.objects.Kind.{Kind}
 use Rattle.jc_types.specs.declared.runs.Past.{Past}
 use Rattle.jc_types.specs.declared.runs.Shape.{Shape}
 use Rattle.jc_types.specs.Keys.{same_key}
-use Rattle.jc_states.specs.declared.bases.Basis.{Basis}
+use Rattle.jc_runs.specs.Basis.{Basis}
 use Rattle.jc_log.specs.Tables.{at}
-use Rattle.jc_asks.specs.Steps.{Sync}
-use Rattle.jc_queue.specs.Delayed.{first_of, in_turn}
-use Rattle.jc_queue.proofs.DueFacts.{in_turn-first}
-use Rattle.jc_control.specs.Schedules.{MirrorsLog, number_of}
-use Rattle.jc_control.specs.ControllerCalls.{can_begin, is_begun}
-use Rattle.jc_control.proofs.LawFacts.{begun-ready}
+use Rattle.jc_runs.specs.Steps.{Sync}
+use Rattle.jc_team.specs.Delayed.{first_of, in_turn}
+use Rattle.jc_team.proofs.DueFacts.{in_turn-first}
+use Rattle.jc_team.specs.Schedules.{MirrorsLog, number_of}
+use Rattle.jc_team.specs.ControllerCalls.{can_begin, is_begun}
+use Rattle.jc_team.proofs.LawFacts.{begun-ready}
 use Rattle.jc_history.specs.Agrees.{IsHeld}
 use Rattle.jc_history.specs.Delays.{delays, least_delay}
 use Rattle.jc_history.specs.Diaries.{notes}
@@ -29,7 +29,6 @@ use Rattle.jc_history.specs.Numbers.{number}
 use Rattle.jc_history.specs.Registers.{register}
 use Rattle.jc_history.proofs.BeginSteps.{begun-answer_is}
 use Rattle.jc_history.proofs.DelayFacts.{apart-delays, at-delays}
-use Rattle.jc_history.proofs.DueOrder.{apart, distinct, in_turn-same}
 use Rattle.jc_runs.specs.Runs.{IsTeam}
 use Rattle.jc_runs.specs.Seen.{Seen, deeds_in, log_seen}
 use Rattle.jc_runs.specs.Teams.{Team}
@@ -38,6 +37,7 @@ use Rattle.jc_core.specs.Kept.{IsClusterKept}
 use Rattle.jc_core.proofs.Closing.{view_of}
 use Rattle.jc_runs.proofs.ClusterFacts.{member_at}
 use Rattle.jc_runs.proofs.ListFacts.{set_itself}
+use Rattle.jc_team.proofs.OrderFacts.{apart, distinct, in_turn-same}
 
 -- ---- the row that is due first
 

@@ -4,6 +4,7 @@ use Rattle.std.specs.Prelude.{◌^◌}
 use Rattle.std.proofs.lemmas.List.{length-reverse, map-append, reverse-append}
 use Rattle.std.specs.Option.{unwrap_or}
 use Rattle.std.specs.List.{AllByRecursion as Each}
+use Rattle.jc_bounds.proofs.OrderFacts.{each-slice as each_at}
 use Rattle.jc_types.specs.declared.actions.Command.{Command}
 use Rattle.jc_types.specs.declared.actions.End.{End}
 use Rattle.jc_types.specs.declared.actions.Script.{Script}
@@ -16,23 +17,16 @@ use Rattle.jc_types.specs.declared.runs.Shape.{Shape}
 use Rattle.jc_types.specs.Keys.{same_key}
 use Rattle.jc_log.specs.Deeds.{deed}
 use Rattle.jc_log.specs.Log.{job_in}
-use Rattle.jc_ledger.specs.Once.{AllJustified, OnceAtEach}
+use Rattle.jc_runs.specs.Once.{AllJustified, OnceAtEach}
 use Rattle.jc_history.specs.Legal.{IsHistory, IsLegal}
 use Rattle.jc_runs.specs.Fates.{Fates, WithFate}
 use Rattle.jc_runs.specs.Runs.{IsMachine}
-use Rattle.jc_states.specs.ValidActions.{IsValidAction}
+use Rattle.jc_runs.specs.ValidActions.{IsValidAction}
 use Rattle.jc_runs.specs.Seen.{IsCluster, Seen, deeds_in, deeds_seen, log_seen}
 use Rattle.jc_runs.specs.Teams.{KnowsNothing, Team}
 use Rattle.jc_core.specs.Kept.{IsClusterKept, fates_in}
-use Rattle.jc_core.specs.Places.{HasPlaces}
+use Rattle.jc_lanes.specs.Places.{HasPlaces}
 use Rattle.jc_core.proofs.Closing.{view_of}
-
--- What holds of each item holds of the one at a place.
-pub each_at : {A : Type 0} (P : A → Type 0) (xs : List A) (i : ℕ) (x : A) → Each P xs → slice_get xs i ≡ Some x → P x
-each_at P [] zero x all e = absurd (true≢false (sym (ap is_some e)))
-each_at P [] (suc i) x all e = absurd (true≢false (sym (ap is_some e)))
-each_at P (y ∷ xs) zero x all e = subst P (ap (λ o. unwrap_or o x) e) all.0
-each_at P (y ∷ xs) (suc i) x all e = each_at P xs i x all.1 e
 
 -- At the start all is what a history without events says.
 pub starts : (script : Script) (shape : Shape) (items : List Past) (next : List (Option ℕ)) (log : List Entry) (teams : List Team) (rows : List (Key × List End)) → items ≡ [] → log ≡ [] → rows ≡ [] → length teams ≡ shape.controllers → Each (KnowsNothing shape.workers) teams
@@ -74,7 +68,7 @@ justified_seen script shape items log teams fates now seen run view all =
     subst (λ (s : Seen). (k : Key) (job : Job) → job_in k (log_seen s) ≡ Some job → AllJustified job (deeds_seen s) (log_seen s)) view
     (subst (λ l. (k : Key) (job : Job) → job_in k l ≡ Some job → AllJustified job (deeds_in script (reverse items)) l) run.log_is all)
 
-map-reverse : {A B : Type 0} (f : A → B) (xs : List A) → reverse (map f xs) ≡ map f (reverse xs)
+pub map-reverse : {A B : Type 0} (f : A → B) (xs : List A) → reverse (map f xs) ≡ map f (reverse xs)
 map-reverse f [] = refl
 map-reverse f (x ∷ xs) =
     reverse-append (f x ∷ []) (map f xs) ∙ ap (λ l. l ++ f x ∷ []) (map-reverse f xs) ∙ sym (map-append f (reverse xs) (x ∷ [])) ∙ ap (map f) (sym (reverse-append (x ∷ []) xs))

@@ -8,7 +8,7 @@ use Rattle.jc_types.specs.declared.replies.Reply.{Reply}
 use Rattle.jc_types.specs.declared.runs.Event.{Event}
 use Rattle.jc_types.specs.declared.runs.Past.{Past}
 use Rattle.jc_types.specs.declared.runs.Shape.{Shape}
-use Rattle.jc_states.specs.declared.bases.Basis.{Basis}
+use Rattle.jc_runs.specs.Basis.{Basis}
 use Rattle.jc_log.specs.Deeds.{Deed, deed}
 use Rattle.jc_history.specs.Registers.{register}
 use Rattle.jc_history.specs.Replies.{diary}

@@ -1,8 +1,6 @@
--- Steps are answered without a text.
-use Rattle.std.proofs.Common.{◌≡◌, ℕ, List, Bool, true, false, cond, ◌&&◌, find, Option, Some, None, slice_get, refl, sym, ap, ◌∙◌, subst, ◌⊎◌, inl, inr}
-use Rattle.std.specs.Option.{unwrap_or}
+-- When a report is answered without a text.
+use Rattle.std.proofs.Common.{◌≡◌, ℕ, List, Bool, true, false, cond, ◌&&◌, find, Option, Some, None, refl, sym, ap, ◌∙◌, subst, ◌⊎◌, inl, inr}
 use Rattle.jc_types.specs.declared.actions.ContainerChange.{ContainerChange}
-use Rattle.jc_types.specs.declared.actions.Fault.{Fault}
 use Rattle.jc_types.specs.declared.actions.PhaseChange.{PhaseChange}
 use Rattle.jc_types.specs.declared.numbers.Uid.{Uid}
 use Rattle.jc_types.specs.declared.objects.Entry.{Entry}
@@ -11,23 +9,10 @@ use Rattle.jc_types.specs.declared.objects.Pod.{Pod}
 use Rattle.jc_types.specs.declared.replies.Reply.{Reply}
 use Rattle.jc_types.specs.declared.replies.Reply.TheVariants as reply
 use Rattle.jc_types.specs.Equality.{same_phase}
-use Rattle.jc_states.specs.Pods.{is_final}
+use Rattle.jc_runs.specs.Pods.{is_final}
 use Rattle.jc_log.specs.Log.{next_version, pod_in}
 use Rattle.jc_log.specs.Requests.{Answered, accepted, grown, is_unnamed, pod_entry, refused, report_phase_at, report_phase_gives, report_unless, same_course_of, with_report}
-use Rattle.jc_control.specs.Schedules.{Schedule}
-use Rattle.jc_asks.specs.Steps.{Sync}
-use Rattle.jc_runs.specs.Teams.{Team, stride_at, stride_of}
 use Rattle.jc_runs.specs.Texts.{HasNoText}
-use Rattle.jc_runs.proofs.TextFacts.{no_text_of, step_texts}
-
-stride_texts_at : (log : List Entry) (now : ℕ) (fault : Option Fault) (schedule : Schedule) (register : Option Sync) → HasNoText (stride_at log now fault schedule register).reply
-stride_texts_at log now fault schedule None = tt
-stride_texts_at log now fault schedule (Some sync) = step_texts _ now fault log sync refl
-
--- A step of the worker.
-pub stride_texts : (given : Reply) (log : List Entry) (now : ℕ) (team : Team) (w : ℕ) → given ≡ (stride_of log now team w).reply → HasNoText given
-stride_texts given log now team w is =
-    no_text_of given _ is (stride_texts_at log now (unwrap_or (slice_get team.faults w) None) team.con.schedule (unwrap_or (slice_get team.registers w) None))
 
 -- The answer tells of a container that the pod does not have, and appends nothing.
 pub record IsNamed (a : Answered) : Type 0 where

@@ -13,7 +13,7 @@ use Rattle.jc_log.specs.Tables.{at}
 use Rattle.jc_runs.specs.Fates.{Fates}
 use Rattle.jc_runs.specs.Seen.{IsCluster}
 use Rattle.jc_runs.specs.Teams.{Team}
-use Rattle.jc_core.specs.Places.{HasPlaces}
+use Rattle.jc_lanes.specs.Places.{HasPlaces}
 
 -- How the pods of keys are to end, as the table says.
 abbrev pub fates_in : List (Key × List End) → Fates

@@ -19,10 +19,10 @@ use Rattle.jc_types.specs.declared.objects.Job.{Job}
 use Rattle.jc_types.specs.declared.statuses.JobStatus.{JobStatus}
 use Rattle.jc_types.specs.declared.objects.Key.{Key}
 use Rattle.jc_types.specs.declared.objects.Kind.{Kind}
-use Rattle.jc_states.specs.Bases.{own_pods}
+use Rattle.jc_runs.specs.Bases.{own_pods}
 use Rattle.jc_log.specs.Log.{job_in, pods_under}
-use Rattle.jc_control.specs.Schedules.{log_end}
-use Rattle.jc_plan.specs.Next.{next_status}
+use Rattle.jc_team.specs.Schedules.{log_end}
+use Rattle.jc_runs.specs.Next.{next_status}
 use Rattle.jc_history.specs.Diaries.{moment}
 use Rattle.jc_history.specs.Lines.{line}
 use Rattle.jc_history.specs.Numbers.{number}

@@ -1,28 +1,34 @@
-//! The type of the cluster, and what can be read of it.
+//! The type of the cluster, what can be read of it, and how its script grows.
 
-ghost use Rattle.std.specs.Prelude.{◌≡◌, ◌<◌, ◌≤◌, ◌^◌, [], IfOk, Some, length, reverse};
+ghost use Rattle.std.specs.Prelude.{◌≡◌, ◌<◌, ◌≤◌, ◌^◌, [], ◌+◌, IfOk, OnErr, OnOk, Some, is_none, is_some, length, reverse};
 ghost use Rattle.std.specs.List.{AllByRecursion as Each};
 ghost use Rattle.jc_types.specs.declared.actions.Command.{Command};
 ghost use Rattle.jc_types.specs.declared.objects.Job.{Job};
 ghost use Rattle.jc_types.specs.declared.objects.Key.{Key};
+ghost use Rattle.jc_runs.specs.ValidActions.{IsValidAction};
 ghost use Rattle.jc_log.specs.Log.{job_in};
-ghost use Rattle.jc_ledger.specs.Once.{AllJustified, OnceAtEach};
-ghost use Rattle.jc_bounds.specs.Histories.{HoldsBounds};
+ghost use Rattle.jc_runs.specs.Once.{AllJustified, OnceAtEach};
 ghost use Rattle.jc_history.specs.Diaries.{moment};
-ghost use Rattle.jc_history.specs.Legal.{InLanes, IsHistory, IsLegal};
-ghost use Rattle.jc_states.specs.ValidActions.{IsValidAction};
+ghost use Rattle.jc_history.specs.Legal.{InLanes, IsHistory, IsLegal, next_place};
+ghost use Rattle.jc_history.specs.Delays.{least_delay};
+ghost use Rattle.jc_history.specs.Fresh.{may_begin};
+ghost use Rattle.jc_history.specs.Nodes.{fate, node_step};
+ghost use Rattle.jc_history.specs.Numbers.{number};
+ghost use Rattle.jc_history.specs.Registers.{register};
+ghost use Rattle.jc_bounds.specs.Histories.{HoldsBounds};
 ghost use Rattle.jc_runs.specs.Seen.{deeds_seen, log_seen};
 ghost use Rattle.jc_runs.specs.Teams.{KnowsNothing};
+ghost use Rattle.jc_core.specs.Diaries.{diary_seen};
+ghost use Rattle.jc_core.specs.Longer.{extended};
 
-use crate::lanes::Lanes;
-use crate::member::Member;
 use jc_bounds::one_controller_holds_the_bounds;
-use jc_moment::Moment;
-use jc_node::Fates;
+use jc_lanes::{Lanes, longer_scripts_keep_histories};
+use jc_node::{Fates, node_step};
 use jc_runs::{runs_count_once, runs_start};
 use jc_store::Store;
-use jc_types::{History, Pasts, Script, Shape, Want};
-use std::alloc::Global;
+use jc_team::{Member, Moment};
+use jc_types::{Command, History, Kind, Pasts, Script, Shape, Version, Want};
+use std::alloc::{AllocError, Global};
 use std::marker::Model;
 
 /// A cluster: the store, the controllers with their workers, the moment, and the history of all
@@ -160,5 +166,75 @@ impl Cluster {
         ensures { result ≡ moment self.now.shape (deeds_seen self.now) }
     {
         self.clock
+    }
+
+    /// Up to which version the controller's cache of the kind has seen the log; `None` exactly where
+    /// the cache has no number.
+    pub fn cache_at(&self, controller: u32, kind: Kind) -> Option<Version>
+        requires { controller < self.now.shape.controllers }
+        ensures { result ≡ number kind (diary_seen self.now controller) }
+    {
+        self.members[controller as usize].cache_at(kind)
+    }
+
+    /// Whether the controller's worker has no sync.
+    pub fn is_free(&self, controller: u32, worker: u32) -> bool
+        requires of_shape { controller < self.now.shape.controllers }
+        requires worker { worker < self.now.shape.workers }
+        ensures { result ≡ is_none (register worker (diary_seen self.now controller)) }
+    {
+        self.members[controller as usize].is_free(worker as usize)
+    }
+
+    /// Whether the controller's next begin by a free worker starts a sync.
+    pub fn may_begin(&self, controller: u32) -> bool
+        requires { controller < self.now.shape.controllers }
+        ensures { result ≡ may_begin (diary_seen self.now controller) (log_seen self.now) }
+    {
+        self.members[controller as usize].may_begin()
+    }
+
+    /// The earliest moment at which a key of the controller is due; `None` exactly where none is
+    /// delayed.
+    pub fn next_delay(&self, controller: u32) -> Option<Moment>
+        requires { controller < self.now.shape.controllers }
+        ensures { result ≡ least_delay (diary_seen self.now controller) }
+    {
+        self.members[controller as usize].next_delay()
+    }
+
+    /// The place in the script of the lane's next command; `None` exactly where the lane is used up.
+    pub fn next_command(&self, lane: u8) -> Option<u32>
+        ensures { result ≡ next_place self.now.script.commands lane self.now.pasts }
+    {
+        self.lanes.next_of(lane)
+    }
+
+    /// Whether the node has something to do.
+    pub fn node_has_step(&self) -> bool
+        ensures { result
+            ≡ is_some (node_step (log_seen self.now) (fate (deeds_seen self.now))) }
+    {
+        node_step(&self.store, &self.fates).is_some()
+    }
+
+    /// Puts the command at the end of the script, as its lane's last one. What happened stays.
+    ///
+    /// # Errors
+    /// `Want` where there is no memory; the cluster is then as before.
+    pub fn extend(&mut self, command: Command) -> Result<(), Want>
+        requires fine { IsValidAction command.action }
+        requires fits { length self.old.script.commands + 1 < 2 ^ 32 }
+        ensures ok { OnOk result (self.new ≡ extended self.old command) }
+        ensures kept { OnErr result (self.new ≡ self.old) }
+    {
+        longer_scripts_keep_histories();
+        let place = self.script.commands.len() as u32;
+        let lane = command.lane;
+        if self.script.commands.push(command).is_err() {
+            return Err(AllocError);
+        }
+        self.lanes.append(lane, place);
+        Ok(())
     }
 }

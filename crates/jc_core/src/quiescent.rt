@@ -1,15 +1,17 @@
-//! Whether anything of the system is left to do.
+//! Whether anything of the system is left to do, and the own event of the command Settle.
 
-ghost use Rattle.std.specs.Prelude.{◌≡◌, ◌<◌, ◌↔◌, ◌&&◌, IsTrue, nat_lt};
+ghost use Rattle.std.specs.Prelude.{◌≡◌, ◌<◌, ◌↔◌, ◌&&◌, IfOk, IsTrue, OnErr, OnOk, length, nat_lt};
+ghost use Rattle.jc_log.specs.Acts as does;
 ghost use Rattle.jc_history.specs.Available.{is_quiescent};
 ghost use Rattle.jc_history.specs.Fresh.{may_begin};
 ghost use Rattle.jc_history.specs.Numbers.{number};
-ghost use Rattle.jc_runs.specs.Seen.{deeds_seen, log_seen};
+ghost use Rattle.jc_runs.specs.Seen.{Admits, act_seen, deeds_seen, happened, log_seen, reply_seen};
 ghost use Rattle.jc_core.specs.Diaries.{diary_seen};
-ghost use Rattle.jc_core.specs.Idle.{HaveNoSyncs, AreIdle, IsTeamIdle, has_seen};
+ghost use Rattle.jc_core.specs.Idle.{AreIdle, HaveNoSyncs, IsTeamIdle, has_seen};
 
 use crate::cluster::Cluster;
-use jc_types::Kind;
+use crate::keeping::keep;
+use jc_types::{Event, Kind, Reply, Want};
 
 impl Cluster {
     // Whether the controller's cache of the kind has seen the whole log.
@@ -98,5 +100,24 @@ impl Cluster {
         let idle = self.are_idle();
         let acts = self.node_has_step();
         idle && !acts
+    }
+
+    // Nothing of the system was left to do.
+    //
+    // `Want` where there is no memory for it; the cluster is then as before.
+    pub(crate) fn settled(&mut self, event: Event) -> Result<Reply, Want>
+        requires admits { Admits self.old event }
+        requires act { act_seen self.old event ≡ does.Settle }
+        requires room { length self.old.pasts < self.old.shape.events }
+        ensures ok { OnOk result (self.new ≡ happened self.old event) }
+        ensures reply { IfOk result (λ r. r ≡ reply_seen self.old event) }
+        ensures kept { OnErr result (self.new ≡ self.old) }
+    {
+        self.history.events.reserve(1)?;
+        let reply = Reply::Done;
+        let length = self.store.log_len();
+        let events = &mut self.history.events;
+        let reply = keep(events, &mut self.lanes, &self.script, event, reply, length);
+        Ok(reply)
     }
 }

@@ -13,10 +13,10 @@ ghost use Rattle.jc_history.specs.Registers.{register};
 ghost use Rattle.jc_runs.specs.Seen.{act_seen, deeds_seen, happened, reply_seen};
 ghost use Rattle.jc_core.specs.Diaries.{diary_seen};
 ghost use Rattle.jc_core.specs.declared.apply.ApplyFault.TheVariants.{HistoryFull};
-ghost use Rattle.jc_turns.specs.Actors.{CanCome, IsOfActor};
-ghost use Rattle.jc_turns.specs.Slots.{unheld_seen};
+ghost use Rattle.jc_play.specs.Actors.{CanCome, IsOfActor};
+ghost use Rattle.jc_play.specs.Slots.{unheld_seen};
 ghost use Rattle.jc_kept.specs.Names.{IsOfName};
-ghost use Rattle.jc_kept.specs.Shared.{AreLanes, AreRegisters, fresh_slot, freed_slots, holds_slot, is_held_actor, is_open, numbers_of, put_back_by, registers_of, slots_after, submitted_by, taken_by};
+ghost use Rattle.jc_kept.specs.Shared.{AreLanes, AreRegisters, fresh_slot, freed_slots, holds_slot, is_held_actor, is_open_slot, numbers_of, put_back_by, all_registers, slots_after, submitted_by, taken_by};
 
 use crate::changes::Change;
 use crate::lanes::lanes_are_bytes;
@@ -27,10 +27,10 @@ use crate::registers::{
 use crate::slots::Slots;
 use crate::touches::{touch_all, touch_of_event};
 use jc_core::{ApplyFault, Cluster};
+use jc_play::{Actor, available, available_events_keep_the_order, next_unheld};
 use jc_states::Basis;
 use jc_sync::Syncing;
 use jc_turn::Booked;
-use jc_turns::{Actor, available, available_events_keep_the_order, next_unheld};
 use jc_types::{Arc, Event, History, Reply, Script, Shape, Want};
 use std::alloc::Global;
 use std::marker::{Model, PhantomData};
@@ -58,13 +58,13 @@ pub struct Kept<J: Naming> {
 
 impl<J: Naming> Model for Kept<J> {
     ghost use Rattle.jc_kept.specs.Names.{IsOfName};
-    ghost use Rattle.jc_kept.specs.Shared.{IsKept, Shared};
+    ghost use Rattle.jc_kept.specs.Shared.{KeepsShared, Shared};
 
     ghost Value = { Shared };
 
     ghost view = { λ k. record { seen = k.cluster; slots = k.slots } };
 
-    ghost invariant = { λ k. IsKept k.cluster k.slots × IsOfName J.script J.shape k.cluster };
+    ghost invariant = { λ k. KeepsShared k.cluster k.slots × IsOfName J.script J.shape k.cluster };
 }
 
 /// A cluster to be shared, of which nobody holds anything. It has no registers to be held, so its
@@ -119,7 +119,7 @@ impl<J: Naming> Kept<J> {
         requires bound { shape.events ≤ 200000 }
         ensures seen { IfOk result
             (λ k. k.seen ≡ record { script = script; shape = shape; pasts = [] }) }
-        ensures slots { IfOk result (λ k. k.slots ≡ map fresh_slot (registers_of shape)) }
+        ensures slots { IfOk result (λ k. k.slots ≡ map fresh_slot (all_registers shape)) }
     {
         let slots = fresh_slots(alloc, &shape)?;
         let cluster = Cluster::new(alloc, script, shape)?;
@@ -171,7 +171,7 @@ impl<J: Naming> Kept<J> {
     pub fn take_plan(&mut self, seat: u32) -> Result<Option<Work>, Want>
         ensures first { IfOk result (λ found.
             option_map (λ work. (work.controller, work.worker)) found
-            ≡ option_map numbers_of (find (is_open self.old.seen) self.old.slots)) }
+            ≡ option_map numbers_of (find (is_open_slot self.old.seen) self.old.slots)) }
         ensures registers { AreRegisters self.old.seen.shape (map numbers_of self.old.slots) }
         ensures of_shape { IfOk result (λ found. IfSome found (λ work.
             (work.controller < self.old.seen.shape.controllers)
@@ -262,7 +262,7 @@ impl<J: Naming> Kept<J> {
             .any(|slot| slot.holder.is_some())
     }
 
-    /// The one event that the actor can make now, as `jc_turns::available` gives it; a worker gives
+    /// The one event that the actor can make now, as `jc_play::available` gives it; a worker gives
     /// none while a seat holds its register.
     pub fn available(&self, actor: Actor) -> Option<Event>
         ensures some { IfSome result (λ event. IsOfActor actor event) }

@@ -1,11 +1,11 @@
 //! The registers of a cluster whose seats hold some.
 
 ghost use Rattle.std.specs.Prelude.{◌≡◌, [], map};
-ghost use Rattle.jc_kept.specs.Changes.{changed};
+ghost use Rattle.jc_kept.specs.Changes.{changed_slot};
 ghost use Rattle.jc_kept.specs.Shared.{numbers_of};
 
 use crate::changes::{Change, change_all};
-use jc_turns::Slot;
+use jc_play::Slot;
 use std::marker::Model;
 
 /// The registers of a cluster as its seats see them, or none, which takes no memory.
@@ -17,7 +17,7 @@ pub(crate) struct Slots {
 impl Model for Slots {
     ghost use Rattle.std.specs.Prelude.{List, []};
     ghost use Rattle.std.specs.Option.{option_map_or};
-    ghost use Rattle.jc_turns.specs.declared.slots.Slot.{Slot};
+    ghost use Rattle.jc_play.specs.declared.slots.Slot.{Slot};
 
     ghost Value = { List Slot };
 
@@ -51,7 +51,7 @@ impl Slots {
 
     // Makes the change at each register. It takes no memory.
     pub(crate) fn change(&mut self, change: Change)
-        ensures slots { self.new ≡ map (changed change) self.old }
+        ensures slots { self.new ≡ map (changed_slot change) self.old }
         ensures numbers { map numbers_of self.new ≡ map numbers_of self.old }
     {
         if let Some(slots) = &mut self.slots {

@@ -1,7 +1,7 @@
 -- The failures that are known of keys: they count pods of the log, so that they stay small.
 use Rattle.std.proofs.Common.{◌≡◌, ℕ, suc, ◌*◌, ◌≤◌, ◌==◌, nat_lt, ◌^◌, Bool, true, false, not, cond, List, [], ◌∷◌, ◌++◌, length, Option, Some, None, is_some, refl, sym, ap, subst, arith, true≢false}
 use Rattle.std.specs.Option.{option_map, option_or, option_to_list, unwrap_or}
-use Rattle.std.proofs.lemmas.Option.{same_Some}
+use Rattle.std.proofs.lemmas.Option.{same_Some, none-some as none_some}
 use Rattle.jc_log.specs.Acts as does
 use Rattle.jc_log.specs.Acts.{Act}
 use Rattle.jc_log.specs.Deeds.{Deed}
@@ -24,7 +24,7 @@ use Rattle.jc_types.specs.declared.syncs.Backoff.{Backoff}
 use Rattle.jc_states.specs.declared.bases.Basis.{Basis}
 use Rattle.jc_control.specs.declared.ends.SyncEnd.{SyncEnd}
 use Rattle.jc_plan.proofs.BackoffFacts.{plan-dated, plan-failures}
-use Rattle.jc_plan.proofs.Going.{filter-few}
+use Rattle.jc_plan.proofs.Owned.{filter-least as filter-few}
 use Rattle.jc_plan.specs.Plans.{IsDated, planned}
 use Rattle.jc_history.specs.Diaries.{end_by, moment, notes, notes_taken, on_begin, on_clock, on_delivery, on_lag, on_list, on_step, restarts}
 use Rattle.jc_history.specs.Fresh.{basis as basis_at}
@@ -111,9 +111,6 @@ no_notes n = record {
   keys = λ k. record { failures = omega arith; dated = λ some. absurd (omega (arith, some)) };
   syncs = λ w basis e. absurd (true≢false (sym (ap is_some e)));
 }
-
-pub none_some : {X : Type 0} (x : X) → None ≡ Some x → ⊥
-none_some x e = true≢false (sym (ap is_some e))
 
 -- What a sync that began so comes to.
 plan_small : (n : ℕ) (basis : Basis) → n ≤ 200000 → BeganSmall n basis → IsSmall (suc n) (planned basis).backoff

@@ -42,9 +42,11 @@ use Rattle.jc_runs.specs.Fates.{Fates}
 use Rattle.jc_runs.specs.Runs.{AreWorkers, IsMachine, IsTeam}
 use Rattle.jc_runs.specs.Teams.{Team, begin_held, begin_registers, begin_reply, registers_of, with_begun}
 use Rattle.jc_runs.proofs.CacheFacts.{done_still, run_quiet, still}
-use Rattle.jc_runs.proofs.ListFacts.{missing, register_there, registers_put, set-cases}
-use Rattle.jc_runs.proofs.NoteFacts.{IsOf, SameWorkers, after_own, nothing_new, own, silent-back}
+use Rattle.jc_runs.proofs.ListFacts.{missing, register_there, registers_put}
+use Rattle.jc_runs.proofs.NoteFacts.{IsOf, SameWorkers, after_own, nothing_new, silent-back}
 use Rattle.jc_runs.proofs.RunFacts.{IsDone, next_is, run_one, team_before}
+use Rattle.jc_history.proofs.DeedSteps.{own}
+use Rattle.jc_history.proofs.FollowFacts.{set-cases}
 
 -- ---- what a begin leaves of the caches
 

@@ -4,7 +4,7 @@ use Rattle.std.proofs.lemmas.Bool.{eqb-false}
 use Rattle.jc_log.specs.Acts as does
 use Rattle.std.proofs.lemmas.List.{length-reverse}
 use Rattle.jc_log.proofs.LogFacts.{entry_at-taken}
-use Rattle.jc_cache.specs.Caches.{IsNext, pods_at, owned_after}
+use Rattle.jc_control.specs.Caches.{IsNext, pods_at, owned_after}
 use Rattle.jc_control.specs.Schedules.{ControllerView, Schedule, MirrorsLog, MirrorsJobs, MirrorsPods, log_end, number_of}
 use Rattle.jc_control.specs.ControllerCalls.{delivered, forgot, jobs_delivered, listed_pods, pods_delivered}
 use Rattle.jc_types.specs.declared.numbers.Version.{Version}
@@ -39,11 +39,12 @@ use Rattle.jc_runs.specs.Fates.{Fates}
 use Rattle.jc_runs.specs.Runs.{AreWorkers, IsMachine, IsTeam}
 use Rattle.jc_runs.specs.Teams.{Team, delivered_at, listed, registers_of, told_of}
 use Rattle.jc_runs.proofs.ListFacts.{missing, registers_stay}
-use Rattle.jc_runs.proofs.NoteFacts.{IsOf, SameWorkers, after_own, own, silent-delivery, silent-list, workers_same}
+use Rattle.jc_runs.proofs.NoteFacts.{IsOf, SameWorkers, after_own, silent-delivery, silent-list, workers_same}
 use Rattle.jc_runs.proofs.RunFacts.{IsDone, next_is, run_one, team_before}
+use Rattle.jc_history.proofs.DeedSteps.{own}
 
 -- Each version up to the log's length has an entry.
-entry_there : (log : List Entry) (i : ℕ) → i < length log → entry_at (i + 1) log ≡ None → ⊥
+pub entry_there : (log : List Entry) (i : ℕ) → i < length log → entry_at (i + 1) log ≡ None → ⊥
 entry_there log i within none =
     let place : suc i ≡ i + 1 = omega arith in
     let long = length-reverse log in

@@ -5,7 +5,7 @@ use Rattle.std.proofs.lemmas.List.{length-map}
 use Rattle.jc_log.specs.Acts as does
 use Rattle.std.proofs.lemmas.Bool.Decides.{nat_tests}
 use Rattle.std.specs.Prelude.{SomeIff, ◌<◌}
-use Rattle.jc_moment.specs.Range.{IsMoment, end_of_moments}
+use Rattle.jc_log.specs.Range.{IsMoment, end_of_moments}
 use Rattle.jc_types.specs.declared.objects.Entry.{Entry}
 use Rattle.jc_types.specs.declared.replies.Reply.{Reply}
 use Rattle.jc_types.specs.declared.replies.Reply.TheVariants as reply

@@ -4,7 +4,7 @@ use Rattle.std.specs.Option.{option_map, option_or, unwrap_or}
 use Rattle.std.proofs.lemmas.List.{length-set, length-map}
 use Rattle.jc_log.specs.Acts as does
 use Rattle.jc_control.specs.Schedules.{ControllerView, Schedule, MirrorsLog, MirrorsJobs, MirrorsPods, idle}
-use Rattle.jc_cache.specs.Caches.{pods_at}
+use Rattle.jc_control.specs.Caches.{pods_at}
 use Rattle.std.specs.Prelude.{replicate}
 use Rattle.jc_types.specs.declared.actions.Fault.{Fault}
 use Rattle.jc_types.specs.declared.objects.Entry.{Entry}
@@ -34,9 +34,11 @@ use Rattle.jc_runs.specs.Fates.{Fates}
 use Rattle.jc_runs.specs.Runs.{AreWorkers, IsMachine, IsTeam}
 use Rattle.jc_runs.specs.Teams.{Team, registers_of}
 use Rattle.jc_runs.proofs.CacheFacts.{done_still}
-use Rattle.jc_runs.proofs.ListFacts.{registers_restart, registers_stay, set-cases}
-use Rattle.jc_runs.proofs.NoteFacts.{IsOf, after_own, own}
+use Rattle.jc_runs.proofs.ListFacts.{registers_restart, registers_stay}
+use Rattle.jc_runs.proofs.NoteFacts.{IsOf, after_own}
 use Rattle.jc_runs.proofs.RunFacts.{IsDone, next_is, run_one, team_before}
+use Rattle.jc_history.proofs.DeedSteps.{own}
+use Rattle.jc_history.proofs.FollowFacts.{set-cases}
 
 pub gives_restart : (shape : Shape) (past : List Deed) (log : List Entry) (i : ℕ) → gives shape past log (does.Restart i) ≡ refused reply.Done
 unfolding gives

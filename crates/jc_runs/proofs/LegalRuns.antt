@@ -6,7 +6,7 @@ use Rattle.std.proofs.lemmas.List.{length-replicate}
 use Rattle.jc_log.specs.Acts as does
 use Rattle.jc_control.specs.Schedules.{idle, log_end, number_of}
 use Rattle.jc_control.specs.ControllerCalls.{begun}
-use Rattle.jc_moment.specs.Range.{end_of_moments}
+use Rattle.jc_log.specs.Range.{end_of_moments}
 use Rattle.jc_types.specs.declared.actions.End.{End}
 use Rattle.jc_types.specs.declared.actions.Fault.{Fault}
 use Rattle.jc_types.specs.declared.actions.PhaseChange.{PhaseChange}

@@ -27,3 +27,5 @@ pub mod QuietWrites
 pub mod QuietLegal
 pub mod TextFacts
 pub mod ScriptFacts
+-- Lemmas of the crates below, handed on to those above.
+pub use Rattle.jc_states.proofs.PodListFacts

@@ -7,22 +7,6 @@ use Rattle.jc_sync.specs.Registers.{Registers, freed, put_at, put_worker, regist
 use Rattle.jc_asks.specs.Steps.{Sync}
 use Rattle.jc_runs.specs.Teams.{Team, registers_of}
 
-nothing : {A : Type 0} (c : ℕ) (y : A) → slice_get [] c ≡ Some y → ⊥
-nothing zero y e = true≢false (sym (ap is_some e))
-nothing (suc c) y e = true≢false (sym (ap is_some e))
-
--- What stands in a list with one element set.
-pub set-cases : {A : Type 0} (xs : List A) (i c : ℕ) (x y : A) → slice_get (set xs i x) c ≡ Some y → ((c ≡ i) × (y ≡ x)) ⊎ ((c ≡ i → ⊥) × (slice_get xs c ≡ Some y))
-set-cases [] i c x y e = absurd (nothing c y e)
-set-cases (z ∷ xs) zero zero x y e = inl (refl, sym (ap (λ o. unwrap_or o x) e))
-set-cases (z ∷ xs) zero (suc c) x y e = inr (λ s. omega (arith, s), e)
-set-cases (z ∷ xs) (suc i) zero x y e = inr (λ s. omega (arith, s), e)
-set-cases (z ∷ xs) (suc i) (suc c) x y e = by (set-cases xs i c x y e)
-  where
-    by : ((c ≡ i) × (y ≡ x)) ⊎ ((c ≡ i → ⊥) × (slice_get xs c ≡ Some y)) → ((suc c ≡ suc i) × (y ≡ x)) ⊎ ((suc c ≡ suc i → ⊥) × (slice_get (z ∷ xs) (suc c) ≡ Some y))
-    by (inl h) = inl (ap suc h.0, h.1)
-    by (inr h) = inr (λ s. h.0 (omega (arith, s)), h.1)
-
 pub set_itself : {A : Type 0} (xs : List A) (i : ℕ) (x : A) → slice_get xs i ≡ Some x → set xs i x ≡ xs
 set_itself [] i x e = refl
 set_itself (y ∷ xs) zero x e = ap (λ z. z ∷ xs) (sym (ap (λ o. unwrap_or o x) e))

@@ -2,7 +2,7 @@
 use Rattle.std.proofs.Common.{◌≡◌, ℕ, ◌+◌, ◌-◌, ◌≤◌, ◌==◌, nat_lt, Bool, true, false, cond, List, [], ◌∷◌, length, map, filter, slice_get, Option, Some, None, refl, sym, ap, ◌∙◌, arith, true≢false}
 use Rattle.std.proofs.lemmas.Bool.{eqb-false}
 use Rattle.std.specs.Option.{option_map_or}
-use Rattle.jc_cache.specs.Caches.{pods_at}
+use Rattle.jc_control.specs.Caches.{pods_at}
 use Rattle.jc_control.specs.Schedules.{ControllerView, MirrorsJobs, MirrorsLog, MirrorsPods, Schedule, number_of}
 use Rattle.jc_control.specs.ControllerCalls.{forgets_caches, forgot, kept_backoff}
 use Rattle.jc_control.specs.declared.ends.SyncEnd.{SyncEnd}

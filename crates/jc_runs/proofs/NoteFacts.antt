@@ -20,6 +20,7 @@ use Rattle.jc_runs.specs.Runs.{AreWorkers}
 use Rattle.jc_asks.specs.Steps.{Sync}
 use Rattle.jc_types.specs.declared.actions.End.{End}
 use Rattle.jc_types.specs.declared.actions.Fault.{Fault}
+use Rattle.jc_history.proofs.DeedSteps.{own}
 
 -- ---- what notes tell of workers
 
@@ -54,9 +55,6 @@ silent-back older [] = nothing_new older
 silent-back older (k ∷ keys) = record { registers = λ w. refl; faults = λ w. refl }
 
 -- ---- the notes after a deed
-
-pub own : (c : ℕ) (new older : List Note) → cond (c == c) new [] ++ older ≡ new ++ older
-own c new older = ap (λ b. cond b new [] ++ older) (eq-eqb c c refl)
 
 module _ (shape : Shape) (c : ℕ) (past : List Deed) (d : Deed) (h : IsLegal shape past) where
   -- Those of the act are the newest, unless the controller restarts.

@@ -20,7 +20,7 @@ use Rattle.jc_log.proofs.LogFacts.{upto-all}
 use Rattle.jc_log.proofs.PodFacts.{pods_in-rises}
 use Rattle.jc_states.proofs.PodListFacts.{rises_filter}
 use Rattle.jc_log.proofs.WriteFacts.{job_in-key}
-use Rattle.jc_account.specs.Judged.{is_left_over}
+use Rattle.jc_plan.specs.Judged.{is_left_over}
 use Rattle.jc_plan.specs.Next.{next_status}
 use Rattle.jc_ledger.specs.declared.flights.Flight.{Flight}
 use Rattle.jc_ledger.specs.Flights.{Flies}

@@ -39,6 +39,7 @@ use Rattle.jc_history.proofs.LegalFacts.{notes-next}
 use Rattle.jc_runs.specs.QuietRuns.{AreSteps}
 use Rattle.jc_history.proofs.RequestFacts.{steps-same}
 use Rattle.jc_runs.proofs.StepFacts.{same_end, store_answers}
+use Rattle.jc_sync.proofs.StepFacts.{after_basis as after-basis}
 
 -- ---- registers
 
@@ -53,15 +54,6 @@ put-same zero w old new (ws ∷ rs) e = by w ws e
     by (suc w) [] e = absurd (true≢false (sym (ap is_some e)))
     by zero (x ∷ ws) e = refl
     by (suc w) (x ∷ ws) e = by w ws e
-
-after-basis : (ask : Ask) (given : Answer) (flight : Flight) → (flight_after ask given flight).basis ≡ flight.basis
-after-basis (MakePod index) given flight = refl
-after-basis (MarkPod u) given flight = refl
-after-basis (LetPodGo u v) given flight = refl
-after-basis WriteFirst (answer.Written v) flight = refl
-after-basis WriteFirst other flight = refl
-after-basis (ReleasePod u) given flight = refl
-after-basis WriteSecond given flight = refl
 
 -- ---- a sync under way
 

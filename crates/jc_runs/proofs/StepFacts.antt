@@ -7,7 +7,7 @@ use Rattle.jc_control.specs.ControllerCalls.{ended, forgets_caches, kept_backoff
 use Rattle.jc_control.specs.declared.ends.SyncEnd.{SyncEnd}
 use Rattle.jc_control.specs.declared.ends.SyncEnd.TheVariants as how
 use Rattle.jc_plan.specs.Plans.{planned}
-use Rattle.jc_queue.specs.Queued.{has_key, Queued}
+use Rattle.jc_control.specs.Queued.{has_key, Queued}
 use Rattle.jc_types.specs.declared.actions.Fault.{Fault}
 use Rattle.jc_types.specs.declared.actions.Fault.TheVariants.{Drop, Lose}
 use Rattle.jc_types.specs.declared.numbers.Version.{Version}
@@ -53,8 +53,10 @@ use Rattle.jc_asks.specs.Readings.{next_ask}
 use Rattle.jc_sync.specs.Registers.{register_of}
 use Rattle.jc_runs.specs.Runs.{AreWorkers}
 use Rattle.jc_runs.specs.Teams.{answered_if, end_of_next, ended_if, fault_left, is_first_written, noted_answer, noted_told}
-use Rattle.jc_runs.proofs.ListFacts.{set-cases}
-use Rattle.jc_runs.proofs.NoteFacts.{after_own, own}
+use Rattle.jc_runs.proofs.NoteFacts.{after_own}
+use Rattle.jc_history.proofs.DeedSteps.{own}
+use Rattle.jc_history.proofs.FollowFacts.{set-cases}
+use Rattle.jc_sync.proofs.StepFacts.{after_basis}
 
 -- ---- what is noted of an answer
 
@@ -123,50 +125,50 @@ same_end (LetPodGo u v) other e = refl
 same_end (ReleasePod u) other e = refl
 
 -- The store answers each request of a sync.
-abbrev pub Answers : Answered → Type 0
-Answers a = is_lost_answer (as_answer a.reply) ≡ false
+abbrev pub IsAnswer : Answered → Type 0
+IsAnswer a = is_lost_answer (as_answer a.reply) ≡ false
 
-either : (b : Bool) (x y : Answered) → Answers x → Answers y → Answers (cond b x y)
+either : (b : Bool) (x y : Answered) → IsAnswer x → IsAnswer y → IsAnswer (cond b x y)
 either true x y p q = p
 either false x y p q = q
 
 module _ (log : List Entry) (now : ℕ) (flight : Flight) where
-  make_answers : (index : Option ℕ) (o : Option Job) → Answers (make_gives log index now o)
+  make_answers : (index : Option ℕ) (o : Option Job) → IsAnswer (make_gives log index now o)
   unfolding is_lost_answer
   make_answers index None = refl
   make_answers index (Some job) = refl
 
-  mark_answers : (o : Option Pod) → Answers (mark_pod_at log now o)
+  mark_answers : (o : Option Pod) → IsAnswer (mark_pod_at log now o)
   unfolding is_lost_answer
   mark_answers None = refl
   mark_answers (Some pod) = either (is_marked pod) _ _ refl refl
 
-  let_go_answers : (v : Version) (o : Option Pod) → Answers (let_go_at log v o)
+  let_go_answers : (v : Version) (o : Option Pod) → IsAnswer (let_go_at log v o)
   unfolding is_lost_answer
   let_go_answers v None = refl
   let_go_answers v (Some pod) = either (not (pod.version.0 == v.0)) _ _ refl (either pod.tracked _ _ refl refl)
 
-  release_answers : (o : Option Pod) → Answers (release_at log o)
+  release_answers : (o : Option Pod) → IsAnswer (release_at log o)
   unfolding is_lost_answer
   release_answers None = refl
   release_answers (Some pod) = either pod.tracked _ _ refl refl
 
-  write_answers : (uid : Uid) (v : Version) (status : JobStatus) (o : Option Job) → Answers (write_status_at log uid v status o)
+  write_answers : (uid : Uid) (v : Version) (status : JobStatus) (o : Option Job) → IsAnswer (write_status_at log uid v status o)
   unfolding is_lost_answer
   write_answers uid v status None = refl
   write_answers uid v status (Some job) = either (not (same_uid job.uid uid)) _ _ refl (either (not (job.version.0 == v.0)) _ _ refl (either (same_status job.status status) _ _ refl refl))
 
-  status_answers : (status : JobStatus) (o : Option Job) → Answers (status_gives log flight status o)
+  status_answers : (status : JobStatus) (o : Option Job) → IsAnswer (status_gives log flight status o)
   unfolding is_lost_answer
   status_answers status None = refl
   status_answers status (Some job) = write_answers job.uid flight.sends status (job_in flight.basis.key log)
 
-  written_answers : (o : Option JobStatus) → Answers (written_gives log flight o)
+  written_answers : (o : Option JobStatus) → IsAnswer (written_gives log flight o)
   unfolding is_lost_answer
   written_answers None = refl
   written_answers (Some status) = status_answers status flight.basis.job
 
-  pub store_answers : (ask : Ask) → Answers (answered_to log now flight ask)
+  pub store_answers : (ask : Ask) → IsAnswer (answered_to log now flight ask)
   store_answers (MakePod index) = make_answers index flight.basis.job
   store_answers (MarkPod u) = mark_answers (pod_in u log)
   store_answers (LetPodGo u v) = let_go_answers v (pod_in u log)
@@ -235,15 +237,6 @@ noted_queue h k ask given backoff = by (is_first_written ask given) (floor_given
     by true (Some v) = refl
     by false None = refl
     by false (Some v) = refl
-
-first_basis : (first : Option JobStatus) (given : Answer) (flight : Flight) → (first_answered first given flight).basis ≡ flight.basis
-first_basis first (answer.Written v) flight = refl
-first_basis first other flight = refl
-
-after_basis : (ask : Ask) (given : Answer) (flight : Flight) → (flight_after ask given flight).basis ≡ flight.basis
-after_basis WriteFirst given flight = first_basis (planned flight.basis).first given flight
-after_basis (ReleasePod u) given flight = refl
-after_basis other given flight = refl
 
 pub record Shown (notes : List Note) (h : Schedule) (rs : List (Option Sync)) (fs : List (Option Fault)) : Type 0 where
   pub schedule : IsHeld notes h

@@ -36,7 +36,7 @@ use Rattle.jc_sync.proofs.FitFacts.{asked_fits}
 use Rattle.jc_sync.proofs.ReadFacts.{reads_next}
 use Rattle.jc_sync.proofs.RegisterFacts.{around, step_syncs}
 use Rattle.std.specs.Prelude.{◌≤◌, ◌^◌, IsSome, true}
-use Rattle.jc_queue.specs.Queued.{has_key}
+use Rattle.jc_control.specs.Queued.{has_key}
 use Rattle.jc_control.proofs.LawFacts.{grown as grown_by}
 use Rattle.jc_control.specs.declared.begins.Begin.TheVariants.{Begun}
 use Rattle.jc_control.specs.ControllerCalls.{begun}
@@ -54,12 +54,13 @@ use Rattle.jc_runs.specs.Runs.{AreWorkers, IsMachine, IsTeam}
 use Rattle.jc_runs.specs.Teams.{Stride, Team, registers_of, stride_at, stride_by, stride_of}
 use Rattle.jc_runs.proofs.CacheFacts.{done_still, run_quiet}
 use Rattle.jc_runs.proofs.ListFacts.{missing, register_there, registers_put, set_itself}
-use Rattle.jc_runs.proofs.NoteFacts.{IsOf, SameWorkers, after_own, nothing_new, own}
+use Rattle.jc_runs.proofs.NoteFacts.{IsOf, SameWorkers, after_own, nothing_new}
 use Rattle.jc_runs.proofs.BackoffFacts.{failures_dated, failures_small}
 use Rattle.jc_runs.proofs.BeginFacts.{begun_basis}
 use Rattle.jc_runs.proofs.RunFacts.{IsDone, next_is, plannable_grown, run_one, team_before}
 use Rattle.jc_runs.proofs.StepFacts.{Shown, strides}
 use Rattle.jc_runs.proofs.StrideFacts.{stride_is}
+use Rattle.jc_history.proofs.DeedSteps.{own}
 
 -- The key of a sync under way is processing.
 pub busy_at : (shape : Shape) (past : List Deed) (log : List Entry) (teams : List Team) (fates : Fates) (now : ℕ) → IsMachine shape past log teams fates now → (i : ℕ) (old : Team) → slice_get teams i ≡ Some old → (w : ℕ) (sync : Sync) → slice_get old.registers w ≡ Some (Some sync)

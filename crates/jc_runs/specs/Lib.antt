@@ -5,3 +5,26 @@ pub mod QuietRuns
 pub mod Conflicts
 pub mod Seen
 pub mod Texts
+-- Words of the crates below, handed on to those above.
+pub use Rattle.jc_asks.specs.declared.asks.Ask
+pub use Rattle.jc_states.specs.Bases
+pub use Rattle.jc_states.specs.declared.bases.Basis
+pub use Rattle.jc_ledger.specs.Once
+pub use Rattle.jc_asks.specs.Readings
+pub use Rattle.jc_asks.specs.Sends
+pub use Rattle.jc_asks.specs.Steps
+pub use Rattle.jc_ledger.specs.Syncs
+pub use Rattle.jc_states.specs.ValidActions
+pub use Rattle.jc_history.specs.Available
+pub use Rattle.jc_history.specs.Diaries
+pub use Rattle.jc_ledger.specs.Ledger
+pub use Rattle.jc_history.specs.Legal
+pub use Rattle.jc_plan.specs.Next
+pub use Rattle.jc_history.specs.Numbers
+pub use Rattle.jc_history.specs.Play
+pub use Rattle.jc_states.specs.PodLists
+pub use Rattle.jc_states.specs.Pods
+pub use Rattle.jc_history.specs.Registers
+pub use Rattle.jc_history.specs.Replies
+pub use Rattle.jc_states.specs.ValidSpecs
+pub use Rattle.jc_ledger.specs.declared.counts.Verdicts

@@ -6,10 +6,10 @@
 --     WritesNoStatus reply             the reply tells of no request for a status
 use Rattle.std.specs.Prelude.{◌≡◌, ℕ, true, false, List, [], ◌∷◌, ◌++◌, find, Some, None, is_some}
 use Rattle.jc_log.specs.Acts as does
-use Rattle.jc_account.specs.Judged.{is_left_over}
+use Rattle.jc_plan.specs.Judged.{is_left_over}
 use Rattle.jc_plan.specs.Next.{next_status}
-use Rattle.jc_failpol.specs.Outcomes.{same_outcome, outcome_of}
-use Rattle.jc_failpol.specs.declared.outcomes.Outcome.TheVariants.{Alive}
+use Rattle.jc_plan.specs.Outcomes.{same_outcome, outcome_of}
+use Rattle.jc_plan.specs.Outcome.TheVariants.{Alive}
 use Rattle.jc_states.specs.Bases.{is_own, own_pods}
 use Rattle.jc_types.specs.declared.objects.Entry.{Entry}
 use Rattle.jc_types.specs.declared.objects.Job.{Job}

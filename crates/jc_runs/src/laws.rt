@@ -15,7 +15,7 @@ ghost use Rattle.jc_states.specs.declared.bases.Basis.{Basis};
 ghost use Rattle.jc_states.specs.Bases.{CanPlan, own_pods};
 ghost use Rattle.jc_log.specs.Deeds.{Deed};
 ghost use Rattle.jc_log.specs.Log.{job_in, pods_under};
-ghost use Rattle.jc_queue.specs.Queued.{has_key};
+ghost use Rattle.jc_control.specs.Queued.{has_key};
 ghost use Rattle.jc_plan.specs.Next.{next_status};
 ghost use Rattle.jc_plan.specs.Plans.{IsDated};
 ghost use Rattle.jc_control.specs.ControllerCalls.{begun};

@@ -4,6 +4,7 @@
 
 mod laws;
 
+pub use jc_manifest::allowed_updates_stay_valid;
 pub use laws::{
     conflicts_tell_later_versions, failures_stay_small, legal_histories_count_once,
     legal_histories_tell_later_versions, quiet_syncs_reach_the_next_status, runs_count_once,

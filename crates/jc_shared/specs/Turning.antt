@@ -1,23 +1,23 @@
 -- What a seat of a turn lock is answered to an event.
 --     named_seen script shape g       a cluster of this script and shape with the history g
---     Stands seen                     its history is legal and orderly, and counts once
+--     IsSeenHistory seen                     its history is legal and orderly, and counts once
 --     Found script shape old g        a history that was found, by a seat that had seen old
 --     IsDone seen event answer new    what an event is answered, and what it leaves
 --     IsOutAnswer answer              the value was out
---     IsAnswered ..                   what a seat is answered, and what it has seen then
+--     SeatIsAnswered ..                   what a seat is answered, and what it has seen then
 use Rattle.std.specs.Prelude.{◌≡◌, ℕ, ◌<◌, ◌≤◌, List, [], ◌∷◌, ◌++◌, length, reverse, Result, Ok, Err}
 use mathlib.Core.List.{IsPrefix}
 use Rattle.jc_types.specs.declared.actions.Script.{Script}
 use Rattle.jc_types.specs.declared.runs.Event.{Event}
 use Rattle.jc_types.specs.declared.runs.Past.{Past}
 use Rattle.jc_types.specs.declared.runs.Shape.{Shape}
-use Rattle.jc_ledger.specs.Once.{OnceAtEach}
+use Rattle.jc_runs.specs.Once.{OnceAtEach}
 use Rattle.jc_history.specs.Available.{IsOrderly}
 use Rattle.jc_history.specs.Legal.{InLanes, IsLegal}
 use Rattle.jc_runs.specs.Seen.{Seen, deeds_seen, happened, log_seen, past_seen, reply_seen}
 use Rattle.jc_core.specs.declared.apply.ApplyFault.{ApplyFault}
 use Rattle.jc_core.specs.declared.apply.ApplyFault.TheVariants.{HistoryFull, Want}
-use Rattle.jc_turns.specs.Actors.{CanCome}
+use Rattle.jc_play.specs.Actors.{CanCome}
 use Rattle.jc_shared.specs.declared.seen.SeenReply.{SeenReply}
 use Rattle.jc_shared.specs.declared.seen.SeenReply.TheVariants as seen
 
@@ -26,7 +26,7 @@ abbrev pub named_seen : Script → Shape → List Past → Seen
 named_seen script shape g = record { script = script; shape = shape; pasts = reverse g }
 
 -- The history is a legal and orderly one of the script, and it counts once.
-pub record Stands (seen : Seen) : Type 0 where
+pub record IsSeenHistory (seen : Seen) : Type 0 where
   pub legal : IsLegal seen.shape (deeds_seen seen)
   pub orderly : IsOrderly seen.shape (deeds_seen seen)
   pub lanes : InLanes seen.script.commands seen.pasts
@@ -36,7 +36,7 @@ pub record Stands (seen : Seen) : Type 0 where
 -- The history that was found stands, and begins with what the seat had seen.
 pub record Found (script : Script) (shape : Shape) (old g : List Past) : Type 0 where
   pub begins : IsPrefix old g
-  pub stands : Stands (named_seen script shape g)
+  pub stands : IsSeenHistory (named_seen script shape g)
 
 -- What an event is answered, and what it leaves.
 abbrev pub IsDone : Seen → Event → Result SeenReply ApplyFault → Seen → Type 0
@@ -55,16 +55,16 @@ IsOutAnswer (Ok seen.Out) = Unit {0}
 IsOutAnswer other = ⊥
 
 -- What the seat is answered, which had seen the one list and has seen the other now.
-abbrev pub IsAnswered : Script → Shape → Event → Result SeenReply ApplyFault → List Past → List Past
+abbrev pub SeatIsAnswered : Script → Shape → Event → Result SeenReply ApplyFault → List Past → List Past
     → Type 0
-IsAnswered script shape event (Ok (seen.Reply r)) old new =
+SeatIsAnswered script shape event (Ok (seen.Reply r)) old new =
     (g : List Past) × Found script shape old g × CanCome (named_seen script shape g) event
     × (length g < shape.events) × (r ≡ reply_seen (named_seen script shape g) event)
     × (new ≡ g ++ past_seen (named_seen script shape g) event ∷ [])
-IsAnswered script shape event (Ok seen.NotNow) old new =
+SeatIsAnswered script shape event (Ok seen.NotNow) old new =
     Found script shape old new × (¬ CanCome (named_seen script shape new) event)
-IsAnswered script shape event (Ok seen.Out) old new = new ≡ old
-IsAnswered script shape event (Err HistoryFull) old new =
+SeatIsAnswered script shape event (Ok seen.Out) old new = new ≡ old
+SeatIsAnswered script shape event (Err HistoryFull) old new =
     Found script shape old new × CanCome (named_seen script shape new) event
     × (length new ≡ shape.events)
-IsAnswered script shape event (Err Want) old new = Found script shape old new
+SeatIsAnswered script shape event (Err Want) old new = Found script shape old new

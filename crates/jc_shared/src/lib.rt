@@ -10,7 +10,9 @@ mod threads;
 mod turning;
 
 pub use gate::{FreeGate, Gate};
+pub use jc_core::{ApplyFault, Cluster};
 pub use jc_kept::{Kept, Naming, keep};
+pub use jc_play::{new_clusters_play_the_whole_script, play};
 pub use seen::{SeenReply, apply_seen};
 pub use threads::{ThreadsFault, run_threads};
 pub use turning::run_turn;

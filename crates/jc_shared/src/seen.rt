@@ -3,12 +3,12 @@
 ghost use Rattle.std.specs.Prelude.{◌≡◌, ◌<◌, ◌↔◌, false};
 ghost use Rattle.jc_kept.specs.Names.{IsOfName};
 ghost use Rattle.jc_turn.specs.Seats.{IsSameSeat};
-ghost use Rattle.jc_shared.specs.Turning.{IsAnswered, IsDone, IsOutAnswer, Stands};
+ghost use Rattle.jc_shared.specs.Turning.{SeatIsAnswered, IsDone, IsOutAnswer, IsSeenHistory};
 
 use jc_core::ApplyFault;
 use jc_kept::{Kept, Naming};
+use jc_play::fits;
 use jc_turn::{Seat, Taken, Turn};
-use jc_turns::fits;
 use jc_types::{Event, Reply};
 
 /// What a seat is answered to an event.
@@ -25,7 +25,7 @@ pub enum SeenReply {
 // What the type of the cluster keeps: whose it is, and that its history stands.
 fn keeps<J: Naming>(kept: &Kept<J>)
     ensures named { IsOfName J.script J.shape kept.now.seen }
-    ensures stands { Stands kept.now.seen }
+    ensures stands { IsSeenHistory kept.now.seen }
 {
     kept.keeps();
     let _history = kept.cluster().history();
@@ -61,7 +61,7 @@ pub fn apply_seen<J: Naming>(
     requires free { seat.old.holds ≡ false }
     ensures seat { IsSameSeat seat.old seat.new × (seat.new.holds ≡ false) }
     ensures out { IsOutAnswer result ↔ (seat.old.lost < seat.new.lost) }
-    ensures answer { IsAnswered J.script J.shape event result seat.old.seen seat.new.seen }
+    ensures answer { SeatIsAnswered J.script J.shape event result seat.old.seen seat.new.seen }
 {
     let Taken::Value(mut kept) = turn.take(seat) else {
         return Ok(SeenReply::Out);

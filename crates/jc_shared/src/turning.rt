@@ -3,13 +3,13 @@
 ghost use Rattle.std.specs.Prelude.{◌≡◌, ◌<◌, ◌≤◌, ◌^◌, Err, IfOk, IfSome, IsErrOf, IsSome, true, false, length, reverse};
 ghost use Rattle.std.specs.List.{AllByRecursion as Each};
 ghost use Rattle.jc_types.specs.declared.actions.Command.{Command};
-ghost use Rattle.jc_states.specs.Bases.{CanPlan};
-ghost use Rattle.jc_states.specs.ValidActions.{IsValidAction};
-ghost use Rattle.jc_asks.specs.Sends.{new_sync};
+ghost use Rattle.jc_runs.specs.Bases.{CanPlan};
+ghost use Rattle.jc_runs.specs.ValidActions.{IsValidAction};
+ghost use Rattle.jc_runs.specs.Sends.{new_sync};
 ghost use Rattle.jc_kept.specs.declared.kept.Work.{Work};
 ghost use Rattle.jc_order.specs.Plays.{IsProper};
 ghost use Rattle.jc_runs.specs.Seen.{Seen};
-ghost use Rattle.jc_turn.specs.Seats.{AreFree, BelongTo, IsSameSeat};
+ghost use Rattle.jc_turn.specs.Seats.{NoSeatHolds, BelongTo, IsSameSeat};
 ghost use Rattle.jc_shared.specs.Runs.{IsLeft, IsWhole};
 
 use crate::finishing::finish;
@@ -174,9 +174,9 @@ fn run_places<J: Naming + Send + Sync, R: Threads + Wait + Sync, G: Gate + Sync>
     requires some { 1 ≤ threads }
     requires few { length places.old ≤ threads }
     requires own { BelongTo lock.now.name places.old }
-    requires free { AreFree places.old }
+    requires free { NoSeatHolds places.old }
     ensures own { BelongTo lock.now.name places.new }
-    ensures free { AreFree places.new }
+    ensures free { NoSeatHolds places.new }
 {
     thread::for_each_mut(
         rt,

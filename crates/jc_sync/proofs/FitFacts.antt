@@ -1,7 +1,7 @@
 -- What a request appends is fit for a log from which each sync can be planned.
 use Rattle.std.proofs.Common.{◌≡◌, ℕ, ◌<◌, ◌≤◌, Bool, true, false, cond, ◌&&◌, List, find, ◌∷◌, Option, Some, None, IfSome, refl, sym, ◌∙◌, subst, arith}
 use Rattle.std.specs.Option.{unwrap_or}
-use Rattle.jc_ranges.specs.declared.bounds.TheConstants.{GREATEST_INDEX}
+use Rattle.jc_log.specs.TheConstants.{GREATEST_INDEX}
 use Rattle.jc_types.specs.declared.actions.ContainerChange.{ContainerChange}
 use Rattle.jc_types.specs.declared.actions.PhaseChange.{PhaseChange}
 use Rattle.jc_types.specs.declared.actions.SpecChange.{SpecChange}
@@ -32,7 +32,7 @@ use Rattle.jc_ledger.specs.Flights.{Flies}
 use Rattle.jc_ledger.proofs.QuietFacts.{IfSome-at, seen_job-entry}
 use Rattle.jc_asks.specs.declared.asks.Ask.{Ask}
 use Rattle.jc_asks.specs.declared.asks.Ask.TheVariants.{MakePod, MarkPod, LetPodGo, WriteFirst, ReleasePod, WriteSecond}
-use Rattle.jc_manage.specs.Creations.{IsIndexFor}
+use Rattle.jc_plan.specs.Creations.{IsIndexFor}
 use Rattle.jc_sync.specs.Places.{IsAt}
 use Rattle.jc_sync.specs.Plannable.{AppendsFit, FitsIn, IsPlannable}
 use Rattle.jc_asks.specs.Steps.{answered_to, make_gives, status_gives, written_gives}

@@ -26,7 +26,7 @@ use Rattle.jc_ledger.proofs.JobLaws.{tied_pod}
 use Rattle.jc_ledger.proofs.MadeFacts.{WasMade, job_in-was_made, made_as-upto}
 use Rattle.jc_ledger.proofs.QuietFacts.{IfSome-at, tied_quiet}
 use Rattle.jc_asks.specs.declared.asks.Ask.TheVariants.{MakePod}
-use Rattle.jc_manage.specs.Creations.{IsIndexFor}
+use Rattle.jc_plan.specs.Creations.{IsIndexFor}
 use Rattle.jc_sync.specs.Places.{IsEarly}
 use Rattle.jc_asks.specs.Steps.{make_gives}
 use Rattle.jc_sync.proofs.ApiFacts.{MarkCases, Marked, Unmarked, mark_cases}

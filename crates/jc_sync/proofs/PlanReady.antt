@@ -27,7 +27,7 @@ use Rattle.jc_log.proofs.PlaceFacts.{life-entry, life-place}
 use Rattle.jc_log.proofs.PodFacts.{pods_in-live}
 use Rattle.jc_states.proofs.PodListFacts.{rises-each}
 use Rattle.jc_log.proofs.WriteFacts.{Follows-upto, Stored-from_legal}
-use Rattle.jc_plan.proofs.Going.{filter-few}
+use Rattle.jc_plan.proofs.Owned.{filter-least as filter-few}
 use Rattle.jc_ledger.specs.declared.flights.Flight.{Flight}
 use Rattle.jc_ledger.specs.Flights.{IsBasisOf}
 use Rattle.jc_ledger.specs.Tied.{HasSoundLists, Tied, made_as}

@@ -15,9 +15,9 @@ use Rattle.jc_log.specs.Log.{is_lost, job_in, life, upto}
 use Rattle.jc_states.specs.Pods.{is_tracked}
 use Rattle.jc_log.specs.Writes.{Stored, Writes}
 use Rattle.jc_log.proofs.WriteFacts.{Follows-upto, Stored-from_legal, lost_on}
-use Rattle.jc_account.specs.Judged.{is_left_over}
-use Rattle.jc_failpol.specs.declared.outcomes.Outcome.TheVariants.{Alive}
-use Rattle.jc_failpol.specs.Outcomes.{outcome_of, same_outcome}
+use Rattle.jc_plan.specs.Judged.{is_left_over}
+use Rattle.jc_plan.specs.Outcome.TheVariants.{Alive}
+use Rattle.jc_plan.specs.Outcomes.{outcome_of, same_outcome}
 use Rattle.jc_states.specs.Listed.{is_listed}
 use Rattle.jc_plan.specs.Next.{next_status}
 use Rattle.jc_plan.proofs.NextFacts.{second-next}

@@ -12,7 +12,7 @@ use Rattle.jc_types.specs.Keys.{same_uid}
 use Rattle.jc_states.specs.UidLists.{AscendsFrom, is_in}
 use Rattle.jc_types.proofs.KeyFacts.{same_uid-eq, same_uid-itself, same_uid-either_way}
 use Rattle.jc_types.proofs.ListFacts.{Each-weaker}
-use Rattle.jc_account.proofs.ListedFacts.{below_none}
+use Rattle.jc_plan.proofs.ListedFacts.{below_none}
 use Rattle.jc_plan.specs.declared.plans.Planned.{Planned}
 use Rattle.jc_asks.specs.declared.asks.Ask.{Ask}
 use Rattle.jc_asks.specs.declared.asks.Ask.TheVariants.{MakePod, MarkPod, LetPodGo, WriteFirst, ReleasePod, WriteSecond}

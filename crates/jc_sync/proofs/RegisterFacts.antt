@@ -30,6 +30,7 @@ use Rattle.jc_ledger.specs.Flights.{Flies}
 use Rattle.jc_ledger.specs.Syncs.{Began, began_by, began_of, is_begin, stepper, sync_of}
 use Rattle.jc_ledger.specs.Tied.{Tied}
 use Rattle.jc_ledger.proofs.FrameFacts.{AllFly-one}
+use Rattle.jc_ledger.proofs.SyncFacts.{sync_of-other}
 use Rattle.jc_ledger.proofs.QuietFacts.{tied_begun, tied_dropped, tied_quiet, tied_start}
 use Rattle.jc_sync.specs.Places.{IsAt, IfGoesOn, IsUnder, Under}
 use Rattle.jc_sync.specs.Registers.{AreFree, HasSyncs, IsRegister, NoneWritten, Registers, WritesShow, flight_in, flights_in, flights_of_all, freed, put_at, put_worker, register_at, register_of, restarted}
@@ -125,11 +126,6 @@ put_cases (suc c) w (suc d) v new (ws ∷ rs) sync h = by (put_cases c w d v new
     by (Other n is) = Other (λ e f. n (omega (arith, e)) f) is
 
 -- ---- whose begin it was
-
--- A deed that began nothing leaves each worker's sync.
-pub sync_of-other : (c w : ℕ) (d : Deed) (past : List Deed) → began_by c w d ≡ None → sync_of c w (d ∷ past) ≡ sync_of c w past
-sync_of-other c w d past none =
-    ap (option_and_then (began_by c w)) (cond-false (is_some (began_by c w d)) (Some d) (find (λ e. is_some (began_by c w e)) past) (ap is_some none))
 
 pub began_by-none : (c w : ℕ) (d : Deed) → began_of d.reply ≡ None → began_by c w d ≡ None
 began_by-none c w d none = by (is_begin c w d.act)

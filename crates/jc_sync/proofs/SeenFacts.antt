@@ -19,16 +19,17 @@ use Rattle.jc_states.specs.UidLists.{AscendsFrom, is_in}
 use Rattle.jc_types.proofs.KeyFacts.{same_uid-itself}
 use Rattle.jc_types.proofs.ListFacts.{Each-append, Each-filter, Each-map, Each-weaker, find_each}
 use Rattle.jc_states.proofs.PodListFacts.{pod_among, rises-found}
-use Rattle.jc_manage.specs.Creations.{IsIndexFor}
-use Rattle.jc_manage.specs.SeenPods.{IsSeen}
-use Rattle.jc_manage.specs.LetGoes.{seen, seen_uids}
-use Rattle.jc_manage.proofs.OneWay.{goes-seen}
+use Rattle.jc_plan.specs.Creations.{IsIndexFor}
+use Rattle.jc_plan.specs.SeenPods.{IsSeen}
+use Rattle.jc_plan.specs.LetGoes.{seen, seen_uids}
+use Rattle.jc_plan.proofs.OneWay.{goes-seen}
 use Rattle.jc_plan.specs.declared.plans.Planned.{Planned}
 use Rattle.jc_plan.specs.Plans.{planned, planned_for}
 use Rattle.jc_plan.specs.Statuses.{accounted, decided_in, is_settled, wants_in}
 use Rattle.jc_plan.proofs.PartFacts.{planned-here}
 use Rattle.jc_plan.proofs.OrderFacts.{let_goes-ascend}
 use Rattle.jc_plan.proofs.PlanBounds.{plan-numbered}
+use Rattle.jc_plan.proofs.RoomFacts.{unfiltered as Each-unfilter}
 use Rattle.jc_asks.specs.declared.asks.Ask.{Ask}
 use Rattle.jc_asks.specs.declared.asks.Ask.TheVariants.{MakePod, MarkPod, ReleasePod, WriteSecond}
 use Rattle.jc_asks.specs.Asks.{asks_of, early_asks, first_asks, last_asks, late_asks, let_go_ask}
@@ -36,16 +37,6 @@ use Rattle.jc_sync.specs.Leftovers.{let_of, lets_of}
 use Rattle.jc_sync.specs.Places.{SeenActive, IsEarly}
 
 -- ---- lists
-
-module _ {X : Type 0} where
-  -- What holds of each that a filter keeps.
-  pub Each-unfilter : (P : X → Type 0) (test : X → Bool) (xs : List X) → Each P (filter test xs) → Each (λ x. test x ≡ true → P x) xs
-  Each-unfilter P test [] h = tt
-  Each-unfilter P test (x ∷ xs) h = by (test x) h (Each-unfilter P test xs)
-    where
-      by : (b : Bool) → Each P (cond b (x ∷ filter test xs) (filter test xs)) → (Each P (filter test xs) → Each (λ y. test y ≡ true → P y) xs) → (b ≡ true → P x) × Each (λ y. test y ≡ true → P y) xs
-      by true g rest = ((λ e. g.0), rest g.1)
-      by false g rest = ((λ e. absurd (true≢false (sym e))), rest g)
 
 -- What is in the middle is in the list.
 pub in_middle : (u : Uid) (front rest : List Uid) → is_in u (front ++ u ∷ rest) ≡ true

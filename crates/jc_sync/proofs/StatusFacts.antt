@@ -17,7 +17,7 @@ use Rattle.jc_states.specs.UidLists.{is_in}
 use Rattle.jc_log.specs.Writes.{Stored}
 use Rattle.jc_log.proofs.PlaceFacts.{job_in-entry}
 use Rattle.jc_log.proofs.WriteFacts.{Stored-from_legal}
-use Rattle.jc_account.specs.Accounts.{counted_in}
+use Rattle.jc_plan.specs.Accounts.{counted_in}
 use Rattle.jc_plan.specs.Plans.{planned}
 use Rattle.jc_plan.specs.Statuses.{first_value, second_value}
 use Rattle.jc_plan.proofs.ValueFacts.{first-completed, first-failed, first-failed_indexes, first-failed_list, first-index_failures, first-succeeded, first-succeeded_list, second-completed, second-failed, second-failed_indexes, second-failed_list, second-index_failures, second-succeeded, second-succeeded_list}

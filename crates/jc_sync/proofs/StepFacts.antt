@@ -55,7 +55,7 @@ begun_at flight rising unwritten = Under (begun_under flight rising unwritten)
 
 -- ---- where it stands after an answer
 
-first_basis : (first : Option JobStatus) (given : Answer) (flight : Flight) → (first_answered first given flight).basis ≡ flight.basis
+pub first_basis : (first : Option JobStatus) (given : Answer) (flight : Flight) → (first_answered first given flight).basis ≡ flight.basis
 first_basis first (answer.Written v) flight = refl
 first_basis first other flight = refl
 

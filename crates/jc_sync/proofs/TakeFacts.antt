@@ -22,7 +22,7 @@ use Rattle.jc_log.specs.Writes.{Stored}
 use Rattle.jc_types.proofs.KeyFacts.{same_uid-eq}
 use Rattle.jc_types.proofs.ListFacts.{find_passes}
 use Rattle.jc_log.proofs.WriteFacts.{Stored-from_legal, life-uid}
-use Rattle.jc_account.specs.Accounts.{counted_in}
+use Rattle.jc_plan.specs.Accounts.{counted_in}
 use Rattle.jc_plan.specs.Releases.{ReleasedPod, is_orphan}
 use Rattle.jc_plan.specs.Statuses.{first_value}
 use Rattle.jc_plan.proofs.OrderFacts.{released-seen}

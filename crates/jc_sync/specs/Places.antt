@@ -15,7 +15,7 @@ use Rattle.jc_states.specs.declared.bases.Basis.{Basis}
 use Rattle.jc_types.specs.Keys.{same_uid}
 use Rattle.jc_states.specs.Pods.{is_active}
 use Rattle.jc_states.specs.UidLists.{is_in}
-use Rattle.jc_manage.specs.Creations.{IsIndexFor}
+use Rattle.jc_plan.specs.Creations.{IsIndexFor}
 use Rattle.jc_plan.specs.Plans.{planned}
 use Rattle.jc_plan.specs.Statuses.{first_value}
 use Rattle.jc_ledger.specs.declared.flights.Flight.{Flight}

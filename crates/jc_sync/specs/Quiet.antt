@@ -16,9 +16,9 @@ use Rattle.jc_states.specs.Bases.{own_pods}
 use Rattle.jc_log.specs.Log.{job_in, life, is_lost}
 use Rattle.jc_log.specs.Requests.{grown}
 use Rattle.jc_states.specs.UidLists.{is_in}
-use Rattle.jc_account.specs.Judged.{is_left_over}
-use Rattle.jc_failpol.specs.declared.outcomes.Outcome.TheVariants.{Alive}
-use Rattle.jc_failpol.specs.Outcomes.{outcome_of, same_outcome}
+use Rattle.jc_plan.specs.Judged.{is_left_over}
+use Rattle.jc_plan.specs.Outcome.TheVariants.{Alive}
+use Rattle.jc_plan.specs.Outcomes.{outcome_of, same_outcome}
 use Rattle.jc_plan.specs.Next.{next_value}
 use Rattle.jc_plan.specs.Plans.{planned}
 use Rattle.jc_plan.specs.Statuses.{second_value}

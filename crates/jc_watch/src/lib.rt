@@ -6,6 +6,7 @@ mod lists;
 mod told;
 mod watch;
 
+pub use jc_store::Store;
 pub use lists::{list_jobs, list_pods};
 pub use told::Next;
 pub use watch::next;

@@ -1,7 +1,7 @@
 use Rattle.std.proofs.Common.{List, reverse, sym, subst}
 use mathlib.Core.List.{IsPrefix}
 use Rattle.jc_types.specs.declared.runs.Past.{Past}
-use Rattle.jc_shared.specs.Turning.{IsAnswered}
+use Rattle.jc_shared.specs.Turning.{SeatIsAnswered}
 use Rattle.jc_shared.proofs.SeenFacts.{answers, done_begins}
 use Rattle.jc_shared.proofs.seen.apply_seen.Goals as goal
 
@@ -12,6 +12,6 @@ give-requires-clause-longer g c =
 
 pub returns-clause-answer : goal.returns-clause-answer
 returns-clause-answer g c =
-    subst (λ (xs : List Past). IsAnswered g.J.Naming.script g.J.Naming.shape c.args.event c.done-answer.result c.args.seat.now.seen xs) (sym c.give.ensures.given.1)
+    subst (λ (xs : List Past). SeatIsAnswered g.J.Naming.script g.J.Naming.shape c.args.event c.done-answer.result c.args.seat.now.seen xs) (sym c.give.ensures.given.1)
     (answers g.J.Naming.script g.J.Naming.shape c.args.seat.now.seen c.in-Value.kept.seen c.args.event c.done-answer.result c.done-answer.new.kept.seen c.keeps.ensures.named c.keeps.ensures.stands
     c.in-Value.ensures.value.2 c.done-answer.ensures)

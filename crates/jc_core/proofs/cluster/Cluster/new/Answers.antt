@@ -1,5 +1,5 @@
 use Rattle.std.proofs.Common.{[], subst}
-use Rattle.jc_core.specs.Places.{HasPlaces}
+use Rattle.jc_lanes.specs.Places.{HasPlaces}
 use Rattle.jc_core.proofs.Starts.{starts}
 use Rattle.jc_core.proofs.cluster.Cluster.new.Goals as goal
 

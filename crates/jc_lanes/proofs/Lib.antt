@@ -1,0 +1,3 @@
+pub mod LaneFacts
+pub mod LongerScripts
+pub mod LongerLanes

@@ -1,0 +1,15 @@
+//! One controller with its workers: what it knows, the syncs in the registers, and what each of its events does.
+#![tactic(auto)]
+
+mod member;
+mod places;
+mod registers;
+mod started;
+mod strides;
+mod twice;
+
+pub use jc_moment::Moment;
+pub use jc_states::Basis;
+pub use jc_sync::Syncing;
+pub use member::Member;
+pub use twice::Twice;

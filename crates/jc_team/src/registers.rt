@@ -1,0 +1,72 @@
+//! What a begin puts into a worker's register, and what the end of a sync leaves there.
+
+ghost use Rattle.std.specs.Prelude.{◌≡◌, ◌<◌, IfOk, IsSome, None, length, set, if◌then◌else◌};
+ghost use Rattle.jc_states.specs.declared.bases.Basis.{Basis};
+ghost use Rattle.jc_states.specs.Bases.{CanPlan};
+ghost use Rattle.jc_control.specs.declared.begins.Begin.TheVariants.{Begun};
+ghost use Rattle.jc_runs.specs.Replies.{reply_of_begin};
+ghost use Rattle.jc_runs.specs.Teams.{begun_sync, with_sync};
+
+use crate::places::{put_at, put_given_at};
+use crate::started::Started;
+use crate::twice::Twice;
+use jc_control::Begin;
+use jc_types::{Copied, Reply, Want};
+
+// What a begin will leave: the reply, and the sync where one begins. Nothing changes yet.
+//
+// `Want` where there is no memory for it.
+pub(crate) fn prepared(answer: &Begin) -> Result<(Twice, Option<Started>), Want>
+    requires { (basis : Basis) → answer.now ≡ Begun basis → IsSome basis.job → CanPlan basis }
+    ensures reply { IfOk result (λ r. r.0 ≡ reply_of_begin answer.now) }
+    ensures sync { IfOk result (λ r. r.1 ≡ begun_sync answer.now) }
+{
+    let sync = match answer {
+        Begin::Begun(basis) => Some(Started::new(basis.copy()?)),
+        Begin::NotSynced | Begin::NoKey | Begin::Behind { .. } => None,
+    };
+    let reply = reply_to(answer)?;
+    let again = reply.copy()?;
+    Ok((Twice::join(reply, again), sync))
+}
+
+// The reply to a begin.
+//
+// `Want` where there is no memory for it.
+fn reply_to(answer: &Begin) -> Result<Reply, Want>
+    ensures { IfOk result (λ r. r ≡ reply_of_begin answer.now) }
+{
+    match answer {
+        Begin::NotSynced => Ok(Reply::NotSynced),
+        Begin::NoKey => Ok(Reply::NoKey),
+        Begin::Behind { kind, need, have } => Ok(Reply::Behind {
+            kind: *kind,
+            need: *need,
+            have: *have,
+        }),
+        Begin::Begun(basis) => Ok(Reply::Begun {
+            key: basis.key.copy()?,
+            jobs_at: basis.jobs_at,
+            pods_at: basis.pods_at,
+        }),
+    }
+}
+
+// Puts the sync into the worker's register, where one begins.
+pub(crate) fn start(registers: &mut Vec<Option<Started>>, worker: usize, sync: Option<Started>)
+    requires { worker < length registers.old.items }
+    ensures { registers.new.items ≡ with_sync registers.old.items worker sync }
+{
+    put_given_at(registers, worker, sync);
+}
+
+// Makes the worker's register free, where its sync is over.
+pub(crate) fn close(registers: &mut Vec<Option<Started>>, worker: usize, is_over: bool)
+    requires { worker < length registers.old.items }
+    ensures { registers.new.items
+        ≡ (if is_over then set registers.old.items worker None else registers.old.items) }
+{
+    if is_over {
+        put_at(registers, worker, None);
+    }
+}

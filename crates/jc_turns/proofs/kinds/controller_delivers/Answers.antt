@@ -1,5 +1,0 @@
-use Rattle.jc_turns.proofs.KindFacts.{either-first}
-use Rattle.jc_turns.proofs.kinds.controller_delivers.Goals as goal
-
-pub returns : goal.returns
-returns c = either-first _ _ _ _ _ c.delivery_of-jobs.ensures c.delivery_of-pods.ensures c.or.ensures

@@ -1,5 +1,0 @@
-use Rattle.jc_turns.proofs.SystemFacts.{rest-test}
-use Rattle.jc_turns.proofs.next.is_quiescent.Goals as goal
-
-pub returns : goal.returns
-returns c = rest-test c.args.cluster.now c.next_event.result c.is_none.result c.next_event.ensures.first c.is_none.ensures

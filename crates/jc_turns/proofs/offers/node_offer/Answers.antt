@@ -1,5 +1,0 @@
-use Rattle.jc_turns.proofs.ActorFacts.{node-only}
-use Rattle.jc_turns.proofs.offers.node_offer.Goals as goal
-
-pub returns : goal.returns
-returns c = node-only c.args.cluster.now _ c.node_event.ensures

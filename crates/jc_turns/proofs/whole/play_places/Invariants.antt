@@ -1,6 +1,0 @@
-use Rattle.jc_turns.proofs.WholeFacts.{IsPlaying}
-use Rattle.jc_turns.proofs.whole.play_places.Given as goal
-
--- The places below this one were played.
-abbrev pub invariant-loop-place : goal.invariant-loop-place
-invariant-loop-place l = IsPlaying l.initial.cluster l.cluster l.place
