@@ -8,3 +8,5 @@ mod scripts;
 mod seen;
 #[cfg(test)]
 mod syncs;
+#[cfg(test)]
+mod turns;

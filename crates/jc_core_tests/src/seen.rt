@@ -1,6 +1,6 @@
 //! What two seats of a turn lock see of the one history of a cluster.
 
-ghost use Rattle.std.specs.Prelude.{◌≡◌, ◌≤◌, ◌<◌, ◌^◌, OnOk, false, length};
+ghost use Rattle.std.specs.Prelude.{◌≡◌, ◌≤◌, ◌<◌, ◌^◌, false, length};
 ghost use Rattle.jc_history.specs.Available.{IsOrderly};
 ghost use Rattle.jc_kept.specs.Names.{IsOfName};
 ghost use Rattle.jc_runs.specs.Seen.{deeds_seen};
@@ -90,8 +90,8 @@ fn play_seen<J: Naming>(
 ) -> Result<(), Fail>
     requires turn { (a.old.turn ≡ turn.now.name) × (b.old.turn ≡ turn.now.name) }
     requires free { (a.old.holds ≡ false) × (b.old.holds ≡ false) }
-    ensures first { OnOk result (IsSameSeat a.old a.new × (a.new.holds ≡ false)) }
-    ensures second { OnOk result (IsSameSeat b.old b.new × (b.new.holds ≡ false)) }
+    ensures first { IsSameSeat a.old a.new × (a.new.holds ≡ false) }
+    ensures second { IsSameSeat b.old b.new × (b.new.holds ≡ false) }
 {
     let create = Event::Command { lane: 0, number: 0 };
     let list = Event::System(Sys::List {
@@ -116,10 +116,10 @@ fn see_one_history<J: Naming>(rt: &impl Abort, alloc: Global, cluster: Cluster) 
         return Err(Fail::new("no memory"));
     };
     let (first, second) = seats.as_mut_slice().split_at_mut(1);
-    play_seen(rt, &turn, &mut first[0], &mut second[0])?;
+    let seen = play_seen(rt, &turn, &mut first[0], &mut second[0]);
     let cluster = turn.close(seats).into_cluster();
     assert_eq!(rt; cluster.history().events.len(), 2);
-    Ok(())
+    seen
 }
 
 // The same, of the script and the shape of the cluster.

@@ -3,7 +3,7 @@ use Rattle.std.proofs.Common.{◌≡◌, ℕ, Bool, true, false, List, Err, Opti
 use Rattle.std.specs.Prelude.{IfSome, IsTrue}
 use Rattle.std.proofs.lemmas.Option.{same_Some}
 use Rattle.jc_types.specs.declared.runs.Shape.{Shape}
-use Rattle.jc_audit.specs.Audits.{Says}
+use Rattle.jc_audit.specs.Audits.{VerdictHolds}
 use Rattle.jc_audit.specs.declared.verdicts.Verdict.TheVariants.{Yes}
 use Rattle.jc_script.specs.Scripts.{BadLine, script_of}
 use Rattle.jc_words.specs.declared.words.LockKind.{LockKind}
@@ -70,7 +70,7 @@ of-audit words shape P is p = subst (λ o. IfSome o (λ order. OfAudit order P))
 
 -- Of a report whose verdict was told all promises hold.
 pub promised-too : (shape : Shape) (left old new : Option (List ℕ))
-    → ((input : List ℕ) → Says shape input Yes → IsPromised shape input)
+    → ((input : List ℕ) → VerdictHolds shape input Yes → IsPromised shape input)
     → IfSome left (λ input. TellsVerdict shape input Yes old new)
     → IfSome left (λ input. TellsVerdict shape input Yes old new × IsPromised shape input)
 promised-too shape None old new keeps told = tt

@@ -9,19 +9,19 @@ use Rattle.jc_types.specs.declared.actions.Script.{Script}
 use Rattle.jc_types.specs.declared.runs.History.{History}
 use Rattle.jc_types.specs.declared.runs.Past.{Past}
 use Rattle.jc_types.specs.declared.runs.Shape.{Shape}
-use Rattle.jc_states.specs.ValidActions.{IsValidAction}
-use Rattle.jc_log.specs.Deeds.{act_of_action, deeds}
-use Rattle.jc_history.specs.Available.{is_quiescent}
-use Rattle.jc_history.specs.Legal.{IsOfShape}
-use Rattle.jc_history.specs.Play.{Playing, is_full, play_of, whole_play}
-use Rattle.jc_history.specs.Replies.{log_given}
-use Rattle.jc_order.specs.Plays.{AreWithin, IsProper, ends_in_settle}
+use Rattle.jc_promise.specs.ValidActions.{IsValidAction}
+use Rattle.jc_promise.specs.Deeds.{act_of_action, deeds}
+use Rattle.jc_promise.specs.Available.{is_quiescent}
+use Rattle.jc_promise.specs.Legal.{IsOfShape}
+use Rattle.jc_promise.specs.Play.{Playing, is_full, play_of, whole_play}
+use Rattle.jc_promise.specs.Replies.{log_given}
+use Rattle.jc_promise.specs.Plays.{AreWithin, IsProper, ends_in_settle}
 use Rattle.jc_promise.proofs.DeedFacts.{deeds-are}
 use Rattle.jc_reap.specs.Finds.{seen_at_end}
 use Rattle.jc_reap.specs.Reaping.{command, reap_list}
-use Rattle.jc_runs.specs.Seen.{Seen, deeds_in, deeds_seen, log_seen}
+use Rattle.jc_promise.specs.Seen.{Seen, deeds_in, deeds_seen, log_seen}
 use Rattle.jc_script.specs.Scripts.{BadLine}
-use Rattle.jc_turns.specs.Turns.{playing_of}
+use Rattle.jc_shared.specs.Turns.{playing_of}
 use Rattle.jc_ctl.specs.Played.{at_rest, reaped_of, then_reaped}
 use Rattle.jc_ctl.specs.Runs.{Printed, printed_by, report_printed, reported}
 use Rattle.jc_ctl.specs.declared.orders.Output.{Output}

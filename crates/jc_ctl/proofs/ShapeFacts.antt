@@ -6,10 +6,10 @@ use Rattle.jc_types.specs.declared.actions.Action1.TheVariants as act
 use Rattle.jc_types.specs.declared.actions.Command.{Command}
 use Rattle.jc_types.specs.declared.actions.Script.{Script}
 use Rattle.jc_types.specs.declared.runs.Shape.{Shape}
-use Rattle.jc_states.specs.ValidActions.{IsValidAction}
-use Rattle.jc_log.specs.Deeds.{act_of_action}
-use Rattle.jc_history.specs.Legal.{IsOfShape}
-use Rattle.jc_order.specs.Plays.{AreWithin, IsProper}
+use Rattle.jc_promise.specs.ValidActions.{IsValidAction}
+use Rattle.jc_promise.specs.Deeds.{act_of_action}
+use Rattle.jc_promise.specs.Legal.{IsOfShape}
+use Rattle.jc_promise.specs.Plays.{AreWithin, IsProper}
 use Rattle.jc_gen.specs.Generated.{IsGenerated, generated}
 use Rattle.jc_script.specs.Fits.{NamesShape}
 

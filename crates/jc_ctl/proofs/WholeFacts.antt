@@ -2,11 +2,11 @@
 use Rattle.std.proofs.Common.{◌≡◌, ℕ, ◌≤◌, Bool, false, List, [], reverse, Ok, ap, ap₂, refl, subst, sym, ◌∙◌}
 use Rattle.jc_types.specs.declared.actions.Script.{Script}
 use Rattle.jc_types.specs.declared.runs.Shape.{Shape}
-use Rattle.jc_history.specs.Play.{Playing, nothing, rest_played, whole_play}
+use Rattle.jc_promise.specs.Play.{Playing, nothing, rest_played, whole_play}
 use Rattle.jc_report.specs.Reports.{report_text, summary_of}
-use Rattle.jc_runs.specs.Seen.{Seen, log_seen}
+use Rattle.jc_promise.specs.Seen.{Seen, log_seen}
 use Rattle.jc_script.specs.Scripts.{script_of}
-use Rattle.jc_turns.specs.Turns.{playing_of}
+use Rattle.jc_shared.specs.Turns.{playing_of}
 use Rattle.jc_words.specs.Fits.{IsFitShape}
 use Rattle.jc_ctl.specs.Played.{as_script}
 use Rattle.jc_ctl.specs.Runs.{Printed, printed_by, report_printed, reported, summary_printed}

@@ -10,7 +10,7 @@ use Rattle.std.specs.Prelude.{◌≡◌, ℕ, List, ◌++◌, Option, codes, dec
 use Rattle.std.specs.Io.KnownBytes.{Appends}
 use Rattle.jc_io.specs.Moved.{AppendsFront}
 use Rattle.jc_types.specs.declared.runs.Shape.{Shape}
-use Rattle.jc_audit.specs.Audits.{Says}
+use Rattle.jc_audit.specs.Audits.{VerdictHolds}
 use Rattle.jc_audit.specs.Reported.{IsReported}
 use Rattle.jc_audit.specs.declared.verdicts.Verdict.{Verdict}
 use Rattle.jc_audit.specs.declared.verdicts.Verdict.TheVariants.{Yes, No}
@@ -38,18 +38,18 @@ OfAudit other P = ⊥
 -- How an audit ends that meets no fault and no want of memory.
 pub record IsAudited (shape : Shape) (input : List ℕ) (ended : Status) : Type 0 where
   pub verdict : Verdict
-  pub says : Says shape input verdict
+  pub says : VerdictHolds shape input verdict
   pub is : ended ≡ verdict_status verdict
 
 -- It is what is to be said of the input, and the sink was given it.
 pub record TellsVerdict (shape : Shape) (input : List ℕ) (verdict : Verdict) (old new : Option (List ℕ)) : Type 0 where
-  pub says : Says shape input verdict
+  pub says : VerdictHolds shape input verdict
   pub written : Appends old new (verdict_text verdict)
 
 -- The sink was given the front of what is to be said of the input.
 pub record TellsVerdictFront (shape : Shape) (input : List ℕ) (old new : Option (List ℕ)) : Type 0 where
   pub verdict : Verdict
-  pub says : Says shape input verdict
+  pub says : VerdictHolds shape input verdict
   pub front : AppendsFront old new (verdict_text verdict)
 
 -- The input is the report of a legal and orderly history, of which all promises hold.

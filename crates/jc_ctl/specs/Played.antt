@@ -11,8 +11,8 @@ use Rattle.jc_types.specs.declared.actions.Action1.TheVariants as act
 use Rattle.jc_types.specs.declared.actions.Command.{Command}
 use Rattle.jc_types.specs.declared.actions.Script.{Script}
 use Rattle.jc_types.specs.declared.runs.Shape.{Shape}
-use Rattle.jc_history.specs.Play.{deeds_played, is_full, whole_play}
-use Rattle.jc_runs.specs.Seen.{deeds_seen}
+use Rattle.jc_promise.specs.Play.{deeds_played, is_full, whole_play}
+use Rattle.jc_promise.specs.Seen.{deeds_seen}
 use Rattle.jc_reap.specs.Finds.{IsCollected, seen_at_end}
 use Rattle.jc_reap.specs.Reaping.{command, reap_list, ttl_seen}
 use Rattle.jc_reap.specs.TtlLines.{ttls_of}

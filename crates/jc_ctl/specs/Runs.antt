@@ -16,7 +16,7 @@ use Rattle.std.specs.Prelude.{◌≡◌, ℕ, ◌≤◌, ◌⊎◌, Bool, false,
 use Rattle.jc_types.specs.declared.actions.Command.{Command}
 use Rattle.jc_types.specs.declared.actions.Script.{Script}
 use Rattle.jc_types.specs.declared.runs.Shape.{Shape}
-use Rattle.jc_history.specs.Play.{is_full, play_of, whole_play}
+use Rattle.jc_promise.specs.Play.{is_full, play_of, whole_play}
 use Rattle.jc_script.specs.Scripts.{BadLine}
 use Rattle.jc_report.specs.Reports.{report_text, summary_of}
 use Rattle.jc_words.specs.declared.words.Order.{Order}

@@ -5,7 +5,7 @@ ghost use Rattle.std.specs.Io.KnownBytes.{Appends, Keeps};
 ghost use Rattle.jc_io.specs.Faults.{Rose};
 ghost use Rattle.jc_io.specs.Moved.{AppendsFront, TakesAtMost, TakesCount};
 ghost use Rattle.jc_script.specs.Scripts.{most_bytes};
-ghost use Rattle.jc_script.specs.declared.causes.Cause.{Cause};
+ghost use Rattle.jc_script.specs.Cause.{Cause};
 ghost use Rattle.jc_audit.specs.declared.verdicts.Verdict.TheVariants.{No, Yes};
 ghost use Rattle.jc_words.specs.Fits.{IsFitShape};
 ghost use Rattle.jc_ctl.specs.Audited.{IsAudited, TellsVerdict, TellsVerdictFront, verdict_status, verdict_text};

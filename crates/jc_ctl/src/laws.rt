@@ -5,15 +5,15 @@ ghost use Rattle.std.specs.List.{AllByRecursion as Each};
 ghost use Rattle.jc_types.specs.declared.actions.Command.{Command};
 ghost use Rattle.jc_types.specs.declared.actions.Script.{Script};
 ghost use Rattle.jc_types.specs.declared.runs.Shape.{Shape};
-ghost use Rattle.jc_states.specs.ValidActions.{IsValidAction};
-ghost use Rattle.jc_history.specs.Play.{is_full};
-ghost use Rattle.jc_order.specs.Plays.{IsProper};
+ghost use Rattle.jc_promise.specs.ValidActions.{IsValidAction};
+ghost use Rattle.jc_promise.specs.Play.{is_full};
+ghost use Rattle.jc_promise.specs.Plays.{IsProper};
 ghost use Rattle.jc_reap.specs.TtlLines.{ttls_of};
 ghost use Rattle.jc_script.specs.Scripts.{script_of};
 ghost use Rattle.jc_words.specs.Words.{order_of};
 ghost use Rattle.jc_words.specs.declared.words.Order.{Order};
 ghost use Rattle.jc_words.specs.declared.words.Order.TheVariants.{Reap};
-ghost use Rattle.jc_audit.specs.Audits.{Says};
+ghost use Rattle.jc_audit.specs.Audits.{VerdictHolds};
 ghost use Rattle.jc_audit.specs.declared.verdicts.Verdict.TheVariants.{Yes};
 ghost use Rattle.jc_words.specs.Fits.{IsFitOrder, IsFitShape};
 ghost use Rattle.jc_ctl.specs.Audited.{IsPromised};
@@ -21,10 +21,10 @@ ghost use Rattle.jc_ctl.specs.Played.{CollectsDue, at_rest, script_played, stagi
 ghost use Rattle.jc_ctl.specs.Runs.{Printed, answer_of, report_printed};
 ghost use Rattle.jc_ctl.specs.Told.{IsReport};
 
-use jc_audit::reports_are_of_histories;
-use jc_lines::proper_actions_are_valid;
-use jc_order::{plays_are_orderly_histories, settled_plays_are_at_rest};
-use jc_promise::legal_histories_keep_the_promises;
+use jc_audit::{proper_actions_are_valid, reports_are_of_histories};
+use jc_promise::{
+    legal_histories_keep_the_promises, plays_are_orderly_histories, settled_plays_are_at_rest,
+};
 use jc_reap::{collecting_plays_are_due, reaped_commands_fit};
 use jc_script::scripts_fit_their_shape;
 use jc_words::orders_fit;
@@ -72,7 +72,7 @@ pub fn reapers_collect_what_is_due()
 /// **Of what an audit says yes to, all promises hold (KEP-2307)**: it tells a legal and orderly history of a script, and
 /// they hold of that one, whoever printed it.
 pub fn audited_reports_keep_the_promises()
-    ensures { (shape : Shape) (input : List ℕ) → IsFitShape shape → Says shape input Yes
+    ensures { (shape : Shape) (input : List ℕ) → IsFitShape shape → VerdictHolds shape input Yes
         → IsPromised shape input }
 {
     reports_are_of_histories();

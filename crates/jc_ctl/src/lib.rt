@@ -8,12 +8,11 @@ mod plays;
 mod reaps;
 mod run;
 mod status;
-#[cfg(test)]
-mod tests;
 mod texts;
 mod threaded;
 
 pub use audited::run_audit;
+pub use jc_shared::{FreeGate, Gate};
 pub use laws::{
     audited_reports_keep_the_promises, plays_tell_their_history, reapers_collect_what_is_due,
     runs_tell_their_history,

@@ -3,11 +3,11 @@
 ghost use Rattle.std.specs.Prelude.{◌≡◌, ◌<◌, ◌≤◌, ◌^◌, Err, IfOk, IsErrOf, Ok, length, ℕ};
 ghost use Rattle.std.specs.List.{AllByRecursion as Each};
 ghost use Rattle.jc_types.specs.declared.actions.Command.{Command};
-ghost use Rattle.jc_states.specs.ValidActions.{IsValidAction};
-ghost use Rattle.jc_order.specs.Plays.{IsProper};
+ghost use Rattle.jc_promise.specs.ValidActions.{IsValidAction};
+ghost use Rattle.jc_promise.specs.Plays.{IsProper};
 ghost use Rattle.jc_gen.specs.Generated.{generated};
 ghost use Rattle.jc_script.specs.Scripts.{most_bytes, script_of};
-ghost use Rattle.jc_script.specs.declared.causes.Cause.{Cause};
+ghost use Rattle.jc_script.specs.Cause.{Cause};
 ghost use Rattle.jc_words.specs.Fits.{IsFitOrder, IsFitShape};
 ghost use Rattle.jc_words.specs.Words.{default_shape};
 ghost use Rattle.jc_ctl.specs.Played.{as_script};

@@ -3,13 +3,12 @@
 ghost use Rattle.std.specs.Prelude.{◌≡◌, ◌<◌, ◌≤◌, ◌^◌, IfOk, length};
 ghost use Rattle.std.specs.List.{AllByRecursion as Each};
 ghost use Rattle.jc_types.specs.declared.actions.Command.{Command};
-ghost use Rattle.jc_states.specs.ValidActions.{IsValidAction};
-ghost use Rattle.jc_history.specs.Play.{whole_play};
-ghost use Rattle.jc_order.specs.Plays.{IsProper};
-ghost use Rattle.jc_turns.specs.Turns.{playing_of};
+ghost use Rattle.jc_promise.specs.ValidActions.{IsValidAction};
+ghost use Rattle.jc_promise.specs.Play.{whole_play};
+ghost use Rattle.jc_promise.specs.Plays.{IsProper};
+ghost use Rattle.jc_shared.specs.Turns.{playing_of};
 
-use jc_core::{ApplyFault, Cluster};
-use jc_turns::{new_clusters_play_the_whole_script, play};
+use jc_shared::{ApplyFault, Cluster, new_clusters_play_the_whole_script, play};
 use jc_types::{Script, Shape, Want};
 use std::alloc::{AllocError, Global};
 

@@ -4,24 +4,24 @@
 ghost use Rattle.std.specs.Prelude.{◌≡◌, ◌<◌, ◌≤◌, ◌++◌, ◌^◌, Err, IfOk, IsErrOf, Ok, OnOk, length, true, ℕ};
 ghost use Rattle.std.specs.List.{AllByRecursion as Each};
 ghost use Rattle.jc_types.specs.declared.actions.Command.{Command};
-ghost use Rattle.jc_states.specs.ValidActions.{IsValidAction};
-ghost use Rattle.jc_history.specs.Available.{is_quiescent};
-ghost use Rattle.jc_order.specs.Plays.{IsProper, ends_in_settle};
-ghost use Rattle.jc_runs.specs.Seen.{deeds_seen, log_seen};
+ghost use Rattle.jc_promise.specs.ValidActions.{IsValidAction};
+ghost use Rattle.jc_promise.specs.Available.{is_quiescent};
+ghost use Rattle.jc_promise.specs.Plays.{IsProper, ends_in_settle};
+ghost use Rattle.jc_promise.specs.Seen.{deeds_seen, log_seen};
 ghost use Rattle.jc_reap.specs.Reaping.{reap_list};
 ghost use Rattle.jc_reap.specs.TtlLines.{ttls_of};
 ghost use Rattle.jc_script.specs.Scripts.{most_bytes, most_commands, script_of};
-ghost use Rattle.jc_script.specs.declared.causes.Cause.{Cause};
+ghost use Rattle.jc_script.specs.Cause.{Cause};
 ghost use Rattle.jc_words.specs.Fits.{IsFitShape};
 ghost use Rattle.jc_ctl.specs.Played.{at_rest, reaped_of, then_reaped};
 ghost use Rattle.jc_ctl.specs.Runs.{printed_by, report_printed, reported};
 
 use crate::orders::{Output, script_answer};
 use crate::plays::play_whole;
-use jc_core::Cluster;
-use jc_order::settled_plays_are_at_rest;
+use jc_promise::settled_plays_are_at_rest;
 use jc_reap::{Ttls, as_many_ttls_as_commands, read_ttls, reap, reaped_commands_fit};
 use jc_script::{Cause, ScriptFault, read_script, scripts_fit_their_shape};
+use jc_shared::Cluster;
 use jc_types::{Action1, Command, Commands, Copied, Script, Shape, Want};
 use std::alloc::{AllocError, Global};
 

@@ -8,7 +8,7 @@ ghost use Rattle.jc_types.specs.declared.runs.Shape.{Shape};
 ghost use Rattle.jc_types.specs.declared.actions.Command.{Command};
 ghost use Rattle.jc_reap.specs.TtlLines.{ttls_of};
 ghost use Rattle.jc_script.specs.Scripts.{most_bytes, script_of};
-ghost use Rattle.jc_script.specs.declared.causes.Cause.{Cause};
+ghost use Rattle.jc_script.specs.Cause.{Cause};
 ghost use Rattle.jc_words.specs.Words.{order_of};
 ghost use Rattle.jc_words.specs.declared.words.LockKind.{LockKind};
 ghost use Rattle.jc_words.specs.declared.words.Order.{Order};

@@ -1,16 +1,16 @@
 //! What is printed of a cluster.
 
 ghost use Rattle.std.specs.Prelude.{◌≡◌, ◌≤◌, IfOk, reverse, string_bytes};
-ghost use Rattle.jc_runs.specs.Seen.{log_seen};
+ghost use Rattle.jc_promise.specs.Seen.{log_seen};
 ghost use Rattle.jc_report.specs.Reports.{report_text, summary_of};
 
-use jc_core::Cluster;
 use jc_report::{report, summary};
+use jc_shared::Cluster;
 use jc_types::Want;
 use std::alloc::Global;
 
 /// The report of what happened to the cluster.
-#[tactic(auto, using(crate::proofs::PrintFacts::log_fits, crate::proofs::PrintFacts::numbered))]
+#[tactic(auto, using(jc_audit::proofs::TailFacts::log_fits, jc_audit::proofs::TailFacts::numbered))]
 pub(crate) fn report_text(alloc: Global, cluster: &Cluster, full: bool) -> Result<String, Want>
     requires { cluster.now.shape.events ≤ 200000 }
     ensures { IfOk result (λ text. string_bytes text

@@ -2,9 +2,8 @@
 
 ghost use Rattle.std.specs.Prelude.{◌≤◌};
 
-use jc_ctl::{Status, run_program};
+use jc_ctl::{FreeGate, Status, run_program};
 use jc_io::{Bytes, MemSink, MemSource, ReadEnd, read_all};
-use jc_shared::FreeGate;
 use std::alloc::{AllocError, Global};
 use std::sync::Wait;
 use std::thread::Threads;

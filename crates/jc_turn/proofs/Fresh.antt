@@ -2,7 +2,7 @@
 use Rattle.std.proofs.Common.{◌≡◌, ℕ, zero, suc, ◌≤◌, List, [], ◌∷◌, length, refl, sym, ap, ◌∙◌, subst, arith}
 use Rattle.std.specs.List.{refill}
 use Rattle.atomic_table.specs.Seated.{TableId}
-use Rattle.jc_turn.specs.Seats.{AreFree, AreSeatsOf, BelongTo, SeatView, TurnView, fresh_seats}
+use Rattle.jc_turn.specs.Seats.{NoSeatHolds, AreSeatsOf, BelongTo, SeatView, TurnView, fresh_seats}
 
 fresh_length : (t : TableId) (k n : ℕ) → length (fresh_seats t k n) ≡ n
 fresh_length t k zero = refl
@@ -12,7 +12,7 @@ fresh_belong : (t : TableId) (k n : ℕ) → BelongTo t (fresh_seats t k n)
 fresh_belong t k zero = tt
 fresh_belong t k (suc n) = (refl, fresh_belong t (suc k) n)
 
-fresh_free : (t : TableId) (k n : ℕ) → AreFree (fresh_seats t k n)
+fresh_free : (t : TableId) (k n : ℕ) → NoSeatHolds (fresh_seats t k n)
 fresh_free t k zero = tt
 fresh_free t k (suc n) = (refl, fresh_free t (suc k) n)
 
@@ -32,8 +32,8 @@ module _ (lock : TurnView) (n : ℕ) (seats : List SeatView) (fresh : seats ≡ 
   pub own_fresh : BelongTo lock.name seats
   own_fresh = subst (BelongTo lock.name) (sym fresh) (fresh_belong lock.name 0 n)
 
-  pub free_fresh : AreFree seats
-  free_fresh = subst AreFree (sym fresh) (fresh_free lock.name 0 n)
+  pub free_fresh : NoSeatHolds seats
+  free_fresh = subst NoSeatHolds (sym fresh) (fresh_free lock.name 0 n)
 
   -- As many as were lent are all of them.
   pub lent_all : (left : List SeatView) → lock.seats ≡ n → length left ≡ length seats → BelongTo lock.name left → AreSeatsOf lock (refill (length seats) seats left)
@@ -42,5 +42,5 @@ module _ (lock : TurnView) (n : ℕ) (seats : List SeatView) (fresh : seats ≡ 
       (subst (BelongTo lock.name) (sym whole) own, ap length whole ∙ (long ∙ (ap length fresh ∙ (fresh_length lock.name 0 n ∙ sym count))))
 
   -- None of them holds.
-  pub lent_free : (left : List SeatView) → length left ≡ length seats → AreFree left → AreFree (refill (length seats) seats left)
-  lent_free left long free = subst AreFree (sym (whole_refill seats left long)) free
+  pub lent_free : (left : List SeatView) → length left ≡ length seats → NoSeatHolds left → NoSeatHolds (refill (length seats) seats left)
+  lent_free left long free = subst NoSeatHolds (sym (whole_refill seats left long)) free

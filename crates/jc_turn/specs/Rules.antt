@@ -1,7 +1,7 @@
 -- The rule of a turn lock, and what each step on its word tells.
 --     holds_value stage           a view at this stage holds
 --     HasSlot stage homes         where the slot is while a view holds
---     IsSound view                its old lists are beginnings of what it has seen; a note rests
+--     KeepsView view                its old lists are beginnings of what it has seen; a note rests
 --     AtHome, IsAway              the value is at home; it is out
 --     Kept pasts seats state      the rule
 --     tried, .. , compared        what a step tells
@@ -35,7 +35,7 @@ weights [] = 0
 weights (v ∷ vs) = v.weight + weights vs
 
 -- The old lists that the view keeps are beginnings of what it has seen, and a note does not hold.
-pub record IsSound (v : View) : Type 0 where
+pub record KeepsView (v : View) : Type 0 where
   pub old : Each (λ (xs : List Past). IsPrefix xs v.seen) v.old
   pub note : v.weight ≡ 0 → v.stage ≡ Rests
 
@@ -67,7 +67,7 @@ module _ {T : Type 0} (pasts : T → List Past) where
   -- The rule.
   pub record Kept (seats : ℕ) (s : State (Option T) View) : Type 0 where
     pub count : weights s.views ≡ seats
-    pub sound : (j : ℕ) (v : View) → get_elem? s.views j ≡ some v → IsSound v
+    pub sound : (j : ℕ) (v : View) → get_elem? s.views j ≡ some v → KeepsView v
     pub turn : AtHome s ⊎ IsAway s
 
 -- The view of the first seat, which stands for all seats of the lock.
@@ -78,8 +78,8 @@ first_view seats = record { stage = Rests; seen = []; old = []; weight = seats; 
 abbrev pub spent_view : View
 spent_view = first_view 0
 
-abbrev pub longer : List Past → List Past → List Past
-longer xs ys = if nat_lt (length xs) (length ys) then ys else xs
+abbrev pub longer_list : List Past → List Past → List Past
+longer_list xs ys = if nat_lt (length xs) (length ys) then ys else xs
 
 -- A note of what the view has seen.
 abbrev pub note_of : View → View
@@ -94,9 +94,9 @@ abbrev pub one_of : View → View
 one_of v = record { stage = Rests; seen = v.seen; old = []; weight = 1; lost = 0 }
 
 -- The first view has the longer list, and keeps both.
-abbrev pub joined : View → View → View
-joined v w = record v {
-  seen = longer v.seen w.seen;
+abbrev pub joined_views : View → View → View
+joined_views v w = record v {
+  seen = longer_list v.seen w.seen;
   old = v.seen ∷ w.seen ∷ [];
   weight = v.weight + w.weight;
 }
@@ -113,8 +113,8 @@ abbrev pub lost_again : View → View
 lost_again v = record v { lost = v.lost + 1 }
 
 -- The old lists are dropped.
-abbrev pub settled : View → View
-settled v = record v { old = [] }
+abbrev pub without_old : View → View
+without_old v = record v { old = [] }
 
 abbrev pub Sat : Type 0 → Type 0
 Sat T = Me (Option T) View
@@ -142,4 +142,4 @@ module _ {T : Type 0} where
   -- The old lists were beginnings of what was seen.
   abbrev pub compared : Step (Option T) → Sat T → ℕ → Sat T → Type 0
   compared st m found m' =
-      (m' ≡ (settled m.0, m.1)) × Each (λ (xs : List Past). IsPrefix xs m.0.seen) m.0.old
+      (m' ≡ (without_old m.0, m.1)) × Each (λ (xs : List Past). IsPrefix xs m.0.seen) m.0.old

@@ -5,7 +5,7 @@
 --     AreSeatsOf turn seats       all seats of the lock, each once
 --     BelongTo turn seats         the seats belong to the lock
 --     IsSameSeat old new          the seat belongs to the same lock, under the same number
---     AreFree seats               none of them holds
+--     NoSeatHolds seats               none of them holds
 --     HaveSeen seats history      what each has seen is a beginning of the history
 use Rattle.std.specs.Prelude.{◌≡◌, ℕ, zero, suc, Bool, false, List, [], ◌∷◌, length}
 use Rattle.std.specs.List.{AllByRecursion as Each}
@@ -85,8 +85,8 @@ abbrev pub IsSameSeat : SeatView → SeatView → Type 0
 IsSameSeat s t = (t.turn ≡ s.turn) × (t.number ≡ s.number)
 
 -- None of the seats holds.
-abbrev pub AreFree : List SeatView → Type 0
-AreFree seats = Each (λ (s : SeatView). s.holds ≡ false) seats
+abbrev pub NoSeatHolds : List SeatView → Type 0
+NoSeatHolds seats = Each (λ (s : SeatView). s.holds ≡ false) seats
 
 -- What each of the seats has seen is a beginning of this history.
 abbrev pub HaveSeen : List SeatView → List Past → Type 0

@@ -2,7 +2,7 @@
 
 ghost use Rattle.std.specs.Prelude.{◌≡◌, ◌<◌, ◌≤◌, ◌+◌, ◌∷◌, [], length, false};
 ghost use Rattle.jc_turn.specs.declared.board.Stage.TheVariants.{Rests};
-ghost use Rattle.jc_turn.specs.Seats.{AreFree, AreSeatsOf, BelongTo, HaveSeen, IsLock};
+ghost use Rattle.jc_turn.specs.Seats.{NoSeatHolds, AreSeatsOf, BelongTo, HaveSeen, IsLock};
 
 use crate::board::Place;
 use crate::histories::Booked;
@@ -26,7 +26,7 @@ fn gather<T: Booked>(board: &Board<T>, mut seats: Vec<Seat>) -> Place<T>
     requires lock { IsLock board.now.table_id }
     requires some { 0 < length seats.items }
     requires own { BelongTo board.now.table_id seats.items }
-    requires free { AreFree seats.items }
+    requires free { NoSeatHolds seats.items }
     ensures place { (result.table_id ≡ board.now.table_id) × (result.me.1 ≡ []) }
     ensures view { (result.me.0.stage ≡ Rests) × (result.me.0.weight ≡ length seats.items) }
     ensures seen { HaveSeen seats.items result.me.0.seen }
@@ -46,7 +46,7 @@ impl<T: Booked> Turn<T> {
     /// takes no memory.
     pub fn close(self, seats: Seats) -> T
         requires seats { AreSeatsOf self seats }
-        requires free { AreFree seats }
+        requires free { NoSeatHolds seats }
         ensures { HaveSeen seats (T.pasts result) }
     {
         let Turn { table } = self;

@@ -3,7 +3,7 @@
 ghost use Rattle.std.specs.Prelude.{◌≡◌, ◌≢◌, [], ◌∷◌, ◌<◌, Some, None, MatchOption};
 ghost use mathlib.Core.List.{IsPrefix};
 ghost use Rattle.jc_turn.specs.declared.board.Stage.TheVariants.{Rests, Moves, Holds};
-ghost use Rattle.jc_turn.specs.Rules.{at_stage, but_one, joined, lost_again, now_seen, one_of, settled};
+ghost use Rattle.jc_turn.specs.Rules.{at_stage, but_one, joined_views, lost_again, now_seen, one_of, without_old};
 ghost use Rattle.jc_turn.specs.Seats.{IsSeat, IsLock, view_of};
 
 use crate::board::{Law, Place, View};
@@ -63,7 +63,7 @@ pub(crate) fn learn<T: Booked>(board: &Board<T>, place: &mut Place<T>, other: Pl
     requires rest { (place.old.me.0.stage ≡ Rests) × (place.old.me.1 ≡ [])
         × (other.me.0.stage ≡ Rests) × (other.me.1 ≡ []) }
     ensures same { place.new.table_id ≡ place.old.table_id }
-    ensures joined { place.new.me ≡ (settled (joined place.old.me.0 other.me.0), []) }
+    ensures joined { place.new.me ≡ (without_old (joined_views place.old.me.0 other.me.0), []) }
     ensures mine { IsPrefix place.old.me.0.seen place.new.me.0.seen }
     ensures other { IsPrefix other.me.0.seen place.new.me.0.seen }
 {

@@ -4,7 +4,7 @@
 use crate::samples::{key, moment, no_status, spec};
 use jc_moment::Moment;
 use jc_store::Store;
-use jc_types::{Arc, Copied, Field, Key, Reply, SpecChange, Uid, Version, Want};
+use jc_types::{Arc, Copied, Field, JobStatus, Key, Reply, SpecChange, Uid, Version, Want};
 use std::alloc::Global;
 use std::process::Abort;
 use std::test::Fail;
@@ -19,103 +19,99 @@ fn fill(alloc: Global, store: &mut Store, pi: &Key, now: Moment) -> Result<(), F
     Ok(())
 }
 
-// Writes a status with so many active pods for the Job of that UID at that version.
-fn write(
-    alloc: Global,
-    store: &mut Store,
-    pi: &Key,
-    (uid, version): (u64, u64),
-    active: u32,
-) -> Result<Reply, Want> {
-    let mut status = no_status(alloc);
-    status.active = active;
-    store.write_status(pi, Uid(uid), Version(version), &status)
+// What a request was answered.
+#[derive(Clone, Copy, PartialEq, Eq, Debug)]
+enum Answered {
+    Written(u64),
+    Unchanged(u64),
+    Released(u64),
+    Conflict(u64),
+    NotFound,
+    NotTracked,
+    BadParallelism,
+    Other,
 }
 
-fn check_statuses(rt: &impl Abort, alloc: Global, store: &mut Store, pi: &Key) -> Result<(), Fail> {
-    let written = write(alloc, store, pi, (1, 1), 1)?;
-    assert!(rt;
-        matches!(
-            written,
-            Reply::Written {
-                version: Version(3)
-            }
-        )
-    );
-    let late = write(alloc, store, pi, (1, 1), 1)?;
-    assert!(rt;
-        matches!(
-            late,
-            Reply::Conflict {
-                current: Version(3)
-            }
-        )
-    );
-    let other = write(alloc, store, pi, (2, 3), 1)?;
-    assert!(rt; matches!(other, Reply::NotFound));
-    let same = write(alloc, store, pi, (1, 3), 1)?;
-    assert!(rt;
-        matches!(
-            same,
-            Reply::Unchanged {
-                version: Version(3)
-            }
-        )
-    );
-    Ok(())
+// What the reply says.
+fn told(reply: Result<Reply, Want>) -> Answered {
+    match reply {
+        Ok(Reply::Written { version }) => Answered::Written(version.0),
+        Ok(Reply::Unchanged { version }) => Answered::Unchanged(version.0),
+        Ok(Reply::Released { version }) => Answered::Released(version.0),
+        Ok(Reply::Conflict { current }) => Answered::Conflict(current.0),
+        Ok(Reply::NotFound) => Answered::NotFound,
+        Ok(Reply::NotTracked) => Answered::NotTracked,
+        Ok(
+            Reply::Invalid {
+                field: Field::Parallelism,
+            },
+        ) => Answered::BadParallelism,
+        _ => Answered::Other,
+    }
 }
 
-fn check_let_goes(rt: &impl Abort, store: &mut Store) -> Result<(), Fail> {
-    assert!(rt; matches!(store.let_go(Uid(9), Version(9))?, Reply::NotFound));
-    let early = store.let_go(Uid(2), Version(1))?;
-    assert!(rt;
-        matches!(
-            early,
-            Reply::Conflict {
-                current: Version(2)
-            }
-        )
-    );
-    let released = store.let_go(Uid(2), Version(2))?;
-    assert!(rt;
-        matches!(
-            released,
-            Reply::Released {
-                version: Version(4)
-            }
-        )
-    );
-    assert!(rt; matches!(store.let_go(Uid(2), Version(4))?, Reply::NotTracked));
-    Ok(())
+// A request.
+#[derive(Clone, Copy)]
+enum Ask {
+    // The status is written for the Job of that UID at that version.
+    Write(u64, u64),
+    // The pod of that UID is let go at that version.
+    LetGo(u64, u64),
+    // The Job is to have so many pods at once.
+    Parallelism(u32),
 }
 
-fn check_change(rt: &impl Abort, store: &mut Store, pi: &Key) -> Result<(), Fail> {
-    let change = SpecChange {
-        parallelism: Some(5_001),
+// Requests, and what each is answered.
+const ASKS: &[(Ask, Answered)] = &[
+    (Ask::Write(1, 1), Answered::Written(3)),
+    (Ask::Write(1, 1), Answered::Conflict(3)),
+    (Ask::Write(2, 3), Answered::NotFound),
+    (Ask::Write(1, 3), Answered::Unchanged(3)),
+    (Ask::LetGo(9, 9), Answered::NotFound),
+    (Ask::LetGo(2, 1), Answered::Conflict(2)),
+    (Ask::LetGo(2, 2), Answered::Released(4)),
+    (Ask::LetGo(2, 4), Answered::NotTracked),
+    (Ask::Parallelism(5_001), Answered::BadParallelism),
+];
+
+// The change to so many pods at once.
+fn parallelism(count: u32) -> SpecChange {
+    SpecChange {
+        parallelism: Some(count),
         completions: None,
         suspend: None,
         deadline: None,
         backoff_limit: None,
-    };
-    let reply = store.update_spec(pi, None, &change)?;
-    assert!(rt;
-        matches!(
-            reply,
-            Reply::Invalid {
-                field: Field::Parallelism
-            }
-        )
-    );
-    Ok(())
+    }
+}
+
+// What the request is answered.
+fn answer_of(store: &mut Store, pi: &Key, status: &JobStatus, ask: Ask) -> Answered {
+    match ask {
+        Ask::Write(uid, version) => {
+            told(store.write_status(pi, Uid(uid), Version(version), status))
+        }
+        Ask::LetGo(uid, version) => told(store.let_go(Uid(uid), Version(version))),
+        Ask::Parallelism(count) => told(store.update_spec(pi, None, &parallelism(count))),
+    }
+}
+
+// The requests are made one after the other, the statuses with one active pod.
+fn ask_all(rt: &impl Abort, store: &mut Store, pi: &Key, status: &JobStatus) {
+    for (ask, wanted) in ASKS {
+        assert_eq!(rt; answer_of(store, pi, status, *ask), *wanted);
+    }
 }
 
 #[test]
 fn answers_as_the_rules_say(rt: HostRuntime) -> Result<(), Fail> {
     let alloc = rt.alloc();
-    let mut store = Store::new(alloc);
+    let now = moment(1_704_067_200)?;
     let pi = key(alloc)?;
-    fill(alloc, &mut store, &pi, moment(1_704_067_200)?)?;
-    check_statuses(&rt, alloc, &mut store, &pi)?;
-    check_let_goes(&rt, &mut store)?;
-    check_change(&rt, &mut store, &pi)
+    let mut status = no_status(alloc);
+    status.active = 1;
+    let mut store = Store::new(alloc);
+    let filled = fill(alloc, &mut store, &pi, now);
+    ask_all(&rt, &mut store, &pi, &status);
+    filled
 }

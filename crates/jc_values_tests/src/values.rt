@@ -82,11 +82,15 @@ fn condition(now: Moment) -> Condition {
 
 // A status that counts so many pods, and lists one more.
 fn status(alloc: Global, now: Moment, succeeded: u64) -> Result<JobStatus, Want> {
+    let mut uncounted = Uids::new(alloc);
+    uncounted.push(Uid(2))?;
+    let mut conditions = Conditions::new(alloc);
+    conditions.push(condition(now))?;
     let mut status = no_status(alloc);
     status.start = Some(now);
     status.succeeded = succeeded;
-    status.uncounted_succeeded.push(Uid(2))?;
-    status.conditions.push(condition(now))?;
+    status.uncounted_succeeded = uncounted;
+    status.conditions = conditions;
     Ok(status)
 }
 
@@ -104,14 +108,22 @@ fn pod(alloc: Global, now: Moment, marked: bool) -> Result<Pod, Want> {
     Ok(pod)
 }
 
-// What a sync sees of a Job with one pod.
-fn basis(alloc: Global, now: Moment, marked: bool) -> Result<Basis, Want> {
+// A list of the one pod.
+fn pods(alloc: Global, now: Moment, marked: bool) -> Result<Arc<Pods>, Want> {
     let mut pods = Pods::new(alloc);
     pods.put(pod(alloc, now, marked)?)?;
+    Ok(Arc::new(alloc, pods)?)
+}
+
+// What a sync sees of a Job with one pod.
+fn basis(alloc: Global, now: Moment, marked: bool) -> Result<Basis, Want> {
+    let key = key(alloc)?;
+    let pods = pods(alloc, now, marked)?;
+    let job = job(alloc, now, 0)?;
     Ok(Basis {
-        key: key(alloc)?,
-        job: Some(job(alloc, now, 0)?),
-        pods: Arc::new(alloc, pods)?,
+        key,
+        job: Some(job),
+        pods,
         jobs_at: Version(4),
         pods_at: Version(4),
         now,
@@ -180,12 +192,23 @@ fn fate(alloc: Global) -> Result<Action1, Want> {
     })
 }
 
+fn reported(alloc: Global) -> Result<Action1, Want> {
+    let change = report(alloc)?;
+    Ok(Action1::Report {
+        pod: Uid(2),
+        change,
+    })
+}
+
+// The command of the lane 1 with the action.
+fn command(action: Result<Action1, Want>) -> Result<Command, Want> {
+    let action = action?;
+    Ok(Command { lane: 1, action })
+}
+
 fn script(alloc: Global) -> Result<Script, Want> {
     let mut commands = Commands::new(alloc);
-    commands.push(Command {
-        lane: 1,
-        action: update(alloc)?,
-    })?;
+    commands.push(command(update(alloc))?)?;
     Ok(Script { commands })
 }
 
@@ -232,28 +255,77 @@ fn no_container(alloc: Global) -> Result<Reply, Want> {
     })
 }
 
-// A value that threads may share.
-fn crosses_threads<T: Send + Sync + Drop>(_value: T) {}
+fn job_put(alloc: Global, now: Moment) -> Result<Entry, Want> {
+    Ok(Entry::JobPut(job(alloc, now, 0)?))
+}
 
-// An item that is pushed is there, and a copy that grows leaves the list as it was.
-fn keeps<T: Copied + Same + Drop>(rt: &impl Abort, alloc: Global, item: T) -> Result<(), Want> {
-    let mut list = ListOf::new(alloc);
-    assert!(rt; list.is_empty());
-    list.push(item.copy()?)?;
-    let mut longer = list.copy()?;
-    assert!(rt; longer.is_same(&list));
-    longer.push(item.copy()?)?;
-    assert_eq!(rt; list.len(), 1);
-    assert_eq!(rt; longer.len(), 2);
-    assert!(rt; !longer.is_same(&list));
-    for held in longer.as_slice() {
-        assert!(rt; held.is_same(&item));
-    }
+fn pod_gone(alloc: Global, now: Moment) -> Result<Entry, Want> {
+    Ok(Entry::PodGone(pod(alloc, now, false)?))
+}
+
+// A value that threads may share.
+fn crosses_threads<T: Send + Sync + Drop>(made: Result<T, Want>) -> Result<(), Want> {
+    let _value = made?;
     Ok(())
 }
 
+// The list of the item alone.
+fn list_of<T: Copied + Same + Drop>(
+    rt: &impl Abort,
+    alloc: Global,
+    item: &T,
+) -> Result<ListOf<T>, Want> {
+    let copied = item.copy()?;
+    let mut list = ListOf::new(alloc);
+    assert!(rt; list.is_empty());
+    list.push(copied)?;
+    Ok(list)
+}
+
+// The list of two is not that of one, and each of its items is the one.
+fn sees_two<T: Copied + Same + Drop>(
+    rt: &impl Abort,
+    list: &ListOf<T>,
+    longer: &ListOf<T>,
+    item: &T,
+) {
+    assert_eq!(rt; list.len(), 1);
+    assert_eq!(rt; longer.len(), 2);
+    assert!(rt; !longer.is_same(list));
+    for held in longer.as_slice() {
+        assert!(rt; held.is_same(item));
+    }
+}
+
+// A copy of the list is the same, and one that grows leaves it as it was.
+fn grows<T: Copied + Same + Drop>(rt: &impl Abort, list: &ListOf<T>, item: &T) -> Result<(), Want> {
+    let copied = item.copy()?;
+    let mut longer = list.copy()?;
+    assert!(rt; longer.is_same(list));
+    longer.push(copied)?;
+    sees_two(rt, list, &longer, item);
+    Ok(())
+}
+
+// An item that is pushed is there, and a copy that grows leaves the list as it was.
+fn keeps<T: Copied + Same + Drop>(
+    rt: &impl Abort,
+    alloc: Global,
+    made: Result<T, Want>,
+) -> Result<(), Want> {
+    let item = made?;
+    let list = list_of(rt, alloc, &item)?;
+    grows(rt, &list, &item)
+}
+
 // A copy of the first value is that one and not the other.
-fn tells_apart<T: Copied + Same + Drop>(rt: &impl Abort, value: T, other: T) -> Result<(), Want> {
+fn tells_apart<T: Copied + Same + Drop>(
+    rt: &impl Abort,
+    made: Result<T, Want>,
+    other: Result<T, Want>,
+) -> Result<(), Want> {
+    let value = made?;
+    let other = other?;
     let copied = value.copy()?;
     assert!(rt; copied.is_same(&value));
     assert!(rt; !copied.is_same(&other));
@@ -261,71 +333,74 @@ fn tells_apart<T: Copied + Same + Drop>(rt: &impl Abort, value: T, other: T) -> 
 }
 
 fn keeps_small_ones(rt: &impl Abort, alloc: Global, now: Moment) -> Result<(), Want> {
-    keeps(rt, alloc, Uid(2))?;
-    keeps(rt, alloc, Name::from_text(alloc, "main")?)?;
-    keeps(rt, alloc, 42)?;
-    keeps(rt, alloc, Some(4_u32))?;
-    keeps(rt, alloc, (Uid(2), Version(4)))?;
-    keeps(rt, alloc, pattern(alloc)?)?;
-    keeps(rt, alloc, container(alloc)?)?;
-    keeps(rt, alloc, condition(now))?;
-    keeps(rt, alloc, end(alloc)?)?;
-    keeps(rt, alloc, container_change(alloc)?)
+    keeps(rt, alloc, Ok(Uid(2)))?;
+    keeps(rt, alloc, Name::from_text(alloc, "main"))?;
+    keeps(rt, alloc, Ok(42))?;
+    keeps(rt, alloc, Ok(Some(4_u32)))?;
+    keeps(rt, alloc, Ok((Uid(2), Version(4))))?;
+    keeps(rt, alloc, pattern(alloc))?;
+    keeps(rt, alloc, container(alloc))?;
+    keeps(rt, alloc, Ok(condition(now)))?;
+    keeps(rt, alloc, end(alloc))?;
+    keeps(rt, alloc, container_change(alloc))
 }
 
 fn keeps_rules(rt: &impl Abort, alloc: Global) -> Result<(), Want> {
-    keeps(rt, alloc, exit_codes_rule(alloc)?)?;
-    keeps(rt, alloc, conditions_rule(alloc)?)?;
-    keeps(rt, alloc, success_rule(alloc))?;
-    tells_apart(rt, spec_with_policies(alloc)?, spec(alloc)?)
+    keeps(rt, alloc, exit_codes_rule(alloc))?;
+    keeps(rt, alloc, conditions_rule(alloc))?;
+    keeps(rt, alloc, Ok(success_rule(alloc)))?;
+    tells_apart(rt, spec_with_policies(alloc), spec(alloc))
 }
 
 fn keeps_objects(rt: &impl Abort, alloc: Global, now: Moment) -> Result<(), Want> {
-    keeps(rt, alloc, Entry::JobPut(job(alloc, now, 0)?))?;
-    keeps(rt, alloc, Entry::PodGone(pod(alloc, now, false)?))?;
-    tells_apart(rt, job(alloc, now, 0)?, job(alloc, now, 1)?)?;
-    tells_apart(rt, pod(alloc, now, false)?, pod(alloc, now, true)?)?;
-    tells_apart(rt, basis(alloc, now, false)?, basis(alloc, now, true)?)?;
-    crosses_threads(basis(alloc, now, false)?);
-    Ok(())
+    keeps(rt, alloc, job_put(alloc, now))?;
+    keeps(rt, alloc, pod_gone(alloc, now))?;
+    tells_apart(rt, job(alloc, now, 0), job(alloc, now, 1))?;
+    tells_apart(rt, pod(alloc, now, false), pod(alloc, now, true))?;
+    tells_apart(rt, basis(alloc, now, false), basis(alloc, now, true))?;
+    crosses_threads(basis(alloc, now, false))
 }
 
-// The command of the lane 1 with the action.
-fn keeps_command(rt: &impl Abort, alloc: Global, action: Action1) -> Result<(), Want> {
-    keeps(rt, alloc, Command { lane: 1, action })
+fn keeps_command(
+    rt: &impl Abort,
+    alloc: Global,
+    action: Result<Action1, Want>,
+) -> Result<(), Want> {
+    keeps(rt, alloc, command(action))
 }
 
 fn keeps_commands(rt: &impl Abort, alloc: Global) -> Result<(), Want> {
-    keeps_command(rt, alloc, create(alloc)?)?;
-    keeps_command(rt, alloc, update(alloc)?)?;
-    keeps_command(rt, alloc, fate(alloc)?)?;
-    let change = report(alloc)?;
-    let pod = Uid(2);
-    keeps_command(rt, alloc, Action1::Report { pod, change })?;
+    keeps_command(rt, alloc, create(alloc))?;
+    keeps_command(rt, alloc, update(alloc))?;
+    keeps_command(rt, alloc, fate(alloc))?;
+    keeps_command(rt, alloc, reported(alloc))?;
     let (controller, worker) = (0, 1);
-    keeps_command(rt, alloc, Action1::Sync { controller, worker })?;
-    keeps_command(rt, alloc, Action1::Settle)?;
-    crosses_threads(script(alloc)?);
-    keeps_script(rt, script(alloc)?)
+    keeps_command(rt, alloc, Ok(Action1::Sync { controller, worker }))?;
+    keeps_command(rt, alloc, Ok(Action1::Settle))?;
+    crosses_threads(script(alloc))?;
+    keeps_script(rt, script(alloc))
 }
 
-fn keeps_script(rt: &impl Abort, script: Script) -> Result<(), Want> {
-    assert!(rt; script.copy()?.is_same(&script));
+fn keeps_script(rt: &impl Abort, made: Result<Script, Want>) -> Result<(), Want> {
+    let script = made?;
+    let copied = script.copy()?;
+    assert!(rt; copied.is_same(&script));
     Ok(())
 }
 
 fn keeps_replies(rt: &impl Abort, alloc: Global, now: Moment) -> Result<(), Want> {
-    keeps(rt, alloc, begun(alloc)?)?;
-    keeps(rt, alloc, created())?;
-    keeps(rt, alloc, no_container(alloc)?)?;
-    keeps(rt, alloc, Reply::Now { moment: now })?;
-    tells_apart(rt, behind(3, 1), behind(1, 3))
+    keeps(rt, alloc, begun(alloc))?;
+    keeps(rt, alloc, Ok(created()))?;
+    keeps(rt, alloc, no_container(alloc))?;
+    keeps(rt, alloc, Ok(Reply::Now { moment: now }))?;
+    tells_apart(rt, Ok(behind(3, 1)), Ok(behind(1, 3)))
 }
 
-fn keeps_history(rt: &impl Abort, history: History) -> Result<(), Want> {
-    assert_eq!(rt; history.copy()?.events.len(), history.events.len());
-    crosses_threads(history);
-    Ok(())
+fn keeps_history(rt: &impl Abort, made: Result<History, Want>) -> Result<(), Want> {
+    let history = made?;
+    let copied = history.copy()?;
+    assert_eq!(rt; copied.events.len(), history.events.len());
+    crosses_threads(Ok(history))
 }
 
 // What a sync has counted of one pod.
@@ -347,28 +422,41 @@ fn counted(alloc: Global) -> CountIn {
     }
 }
 
-// The same of a copy.
-fn keeps_counts(rt: &impl Abort, counted: CountIn) -> Result<(), Want> {
-    let mut copied = counted.copy()?;
+// The counts are the same.
+fn sees_counts(rt: &impl Abort, copied: &CountIn, counted: &CountIn) {
     assert_eq!(rt; copied.succeeded, counted.succeeded);
     assert_eq!(rt; copied.left_failed, counted.left_failed);
     assert!(rt; copied.releases.is_same(&counted.releases));
-    copied.releases.push(Uid(2))?;
-    assert!(rt; counted.releases.is_empty());
+}
+
+// A copy's list that grows leaves that of the value as it was.
+fn grows_alone(rt: &impl Abort, copied: &mut Uids, releases: &Uids) -> Result<(), Want> {
+    copied.push(Uid(2))?;
+    assert!(rt; releases.is_empty());
     Ok(())
+}
+
+// The same of a copy.
+fn keeps_counts(rt: &impl Abort, counted: &CountIn) -> Result<(), Want> {
+    let mut copied = counted.copy()?;
+    sees_counts(rt, &copied, counted);
+    grows_alone(rt, &mut copied.releases, &counted.releases)
+}
+
+fn keeps_all(rt: &impl Abort, alloc: Global, now: Moment) -> Result<(), Want> {
+    keeps_small_ones(rt, alloc, now)?;
+    keeps_rules(rt, alloc)?;
+    keeps_objects(rt, alloc, now)?;
+    keeps_commands(rt, alloc)?;
+    keeps_replies(rt, alloc, now)?;
+    keeps_history(rt, history(alloc, created()))?;
+    keeps_counts(rt, &counted(alloc))
 }
 
 #[test]
 fn the_objects_of_a_run(rt: HostRuntime) -> Result<(), Fail> {
-    let alloc = rt.alloc();
     // 2024-01-01T00:00:00Z, by `date -u -d`.
     let now = Moment::from_seconds(1_704_067_200).expect(&rt, "a moment");
-    keeps_small_ones(&rt, alloc, now)?;
-    keeps_rules(&rt, alloc)?;
-    keeps_objects(&rt, alloc, now)?;
-    keeps_commands(&rt, alloc)?;
-    keeps_replies(&rt, alloc, now)?;
-    keeps_history(&rt, history(alloc, created())?)?;
-    keeps_counts(&rt, counted(alloc))?;
+    keeps_all(&rt, rt.alloc(), now)?;
     Ok(())
 }

@@ -2,10 +2,12 @@
 //! plays a generated script, and prints its summary.
 #![tactic(auto)]
 
-use jc_ctl::{Status, run_program};
+#[cfg(test)]
+mod tests;
+
+use jc_ctl::{FreeGate, Status, run_program};
 use jc_io::{StdSink, StdSource};
 use jc_script::Cause;
-use jc_shared::FreeGate;
 use std::process::ExitCode;
 use std::{env, io};
 

@@ -3,8 +3,8 @@ use Rattle.std.proofs.Common.{◌≡◌, inl, inr, ap, arith, refl, true}
 use Rattle.jc_types.specs.declared.actions.Script.{Script}
 use Rattle.jc_types.specs.declared.runs.History.{History}
 use Rattle.jc_types.specs.declared.runs.Shape.{Shape}
-use Rattle.jc_history.specs.Play.{is_full, play_of}
-use Rattle.jc_order.specs.Plays.{ends_in_settle}
+use Rattle.jc_promise.specs.Play.{is_full, play_of}
+use Rattle.jc_promise.specs.Plays.{ends_in_settle}
 use Rattle.jc_report.specs.Reports.{report_text}
 use Rattle.jc_ctl.specs.Runs.{report_printed}
 use Rattle.jc_ctl.specs.Told.{EndsAtRest}

@@ -1,8 +1,8 @@
 -- The play of the script that is played last goes on from that of the first, or it is the first.
 use Rattle.std.proofs.Common.{List, [], refl}
 use Rattle.jc_types.specs.declared.actions.Script.{Script}
-use Rattle.jc_history.specs.Play.{deeds_played, whole_play}
-use Rattle.jc_runs.specs.Seen.{deeds_seen}
+use Rattle.jc_promise.specs.Play.{deeds_played, whole_play}
+use Rattle.jc_promise.specs.Seen.{deeds_seen}
 use Rattle.jc_reap.specs.Finds.{IsCollected, seen_at_end}
 use Rattle.jc_reap.specs.Reaping.{ttl_seen}
 use Rattle.jc_words.specs.declared.words.Order.TheVariants.{Reap}

@@ -4,14 +4,14 @@ use Rattle.std.specs.Prelude.{IfOk, IsOkAnd, is_ok}
 use Rattle.jc_types.specs.declared.actions.Command.{Command}
 use Rattle.jc_types.specs.declared.actions.Script.{Script}
 use Rattle.jc_types.specs.declared.runs.Shape.{Shape}
-use Rattle.jc_log.specs.Deeds.{act_of_action}
-use Rattle.jc_states.specs.ValidActions.{IsValidAction}
-use Rattle.jc_history.specs.Legal.{IsOfShape}
-use Rattle.jc_order.specs.Plays.{AreWithin}
+use Rattle.jc_promise.specs.Deeds.{act_of_action}
+use Rattle.jc_promise.specs.ValidActions.{IsValidAction}
+use Rattle.jc_promise.specs.Legal.{IsOfShape}
+use Rattle.jc_promise.specs.Plays.{AreWithin}
 use Rattle.jc_reap.specs.Finds.{seen_at_end}
 use Rattle.jc_reap.specs.Reaping.{reap_list}
 use Rattle.jc_reap.specs.TtlLines.{ttls_of}
-use Rattle.jc_runs.specs.Seen.{Seen}
+use Rattle.jc_promise.specs.Seen.{Seen}
 use Rattle.jc_script.specs.Scripts.{BadLine, script_of}
 use Rattle.jc_words.specs.declared.words.Order.TheVariants as order
 use Rattle.jc_ctl.proofs.ReapFacts.{AreValid, both, last-holds, settled_valid, settled_within}

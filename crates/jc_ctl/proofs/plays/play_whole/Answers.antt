@@ -1,7 +1,7 @@
 -- The play is that of the whole script.
 use Rattle.std.proofs.Common.{false, true, ap, ◌∙◌}
 use Rattle.std.specs.Prelude.{Err}
-use Rattle.jc_core.specs.declared.apply.ApplyFault.{ApplyFault}
+use Rattle.jc_shared.specs.ApplyFault.{ApplyFault}
 use Rattle.jc_ctl.proofs.WholeFacts.{whole_is}
 use Rattle.jc_ctl.proofs.plays.play_whole.Goals as goal
 

@@ -1,7 +1,7 @@
 -- What is asked of the commands that were read is asked of those that are played.
 use Rattle.std.proofs.Common.{◌∙◌, ap, subst, sym}
 use Rattle.jc_types.specs.declared.actions.Script.{Script}
-use Rattle.jc_order.specs.Plays.{IsProper, ends_in_settle}
+use Rattle.jc_promise.specs.Plays.{IsProper, ends_in_settle}
 use Rattle.jc_ctl.proofs.ReapFacts.{AreValid, last-valid, last-within, settled_ends, settled_valid, settled_within}
 use Rattle.jc_reap.specs.Finds.{seen_at_end}
 use Rattle.jc_ctl.proofs.reaps.settled_answer.Goals as goal

@@ -1,7 +1,9 @@
+//! What two seats of a turn lock see of a history that is all that the lock holds.
+
 ghost use Rattle.std.specs.Prelude.{◌≡◌, ◌++◌, ◌∷◌, [], false, OnOk, OnErr};
 ghost use Rattle.jc_turn.specs.Seats.{IsSameSeat};
 
-use super::*;
+use jc_turn::{Booked, Seat, Taken, Turn, make};
 use jc_types::{Event, History, Past, Pasts, Reply, Version, Want};
 use std::process::Abort;
 use std::test::Fail;
@@ -55,8 +57,8 @@ fn note_by(turn: &Turn<Diary>, seat: &mut Seat, number: u32) -> Result<Option<us
 fn play(rt: &impl Abort, turn: &Turn<Diary>, a: &mut Seat, b: &mut Seat) -> Result<(), Fail>
     requires turn { (a.old.turn ≡ turn.now.name) × (b.old.turn ≡ turn.now.name) }
     requires free { (a.old.holds ≡ false) × (b.old.holds ≡ false) }
-    ensures first { OnOk result (IsSameSeat a.old a.new × (a.new.holds ≡ false)) }
-    ensures second { OnOk result (IsSameSeat b.old b.new × (b.new.holds ≡ false)) }
+    ensures first { IsSameSeat a.old a.new × (a.new.holds ≡ false) }
+    ensures second { IsSameSeat b.old b.new × (b.new.holds ≡ false) }
 {
     assert_eq!(rt; note_by(turn, a, 0)?, Some(1));
     turn.meet(a, b)?;
@@ -71,7 +73,7 @@ fn play(rt: &impl Abort, turn: &Turn<Diary>, a: &mut Seat, b: &mut Seat) -> Resu
 }
 
 #[test]
-fn seats_see_one_history(rt: HostRuntime) -> Result<(), Fail> {
+fn seats_see_one_diary(rt: HostRuntime) -> Result<(), Fail> {
     let diary = Diary {
         history: History {
             events: Pasts::new(rt.alloc()),
@@ -81,8 +83,8 @@ fn seats_see_one_history(rt: HostRuntime) -> Result<(), Fail> {
         return Err(Fail::new("no memory"));
     };
     let (first, second) = seats.as_mut_slice().split_at_mut(1);
-    play(&rt, &turn, &mut first[0], &mut second[0])?;
+    let played = play(&rt, &turn, &mut first[0], &mut second[0]);
     let diary = turn.close(seats);
     assert_eq!(rt; diary.history().events.len(), 2);
-    Ok(())
+    played
 }

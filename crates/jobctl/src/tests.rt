@@ -1,8 +1,8 @@
-//! Runs on threads. They stand here, since no crate but this one and those it runs by may start a thread.
+//! Runs on threads. They stand here, since no crate but the program and those that it runs by may start a thread, and the
+//! program has the fewest functions of them, which are proved twice.
 
-use crate::{Status, run_program};
+use jc_ctl::{FreeGate, Gate, Status, run_program};
 use jc_io::{MemSink, MemSource};
-use jc_shared::{FreeGate, Gate};
 use jc_types::Key;
 use std::alloc::Global;
 use std::process::Abort;
