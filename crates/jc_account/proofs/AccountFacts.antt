@@ -1,7 +1,7 @@
 -- The laws on what is counted.
 use Rattle.std.proofs.Common.{◌≡◌, ℕ, ◌+◌, ◌<◌, ◌≤◌, nat_lt, Bool, true, false, not, ◌&&◌, ◌||◌, List, [], filter, length, unwrap_or, refl, ap, sym, ◌∙◌, subst, ◌⊎◌, inl, inr, arith, true≢false}
 use Rattle.std.specs.List.{All, AllByRecursion as Each, list_any}
-use Rattle.std.proofs.lemmas.Bool.{or_left, or_right, or_cases, and_parts, and_from}
+use Rattle.std.proofs.lemmas.Bool.{or_left, or_right, or_cases, and_parts, and_from, or_parts as neither}
 use Rattle.std.proofs.lemmas.List.{length-map}
 use Rattle.jc_ranges.specs.Sets.{has}
 use Rattle.jc_types.specs.declared.limits.TheConstants.{MOST_UNCOUNTED}
@@ -175,11 +175,6 @@ longer job pods outcome uids v rises unlisted =
     (λ u h. is_in-filter u (has_tracked own) uids ∙ ap (λ b. b && has_tracked own u) (unlisted u (not_listed u job own outcome v h))) in
     let sum = length-merge (stayed own uids) more (apart_from 0 (stayed own uids) more (newly-order job pods outcome rises) out) in
     sum ∙ ap (λ n. length (stayed own uids) + n) (length-map (newly job own outcome) (λ (pod : Pod). pod.uid))
-
--- What is not listed is in neither list.
-neither : (a b : Bool) → (a || b) ≡ false → (a ≡ false) × (b ≡ false)
-neither true b h = absurd (true≢false h)
-neither false b h = (refl, h)
 
 pub failed-length : (job : Job) (pods : List Pod) → IsRising pods → length (counted_in job pods).uncounted_failed ≡ length (stayed (own_pods job pods) job.status.uncounted_failed) + length (newly job (own_pods job pods) Failed)
 unfolding counted_in

@@ -48,11 +48,11 @@ has-within n c xs = has-below n c xs ∙ swap (has n xs) (ltb n c)
 
 -- ---- each is below a number
 
-each-with : (P : ℕ → Type 0) (n : ℕ) (xs : List ℕ) → P n → Each P xs → Each P (with_member n xs)
+pub each-with : (P : ℕ → Type 0) (n : ℕ) (xs : List ℕ) → P n → Each P xs → Each P (with_member n xs)
 each-with P n xs p h =
     Each-append P (filter (λ x. nat_lt x n) xs) (n ∷ filter (λ x. nat_lt n x) xs) (Each-filter P (λ x. nat_lt x n) xs h) (p, Each-filter P (λ x. nat_lt n x) xs h)
 
-each-join : (P : ℕ → Type 0) (xs more : List ℕ) → Each P xs → Each P more → Each P (join xs more)
+pub each-join : (P : ℕ → Type 0) (xs more : List ℕ) → Each P xs → Each P more → Each P (join xs more)
 each-join P xs [] h m = h
 each-join P xs (n ∷ more) h m = each-with P n (join xs more) m.0 (each-join P xs more h m.1)
 
@@ -80,7 +80,7 @@ front-below (x ∷ xs) zero d up lt = tt
 front-below (x ∷ xs) (suc i) d up lt = (each-at (λ y. x < y) xs i d up.0 (omega (arith, lt)), front-below xs i d up.1 (omega (arith, lt)))
 
 -- A number above all members comes last.
-with-last : (n : ℕ) (xs : List ℕ) → Each (λ x. x < n) xs → with_member n xs ≡ xs ++ n ∷ []
+pub with-last : (n : ℕ) (xs : List ℕ) → Each (λ x. x < n) xs → with_member n xs ≡ xs ++ n ∷ []
 with-last n xs h =
     ap (λ ys. ys ++ n ∷ filter (λ x. nat_lt n x) xs)
     (filter_all (λ x. nat_lt x n) xs (Each-weaker (λ x. x < n) (λ x. nat_lt x n ≡ true) (λ x l. lt-ltb x n l) xs h))

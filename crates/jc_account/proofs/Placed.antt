@@ -56,11 +56,11 @@ with_between u d (v ∷ rest) other = by (ltb u.0 v.0) (eqb u.0 v.0) (leb u.0 v.
     by false false false l e m ih other = between_step u d v rest (place u rest) (1 + place u rest) (omega arith) ih other
 
 -- What the search for a place gives.
-Found : ℕ → ℕ → Option ℕ → Type 0
+unfoldable pub Found : ℕ → ℕ → Option ℕ → Type 0
 Found i n None = n ≤ i
 Found i n (Some k) = (i ≡ k) × (i < n)
 
-found : (i n : ℕ) → Found i n (cond (ltb i n) (Some i) None)
+pub found : (i n : ℕ) → Found i n (cond (ltb i n) (Some i) None)
 unfolding Found
 found i n = by (ltb i n) refl
   where

@@ -19,9 +19,15 @@ use Rattle.jc_failpol.specs.declared.outcomes.Outcome.TheVariants.{Alive}
 use Rattle.jc_failpol.specs.Outcomes.{outcome_of, same_outcome}
 use Rattle.jc_account.specs.declared.judgements.Judgement.{Judgement}
 use Rattle.jc_account.specs.Judged.{candidates, fits, is_candidate, is_left_over, is_to_release, judged_now, left_over, left_with, room, to_release}
-use Rattle.jc_account.specs.Judgements.{first_beyond, first_left, is_before, is_due, is_fit, is_left_by, judgement_of, judgements, rows_beyond, rows_with, rows_within}
+use Rattle.jc_account.specs.Judgements.{first_beyond, first_left, has_room_for, is_to_go, is_fit, is_left_by, judgement_of, judgements, rows_beyond, rows_with, rows_within}
 use Rattle.jc_account.specs.Rooms.{has_room, joins_list, judged_within, precedes, takes_room}
 use Rattle.jc_account.proofs.ListedFacts.{each}
+
+-- None of ascending pods comes before the first.
+pub first-preceded : (pod : Pod) (pods : List Pod) → RisesFrom (pod.uid.0 + 1) pods → filter (precedes pod.uid) (pod ∷ pods) ≡ []
+first-preceded pod pods r =
+    filter_none (precedes pod.uid) (pod ∷ pods)
+    (le-ltb pod.uid.0 pod.uid.0 (omega arith), Each-weaker (λ (q : Pod). pod.uid.0 + 1 ≤ q.uid.0) (λ q. precedes pod.uid q ≡ false) (λ q h. le-ltb q.uid.0 pod.uid.0 (omega (arith, h))) pods (rises-each (pod.uid.0 + 1) pods r))
 
 -- ---- the first UID for which there is no room
 
@@ -35,13 +41,13 @@ none-before u low (x ∷ xs) h r = by (ltb x.uid.0 u.0) refl (none-before u (x.u
     by false e ih = ih
 
 -- What is below all of rising pods is before the one at each place.
-before-all : (u : Uid) (low n : ℕ) (xs : List Pod) → u.0 < low → RisesFrom low xs → is_before (option_map (λ (q : Pod). q.uid) (slice_get xs n)) u ≡ true
+before-all : (u : Uid) (low n : ℕ) (xs : List Pod) → u.0 < low → RisesFrom low xs → has_room_for (option_map (λ (q : Pod). q.uid) (slice_get xs n)) u ≡ true
 before-all u low n [] h r = refl
 before-all u low zero (x ∷ xs) h r = lt-ltb u.0 x.uid.0 (omega (arith, h, r.0))
 before-all u low (suc n) (x ∷ xs) h r = before-all u (x.uid.0 + 1) n xs (omega (arith, h, r.0)) r.1
 
 -- One more on each side of a test.
-one-more : (m n : ℕ) → ltb (suc m) (suc n) ≡ ltb m n
+pub one-more : (m n : ℕ) → ltb (suc m) (suc n) ≡ ltb m n
 one-more m n = by (ltb m n) refl
   where
     by : (b : Bool) → ltb m n ≡ b → ltb (suc m) (suc n) ≡ b
@@ -50,21 +56,21 @@ one-more m n = by (ltb m n) refl
 
 -- Fewer than n of rising pods have a smaller UID than one of them exactly where it is below the one at the place n.
 below-place : (low n : ℕ) (xs : List Pod) → RisesFrom low xs
-    → Each (λ p. ltb (length (filter (precedes p.uid) xs)) n ≡ is_before (option_map (λ (q : Pod). q.uid) (slice_get xs n)) p.uid) xs
+    → Each (λ p. ltb (length (filter (precedes p.uid) xs)) n ≡ has_room_for (option_map (λ (q : Pod). q.uid) (slice_get xs n)) p.uid) xs
 below-place low n [] r = tt
 below-place low n (x ∷ xs) r = (head n, tail n (λ m. below-place (x.uid.0 + 1) m xs r.1))
   where
     none : length (filter (precedes x.uid) (x ∷ xs)) ≡ 0
     none = none-before x.uid x.uid.0 (x ∷ xs) (omega arith) (omega arith, r.1)
 
-    head : (n : ℕ) → ltb (length (filter (precedes x.uid) (x ∷ xs))) n ≡ is_before (option_map (λ (q : Pod). q.uid) (slice_get (x ∷ xs) n)) x.uid
+    head : (n : ℕ) → ltb (length (filter (precedes x.uid) (x ∷ xs))) n ≡ has_room_for (option_map (λ (q : Pod). q.uid) (slice_get (x ∷ xs) n)) x.uid
     head zero = le-ltb (length (filter (precedes x.uid) (x ∷ xs))) 0 (omega arith) ∙ sym (le-ltb x.uid.0 x.uid.0 (omega arith))
     head (suc n) =
         lt-ltb (length (filter (precedes x.uid) (x ∷ xs))) (suc n) (omega (arith, none)) ∙ sym (before-all x.uid (x.uid.0 + 1) n xs (omega arith) r.1)
 
     later : (n : ℕ) (p : Pod) → x.uid.0 + 1 ≤ p.uid.0
-        → ltb (length (filter (precedes p.uid) xs)) n ≡ is_before (option_map (λ (q : Pod). q.uid) (slice_get xs n)) p.uid
-        → ltb (length (filter (precedes p.uid) (x ∷ xs))) (suc n) ≡ is_before (option_map (λ (q : Pod). q.uid) (slice_get xs n)) p.uid
+        → ltb (length (filter (precedes p.uid) xs)) n ≡ has_room_for (option_map (λ (q : Pod). q.uid) (slice_get xs n)) p.uid
+        → ltb (length (filter (precedes p.uid) (x ∷ xs))) (suc n) ≡ has_room_for (option_map (λ (q : Pod). q.uid) (slice_get xs n)) p.uid
     later n p above h =
         ap (λ b. ltb (length (cond b (x ∷ filter (precedes p.uid) xs) (filter (precedes p.uid) xs))) (suc n)) (lt-ltb x.uid.0 p.uid.0 (omega (arith, above)))
         ∙ one-more (length (filter (precedes p.uid) xs)) n ∙ h
@@ -73,19 +79,19 @@ below-place low n (x ∷ xs) r = (head n, tail n (λ m. below-place (x.uid.0 + 1
     first p above = le-ltb (length (filter (precedes p.uid) (x ∷ xs))) 0 (omega arith) ∙ sym (le-ltb p.uid.0 x.uid.0 (omega (arith, above)))
 
     both : (n : ℕ) (ys : List Pod) → Each (λ p. x.uid.0 + 1 ≤ p.uid.0) ys
-        → Each (λ p. ltb (length (filter (precedes p.uid) xs)) n ≡ is_before (option_map (λ (q : Pod). q.uid) (slice_get xs n)) p.uid) ys
-        → Each (λ p. ltb (length (filter (precedes p.uid) (x ∷ xs))) (suc n) ≡ is_before (option_map (λ (q : Pod). q.uid) (slice_get xs n)) p.uid) ys
+        → Each (λ p. ltb (length (filter (precedes p.uid) xs)) n ≡ has_room_for (option_map (λ (q : Pod). q.uid) (slice_get xs n)) p.uid) ys
+        → Each (λ p. ltb (length (filter (precedes p.uid) (x ∷ xs))) (suc n) ≡ has_room_for (option_map (λ (q : Pod). q.uid) (slice_get xs n)) p.uid) ys
     both n [] a h = tt
     both n (y ∷ ys) a h = (later n y a.0 h.0, both n ys a.1 h.1)
 
     tail : (n : ℕ)
-        → ((m : ℕ) → Each (λ p. ltb (length (filter (precedes p.uid) xs)) m ≡ is_before (option_map (λ (q : Pod). q.uid) (slice_get xs m)) p.uid) xs)
-        → Each (λ p. ltb (length (filter (precedes p.uid) (x ∷ xs))) n ≡ is_before (option_map (λ (q : Pod). q.uid) (slice_get (x ∷ xs) n)) p.uid) xs
+        → ((m : ℕ) → Each (λ p. ltb (length (filter (precedes p.uid) xs)) m ≡ has_room_for (option_map (λ (q : Pod). q.uid) (slice_get xs m)) p.uid) xs)
+        → Each (λ p. ltb (length (filter (precedes p.uid) (x ∷ xs))) n ≡ has_room_for (option_map (λ (q : Pod). q.uid) (slice_get (x ∷ xs) n)) p.uid) xs
     tail zero ih = Each-weaker (λ p. x.uid.0 + 1 ≤ p.uid.0) (λ p. ltb (length (filter (precedes p.uid) (x ∷ xs))) 0 ≡ ltb p.uid.0 x.uid.0) first xs (rises-each (x.uid.0 + 1) xs r.1)
     tail (suc n) ih = both n xs (rises-each (x.uid.0 + 1) xs r.1) (ih n)
 
 -- What holds of each that a filter keeps holds of each that passes.
-unfiltered : {X : Type 0} (P : X → Type 0) (test : X → Bool) (xs : List X) → Each P (filter test xs) → Each (λ x. test x ≡ true → P x) xs
+pub unfiltered : {X : Type 0} (P : X → Type 0) (test : X → Bool) (xs : List X) → Each P (filter test xs) → Each (λ x. test x ≡ true → P x) xs
 unfiltered P test [] h = tt
 unfiltered P test (x ∷ xs) h = by (test x) refl (unfiltered P test xs) h
   where
@@ -101,22 +107,22 @@ first_of spec n pods = option_map (λ (q : Pod). q.uid) (slice_get (filter (take
 -- There is room for just those below it.
 pub room-below : (spec : JobSpec) (n low : ℕ) (pods : List Pod) → RisesFrom low pods → Each (λ p. has_room spec n pods p ≡ is_fit spec.mode (first_of spec n pods) (outcome_of spec p) p.uid) pods
 room-below spec n low pods r =
-    Each-weaker (λ p. takes_room spec p ≡ true → ltb (length (filter (precedes p.uid) (filter (takes_room spec) pods))) n ≡ is_before (first_of spec n pods) p.uid)
+    Each-weaker (λ p. takes_room spec p ≡ true → ltb (length (filter (precedes p.uid) (filter (takes_room spec) pods))) n ≡ has_room_for (first_of spec n pods) p.uid)
     (λ p. has_room spec n pods p ≡ is_fit spec.mode (first_of spec n pods) (outcome_of spec p) p.uid) at pods
-    (unfiltered (λ p. ltb (length (filter (precedes p.uid) (filter (takes_room spec) pods))) n ≡ is_before (first_of spec n pods) p.uid) (takes_room spec) pods
+    (unfiltered (λ p. ltb (length (filter (precedes p.uid) (filter (takes_room spec) pods))) n ≡ has_room_for (first_of spec n pods) p.uid) (takes_room spec) pods
     (below-place low n (filter (takes_room spec) pods) (rises_filter low (takes_room spec) pods r)))
   where
-    at : (p : Pod) → (takes_room spec p ≡ true → ltb (length (filter (precedes p.uid) (filter (takes_room spec) pods))) n ≡ is_before (first_of spec n pods) p.uid)
+    at : (p : Pod) → (takes_room spec p ≡ true → ltb (length (filter (precedes p.uid) (filter (takes_room spec) pods))) n ≡ has_room_for (first_of spec n pods) p.uid)
         → has_room spec n pods p ≡ is_fit spec.mode (first_of spec n pods) (outcome_of spec p) p.uid
     at p h = by (takes_room spec p) refl
       where
-        by : (b : Bool) → takes_room spec p ≡ b → (not b || ltb (length (filter (precedes p.uid) (filter (takes_room spec) pods))) n) ≡ (not b || is_before (first_of spec n pods) p.uid)
+        by : (b : Bool) → takes_room spec p ≡ b → (not b || ltb (length (filter (precedes p.uid) (filter (takes_room spec) pods))) n) ≡ (not b || has_room_for (first_of spec n pods) p.uid)
         by true e = h e
         by false e = refl
 
 -- ---- no more than there is room for
 
-few-before : (low n : ℕ) (xs : List Pod) → RisesFrom low xs → length (filter (λ p. is_before (option_map (λ (q : Pod). q.uid) (slice_get xs n)) p.uid) xs) ≤ n
+few-before : (low n : ℕ) (xs : List Pod) → RisesFrom low xs → length (filter (λ p. has_room_for (option_map (λ (q : Pod). q.uid) (slice_get xs n)) p.uid) xs) ≤ n
 few-before low n [] r = omega arith
 few-before low zero (x ∷ xs) r =
     let none : filter (λ p. ltb p.uid.0 x.uid.0) (x ∷ xs) ≡ [] =
@@ -124,10 +130,10 @@ few-before low zero (x ∷ xs) r =
     (Each-weaker (λ p. x.uid.0 ≤ p.uid.0) (λ p. ltb p.uid.0 x.uid.0 ≡ false) (λ p h. le-ltb p.uid.0 x.uid.0 h) (x ∷ xs) (rises-each x.uid.0 (x ∷ xs) (omega arith, r.1))) in
     omega (arith, ap length none)
 few-before low (suc n) (x ∷ xs) r =
-    by (is_before (option_map (λ (q : Pod). q.uid) (slice_get xs n)) x.uid) (few-before (x.uid.0 + 1) n xs r.1)
+    by (has_room_for (option_map (λ (q : Pod). q.uid) (slice_get xs n)) x.uid) (few-before (x.uid.0 + 1) n xs r.1)
   where
     rest : List Pod
-    rest = filter (λ p. is_before (option_map (λ (q : Pod). q.uid) (slice_get xs n)) p.uid) xs
+    rest = filter (λ p. has_room_for (option_map (λ (q : Pod). q.uid) (slice_get xs n)) p.uid) xs
 
     by : (b : Bool) → length rest ≤ n → length (cond b (x ∷ rest) rest) ≤ suc n
     by true h = omega (arith, h)
@@ -141,7 +147,7 @@ within-few spec n low pods r =
     let e2 = filter_same (λ p. has_room spec n pods p && takes_room spec p) (λ p. takes_room spec p && ltb (length (filter (precedes p.uid) xs)) n) pods
     (each (λ p. (has_room spec n pods p && takes_room spec p) ≡ (takes_room spec p && ltb (length (filter (precedes p.uid) xs)) n)) (λ p. by (takes_room spec p) (ltb (length (filter (precedes p.uid) xs)) n)) pods) in
     let e3 = filter_filter (λ p. ltb (length (filter (precedes p.uid) xs)) n) (takes_room spec) pods in
-    let e4 = filter_same (λ p. ltb (length (filter (precedes p.uid) xs)) n) (λ p. is_before (option_map (λ (q : Pod). q.uid) (slice_get xs n)) p.uid) xs (below-place low n xs up) in
+    let e4 = filter_same (λ p. ltb (length (filter (precedes p.uid) xs)) n) (λ p. has_room_for (option_map (λ (q : Pod). q.uid) (slice_get xs n)) p.uid) xs (below-place low n xs up) in
     omega (arith, ap length (e1 ∙ e2 ∙ sym e3 ∙ e4), few-before low n xs up)
   where
     by : (t l : Bool) → ((not t || l) && t) ≡ (t && l)
@@ -186,11 +192,11 @@ module _ (job : Job) (own : List Pod) (low : ℕ) (rises : RisesFrom low own) wh
       ∙ ap length (filter-map (judgement_of job) (λ row. same_outcome row.outcome outcome) (left_over job own))
       ∙ length-map (left_with job own outcome) (judgement_of job)
 
-  pub due-released : filter (is_due (first_left job own) job) own ≡ to_release job own
+  pub due-released : filter (is_to_go (first_left job own) job) own ≡ to_release job own
   due-released =
-      filter_same (is_due (first_left job own) job) (is_to_release job own) own
+      filter_same (is_to_go (first_left job own) job) (is_to_release job own) own
       (Each-weaker (λ p. is_candidate job p ≡ true → is_fit job.spec.mode (first_left job own) (outcome_of job.spec p) p.uid ≡ fits job own p)
-      (λ p. is_due (first_left job own) job p ≡ is_to_release job own p)
+      (λ p. is_to_go (first_left job own) job p ≡ is_to_release job own p)
       (λ p h. ap (λ b. is_tracked p && ((not (same_outcome (outcome_of job.spec p) Alive) && not b) || is_listed job.status p.uid)) (left p h)) own
       (unfiltered (λ p. is_fit job.spec.mode (first_left job own) (outcome_of job.spec p) p.uid ≡ fits job own p) (is_candidate job) own fit-candidates))
     where

@@ -2,14 +2,14 @@
 -- below the first for which there is none.
 --     judgement_of job pod           the row of the pod
 --     judgements job own             the rows of the pods that are to be judged
---     is_before first u              the UID is below the first for which there is no room
+--     has_room_for first u              the UID is below the first for which there is no room
 --     is_fit mode first outcome u    there is room for a pod with this outcome
 --     first_beyond mode room rows    the first UID for which there is no room, where there is room for so many
 --     rows_within mode first rows    the rows of the pods that are judged now
 --     rows_beyond mode first rows    those of the pods that are left over
 --     rows_with outcome rows         those with this outcome
 --     first_left job own             the first UID for which there is no room, of the pods
---     is_due first job pod           the finalizer of the pod is to go, by that UID
+--     is_to_go first job pod           the finalizer of the pod is to go, by that UID
 --     uids_judged outcome rows       the UIDs of those with this outcome
 --     index_judged row              the index of one that has succeeded
 --     indexes_judged rows            the indexes of those that have succeeded
@@ -43,13 +43,13 @@ abbrev pub judgements : Job → List Pod → List Judgement
 judgements job own = map (judgement_of job) (candidates job own)
 
 -- The UID is below the first for which there is no room; there is room for each where there is none.
-abbrev pub is_before : Option Uid → Uid → Bool
-is_before None u = true
-is_before (Some first) u = nat_lt u.0 first.0
+abbrev pub has_room_for : Option Uid → Uid → Bool
+has_room_for None u = true
+has_room_for (Some first) u = nat_lt u.0 first.0
 
 -- There is room for a pod with this outcome and UID.
 abbrev pub is_fit : Mode → Option Uid → Outcome → Uid → Bool
-is_fit mode first outcome u = not (joins_list mode outcome) || is_before first u
+is_fit mode first outcome u = not (joins_list mode outcome) || has_room_for first u
 
 -- The first UID for which there is no room, where there is room for so many that join a list.
 abbrev pub first_beyond : Mode → ℕ → List Judgement → Option Uid
@@ -78,8 +78,8 @@ is_left_by first job pod =
     is_candidate job pod && not (is_fit job.spec.mode first (outcome_of job.spec pod) pod.uid)
 
 -- The finalizer of the pod is to go, where this is the first UID for which there is no room.
-abbrev pub is_due : Option Uid → Job → Pod → Bool
-is_due first job pod =
+abbrev pub is_to_go : Option Uid → Job → Pod → Bool
+is_to_go first job pod =
     is_tracked pod
     && ((not (same_outcome (outcome_of job.spec pod) Alive) && not (is_left_by first job pod)) || is_listed job.status pod.uid)
 

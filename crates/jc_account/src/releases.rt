@@ -5,7 +5,7 @@ ghost use Rattle.jc_states.specs.Bases.{is_own, own_pods};
 ghost use Rattle.jc_states.specs.PodLists.{IsRising};
 ghost use Rattle.jc_states.specs.UidLists.{uids_of};
 ghost use Rattle.jc_account.specs.Judged.{to_release};
-ghost use Rattle.jc_account.specs.Judgements.{first_left, is_due, is_left_by};
+ghost use Rattle.jc_account.specs.Judgements.{first_left, is_to_go, is_left_by};
 
 use crate::judgements::is_candidate;
 use crate::rooms::is_fit;
@@ -24,7 +24,7 @@ fn is_left_over(first: Option<Uid>, job: &Job, pod: &Pod) -> bool
 // Whether the finalizer of the Job's own pod is to go (KEP-2307): the pod has it, and either is listed as
 // uncounted, or has ended and is not left over.
 fn is_due(first: Option<Uid>, job: &Job, pod: &Pod) -> bool
-    ensures { result ≡ is_due first job.now pod.now }
+    ensures { result ≡ is_to_go first job.now pod.now }
 {
     pod.tracked
         && (!is_same_outcome(outcome(&job.spec, pod), Outcome::Alive)
@@ -34,7 +34,7 @@ fn is_due(first: Option<Uid>, job: &Job, pod: &Pod) -> bool
 
 // Whether the pod is the Job's own and its finalizer is to go.
 fn is_own_due(first: Option<Uid>, job: &Job, pod: &Pod) -> bool
-    ensures { result ≡ is_own job.now pod.now && is_due first job.now pod.now }
+    ensures { result ≡ is_own job.now pod.now && is_to_go first job.now pod.now }
 {
     is_own(job, pod) && is_due(first, job, pod)
 }

@@ -4,7 +4,7 @@ ghost use Rattle.std.specs.Prelude.{◌≡◌, ◌-◌, ◌&&◌, filter, length
 ghost use Rattle.jc_types.specs.declared.limits.TheConstants.{MOST_UNCOUNTED};
 ghost use Rattle.jc_states.specs.Bases.{is_own};
 ghost use Rattle.jc_account.specs.Judged.{is_staying};
-ghost use Rattle.jc_account.specs.Judgements.{first_beyond, is_before, is_fit};
+ghost use Rattle.jc_account.specs.Judgements.{first_beyond, has_room_for, is_fit};
 ghost use Rattle.jc_account.specs.Rooms.{joins_list};
 
 use crate::judgements::Judgement;
@@ -24,7 +24,7 @@ pub fn joins_list(mode: Mode, outcome: Outcome) -> bool
 
 // Whether the UID is below the first for which there is no room.
 fn is_before(first: Option<Uid>, uid: Uid) -> bool
-    ensures { result ≡ is_before first uid }
+    ensures { result ≡ has_room_for first uid }
 {
     match first {
         None => true,

@@ -43,7 +43,9 @@ use Rattle.jc_bounds.specs.Work.{is_birth, is_work, last_work, pods_made}
 use Rattle.jc_bounds.proofs.AskEntries.{ask-makes, ask-own, is_make, makes-first}
 use Rattle.jc_bounds.proofs.NoteFacts.{All, Kept, More, Number, asked-made, began-made, began-register, ended-made, ended-number, ended-register, news-floor, news-made, news-number, news-register}
 use Rattle.jc_bounds.proofs.Turns.{IsIdleEntry, IsNews, Noted, Restarted, Still, Stepped, Stopped, Turn, Wrote, turn, Began as Begins, Finished}
-use Rattle.jc_bounds.proofs.WorkFacts.{birth-works, last-within, made-still, some_is}
+use Rattle.jc_bounds.proofs.WorkFacts.{birth-works, last-within, made-still}
+use Rattle.jc_control.proofs.LawFacts.{neither as first-none, seen as behind-none}
+use Rattle.std.proofs.lemmas.Option.{same_Some as some_is}
 
 -- ---- a sync under way
 
@@ -85,17 +87,6 @@ one-made e log old new w b h lt more = record {
     at_most false = omega arith
 
 -- ---- a sync begins
-
-first-none : (a b : Option Lag) → first_lag a b ≡ None → (a ≡ None) × (b ≡ None)
-first-none None b h = (refl, h)
-first-none (Some cache_lag) b h = absurd (true≢false (ap is_some h))
-
-behind-none : (kind : Kind) (need have : Version) → behind kind need have ≡ None → need.0 ≤ have.0
-behind-none kind need have h = by (nat_lt have.0 need.0) refl h
-  where
-    by : (b : Bool) → nat_lt have.0 need.0 ≡ b → cond {A = Option Lag} b (Some (record { kind = kind; need = need; have = have })) None ≡ None → need.0 ≤ have.0
-    by true e g = absurd (true≢false (ap is_some g))
-    by false e g = ltb-false have.0 need.0 e
 
 needs-floor : (f : Version) (o : Option Job) → f.0 ≤ (pods_need f o).0
 needs-floor f None = omega arith

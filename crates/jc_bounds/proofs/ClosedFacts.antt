@@ -2,11 +2,11 @@
 use Rattle.std.proofs.Common.{◌≡◌, ℕ, ◌+◌, ◌≤◌, Bool, true, false, cond, not, ◌&&◌, ◌||◌, List, [], ◌∷◌, length, filter, Option, Some, None, refl, sym, ap, ◌∙◌, subst, true≢false, arith, eqb-true}
 use Rattle.std.specs.List.{AllByRecursion as Each, list_any}
 use Rattle.std.proofs.lemmas.Bool.{or_left}
-use Rattle.jc_account.specs.Accounts.{counted_in}
-use Rattle.jc_account.specs.Judged.{fits, is_candidate, is_left_over, is_to_release, left_with, to_release}
-use Rattle.jc_failpol.specs.Outcomes.{same_outcome, counts_marked, failure_of, is_ignore, is_failed, is_succeeded, outcome_of}
-use Rattle.jc_failpol.specs.declared.outcomes.Outcome.TheVariants as outcome
-use Rattle.jc_failpol.specs.Rules.{action_of}
+use Rattle.jc_plan.specs.Accounts.{counted_in}
+use Rattle.jc_plan.specs.Judged.{fits, is_candidate, is_left_over, is_to_release, left_with, to_release}
+use Rattle.jc_plan.specs.Outcomes.{same_outcome, counts_marked, failure_of, is_ignore, is_failed, is_succeeded, outcome_of}
+use Rattle.jc_plan.specs.Outcome.TheVariants as outcome
+use Rattle.jc_plan.specs.Rules.{action_of}
 use Rattle.jc_types.specs.declared.policies.FailurePolicy.{FailurePolicy}
 use Rattle.jc_states.specs.Listed.{is_listed}
 use Rattle.jc_types.specs.declared.numbers.Uid.{Uid}
@@ -37,9 +37,11 @@ use Rattle.jc_bounds.specs.Final.{IsClosed}
 use Rattle.jc_plan.specs.Finishes.{IsWound}
 use Rattle.jc_bounds.specs.Order.{AreLost}
 use Rattle.jc_bounds.specs.Work.{pods_made}
-use Rattle.jc_bounds.proofs.EntryFacts.{any-none, none-any}
+use Rattle.jc_bounds.proofs.EntryFacts.{none-any}
+use Rattle.jc_plan.proofs.PlanBounds.{none-length as any-none}
 use Rattle.jc_bounds.proofs.FitFacts.{open-lasts, own-since, plan-creates, tracked-lasts}
 use Rattle.std.proofs.lemmas.Bool.{and_parts}
+use Rattle.jc_plan.proofs.PlanFacts.{plan-releases as planned-releases}
 
 module _ {X : Type 0} where
   any-each : (f : X → Bool) (xs : List X) → list_any f xs ≡ false → Each (λ x. f x ≡ false) xs
@@ -133,14 +135,6 @@ ended-due job own pod closed kept tracked =
     by phase.Running h = absurd (true≢false h)
     by phase.Succeeded h = refl
     by phase.Failed h = failed job.spec.failure
-
-pub planned-releases : (b : Basis) → (planned b).releases ≡ releases_of b
-unfolding planned
-planned-releases b = by b.job
-  where
-    by : (o : Option Job) → (planned_for b o).releases ≡ releases_of b
-    by None = refl
-    by (Some job) = refl
 
 -- ---- the pods that a sync saw
 

@@ -58,14 +58,16 @@ use Rattle.jc_bounds.specs.Work.{is_work}
 use Rattle.jc_bounds.proofs.Appends.{Appends, First, Idly, IsStatus, Makes, Second, appends, release-is}
 use Rattle.jc_bounds.proofs.AskEntries.{ask-own}
 use Rattle.jc_bounds.proofs.BoundFacts.{fresh-seen, legal-bounded, legal-within, stored-before}
-use Rattle.jc_bounds.proofs.ClosedFacts.{first-closes, planned-releases, second-closes}
+use Rattle.jc_bounds.proofs.ClosedFacts.{first-closes, second-closes}
 use Rattle.jc_bounds.proofs.EntryFacts.{finished-idle, finished-made, finished-written, known-entry, old-job, release-loses, same-own}
 use Rattle.jc_bounds.proofs.NoteFacts.{asked-made, began-made, began-register, ended-made, ended-register, news-made, news-register}
 use Rattle.jc_bounds.proofs.OrderFacts.{AtFirst, AtRelease, AtSecond, InEarly, Where, is_early, is_quiet, more, progress-more, progress-step, silent-after, silent-quiet, silent-step, where-is}
 use Rattle.jc_plan.proofs.PlanBounds.{first-released, first-rests, first-same, first-wound, idle-plan, second-rests, second-wound}
 use Rattle.jc_plan.proofs.NextFacts.{changed-none}
 use Rattle.jc_bounds.proofs.Turns.{IsIdleEntry, Noted, Restarted, Still, Stepped, Stopped, Turn, Wrote, turn, Began as Begins, Finished}
-use Rattle.jc_bounds.proofs.WorkFacts.{some_is, status-stands}
+use Rattle.jc_bounds.proofs.WorkFacts.{status-stands}
+use Rattle.jc_plan.proofs.PlanFacts.{plan-releases as planned-releases}
+use Rattle.std.proofs.lemmas.Option.{same_Some as some_is}
 
 -- ---- plans
 

@@ -1,7 +1,7 @@
 -- What an entry keeps of Jobs that have ended.
 use Rattle.std.proofs.Common.{◌≡◌, ℕ, ◌+◌, ◌≤◌, nat_lt, Bool, true, false, cond, not, ◌&&◌, ◌||◌, List, [], ◌∷◌, length, filter, Option, Some, None, is_some, refl, sym, ap, ◌∙◌, subst, true≢false, arith, ◌⊎◌, inl, inr, ltb-false}
 use Rattle.std.specs.List.{list_any}
-use Rattle.std.proofs.lemmas.Bool.{cond-true, cond-false}
+use Rattle.std.proofs.lemmas.Bool.{cond-true, cond-false, not-false}
 use Rattle.jc_types.specs.declared.numbers.Uid.{Uid}
 use Rattle.jc_types.specs.declared.objects.Entry.{Entry}
 use Rattle.jc_types.specs.declared.objects.Entry.TheVariants.{JobPut, JobGone, PodPut, PodGone}
@@ -26,8 +26,9 @@ use Rattle.jc_bounds.specs.Final.{IsClosed, IsFinished, IsFinishedAt}
 use Rattle.jc_plan.specs.Finishes.{IsAtRest}
 use Rattle.jc_bounds.specs.Work.{has_new_status, is_birth, is_work, last_work, pods_made}
 use Rattle.jc_bounds.proofs.FitFacts.{open-lasts, own-entry, own-other, tracked-lasts}
-use Rattle.jc_plan.proofs.PlanBounds.{none-passes}
-use Rattle.jc_bounds.proofs.WorkFacts.{birth-works, last-within, some_is}
+use Rattle.jc_plan.proofs.PlanBounds.{none-length as any-none, none-passes}
+use Rattle.jc_bounds.proofs.WorkFacts.{birth-works, last-within}
+use Rattle.std.proofs.lemmas.Option.{same_Some as some_is}
 
 -- ---- none passes
 
@@ -39,9 +40,6 @@ none-any f (x ∷ xs) h = by (none-any f xs) (f x) h
     by ih true h = absurd (omega (arith, h))
     by ih false h = ih h
 
-pub any-none : {A : Type 0} (f : A → Bool) (xs : List A) → list_any f xs ≡ false → length (filter f xs) ≡ 0
-any-none f xs h = ap length (none-passes f f (λ x e. e) xs h)
-
 -- ---- the Job before
 
 pub record OldJob (log : List Entry) (k : Key) (new : Job) : Type 0 where
@@ -49,10 +47,6 @@ pub record OldJob (log : List Entry) (k : Key) (new : Job) : Type 0 where
   pub there : job_in k log ≡ Some job
   pub uid : new.uid ≡ job.uid
   pub status : new.status ≡ job.status
-
-not-false : (b : Bool) → not b ≡ false → b ≡ true
-not-false true h = refl
-not-false false h = absurd (true≢false h)
 
 -- A Job whose key has no work by the entry was there, where it has ended or was made before.
 pub old-job : (e : Entry) (log : List Entry) → Writes log e → Stored log → (k : Key) → is_work k e log ≡ false → (new : Job) → job_in k (e ∷ log) ≡ Some new → (has_end new.status.conditions ≡ true) ⊎ (is_born new.uid log ≡ true) → OldJob log k new

@@ -41,17 +41,14 @@ use Rattle.jc_bounds.specs.Work.{is_birth, is_work, pods_made}
 use Rattle.jc_bounds.proofs.AskEntries.{ask-makes, is_make, makes-first}
 use Rattle.jc_bounds.proofs.BoundFacts.{legal-bounded}
 use Rattle.jc_plan.proofs.PlanBounds.{creates-fit, creates-fit_ending}
-use Rattle.std.proofs.lemmas.Bool.{and_parts}
+use Rattle.std.proofs.lemmas.Bool.{and_parts, and_from as both}
 use Rattle.jc_bounds.proofs.Turns.{Began, Finished, Noted, Restarted, Still, Stepped, Stopped, Turn, Wrote, turn}
 use Rattle.jc_bounds.proofs.StepperFacts.{newest_worker, stepper}
 use Rattle.jc_history.proofs.LegalFacts.{notes-next}
-use Rattle.jc_bounds.proofs.WorkFacts.{bit, count-entry, count-since, put-few, some_is}
+use Rattle.jc_bounds.proofs.WorkFacts.{bit, count-entry, count-since, put-few}
+use Rattle.std.proofs.lemmas.Option.{same_Some as some_is}
 
 -- ---- what a pod loses for good
-
-both : (a b : Bool) → a ≡ true → b ≡ true → (a && b) ≡ true
-both true b h g = g
-both false b h g = absurd (true≢false (sym h))
 
 module _ (old new : Pod) (step : PodStep old new) where
   pub open-lasts : is_open new ≡ true → is_open old ≡ true

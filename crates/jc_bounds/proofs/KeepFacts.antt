@@ -47,7 +47,7 @@ use Rattle.jc_bounds.proofs.EntryFacts.{closed-now, old-job}
 use Rattle.jc_bounds.proofs.FitFacts.{head-of, legal-before, no-more}
 use Rattle.jc_bounds.proofs.OrderFacts.{is_quiet}
 use Rattle.jc_bounds.proofs.Turns.{Noted, Restarted, Still, Stepped, Stopped, Turn, Wrote, turn, Began, Finished}
-use Rattle.jc_bounds.proofs.WorkFacts.{some_is}
+use Rattle.std.proofs.lemmas.Option.{same_Some as some_is}
 
 -- The Job's own pods of its key are all that were made for it.
 own-of : (log : List Entry) (k : Key) (job : Job) → Legal log → job_in k log ≡ Some job → (b : Basis) → own_pods job (pods_under k log) ≡ pods_of job.uid log

@@ -1,12 +1,12 @@
 -- The log of a legal history of one controller is legal, and its Jobs are neat.
 use Rattle.std.proofs.Common.{◌≡◌, ℕ, zero, suc, ◌+◌, ◌-◌, ◌==◌, nat_lt, Bool, true, false, cond, not, ◌&&◌, List, [], ◌∷◌, length, map, Option, Some, None, IfSome, is_some, refl, sym, ap, ◌∙◌, subst, true≢false, arith}
 use Rattle.jc_log.specs.Acts as does
-use Rattle.jc_account.specs.Accounts.{counted_in, counted_out, released_of}
-use Rattle.jc_account.proofs.AccountFacts.{empty-in, indexed-total}
+use Rattle.jc_plan.specs.Accounts.{counted_in, counted_out, released_of}
+use Rattle.jc_plan.proofs.AccountFacts.{empty-in, indexed-total}
 use Rattle.jc_log.proofs.HasJobFacts.{put_upto, there_put}
 use Rattle.jc_ledger.specs.Flights.{IsBasisOf}
-use Rattle.jc_perindex.specs.Failures.{failing_by, failing_in, failures_by, failures_in, newly_failed}
-use Rattle.jc_perindex.proofs.Raised.{raised-ascends}
+use Rattle.jc_plan.specs.Failures.{failing_by, failing_in, failures_by, failures_in, newly_failed}
+use Rattle.jc_plan.proofs.Raised.{raised-ascends}
 use Rattle.jc_plan.specs.Plans.{planned}
 use Rattle.jc_plan.specs.Statuses.{first_value, second_value}
 use Rattle.jc_plan.proofs.ValueFacts.{first-completed, first-failed_indexes, first-index_failures, first-succeeded, first-succeeded_list, second-completed, second-failed_indexes, second-index_failures, second-lists_none, second-succeeded}
@@ -66,7 +66,8 @@ use Rattle.jc_bounds.proofs.Appends.{Appends, First, Idly, IsStatus, Makes, Seco
 use Rattle.jc_bounds.proofs.BoundFacts.{legal-bounded}
 use Rattle.jc_bounds.proofs.EndFacts.{changed-is, plan-first, plan-second, seen-key}
 use Rattle.jc_bounds.proofs.Turns.{IsIdleEntry, Quiet, create-quiet, delete-quiet, mark-quiet, release-quiet, report-quiet, update-quiet}
-use Rattle.jc_bounds.proofs.WorkFacts.{some_is}
+use Rattle.std.proofs.lemmas.Option.{same_Some as some_is}
+use Rattle.std.proofs.lemmas.Bool.{not-false}
 
 -- ---- one entry
 
@@ -94,10 +95,6 @@ empty-neat job e = record {
   failing = λ n. (ap (λ (s : JobStatus). s.failed_indexes) e, ap (λ (s : JobStatus). s.index_failures) e);
   ascending = subst (λ (s : JobStatus). Climbs s.index_failures) (sym e) tt;
 }
-
-not-false : (b : Bool) → not b ≡ false → b ≡ true
-not-false true h = refl
-not-false false h = absurd (true≢false h)
 
 -- ---- what a sync says of failed indexes
 

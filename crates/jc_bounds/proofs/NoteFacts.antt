@@ -15,7 +15,7 @@ use Rattle.jc_history.specs.Numbers.{number, number_told}
 use Rattle.jc_asks.specs.Readings.{with_step}
 use Rattle.jc_history.specs.Registers.{floor, made, register, register_told}
 use Rattle.jc_bounds.proofs.Turns.{IsBefore, IsNews}
-use Rattle.jc_bounds.proofs.WorkFacts.{some_is}
+use Rattle.std.proofs.lemmas.Option.{same_Some as some_is}
 
 -- ---- news
 

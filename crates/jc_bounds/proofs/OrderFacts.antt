@@ -44,7 +44,7 @@ module _ {X : Type 0} where
   drop-head (y ∷ xs) zero x h = ap (λ z. z ∷ xs) (ap (λ (o : Option X). elim o [ None ↦ y | Some z ↦ z ]) h)
   drop-head (y ∷ xs) (suc n) x h = drop-head xs n x h
 
-  each-slice : (P : X → Type 0) (xs : List X) (n : ℕ) (x : X) → Each P xs → slice_get xs n ≡ Some x → P x
+  pub each-slice : (P : X → Type 0) (xs : List X) (n : ℕ) (x : X) → Each P xs → slice_get xs n ≡ Some x → P x
   each-slice P [] n x h e = absurd (true≢false (sym (ap is_some e)))
   each-slice P (y ∷ xs) zero x h e = subst P (ap (λ (o : Option X). elim o [ None ↦ y | Some z ↦ z ]) e) h.0
   each-slice P (y ∷ xs) (suc n) x h e = each-slice P xs n x h.1 e

@@ -14,6 +14,7 @@ use Rattle.jc_asks.specs.declared.asks.Ask.TheVariants.{MakePod, MarkPod, LetPod
 use Rattle.jc_asks.specs.Asks.{first_asks, let_go_ask, second_asks}
 use Rattle.jc_asks.specs.Readings.{gone_in, requests, with_marks}
 use Rattle.jc_bounds.specs.Requests.{asks, let_go_asks, next_by_kind}
+use Rattle.jc_history.proofs.RequestFacts.{first_of_drop as first-of_drop}
 
 marks-append : (gone : List Uid) (xs ys : List Ask) → with_marks gone (xs ++ ys) ≡ with_marks gone xs ++ with_marks gone ys
 marks-append gone [] ys = refl
@@ -86,12 +87,6 @@ requests-are plan made =
         marks-append gone (first_asks plan.first) _
         ∙ (λ i. firsts-are gone plan.first i ++ marks-append gone (map ReleasePod plan.releases) (second_asks plan.second) i)
         ∙ (λ i. map (λ status. WriteFirst) (option_to_list plan.first) ++ (releases-are gone plan.releases i ++ seconds-are gone plan.second i))
-
-first-of_drop : (n : ℕ) (some : List Ask) → slice_get (drop n some) 0 ≡ slice_get some n
-first-of_drop zero [] = refl
-first-of_drop zero (x ∷ some) = refl
-first-of_drop (suc n) [] = refl
-first-of_drop (suc n) (x ∷ some) = first-of_drop n some
 
 -- What is left begins with the next request.
 pub next-is : (plan : Planned) (made : List (Request × Answer)) (ask : Ask) (rest : List Ask) → drop (length made) (requests plan (gone_in made)) ≡ ask ∷ rest → next_by_kind plan made ≡ Some ask

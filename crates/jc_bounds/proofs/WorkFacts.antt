@@ -1,6 +1,6 @@
 -- What is known where a log tells of no more work.
 use Rattle.std.proofs.Common.{◌≡◌, ℕ, ◌+◌, ◌≤◌, ◌==◌, nat_lt, Bool, true, false, cond, not, ◌&&◌, List, [], ◌∷◌, length, filter, Option, Some, None, is_some, refl, sym, ap, ◌∙◌, subst, true≢false, arith, ltb-true, ne_eqb}
-use Rattle.std.proofs.lemmas.Bool.{cond-true, cond-false, eqb-false}
+use Rattle.std.proofs.lemmas.Bool.{cond-true, cond-false, eqb-false, not-false}
 use Rattle.jc_types.specs.declared.objects.Entry.{Entry}
 use Rattle.jc_types.specs.declared.objects.Entry.TheVariants.{JobPut, JobGone, PodPut, PodGone}
 use Rattle.jc_types.specs.declared.objects.Job.{Job}
@@ -20,13 +20,7 @@ use Rattle.jc_log.proofs.PodFacts.{pods_in-among, pods_in-rises}
 use Rattle.jc_types.proofs.EqualityFacts.{status-exact}
 use Rattle.jc_log.proofs.WriteFacts.{is_born-more, job_in-born, persists_on}
 use Rattle.jc_bounds.specs.Work.{count, has_new_status, is_birth, is_work, last_work, pods_made}
-
-pub some_is : {X : Type 0} (x y : X) → Some x ≡ Some y → x ≡ y
-some_is {X = X} x y e = ap (λ (o : Option X). elim o [ None ↦ x | Some z ↦ z ]) e
-
-not-false : (b : Bool) → not b ≡ false → b ≡ true
-not-false true h = refl
-not-false false h = absurd (true≢false h)
+use Rattle.std.proofs.lemmas.Option.{same_Some as some_is}
 
 -- ---- versions
 

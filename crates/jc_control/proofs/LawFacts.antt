@@ -92,11 +92,11 @@ begun-ready now c = at_numbers c.schedule.jobs_at c.schedule.pods_at
     at_numbers (Some j) (Some p) = at_line j p c.schedule.queue.line
 
 -- Neither of two caches is behind.
-neither : (a b : Option Lag) → first_lag a b ≡ None → (a ≡ None) × (b ≡ None)
+pub neither : (a b : Option Lag) → first_lag a b ≡ None → (a ≡ None) × (b ≡ None)
 neither None b e = (refl, e)
 neither (Some lag) b e = absurd (true≢false (ap is_some e))
 
-seen : (kind : Kind) (need have : Version) → behind kind need have ≡ None → need.0 ≤ have.0
+pub seen : (kind : Kind) (need have : Version) → behind kind need have ≡ None → need.0 ≤ have.0
 seen kind need have e = by (nat_lt have.0 need.0) refl e
   where
     by : (b : Bool) → nat_lt have.0 need.0 ≡ b → cond {A = Option Lag} b (Some (record { kind = kind; need = need; have = have })) None ≡ None → need.0 ≤ have.0

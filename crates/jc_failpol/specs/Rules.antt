@@ -1,5 +1,5 @@
 -- Which rule of a pod failure policy decides about a failed pod (KEP-3329).
---     has_failed exit               a container that ended with a code other than 0
+--     exit_is_failure exit               a container that ended with a code other than 0
 --     looks_at only container       a rule on exit codes looks at the container
 --     meets operator values code    the code is one of the values, or none of them
 --     finds pattern condition       the condition is what the pattern looks for
@@ -26,9 +26,9 @@ use Rattle.jc_types.specs.declared.policies.Requirement.TheVariants.{ExitCodes, 
 use Rattle.jc_types.specs.Equality.{same_pattern, same_text}
 
 -- The container has ended with a code other than 0.
-abbrev pub has_failed : Option ℤ → Bool
-has_failed None = false
-has_failed (Some code) = not (int_eq code (pos 0))
+abbrev pub exit_is_failure : Option ℤ → Bool
+exit_is_failure None = false
+exit_is_failure (Some code) = not (int_eq code (pos 0))
 
 -- The container is the one that the rule names, if it names one.
 abbrev pub is_named : Option (List ℕ) → List ℕ → Bool
@@ -38,7 +38,7 @@ is_named (Some only) name = same_text name only
 -- A rule on exit codes looks at the container, or init container: it has failed, and the rule names it or
 -- none.
 abbrev pub looks_at : Option (List ℕ) → Container → Bool
-looks_at only container = has_failed container.exit && is_named only container.name
+looks_at only container = exit_is_failure container.exit && is_named only container.name
 
 -- The code is one of the values (In), or none of them (NotIn).
 abbrev pub meets : Operator → List ℤ → ℤ → Bool

@@ -2,17 +2,12 @@
 use Rattle.std.proofs.Common.{◌≡◌, ℕ, zero, suc, ◌+◌, ◌*◌, ◌%◌, ◌^◌, ◌<◌, ◌≤◌, ◌==◌, Bool, true, false, cond, ◌++◌, List, [], ◌∷◌, length, pos, refl, sym, ap, ◌∙◌, arith, rules, flat_map, replicate, IfSome, IsSome, None, Some, AllPairs, drop, if◌then◌else◌, decimal}
 use Rattle.std.specs.List.{range_with_len}
 use Rattle.std.proofs.lemmas.Fmt.{decimal_injective}
-use Rattle.std.proofs.lemmas.List.{length-replicate}
+use Rattle.std.proofs.lemmas.List.{length-replicate, length_push as one_longer}
 use Rattle.jc_states.specs.ValidSpecs.{IsValidSpec}
 use Rattle.jc_types.specs.declared.actions.Action1.TheVariants.{Settle}
 use Rattle.jc_types.specs.declared.objects.Key.{Key}
 use Rattle.jc_types.specs.declared.specifications.Mode.TheVariants.{Indexed}
 use Rattle.jc_gen.specs.Generated.{generated, end_with, job_commands, job_ends, job_key, job_spec, on_first_lane}
-
--- One item more.
-one_longer : {X : Type 0} (xs : List X) (x : X) → length (xs ++ x ∷ []) ≡ length xs + 1
-one_longer [] x = refl
-one_longer (y ∷ xs) x = let rest = one_longer xs x in omega (arith, rest)
 
 -- Two commands for each Job.
 pairs : (number pods a n : ℕ) → length (flat_map (job_commands number pods) (range_with_len a n)) ≡ 2 * n

@@ -16,6 +16,7 @@ use Rattle.jc_types.specs.declared.runs.Shape.{Shape}
 use Rattle.jc_states.specs.declared.bases.Basis.{Basis}
 use Rattle.jc_log.specs.Acts.{Act}
 use Rattle.jc_log.specs.Deeds.{Deed}
+use Rattle.jc_ledger.proofs.SyncFacts.{sync_of-other as skipped}
 use Rattle.jc_queue.specs.Queued.{has_key}
 use Rattle.jc_history.specs.Acts.{SameActs}
 use Rattle.jc_history.specs.Agrees.{IsHeld}
@@ -26,6 +27,7 @@ use Rattle.jc_history.specs.Lines.{line, waits}
 use Rattle.jc_history.specs.Notes.{Note, Listed, Told, Expired, Began, SentBack, Asked, Ended, Faulted, Ticked, newest}
 use Rattle.jc_history.specs.Registers.{asks_status, register, register_told}
 use Rattle.jc_history.specs.Replies.{log_after, log_given, reply_given}
+use Rattle.std.proofs.lemmas.Option.{none-some as none_some}
 
 -- ---- two histories with the same acts
 
@@ -59,13 +61,6 @@ sync_from basis = record { key = basis.key; jobs_at = basis.jobs_at.0; pods_at =
 
 abbrev Agrees : ℕ → ℕ → List Deed → List Note → Type 0
 Agrees c w past notes = (basis : Basis) → register w notes ≡ Some basis → sync_of c w past ≡ Some (sync_from basis)
-
-none_some : {X : Type 0} (x : X) → None ≡ Some x → ⊥
-none_some x e = true≢false (sym (ap is_some e))
-
--- A deed that begins no sync of the worker leaves the ledger's word as it is.
-skipped : (c w : ℕ) (d : Deed) (past : List Deed) → began_by c w d ≡ None → sync_of c w (d ∷ past) ≡ sync_of c w past
-skipped c w d past e = ap (λ o. option_and_then (began_by c w) (cond (is_some o) (Some d) (find (λ d. is_some (began_by c w d)) past))) e
 
 found : (c w : ℕ) (d : Deed) (past : List Deed) (sync : Sync) → began_by c w d ≡ Some sync → sync_of c w (d ∷ past) ≡ Some sync
 found c w d past sync e = ap (λ o. option_and_then (began_by c w) (cond (is_some o) (Some d) (find (λ d. is_some (began_by c w d)) past))) e ∙ e

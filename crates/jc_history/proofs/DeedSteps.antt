@@ -34,7 +34,7 @@ use Rattle.jc_history.proofs.HeldSteps.{held-ended, held-expired, held-idle, hel
 use Rattle.jc_history.proofs.LegalFacts.{legal-fit, notes-next}
 use Rattle.jc_history.proofs.RegisterFacts.{fit-apart}
 
-own : (c : ℕ) (new older : List Note) → cond (c == c) new [] ++ older ≡ new ++ older
+pub own : (c : ℕ) (new older : List Note) → cond (c == c) new [] ++ older ≡ new ++ older
 own c new older = ap (λ b. cond b new [] ++ older) (eq-eqb c c refl)
 
 module _ (shape : Shape) (c : ℕ) (past : List Deed) (d : Deed) (h : IsLegal shape past) where

@@ -19,8 +19,8 @@ use Rattle.jc_queue.specs.Queued.{has_key}
 use Rattle.jc_history.specs.Delays.{added_by_end, tries_after, delay, delays, keys_due, ended_key, failures, if_moment, not_come, tries, earlier_if}
 use Rattle.jc_history.specs.Keys.{once}
 use Rattle.jc_history.specs.Notes.{Note, Listed, Told, Expired, Began, SentBack, Asked, Ended, Faulted, Ticked}
-use Rattle.jc_history.proofs.DueOrder.{in_turn-same}
 use Rattle.jc_history.proofs.KeyFacts.{distinct-once, is_in-once}
+use Rattle.jc_queue.proofs.OrderFacts.{in_turn-same}
 
 -- ---- rows by key
 

@@ -32,6 +32,7 @@ use Rattle.jc_history.specs.Notes.{Note, Listed, Told, Expired, Began, SentBack,
 use Rattle.jc_history.specs.Numbers.{number, number_told}
 use Rattle.jc_history.specs.Registers.{backoff, asks_status, register}
 use Rattle.jc_history.specs.Replies.{begin_gives, deliver_gives, gives, log_after, log_given, reply_of_begin, reply_given}
+use Rattle.jc_types.proofs.ListFacts.{Each-append as each-append}
 
 -- ---- bounds of notes
 
@@ -103,10 +104,6 @@ each-further m n (d ∷ deeds) w h = (told-further m n d.act d.reply w h.0, each
 pub either : {A : Type 0} (P : A → Type 0) (b : Bool) (xs : List A) → Each P xs → Each P (cond b xs [])
 either P true xs h = h
 either P false xs h = tt
-
-pub each-append : {A : Type 0} (P : A → Type 0) (xs ys : List A) → Each P xs → Each P ys → Each P (xs ++ ys)
-each-append P [] ys h g = g
-each-append P (x ∷ xs) ys h g = (h.0, each-append P xs ys h.1 g)
 
 list-noted : (n : ℕ) (kind : Kind) (log : List Entry) (r : Reply) → TellsWithin n r → Each (IsNoted n) (on_list kind log r)
 list-noted n kind log (reply.Listed at) w = (w, tt)

@@ -29,7 +29,7 @@ quiet-agrees shape past d c con legal q a = record {
 }
 
 -- What stands in a list with one element set.
-set-cases : {A : Type 0} (xs : List A) (i c : ℕ) (x y : A) → slice_get (set xs i x) c ≡ Some y → ((c ≡ i) × (y ≡ x)) ⊎ ((c ≡ i → ⊥) × (slice_get xs c ≡ Some y))
+pub set-cases : {A : Type 0} (xs : List A) (i c : ℕ) (x y : A) → slice_get (set xs i x) c ≡ Some y → ((c ≡ i) × (y ≡ x)) ⊎ ((c ≡ i → ⊥) × (slice_get xs c ≡ Some y))
 set-cases [] i c x y e = inr (λ s. nothing c e, e)
   where
     nothing : (c : ℕ) → slice_get [] c ≡ Some y → ⊥

@@ -35,8 +35,8 @@ use Rattle.jc_history.specs.Notes.{Note, Listed, Told, Expired, Asked, Ended, Fa
 use Rattle.jc_history.specs.Numbers.{number, number_told}
 use Rattle.jc_history.specs.Registers.{backoff, floor, is_first, asks_status, tells_written, later_if}
 use Rattle.jc_history.proofs.DelayFacts.{apart-filter, delay-ended, delay-ticked, due_is, failures-ended}
-use Rattle.jc_history.proofs.DueOrder.{apart, distinct}
 use Rattle.jc_history.proofs.QueueSteps.{queued-added, queued-ended}
+use Rattle.jc_queue.proofs.OrderFacts.{apart, distinct}
 
 -- ---- at the start
 

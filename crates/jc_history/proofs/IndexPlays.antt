@@ -1,8 +1,8 @@
 -- The plays of Indexed Jobs whose number of indexes changes, and of limits for each index, each by computation.
 use Rattle.std.proofs.Common.{◌≡◌, true, false, [], ◌∷◌, Some, refl}
-use Rattle.jc_account.specs.Accounts.{counted_in, counted_out}
-use Rattle.jc_manage.specs.Backoffs.{pause}
-use Rattle.jc_perindex.specs.Failures.{failing_in, failures_in}
+use Rattle.jc_plan.specs.Accounts.{counted_in, counted_out}
+use Rattle.jc_plan.specs.Backoffs.{pause}
+use Rattle.jc_plan.specs.Failures.{failing_in, failures_in}
 use Rattle.jc_plan.specs.Plans.{planned}
 use Rattle.jc_plan.specs.Statuses.{first_value, second_value}
 use Rattle.jc_types.specs.declared.statuses.CondKind.TheVariants.{Failed, FailureTarget}

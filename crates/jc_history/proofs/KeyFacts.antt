@@ -10,16 +10,13 @@ use Rattle.jc_types.proofs.ListFacts.{Each-filter, Each-passes, Each-weaker, fil
 use Rattle.jc_queue.specs.Queued.{has_key}
 use Rattle.jc_queue.proofs.KeyLists.{none_is}
 use Rattle.jc_history.specs.Keys.{once, last_of}
+use Rattle.std.proofs.lemmas.Bool.{not-true as not-true_is}
 
 and-swap : (a b : Bool) → (a && b) ≡ (b && a)
 and-swap true true = refl
 and-swap true false = refl
 and-swap false true = refl
 and-swap false false = refl
-
-pub not-true_is : (b : Bool) → not b ≡ true → b ≡ false
-not-true_is true h = absurd (true≢false (sym h))
-not-true_is false h = refl
 
 -- Two filters in the one order or the other.
 pub filter-swap : (p q : Key → Bool) (keys : List Key) → filter p (filter q keys) ≡ filter q (filter p keys)

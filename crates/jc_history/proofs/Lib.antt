@@ -2,7 +2,6 @@ pub mod KeyFacts
 pub mod AddFacts
 pub mod LineFacts
 pub mod QueueSteps
-pub mod DueOrder
 pub mod DelayFacts
 pub mod HeldSteps
 pub mod BeginSteps

@@ -15,6 +15,7 @@ use Rattle.jc_history.specs.Keys.{once, last_of}
 use Rattle.jc_history.specs.Lines.{OnlyAdds, begins_or_ends, comers, comes, comings, is_dirty, is_processing, line, waits}
 use Rattle.jc_history.specs.Notes.{Note, Began, SentBack, Ended, newest}
 use Rattle.jc_history.proofs.KeyFacts.{distinct-filter, distinct-once, each_in, filter-all, is_in-filter, is_in-once, last_of-append, last_of-distinct}
+use Rattle.std.proofs.Math.Bool.{or-false as or-none}
 
 -- ---- one more note
 
@@ -152,10 +153,6 @@ sent-stays false true true = refl
 sent-stays false true false = refl
 sent-stays false false true = refl
 sent-stays false false false = refl
-
-or-none : (b : Bool) → (b || false) ≡ b
-or-none true = refl
-or-none false = refl
 
 distinct-one : (k : Key) → IsDistinct same_key (k ∷ [])
 unfolding IsDistinct

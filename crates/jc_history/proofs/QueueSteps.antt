@@ -22,6 +22,7 @@ use Rattle.jc_history.specs.Notes.{Note, Began, SentBack, Ended}
 use Rattle.jc_history.proofs.AddFacts.{all_added-dirty, all_added-line, is_fresh}
 use Rattle.jc_history.proofs.KeyFacts.{filter-all}
 use Rattle.jc_history.proofs.LineFacts.{dirty-added, dirty-sent, fresh, line-added, line-began, line-ended, line-sent, processing-added, processing-began, processing-ended}
+use Rattle.jc_queue.proofs.BackFacts.{swapped as or-swapped}
 
 -- ---- keys are added
 
@@ -49,12 +50,6 @@ without-first k rest d =
     ap (λ m. cond (not m) (k ∷ filter (λ j. not (same_key k j)) rest) (filter (λ j. not (same_key k j)) rest)) (same_key-itself k)
     ∙ filter_same (λ j. not (same_key k j)) (λ j. true) rest (Each-weaker (λ j. same_key k j ≡ false) (λ j. not (same_key k j) ≡ true) (λ j h. ap not h) rest d.0)
     ∙ filter-all rest
-
-or-swapped : (a b : Bool) → (a || b) ≡ (b || a)
-or-swapped true true = refl
-or-swapped true false = refl
-or-swapped false true = refl
-or-swapped false false = refl
 
 module _ (older : List Note) (schedule new : Schedule) (k : Key) (rest : List Key) (queue : IsQueue schedule.queue) (q : IsQueued older schedule) (first : line older ≡ k ∷ rest) where
   line-first : schedule.queue.line ≡ k ∷ rest

@@ -21,14 +21,7 @@ use Rattle.jc_history.specs.Notes.{Note, Listed, Told, Expired, Began, SentBack,
 use Rattle.jc_history.specs.Registers.{AllFit, HaveOwnKeys, asks_status, register, register_told}
 use Rattle.jc_history.specs.Replies.{reply_of_begin}
 use Rattle.jc_history.proofs.LineFacts.{processing-began, processing-ended}
-
-some_is : {X : Type 0} (x y : X) → Some x ≡ Some y → x ≡ y
-some_is x y e = ap (λ o. unwrap_or o x) e
-
--- The register after a note that tells of a worker.
-register-told : (v w : ℕ) (told before : Option Basis) → (b : Bool) → (v == w) ≡ b → (o : Option (Option Basis)) → unwrap_or (option_or (cond b (Some told) None) o) None ≡ cond b told (unwrap_or o None)
-register-told v w told before true e o = refl
-register-told v w told before false e o = refl
+use Rattle.std.proofs.lemmas.Option.{same_Some as some_is}
 
 module _ (older : List Note) (h : HaveOwnKeys older) where
   -- A sync begins.

@@ -34,6 +34,7 @@ use Rattle.jc_history.specs.Lines.{line}
 use Rattle.jc_history.specs.Notes.{Note, Asked, Ended, Faulted, newest}
 use Rattle.jc_history.specs.Registers.{asks_status, made, register, register_told}
 use Rattle.jc_history.specs.Replies.{step_done}
+use Rattle.std.proofs.lemmas.Option.{none-some as none_some}
 
 -- ---- what a step reads of its sync
 
@@ -76,7 +77,7 @@ same_step log now pending a b x s = by a.left b.left pending
         ap (λ ask. step_done (stepped_by (Some fault.Lose) a.flight ask l (answered_to log now a.flight ask))) (ap (λ o. unwrap_or o k) e)
         ∙ ap (λ given. step_done (stepped_by (Some fault.Lose) b.flight j m given)) (same_answer log now a.flight b.flight j x s)
 
-first_of_drop : (n : ℕ) (asks : List Ask) → slice_get (drop n asks) 0 ≡ slice_get asks n
+pub first_of_drop : (n : ℕ) (asks : List Ask) → slice_get (drop n asks) 0 ≡ slice_get asks n
 first_of_drop zero [] = refl
 first_of_drop zero (x ∷ asks) = refl
 first_of_drop (suc n) [] = refl
@@ -88,9 +89,6 @@ pub steps-same : (log : List Entry) (now : ℕ) (pending : Option Fault) (sync :
 steps-same log now pending sync steps s e = same_step log now pending (so_far sync.flight.basis steps) sync refl (sym s) (first_of_drop (length steps) _ ∙ e)
 
 -- ---- the requests since the begin
-
-none_some : {X : Type 0} (x : X) → None ≡ Some x → ⊥
-none_some x e = true≢false (sym (ap is_some e))
 
 -- The notes tell what the deeds do.
 abbrev Tells : ℕ → ℕ → List Deed → List Note → Type 0

@@ -1,8 +1,8 @@
 -- The plays that are worked out, each by computation.
 use Rattle.std.proofs.Common.{◌≡◌, true, false, [], ◌∷◌, map, Some, refl}
-use Rattle.jc_account.specs.Accounts.{counted_in, counted_out}
-use Rattle.jc_manage.specs.Backoffs.{pause}
-use Rattle.jc_perindex.specs.Failures.{failing_in, failures_in}
+use Rattle.jc_plan.specs.Accounts.{counted_in, counted_out}
+use Rattle.jc_plan.specs.Backoffs.{pause}
+use Rattle.jc_plan.specs.Failures.{failing_in, failures_in}
 use Rattle.jc_plan.specs.Plans.{planned}
 use Rattle.jc_plan.specs.Statuses.{first_value, second_value}
 use Rattle.jc_types.specs.declared.runs.Past.{Past}

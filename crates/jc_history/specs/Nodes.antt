@@ -9,7 +9,7 @@ use Rattle.std.specs.List.{filter_map}
 use Rattle.std.specs.Option.{option_map, option_map_or, option_or, option_to_list}
 use Rattle.std.specs.Ordering.{int_eq}
 use Rattle.jc_log.specs.Acts as does
-use Rattle.jc_finish.specs.Decisions.{restarts_on_failure}
+use Rattle.jc_plan.specs.Decisions.{restarts_on_failure}
 use Rattle.jc_history.specs.Notes.{newest}
 use Rattle.jc_types.specs.declared.actions.ContainerChange.{ContainerChange}
 use Rattle.jc_types.specs.declared.actions.End.{End}

@@ -9,13 +9,13 @@ abbrev pub new_plan : Vec ℕ Global → Plan
 new_plan fails = record { fails = fails; calls = 0; faults = 0 }
 
 -- the count one higher, which stops at the last value of 64 bits
-abbrev pub raised : ℕ → ℕ
-raised count = min (count + 1) (2 ^ 64 - 1)
+abbrev pub raised_count : ℕ → ℕ
+raised_count count = min (count + 1) (2 ^ 64 - 1)
 
 -- whether the next call is among those that are to fail
 abbrev pub fails_next : Plan → Bool
-fails_next p = list_any (λ number. nat_eq number (raised p.calls)) p.fails.items
+fails_next p = list_any (λ number. nat_eq number (raised_count p.calls)) p.fails.items
 
 -- the plan after a call, which was refused or not: the call is counted, and so is its fault
 abbrev pub after_call : Plan → Bool → Plan
-after_call p refused = record p { calls = raised p.calls; faults = if refused then raised p.faults else p.faults }
+after_call p refused = record p { calls = raised_count p.calls; faults = if refused then raised_count p.faults else p.faults }

@@ -5,7 +5,7 @@ use Rattle.serde_json.specs.View.{view, items_of, items_view}
 use Rattle.serde_json.specs.declared.value.Value.{Value}
 use Rattle.jc_json.specs.Field.{items_in}
 
-items_listed : (ds : List Data) → items_in (items_of ds) ≡ ds
+pub items_listed : (ds : List Data) → items_in (items_of ds) ≡ ds
 items_listed [] = refl
 items_listed (d ∷ ds) = ap (λ rest. d ∷ rest) (items_listed ds)
 

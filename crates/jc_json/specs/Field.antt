@@ -46,14 +46,14 @@ abbrev pub whole_number_of : List ℕ → Data → Result ℤ Refusal
 whole_number_of path d = ok_or (option_and_then as_integer (as_number d)) (wrong_type path)
 
 -- the number, where it is within bounds
-abbrev pub within : List ℕ → ℤ → ℤ → ℤ → Result ℤ Refusal
-within path least greatest n = if int_le least n && int_le n greatest then Ok n else Err (out_of_range path)
+abbrev pub within_bounds : List ℕ → ℤ → ℤ → ℤ → Result ℤ Refusal
+within_bounds path least greatest n = if int_le least n && int_le n greatest then Ok n else Err (out_of_range path)
 
 -- the whole number within bounds that a value is
 abbrev pub bounded_number : List ℕ → ℤ → ℤ → Data → Result ℤ Refusal
 bounded_number path least greatest d = do
   n ← whole_number_of path d
-  within path least greatest n
+  within_bounds path least greatest n
 
 -- the items of an array, in their order
 abbrev pub items_in : Items → List Data

@@ -32,7 +32,7 @@ use Rattle.jc_failpol.proofs.Settled.{success_stays}
 use Rattle.jc_states.proofs.PodListFacts.{rises_filter}
 use Rattle.jc_states.specs.Listed.{is_listed}
 use Rattle.jc_account.specs.Judged.{candidates, has_come_to, is_candidate, is_fresh, is_new, is_staying, newly, room}
-use Rattle.jc_ledger.specs.Ledger.{Record, record_of, has_failed, has_record, is_held, is_success, space, fresh, chosen, successes, Ledger}
+use Rattle.jc_ledger.specs.Ledger.{Record, record_of, was_judged_failed, has_record, is_held, is_success, space, fresh, chosen, successes, Ledger}
 use Rattle.jc_account.specs.Rooms.{joins_list, takes_room}
 use Rattle.jc_ledger.specs.Tied.{HasSoundLists, IsListing, IsCurrent, TiesJob}
 use Rattle.jc_ledger.proofs.MadeFacts.{outcome-step}
@@ -253,12 +253,12 @@ module _ (made : Job) (log : List Entry) (ledger : Ledger) (job : Job) (y : ℕ)
   -- ---- the same indexes are done
 
   -- Of an Indexed Job what was judged Failed is listed as long as its pod is tracked.
-  failed_listed : job.spec.mode ≡ Indexed → (pod : Pod) → life pod.uid (upto y log) ≡ Live pod → pod.tracked ≡ true → has_failed ledger.records pod.uid ≡ is_listed job.status pod.uid
+  failed_listed : job.spec.mode ≡ Indexed → (pod : Pod) → life pod.uid (upto y log) ≡ Live pod → pod.tracked ≡ true → was_judged_failed ledger.records pod.uid ≡ is_listed job.status pod.uid
   failed_listed indexed pod live tracked =
       by (record_of pod.uid ledger.records) refl
       ∙ sym (ap (λ m. has_joined m ledger.records pod.uid) indexed) ∙ joined_listed pod live tracked
     where
-      by : (o : Option Record) → record_of pod.uid ledger.records ≡ o → has_failed ledger.records pod.uid ≡ has_joined Indexed ledger.records pod.uid
+      by : (o : Option Record) → record_of pod.uid ledger.records ≡ o → was_judged_failed ledger.records pod.uid ≡ has_joined Indexed ledger.records pod.uid
       by None h =
           ap (λ (o : Option Record). option_map_or (λ (r : Record). same_outcome r.outcome Failed) o false) h
           ∙ sym (ap (λ (o : Option Record). option_map_or (λ (r : Record). joins_list Indexed r.outcome) o false) h)
@@ -278,5 +278,5 @@ module _ (made : Job) (log : List Entry) (ledger : Ledger) (job : Job) (y : ℕ)
       at : (pod : Pod) → life pod.uid (upto y log) ≡ Live pod → (t : Bool) → pod.tracked ≡ t → is_success job ledger.records pod ≡ is_new job Succeeded pod
       at pod live true t = ap (λ b. has_come_to job Succeeded pod && not b) (failed_listed indexed pod live t)
       at pod live false t =
-          ap (λ b. (b && same_outcome (outcome_of job.spec pod) Succeeded) && not (has_failed ledger.records pod.uid)) t
+          ap (λ b. (b && same_outcome (outcome_of job.spec pod) Succeeded) && not (was_judged_failed ledger.records pod.uid)) t
           ∙ sym (ap (λ b. (b && same_outcome (outcome_of job.spec pod) Succeeded) && not (is_listed job.status pod.uid)) t)

@@ -17,36 +17,10 @@ use Rattle.jc_states.specs.UidLists.{join}
 use Rattle.jc_types.proofs.ListFacts.{Each-append, Each-filter, Each-passes, Each-weaker}
 use Rattle.jc_account.specs.Modes.{indexes_of}
 use Rattle.jc_ledger.specs.Ledger.{is_within, kept, within, Ledger, Judging, successes, entered, judged_by, judging_of, ledger_of}
+use Rattle.jc_account.proofs.IndexFacts.{each-with as each_with}
+use Rattle.jc_perindex.proofs.Sets.{increasing-filter as increases_filter, increasing-with as increases_with, increasing-join as increases_join}
 
 -- ---- joins increase
-
--- What passes a test has what the test says.
-each_passing : (P : ℕ → Type 0) (p : ℕ → Bool) → ((x : ℕ) → p x ≡ true → P x) → (xs : List ℕ) → Each P (filter p xs)
-each_passing P p f xs = Each-weaker (λ x. p x ≡ true) P f (filter p xs) (Each-passes p xs)
-
--- A filter keeps the order.
-increases_filter : (p : ℕ → Bool) (xs : List ℕ) → IsIncreasing xs → IsIncreasing (filter p xs)
-increases_filter p [] s = tt
-increases_filter p (x ∷ xs) s = by (p x) (Each-filter (λ y. x < y) p xs s.0) (increases_filter p xs s.1)
-  where
-    by : (b : Bool) → Each (λ y. x < y) (filter p xs) → IsIncreasing (filter p xs) → IsIncreasing (cond b (x ∷ filter p xs) (filter p xs))
-    by true above rest = (above, rest)
-    by false above rest = rest
-
--- A member more keeps the order.
-pub increases_with : (n : ℕ) (xs : List ℕ) → IsIncreasing xs → IsIncreasing (with_member n xs)
-increases_with n xs s =
-    let front = filter (λ x. ltb x n) xs in
-    let back = filter (λ x. ltb n x) xs in
-    let below : Each (λ x. x < n) front = each_passing (λ x. x < n) (λ x. ltb x n) (λ x e. ltb-true x n e) xs in
-    let above : Each (λ x. n < x) back = each_passing (λ x. n < x) (λ x. ltb n x) (λ x e. ltb-true n x e) xs in
-    increasing_append front (n ∷ back) n (increases_filter (λ x. ltb x n) xs s) (above, increases_filter (λ x. ltb n x) xs s) below
-    (omega arith, each_weaker (λ x. n < x) (λ x. n ≤ x) (λ x q. omega arith) back above)
-
--- Others that join keep the order.
-pub increases_join : (xs more : List ℕ) → IsIncreasing xs → IsIncreasing (join xs more)
-increases_join xs [] s = s
-increases_join xs (n ∷ more) s = increases_with n (join xs more) (increases_join xs more s)
 
 -- What stays of them keeps the order.
 pub increases_kept : (job : Job) (xs : List ℕ) → IsIncreasing xs → IsIncreasing (kept job xs)
@@ -72,16 +46,6 @@ done-increases j (d ∷ past) log = by (judging_of d past log) (ledger_of j past
         either false = s
 
 -- ---- what each index has
-
--- With a member more.
-each_with : (P : ℕ → Type 0) (n : ℕ) (xs : List ℕ) → P n → Each P xs → Each P (with_member n xs)
-each_with P n xs h all =
-    Each-append P (filter (λ x. ltb x n) xs) (n ∷ filter (λ x. ltb n x) xs) (Each-filter P (λ x. ltb x n) xs all) (h, Each-filter P (λ x. ltb n x) xs all)
-
--- With others that join.
-pub each_join : (P : ℕ → Type 0) (xs more : List ℕ) → Each P xs → Each P more → Each P (join xs more)
-each_join P xs [] all rest = all
-each_join P xs (n ∷ more) all rest = each_with P n (join xs more) rest.0 (each_join P xs more all rest.1)
 
 -- What the index of each pod has, if it has one, each of their indexes has.
 pub indexes-each : (P : ℕ → Type 0) (pods : List Pod) → Each (λ pod. IfSome pod.index P) pods → Each P (indexes_of pods)

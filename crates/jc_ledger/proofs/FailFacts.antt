@@ -30,11 +30,11 @@ use Rattle.jc_account.proofs.AccountFacts.{judged-failed}
 use Rattle.jc_account.proofs.JudgementFacts.{newly-is}
 use Rattle.jc_account.proofs.ListedFacts.{below_none, each, has-indexes}
 use Rattle.jc_account.proofs.Owned.{filter-least}
-use Rattle.jc_perindex.specs.Failures.{count_of, failing_by, failing_in, failures_by, failures_in, failures_of, fails_at, newly_failed, policy_fails_index, raised, raised_at}
+use Rattle.jc_perindex.specs.Failures.{count_at, failing_by, failing_in, failures_by, failures_in, failures_of, fails_at, newly_failed, policy_fails_index, raised, raised_at}
 use Rattle.jc_ledger.specs.Ledger.{Ledger, Record, failed_pods, judged_as}
 use Rattle.jc_ledger.specs.Once.{SaysFails}
-use Rattle.jc_ledger.proofs.DoneFacts.{increases_join}
 use Rattle.jc_ledger.proofs.RoomFacts.{is_newly}
+use Rattle.jc_perindex.proofs.Sets.{increasing-join as increases_join}
 
 -- ---- increasing numbers
 
@@ -103,12 +103,12 @@ join-parts xs ys =
 -- ---- counts of indexes
 
 -- The count of the index among those of indexes.
-count_found : (failure : Option FailurePolicy) (pods : List Pod) (n : ℕ) (indexes : List ℕ) → count_of n (map (raised_at failure [] pods) indexes) ≡ cond (has n indexes) (Some (raised_at failure [] pods n)) None
+count_found : (failure : Option FailurePolicy) (pods : List Pod) (n : ℕ) (indexes : List ℕ) → count_at n (map (raised_at failure [] pods) indexes) ≡ cond (has n indexes) (Some (raised_at failure [] pods n)) None
 count_found failure pods n [] = refl
 count_found failure pods n (m ∷ indexes) = by (eqb m n) refl (count_found failure pods n indexes)
   where
-    by : (b : Bool) → eqb m n ≡ b → count_of n (map (raised_at failure [] pods) indexes) ≡ cond (has n indexes) (Some (raised_at failure [] pods n)) None
-        → cond b (Some (raised_at failure [] pods m)) (count_of n (map (raised_at failure [] pods) indexes)) ≡ cond (b || has n indexes) (Some (raised_at failure [] pods n)) None
+    by : (b : Bool) → eqb m n ≡ b → count_at n (map (raised_at failure [] pods) indexes) ≡ cond (has n indexes) (Some (raised_at failure [] pods n)) None
+        → cond b (Some (raised_at failure [] pods m)) (count_at n (map (raised_at failure [] pods) indexes)) ≡ cond (b || has n indexes) (Some (raised_at failure [] pods n)) None
     by true e h = ap (λ k. Some (raised_at failure [] pods k)) (eqb-true m n e)
     by false e h = h
 

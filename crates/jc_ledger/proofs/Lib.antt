@@ -25,3 +25,4 @@ pub mod AgreementFacts
 pub mod FirstFacts
 pub mod FirstStatus
 pub mod VerdictBounds
+pub mod SyncFacts

@@ -20,22 +20,9 @@ use Rattle.jc_account.specs.Judged.{candidates, fits, is_candidate, is_left_over
 use Rattle.jc_account.specs.Rooms.{has_room, joins_list, judged_within, precedes, takes_room}
 use Rattle.jc_account.proofs.ListedFacts.{each}
 use Rattle.jc_account.proofs.JudgementFacts.{newly-is}
+use Rattle.jc_account.proofs.RoomFacts.{first-preceded as none_before, one-more as both_more, unfiltered as Each-kept}
 
 -- ---- the first of rising pods
-
--- So many more below so many more.
-both_more : (a m : ℕ) → ltb (suc a) (suc m) ≡ ltb a m
-both_more a m = by (ltb a m) refl
-  where
-    by : (b : Bool) → ltb a m ≡ b → ltb (suc a) (suc m) ≡ b
-    by true e = let lt = ltb-true a m e in lt-ltb (suc a) (suc m) (omega (arith, lt))
-    by false e = let le = ltb-false a m e in le-ltb (suc a) (suc m) (omega (arith, le))
-
--- None of them precedes the first.
-none_before : (pod : Pod) (pods : List Pod) → RisesFrom (pod.uid.0 + 1) pods → filter (precedes pod.uid) (pod ∷ pods) ≡ []
-none_before pod pods r =
-    filter_none (precedes pod.uid) (pod ∷ pods)
-    (le-ltb pod.uid.0 pod.uid.0 (omega arith), Each-weaker (λ (q : Pod). pod.uid.0 + 1 ≤ q.uid.0) (λ q. precedes pod.uid q ≡ false) (λ q h. le-ltb q.uid.0 pod.uid.0 (omega (arith, h))) pods (rises-each (pod.uid.0 + 1) pods r))
 
 -- The first precedes each of the others.
 one_before : (pod q : Pod) (pods : List Pod) → pod.uid.0 + 1 ≤ q.uid.0 → length (filter (precedes q.uid) (pod ∷ pods)) ≡ suc (length (filter (precedes q.uid) pods))
@@ -188,16 +175,6 @@ to_release_cases job own pod h =
 -- ---- filters
 
 module _ {X : Type 0} where
-  -- What holds of each that a filter keeps holds of each that passes.
-  pub Each-kept : (P : X → Type 0) (test : X → Bool) (xs : List X) → Each P (filter test xs) → Each (λ x. test x ≡ true → P x) xs
-  Each-kept P test [] h = tt
-  Each-kept P test (x ∷ xs) h = by (test x) refl (Each-kept P test xs) h
-    where
-      by : (b : Bool) → test x ≡ b → (Each P (filter test xs) → Each (λ y. test y ≡ true → P y) xs)
-          → Each P (cond b (x ∷ filter test xs) (filter test xs)) → (test x ≡ true → P x) × Each (λ y. test y ≡ true → P y) xs
-      by true e ih h = (λ t. h.0, ih h.1)
-      by false e ih h = (λ t. absurd (true≢false (sym t ∙ e)), ih h)
-
   -- Where nothing is kept no element passes.
   pub Each-none : (test : X → Bool) (xs : List X) → filter test xs ≡ [] → Each (λ x. test x ≡ false) xs
   Each-none test xs none =

@@ -36,21 +36,22 @@ use Rattle.jc_states.specs.Listed.{is_listed}
 use Rattle.jc_account.specs.Judged.{candidates, has_come_to, has_tracked, is_candidate, is_fresh, is_new, is_staying, newly, room}
 use Rattle.jc_account.specs.Modes.{indexes_of}
 use Rattle.jc_account.proofs.AccountFacts.{failed-in, failed-list-empty, failed-out-sum, failed-released, indexed-in, succeeded-in, succeeded-list-empty, succeeded-out-sum, succeeded-released}
-use Rattle.jc_account.proofs.IndexFacts.{has-within}
+use Rattle.jc_account.proofs.IndexFacts.{has-within, each-join as each_join}
 use Rattle.jc_account.proofs.ListedFacts.{among_passing, each}
 use Rattle.jc_ledger.specs.EventKinds.{CountsIn, CountsOut}
-use Rattle.jc_ledger.specs.Ledger.{failed_after, failed_pods, fails_of, is_within, kept, within, Record, record_of, has_failed, has_record, is_held, is_success, space, fresh, chosen, Ledger, successes, entered}
+use Rattle.jc_ledger.specs.Ledger.{failed_after, failed_pods, fails_of, is_within, kept, within, Record, record_of, was_judged_failed, has_record, is_held, is_success, space, fresh, chosen, Ledger, successes, entered}
 use Rattle.jc_account.specs.Rooms.{has_room, joins_list, takes_room}
 use Rattle.jc_perindex.specs.Failures.{failed_set, failing_by, failures_by, has_failed as fails_index, newly_failed, raised}
 use Rattle.jc_ledger.specs.Once.{SaysFails}
 use Rattle.jc_ledger.specs.Tied.{made_as, HasSoundLists, IsListing, IsCurrent, TiesJob}
 use Rattle.jc_ledger.proofs.AgreementFacts.{failed_joins, has_joined, listed_joined}
-use Rattle.jc_ledger.proofs.DoneFacts.{each_join, indexes-each, join-known}
+use Rattle.jc_ledger.proofs.DoneFacts.{indexes-each, join-known}
 use Rattle.jc_ledger.proofs.FailFacts.{failing-in, failures-in, says-counts}
 use Rattle.jc_ledger.proofs.FirstFacts.{completed-in}
 use Rattle.jc_ledger.proofs.MadeFacts.{outcome-step}
 use Rattle.jc_ledger.proofs.PutFacts.{IsChosen, Puts, index_in}
-use Rattle.jc_ledger.proofs.RoomFacts.{Each-kept, Each-none, joining-first, judged-joining, newly-free, parts_few}
+use Rattle.jc_ledger.proofs.RoomFacts.{Each-none, joining-first, judged-joining, newly-free, parts_few}
+use Rattle.jc_account.proofs.RoomFacts.{unfiltered as Each-kept}
 use Rattle.jc_ledger.proofs.RecordFacts.{Found, Old, New, failed_pods-more, record_of-found, judged_as-more}
 
 -- A pod of the Job, as it stood among the first n entries.
@@ -401,7 +402,7 @@ module _ (made : Job) (log : List Entry) (ledger : Ledger) (job : Job) (pods : L
           ap (λ b. cond b ledger.done (within job.spec ledger.done)) e ∙ filter_all (is_within job.spec) ledger.done (below e)
 
   -- Of an Indexed Job what is listed now was judged Failed.
-  listed_failed : job.spec.mode ≡ Indexed → (u : Uid) → is_listed current.status u ≡ true → has_failed ledger.records u ≡ true
+  listed_failed : job.spec.mode ≡ Indexed → (u : Uid) → is_listed current.status u ≡ true → was_judged_failed ledger.records u ≡ true
   listed_failed at u l =
       elim (or_cases (is_in u current.status.uncounted_succeeded) (is_in u current.status.uncounted_failed) l) [
         | inl s ↦ absurd (true≢false (sym s ∙ ap (is_in u) (tidy.none (mode_of_current ∙ at))))
@@ -413,13 +414,13 @@ module _ (made : Job) (log : List Entry) (ledger : Ledger) (job : Job) (pods : L
   -- So a success is one that was new when the sync began,
   success_new : job.spec.mode ≡ Indexed → (pod : Pod) → IsAmong pod → is_success job ledger.records pod ≡ true → is_new job Succeeded pod ≡ true
   success_new at pod a s =
-      let parts = and_parts (has_come_to job Succeeded pod) (not (has_failed ledger.records pod.uid)) s in
+      let parts = and_parts (has_come_to job Succeeded pod) (not (was_judged_failed ledger.records pod.uid)) s in
       let tracked = (and_parts (is_tracked pod) (same_outcome (outcome_of job.spec pod) Succeeded) parts.0).0 in
       let listed : is_listed job.status pod.uid ≡ true → ⊥ =
       λ l.
       true≢false
       (sym (listed_failed at pod.uid (stays_listed pod.uid l (sym (among_passing pod.uid is_tracked own) ∙ a.0 tracked)))
-      ∙ not-true (has_failed ledger.records pod.uid) parts.1) in
+      ∙ not-true (was_judged_failed ledger.records pod.uid) parts.1) in
       and_from (has_come_to job Succeeded pod) (not (is_listed job.status pod.uid)) parts.0
       (not_from_false (is_listed job.status pod.uid) (false_from_ne_true (is_listed job.status pod.uid) listed))
 

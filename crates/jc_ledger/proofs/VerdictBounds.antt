@@ -24,7 +24,8 @@ use Rattle.jc_account.specs.Modes.{indexes_of}
 use Rattle.jc_account.specs.Judged.{is_fresh}
 use Rattle.jc_account.specs.Rooms.{has_room}
 use Rattle.jc_ledger.specs.Ledger.{is_within, kept, within, Record, Ledger, Judging, space, fresh, chosen, has_record, recorded, is_success, successes, entered, judged_by, judging_of, ledger_of}
-use Rattle.jc_ledger.proofs.DoneFacts.{done-increases, each_join, indexes-each}
+use Rattle.jc_ledger.proofs.DoneFacts.{done-increases, indexes-each}
+use Rattle.jc_account.proofs.IndexFacts.{each-join as each_join}
 
 -- Equality of UIDs is an equivalence.
 pub same_uid-laws : IsEquivalence same_uid

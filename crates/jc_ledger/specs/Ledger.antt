@@ -15,7 +15,7 @@
 --     is_within spec index            the index is below the number of completions
 --     within spec indexes             those of the indexes that are
 --     kept job indexes                those that stay in a set
---     has_failed records u            the pod of the UID was judged Failed
+--     was_judged_failed records u            the pod of the UID was judged Failed
 --     successes job records pods      the pods whose indexes are done
 --     records_after, done_after, failed_after   its parts after a write whose sync saw the pods
 --     entered job pods seen at ledger the ledger after it
@@ -135,13 +135,13 @@ kept job indexes =
     kept_indexes (has_end job.status.conditions) (unwrap_or job.spec.completions 0) indexes
 
 -- The pod was judged Failed.
-abbrev pub has_failed : List Record → Uid → Bool
-has_failed records u =
+abbrev pub was_judged_failed : List Record → Uid → Bool
+was_judged_failed records u =
     option_map_or (λ (r : Record). same_outcome r.outcome Failed) (record_of u records) false
 
 -- The pod is tracked and has succeeded, and was not judged Failed.
 abbrev pub is_success : Job → List Record → Pod → Bool
-is_success job records pod = has_come_to job Succeeded pod && not (has_failed records pod.uid)
+is_success job records pod = has_come_to job Succeeded pod && not (was_judged_failed records pod.uid)
 
 -- The pods whose indexes are done.
 abbrev pub successes : Job → List Record → List Pod → List Pod

@@ -120,7 +120,7 @@ module _ {A : Type 0} where
   slice_get-front (x ∷ xs) ys zero h = refl
   slice_get-front (x ∷ xs) ys (suc i) h = slice_get-front xs ys i (omega (arith, h))
 
-  slice_get-after : (xs : List A) (y : A) → slice_get (xs ++ y ∷ []) (length xs) ≡ Some y
+  pub slice_get-after : (xs : List A) (y : A) → slice_get (xs ++ y ∷ []) (length xs) ≡ Some y
   slice_get-after [] y = refl
   slice_get-after (x ∷ xs) y = slice_get-after xs y
 

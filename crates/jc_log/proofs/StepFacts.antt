@@ -37,8 +37,8 @@ ends_from_job key log old new there step spec status =
     subst (λ o. CanEnd o new) (there ∙ ap (λ k. job_in k log) (sym (job_in-key key log old (sym there)) ∙ sym step.key)) (step, spec, status)
 
 -- A Job keeps the rest where its version, its specification and its status are written.
-same_rest : (old : Job) (version : Version) (status : JobStatus) (new : Job) → new ≡ record old { version = version; status = status } → JobStep old new
-same_rest old version status new e = record {
+pub status_step : (old : Job) (version : Version) (status : JobStatus) (new : Job) → new ≡ record old { version = version; status = status } → JobStep old new
+status_step old version status new e = record {
   key = ap (λ j. j.key) e;
   uid = ap (λ j. j.uid) e;
   created = ap (λ j. j.created) e;
@@ -50,11 +50,8 @@ same_rest old version status new e = record {
   template = ap (λ j. j.spec.template) e;
 }
 
-pub status_step : (old : Job) (version : Version) (status : JobStatus) (new : Job) → new ≡ record old { version = version; status = status } → JobStep old new
-status_step old version status new e = same_rest old version status new e
-
 pub version_step : (old : Job) (version : Version) (new : Job) → new ≡ record old { version = version } → JobStep old new
-version_step old version new e = same_rest old version old.status new e
+version_step old version new e = status_step old version old.status new e
 
 -- A changed specification keeps what no change names.
 pub spec_step : (old : Job) (version : Version) (change : SpecChange) (base changed shared : JobSpec) (new : Job) → base ≡ old.spec → changed ≡ changed_spec base change → shared ≡ changed → new ≡ record old { version = version; spec = shared } → JobStep old new

@@ -71,7 +71,7 @@ with-again pod (Some end) act h = by (is_pending pod.phase) (is_again pod end) h
     by false false h = given (Some end) (does.Finish end) act refl h
 
 -- The kind of what befalls a pod gives it again, with the pod's end.
-act-again : (fates : Key → Option (List End)) (pod : Pod) (act : Act) → act_on fates pod ≡ Some act → act_of (act_kind act) (pod_end fates pod) ≡ Some act
+pub act-again : (fates : Key → Option (List End)) (pod : Pod) (act : Act) → act_on fates pod ≡ Some act → act_of (act_kind act) (pod_end fates pod) ≡ Some act
 act-again fates pod act h = by (not (is_open pod)) (is_marked pod) h
   where
     by : (ended marked : Bool) → (if ended then None else if marked then Some does.Stop else act_with pod (pod_end fates pod)) ≡ Some act → act_of (act_kind act) (pod_end fates pod) ≡ Some act

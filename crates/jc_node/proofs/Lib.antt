@@ -1,4 +1,4 @@
 mod ChangeFacts
 mod FateFacts
 mod NextFacts
-mod LawFacts
+pub mod LawFacts

@@ -6,6 +6,7 @@ use Rattle.std.proofs.lemmas.Bool.{ltb-true, ltb-false, leb-true, leb-false, eqb
 use Rattle.std.proofs.lemmas.List.{take_all, drop_all}
 use Rattle.jc_types.specs.declared.statuses.IndexCount.{IndexCount}
 use Rattle.jc_perindex.specs.Steps.{one_failure, raise, with_failure}
+use Rattle.jc_account.proofs.Placed.{Found, found}
 
 -- The place in the list: the first count whose index is not below.
 abbrev place : ℕ → List IndexCount → ℕ
@@ -61,19 +62,6 @@ raise_between n f d (v ∷ rest) other = by (ltb n v.index) (eqb n v.index) (leb
     by false true false l e m ih other = absurd (omega (arith, eqb-true n v.index e, leb-false n v.index m))
     by false false true l e m ih other = absurd (eqb-false n v.index e (omega (arith, ltb-false n v.index l, leb-true n v.index m)))
     by false false false l e m ih other = between_step n f d v rest (place n rest) (1 + place n rest) (omega arith) ih other
-
--- What the search for a place gives.
-Found : ℕ → ℕ → Option ℕ → Type 0
-Found i n None = n ≤ i
-Found i n (Some k) = (i ≡ k) × (i < n)
-
-found : (i n : ℕ) → Found i n (cond (ltb i n) (Some i) None)
-unfolding Found
-found i n = by (ltb i n) refl
-  where
-    by : (b : Bool) → ltb i n ≡ b → Found i n (cond b (Some i) None)
-    by true e = (refl, ltb-true i n e)
-    by false e = ltb-false i n e
 
 -- The index has a count.
 pub raise_there : (n : ℕ) (f : Bool) (there : IndexCount) (counts : List IndexCount) (k : ℕ) → Some k ≡ position (λ (count : IndexCount). leb n count.index) counts

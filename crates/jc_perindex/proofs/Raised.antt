@@ -13,7 +13,7 @@ use Rattle.jc_states.specs.Indexes.{has_index}
 use Rattle.jc_states.specs.UidLists.{join}
 use Rattle.jc_states.proofs.UidListFacts.{has-join}
 use Rattle.jc_account.specs.Modes.{indexes_of}
-use Rattle.jc_perindex.specs.Failures.{count_of, fails_at, failures_of, policy_fails_index, raised, raised_at}
+use Rattle.jc_perindex.specs.Failures.{count_at, fails_at, failures_of, policy_fails_index, raised, raised_at}
 use Rattle.jc_perindex.specs.Steps.{one_failure, raise, raise_each, raise_for, with_failure}
 use Rattle.jc_perindex.proofs.Sets.{increasing-join, with-before, with-behind, with-here}
 
@@ -93,11 +93,11 @@ module _ (g h : ℕ → IndexCount) (n : ℕ) (f : Bool) (index : (k : ℕ) → 
 -- ---- what is said of an index
 
 -- An index that is not among the counts had no failure.
-absent : (n : ℕ) (counts : List IndexCount) → has n (map (λ (c : IndexCount). c.index) counts) ≡ false → count_of n counts ≡ None
+absent : (n : ℕ) (counts : List IndexCount) → has n (map (λ (c : IndexCount). c.index) counts) ≡ false → count_at n counts ≡ None
 absent n [] e = refl
 absent n (c ∷ counts) e = by (eqb c.index n) e (absent n counts)
   where
-    by : (b : Bool) → (b || has n (map (λ (x : IndexCount). x.index) counts)) ≡ false → (has n (map (λ (x : IndexCount). x.index) counts) ≡ false → count_of n counts ≡ None) → cond b (Some c) (count_of n counts) ≡ None
+    by : (b : Bool) → (b || has n (map (λ (x : IndexCount). x.index) counts)) ≡ false → (has n (map (λ (x : IndexCount). x.index) counts) ≡ false → count_at n counts ≡ None) → cond b (Some c) (count_at n counts) ≡ None
     by true h ih = absurd (true≢false h)
     by false h ih = ih h
 
@@ -233,8 +233,8 @@ module _ (failure : Option FailurePolicy) (counts : List IndexCount) (up : IsInc
           ap (λ x. x ∷ map (at (c ∷ cs)) (map (λ (d : IndexCount). d.index) cs))
           (ap (λ b. record {
             index = c.index;
-            failures = option_map_or (λ (d : IndexCount). d.failures) (cond b (Some c) (count_of c.index cs)) 0 + 0;
-            fail = option_map_or (λ (d : IndexCount). d.fail) (cond b (Some c) (count_of c.index cs)) false || false;
+            failures = option_map_or (λ (d : IndexCount). d.failures) (cond b (Some c) (count_at c.index cs)) 0 + 0;
+            fail = option_map_or (λ (d : IndexCount). d.fail) (cond b (Some c) (count_at c.index cs)) false || false;
           }) (eq-eqb c.index c.index refl) ∙ bare c)
           ∙ ap (λ xs. c ∷ xs) (later (map (λ (d : IndexCount). d.index) cs) rises.0 ∙ all cs rises.1)
         where
@@ -243,8 +243,8 @@ module _ (failure : Option FailurePolicy) (counts : List IndexCount) (up : IsInc
           later (n ∷ ns) above =
               ap (λ b. record {
                 index = n;
-                failures = option_map_or (λ (d : IndexCount). d.failures) (cond b (Some c) (count_of n cs)) 0 + 0;
-                fail = option_map_or (λ (d : IndexCount). d.fail) (cond b (Some c) (count_of n cs)) false || false;
+                failures = option_map_or (λ (d : IndexCount). d.failures) (cond b (Some c) (count_at n cs)) 0 + 0;
+                fail = option_map_or (λ (d : IndexCount). d.fail) (cond b (Some c) (count_at n cs)) false || false;
               } ∷ map (at (c ∷ cs)) ns) (differ (eqb c.index n) refl)
               ∙ ap (λ xs. at cs n ∷ xs) (later ns above.1)
             where

@@ -9,10 +9,11 @@ use Rattle.jc_ranges.proofs.Order.{increasing_append}
 use Rattle.jc_types.specs.declared.statuses.IndexCount.{IndexCount}
 use Rattle.jc_types.proofs.ListFacts.{Each-filter, Each-map, Each-passes, Each-weaker, filter_all, filter_none}
 use Rattle.jc_states.specs.UidLists.{join}
+use Rattle.jc_account.proofs.IndexFacts.{with-last}
 
 -- ---- they stay in order
 
-increasing-filter : (test : ℕ → Bool) (xs : List ℕ) → IsIncreasing xs → IsIncreasing (filter test xs)
+pub increasing-filter : (test : ℕ → Bool) (xs : List ℕ) → IsIncreasing xs → IsIncreasing (filter test xs)
 increasing-filter test [] up = tt
 increasing-filter test (x ∷ xs) up = by (test x) (increasing-filter test xs up.1)
   where
@@ -20,7 +21,7 @@ increasing-filter test (x ∷ xs) up = by (test x) (increasing-filter test xs up
     by true h = (Each-filter (λ y. x < y) test xs up.0, h)
     by false h = h
 
-increasing-with : (n : ℕ) (xs : List ℕ) → IsIncreasing xs → IsIncreasing (with_member n xs)
+pub increasing-with : (n : ℕ) (xs : List ℕ) → IsIncreasing xs → IsIncreasing (with_member n xs)
 increasing-with n xs up =
     let above : Each (λ y. n < y) (filter (λ x. nat_lt n x) xs) =
     Each-weaker (λ x. nat_lt n x ≡ true) (λ y. n < y) (λ x e. ltb-true n x e) (filter (λ x. nat_lt n x) xs) (Each-passes (λ x. nat_lt n x) xs) in
@@ -56,13 +57,6 @@ with-behind n x xs l =
     ∙ ap (λ b. x ∷ filter (λ y. nat_lt y n) xs ++ n ∷ cond b (x ∷ filter (λ y. nat_lt n y) xs) (filter (λ y. nat_lt n y) xs)) (le-ltb n x (omega (arith, l)))
 
 -- ---- one member more at the end
-
-with-last : (n : ℕ) (xs : List ℕ) → Each (λ x. x < n) xs → with_member n xs ≡ xs ++ n ∷ []
-with-last n xs h =
-    ap (λ ys. ys ++ n ∷ filter (λ x. nat_lt n x) xs)
-    (filter_all (λ x. nat_lt x n) xs (Each-weaker (λ x. x < n) (λ x. nat_lt x n ≡ true) (λ x l. lt-ltb x n l) xs h))
-    ∙ ap (λ ys. xs ++ n ∷ ys)
-    (filter_none (λ x. nat_lt n x) xs (Each-weaker (λ x. x < n) (λ x. nat_lt n x ≡ false) (λ x l. le-ltb n x (omega (arith, l))) xs h))
 
 abbrev index_of : IndexCount → ℕ
 index_of count = count.index

@@ -1,6 +1,6 @@
 -- How often pods of each index have failed, and which indexes have failed by that (KEP-3850). `own` are the Job's own
 -- pods among those that a sync sees.
---     is_fail_index action               the action FailIndex
+--     is_fail_index_action action               the action FailIndex
 --     policy_fails_index failure pod     the failure policy, where there is one, fails the index for the pod
 --     newly_failed own uids              the pods of these UIDs: those that are newly judged as failed
 --     failures_of n counts               how often pods of the index had failed
@@ -30,32 +30,32 @@ use Rattle.jc_failpol.specs.Rules.{action_of}
 use Rattle.jc_account.specs.Modes.{indexes_of}
 
 -- The action FailIndex.
-abbrev pub is_fail_index : Action → Bool
-is_fail_index FailJob = false
-is_fail_index Ignore = false
-is_fail_index Count = false
-is_fail_index FailIndex = true
+abbrev pub is_fail_index_action : Action → Bool
+is_fail_index_action FailJob = false
+is_fail_index_action Ignore = false
+is_fail_index_action Count = false
+is_fail_index_action FailIndex = true
 
 -- The failure policy, where there is one, fails the index for the pod.
 abbrev pub policy_fails_index : Option FailurePolicy → Pod → Bool
 policy_fails_index None pod = false
-policy_fails_index (Some policy) pod = is_fail_index (action_of policy pod)
+policy_fails_index (Some policy) pod = is_fail_index_action (action_of policy pod)
 
 -- The pods that are newly judged as failed: those of these UIDs.
 abbrev pub newly_failed : List Pod → List Uid → List Pod
 newly_failed own uids = filter (λ pod. is_in pod.uid uids) own
 
 -- The count of the index, where there is one.
-abbrev pub count_of : ℕ → List IndexCount → Option IndexCount
-count_of n counts = find (λ (count : IndexCount). count.index == n) counts
+abbrev pub count_at : ℕ → List IndexCount → Option IndexCount
+count_at n counts = find (λ (count : IndexCount). count.index == n) counts
 
 -- How often pods of the index had failed.
 abbrev pub failures_of : ℕ → List IndexCount → ℕ
-failures_of n counts = option_map_or (λ (count : IndexCount). count.failures) (count_of n counts) 0
+failures_of n counts = option_map_or (λ (count : IndexCount). count.failures) (count_at n counts) 0
 
 -- One of them had failed the index.
 abbrev pub fails_at : ℕ → List IndexCount → Bool
-fails_at n counts = option_map_or (λ (count : IndexCount). count.fail) (count_of n counts) false
+fails_at n counts = option_map_or (λ (count : IndexCount). count.fail) (count_at n counts) false
 
 -- The count of the index with the failures of these pods.
 abbrev pub raised_at : Option FailurePolicy → List IndexCount → List Pod → ℕ → IndexCount

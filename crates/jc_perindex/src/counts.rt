@@ -5,7 +5,7 @@ ghost use Rattle.std.specs.List.{position};
 ghost use Rattle.jc_types.specs.declared.statuses.IndexCount.{IndexCount};
 ghost use Rattle.jc_states.specs.Bases.{is_own, own_pods};
 ghost use Rattle.jc_states.specs.UidLists.{is_in};
-ghost use Rattle.jc_perindex.specs.Failures.{is_fail_index, newly_failed, policy_fails_index};
+ghost use Rattle.jc_perindex.specs.Failures.{is_fail_index_action, newly_failed, policy_fails_index};
 ghost use Rattle.jc_perindex.specs.Steps.{one_failure, raise, raise_each, raise_for, with_failure};
 
 use jc_failpol::action;
@@ -15,7 +15,7 @@ use std::alloc::Global;
 
 // Whether the action fails the index.
 fn is_fail_index(action: Action) -> bool
-    ensures { result ≡ is_fail_index action }
+    ensures { result ≡ is_fail_index_action action }
 {
     match action {
         Action::FailJob | Action::Ignore | Action::Count => false,

@@ -1,6 +1,6 @@
 -- How many pods a sync marks, lets go and makes at most, and how many stay ready.
 use Rattle.std.proofs.Common.{◌≡◌, ℕ, ◌+◌, ◌-◌, ◌≤◌, ◌==◌, Bool, true, false, cond, not, ◌&&◌, ◌||◌, List, [], ◌∷◌, length, filter, Option, Some, None, refl, ap, ◌∙◌, arith, unwrap_or}
-use Rattle.std.proofs.lemmas.List.{length-map}
+use Rattle.std.proofs.lemmas.List.{length-map, nil_from_length as no_item}
 use Rattle.std.proofs.lemmas.List.Elements.{filter_agree}
 use Rattle.std.proofs.lemmas.List.Sums.{count_by-le-length, length-filter}
 use Rattle.jc_types.specs.declared.limits.TheConstants.{GREATEST_PARALLELISM}
@@ -10,6 +10,7 @@ use Rattle.jc_types.specs.declared.syncs.CountIn.{CountIn}
 use Rattle.jc_types.specs.Counts.{counts}
 use Rattle.jc_states.specs.UidLists.{is_in}
 use Rattle.jc_states.specs.Pods.{is_active, is_marked, is_open, is_ready, is_tracked, is_ending, active_pods, ending_pods, is_tracked_active, tracked_active_pods}
+use Rattle.jc_account.proofs.Owned.{filter-least as filter-few}
 use Rattle.jc_manage.specs.Creations.{creatable, creates, job_wants, wanted}
 use Rattle.jc_manage.specs.LetGoes.{going, is_let_go, is_needless, is_to_mark, let_goes, marks, seen}
 use Rattle.jc_manage.specs.declared.results.Wants.{Wants}
@@ -28,10 +29,6 @@ module _ {A : Type 0} where
       by : (b : Bool) → length (cond b (x ∷ filter f xs) (filter f xs)) ≡ bit b + length (filter f xs)
       by true = omega arith
       by false = omega arith
-
-  -- A part of a list is no longer than the list.
-  pub filter-few : (f : A → Bool) (xs : List A) → length (filter f xs) ≤ length xs
-  filter-few f xs = omega (arith, length-filter f xs, count_by-le-length f xs)
 
   -- Two parts that are apart, each in a third, are together no longer than it.
   pub filters-within : (f g h : A → Bool) → ((x : A) → bit (f x) + bit (g x) ≤ bit (h x)) → (xs : List A) → length (filter f xs) + length (filter g xs) ≤ length (filter h xs)
@@ -116,10 +113,6 @@ creates-bounded opening now target job own counted h =
     )
 
 -- ---- pods that are ready
-
-no_item : {A : Type 0} (xs : List A) → length xs ≡ 0 → xs ≡ []
-no_item [] h = refl
-no_item (x ∷ xs) h = absurd (omega (arith, h))
 
 -- Where no pod is marked or let go, all ready pods stay ready.
 pub ready-stay : (wants : Wants) (own : List Pod) → stopped_by wants ≡ 0 → ready_after wants own ≡ length (filter is_ready own)

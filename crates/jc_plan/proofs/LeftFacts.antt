@@ -26,6 +26,7 @@ use Rattle.jc_account.specs.Judged.{candidates, fits, is_candidate, is_staying, 
 use Rattle.jc_account.specs.Rooms.{joins_list, precedes, takes_room}
 use Rattle.jc_account.proofs.AccountFacts.{failed-length, succeeded-length}
 use Rattle.jc_account.proofs.ListedFacts.{each}
+use Rattle.jc_account.proofs.RoomFacts.{first-preceded as none-before}
 use Rattle.jc_plan.specs.Plans.{planned}
 use Rattle.jc_plan.specs.Statuses.{first_value, second_value}
 use Rattle.jc_plan.proofs.BackoffFacts.{first-unneeded}
@@ -59,13 +60,6 @@ swapped a b pods =
     either true false = refl
     either false true = refl
     either false false = refl
-
--- None of ascending pods comes before the first.
-none-before : (pod : Pod) (pods : List Pod) → RisesFrom (pod.uid.0 + 1) pods → filter (precedes pod.uid) (pod ∷ pods) ≡ []
-none-before pod pods rises =
-    filter_none (precedes pod.uid) (pod ∷ pods)
-    (Each-weaker (λ p. pod.uid.0 ≤ p.uid.0) (λ p. nat_lt p.uid.0 pod.uid.0 ≡ false) (λ p h. le-ltb p.uid.0 pod.uid.0 h) (pod ∷ pods)
-    (rises-each pod.uid.0 (pod ∷ pods) (omega arith, rises)))
 
 -- What is judged, and neither fails nor succeeds where that joins a list, joins none.
 joins-none : (mode : Mode) (o : Outcome) → is_verdict o ≡ true → same_outcome o outcome.Failed ≡ false → (mode ≡ NonIndexed → same_outcome o outcome.Succeeded ≡ false) → joins_list mode o ≡ false

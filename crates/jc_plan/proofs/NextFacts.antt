@@ -2,6 +2,7 @@
 use Rattle.std.proofs.Common.{◌≡◌, ◌⊎◌, inl, inr, ◌↔◌, ℕ, ◌+◌, nat_le, Bool, true, false, cond, not, ◌&&◌, ◌||◌, List, [], map, filter, length, Option, Some, None, IsSome, is_some, unwrap_or, refl, sym, ap, ◌∙◌, subst, true≢false, arith}
 use Rattle.std.specs.List.{range_with_len, list_any}
 use Rattle.std.proofs.lemmas.List.{nil_from_length}
+use Rattle.std.proofs.lemmas.Bool.{and_parts}
 use Rattle.jc_ranges.specs.Sets.{has}
 use Rattle.jc_types.specs.declared.numbers.Uid.{Uid}
 use Rattle.jc_types.specs.declared.objects.Job.{Job}
@@ -228,10 +229,6 @@ same-conditions now job target over d1 d2 is_kind settles e imp stood = by d1 ov
         ∙ sym (idle (stood_ended g (ap (conditions_at now job target) (sym (e ∙ g)) ∙ stood)))
         ∙ ap (conditions_at now job target) (sym (e ∙ g))
 
-over-settled : (target rest : Bool) → (target && rest) ≡ true → target ≡ true
-over-settled true rest h = refl
-over-settled false rest h = absurd (true≢false (sym h))
-
 module _ (job : Job) (basis : Basis) (tidy : job.spec.mode ≡ Indexed → job.status.uncounted_succeeded ≡ []) (stays : second_value job basis ≡ job.status) where
   failed-none : (counted_in job basis.pods).uncounted_failed ≡ []
   unfolding second_value
@@ -276,9 +273,9 @@ module _ (job : Job) (basis : Basis) (tidy : job.spec.mode ≡ Indexed → job.s
       let e_c : conditions_at basis.now job target (is_first_due (is_settled job target) own counted) ≡ conditions_at basis.now job target (is_second_due (is_settled job target) own counted out) =
       same-conditions basis.now job target over (is_first_due (is_settled job target) own counted) (is_second_due (is_settled job target) own counted out)
       (target-kind counted basis.now job own)
-      (over-settled (is_settled job target) (not (list_any is_open own) && leaves_none counted))
+      (λ h. (and_parts (is_settled job target) (not (list_any is_open own) && leaves_none counted) h).0)
       (second-over over out.uncounted_succeeded out.uncounted_failed e_us e_uf)
-      (over-settled over (is_none counted.releases && lists_none counted.uncounted_succeeded counted.uncounted_failed))
+      (λ h. (and_parts over (is_none counted.releases && lists_none counted.uncounted_succeeded counted.uncounted_failed) h).0)
       (ap (λ (s : JobStatus). s.conditions) stays) in
       λ i. record first {
         succeeded = e_s i;

@@ -90,6 +90,10 @@ none-passes f g imp (x ∷ xs) h = by (none-passes f g imp xs) (f x) refl (g x) 
     by ih true e false i h = absurd (true≢false (sym (imp x e) ∙ i))
     by ih false e false i h = ih h
 
+-- A filter whose test none passes leaves nothing.
+pub none-length : {A : Type 0} (test : A → Bool) (xs : List A) → list_any test xs ≡ false → length (filter test xs) ≡ 0
+none-length test xs h = ap length (none-passes test test (λ x e. e) xs h)
+
 module _ (own : List Pod) (closed : list_any is_open own ≡ false) where
   active-none : active_pods own ≡ []
   active-none = none-passes is_active is_open (λ p h. (and_parts (is_open p) (not (is_marked p)) h).0) own closed

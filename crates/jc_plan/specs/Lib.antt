@@ -3,5 +3,17 @@ pub mod Numbers
 pub mod Statuses
 pub mod Plans
 pub mod Next
-pub mod Creations
+pub mod PodCounts
 pub mod Finishes
+-- The words of a plan's parts, handed on to the crates above.
+pub use Rattle.jc_account.specs.Accounts
+pub use Rattle.jc_account.specs.Judged
+pub use Rattle.jc_failpol.specs.Outcomes
+pub use Rattle.jc_failpol.specs.Rules
+pub use Rattle.jc_failpol.specs.declared.outcomes.Outcome
+pub use Rattle.jc_finish.specs.Decisions
+pub use Rattle.jc_manage.specs.Backoffs
+pub use Rattle.jc_manage.specs.Creations
+pub use Rattle.jc_manage.specs.LetGoes
+pub use Rattle.jc_manage.specs.SeenPods
+pub use Rattle.jc_perindex.specs.Failures

@@ -27,7 +27,7 @@ ghost use Rattle.jc_failpol.specs.Outcomes.{outcome_of};
 ghost use Rattle.jc_failpol.specs.Rules.{action_of};
 ghost use Rattle.jc_manage.specs.Creations.{IsIndexFor};
 ghost use Rattle.jc_manage.specs.LetGoes.{seen_uids};
-ghost use Rattle.jc_plan.specs.Creations.{created_for, running_of, stopping_of};
+ghost use Rattle.jc_plan.specs.PodCounts.{created_for, running_of, stopping_of};
 ghost use Rattle.jc_plan.specs.Finishes.{GainsEnd, HasFinished, IsAtRest, IsIdle, IsWound};
 ghost use Rattle.jc_plan.specs.Next.{ListsNoSuccess, next_value};
 ghost use Rattle.jc_plan.specs.Plans.{IsDated, WritesNothing, last_status, planned, planned_for};

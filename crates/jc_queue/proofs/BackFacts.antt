@@ -11,7 +11,7 @@ use Rattle.jc_queue.specs.Queued.{Queued, IsQueue, added, has_key, plus_key, ret
 
 -- ---- the first key goes last
 
-swapped : (a b : Bool) → (a || b) ≡ (b || a)
+pub swapped : (a b : Bool) → (a || b) ≡ (b || a)
 swapped true true = refl
 swapped true false = refl
 swapped false true = refl

@@ -4,6 +4,7 @@ use Rattle.std.specs.List.{AllByRecursion as Each}
 use Rattle.std.specs.Option.{option_to_list, unwrap_or}
 use Rattle.std.proofs.lemmas.List.{map-append, take_more}
 use Rattle.jc_types.specs.declared.objects.Key.{Key}
+use Rattle.jc_types.proofs.ListFacts.{Each-append}
 use Rattle.jc_queue.specs.declared.calls.Call.{Call}
 use Rattle.jc_queue.specs.declared.calls.Call.TheVariants.{Add, Get, Done, Finish, SendBack, Retract}
 use Rattle.jc_queue.specs.Calls.{GetsIdle, after, all_gots, called, finished_first, got_beside, gots_of, keys_got}
@@ -56,16 +57,11 @@ gots_idle q (Finish k) s = tt
 gots_idle q SendBack s = tt
 gots_idle q (Retract k) s = tt
 
--- What holds of each of two lists holds of each of both together.
-each-both : {X : Type 0} (P : X → Type 0) (xs ys : List X) → Each P xs → Each P ys → Each P (xs ++ ys)
-each-both P [] ys h g = g
-each-both P (x ∷ xs) ys h g = (h.0, each-both P xs ys h.1 g)
-
 -- What calls get is not processing when it is got.
 pub all_idle : (q : Queued) (calls : List Call) → IsQueue q → GetsIdle q calls
 all_idle q [] s = tt
 all_idle q (call ∷ calls) s =
-    each-both (λ (got : Key × List Key). has_key got.0 got.1 ≡ false) (gots_of q call) (all_gots (called q call) calls)
+    Each-append (λ (got : Key × List Key). has_key got.0 got.1 ≡ false) (gots_of q call) (all_gots (called q call) calls)
     (gots_idle q call s) (all_idle (called q call) calls (called_is q call s))
 
 -- One call more.

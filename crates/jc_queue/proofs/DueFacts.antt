@@ -12,15 +12,12 @@ use Rattle.jc_types.proofs.KeyFacts.{same_key-either_way, same_key-eq, same_key-
 use Rattle.jc_queue.specs.Delayed.{Delayed, due_key, due_keys, first_of, in_turn, is_before, is_due, key_by, key_order, left_after, left_by, put_in_turn, sooner}
 use Rattle.jc_queue.specs.Queued.{without}
 use Rattle.jc_queue.proofs.KeyLists.{distinct-without}
-
--- The value of an option that is some.
-pub of_some : {X : Type 0} (x y : X) → Some x ≡ Some y → x ≡ y
-of_some x y e = ap (λ o. unwrap_or o x) e
+use Rattle.std.proofs.lemmas.Option.{same_Some as of_some}
 
 -- ---- the row that is due first is one of the rows
 
 -- A key that is found is another than a key that differs from all.
-other_key : (k : Key) (rows : List (Key × ℕ)) (found : Key) (moment : ℕ) → Each (λ y. same_key k y ≡ false) (keys_of rows) → at same_key rows found ≡ Some moment → same_key found k ≡ false
+pub other_key : (k : Key) (rows : List (Key × ℕ)) (found : Key) (moment : ℕ) → Each (λ y. same_key k y ≡ false) (keys_of rows) → at same_key rows found ≡ Some moment → same_key found k ≡ false
 other_key k [] found moment h e = absurd (true≢false (ap is_some (sym e)))
 other_key k (row ∷ rows) found moment h e = by (same_key found row.0) refl e (other_key k rows found moment h.1)
   where

@@ -18,7 +18,8 @@ use Rattle.jc_types.proofs.KeyFacts.{same_key-eq, same_key-itself}
 use Rattle.jc_log.proofs.TableFacts.{Apart, Apart-takes, Sets-takes}
 use Rattle.jc_queue.specs.Delayed.{Delayed, IsInTurn, due_keys, first_of, in_turn, is_before, is_due, key_order, put_in_turn, sooner}
 use Rattle.jc_queue.proofs.KeyOrder.{both_equal, number_is, text_is}
-use Rattle.jc_queue.proofs.DueFacts.{distinct-kept, first_found, in_turn-first, of_some}
+use Rattle.jc_queue.proofs.DueFacts.{distinct-kept, first_found, in_turn-first}
+use Rattle.std.proofs.lemmas.Option.{same_Some as of_some}
 
 -- ---- the order of rows
 
@@ -28,7 +29,7 @@ row_cmp = then_cmp (on (λ (row : Key × ℕ). row.1) nat_cmp) (then_cmp (on (λ
 total : IsTotalOrder row_cmp
 total = then_total (on_total (λ (row : Key × ℕ). row.1) nat_cmp_total) (then_total (on_total (λ (row : Key × ℕ). row.0.namespace) nat_list_cmp_total) (on_total (λ (row : Key × ℕ). row.0.name) nat_list_cmp_total))
 
-before-cmp : (a b : Key × ℕ) → is_before a b ≡ is_lt (row_cmp a b)
+pub before-cmp : (a b : Key × ℕ) → is_before a b ≡ is_lt (row_cmp a b)
 before-cmp a b = by (nat_lt a.1 b.1) (a.1 == b.1) (key_order a.0 b.0)
   where
     by : (l e : Bool) (o : Ordering) → (l || (e && is_lt o)) ≡ is_lt (ordering_then (cond l Less (cond e Equal Greater)) o)
@@ -37,7 +38,7 @@ before-cmp a b = by (nat_lt a.1 b.1) (a.1 == b.1) (key_order a.0 b.0)
     by false false o = refl
 
 -- What a comparison tells.
-less_is : (o : Ordering) → is_lt o ≡ true → o ≡ Less
+pub less_is : (o : Ordering) → is_lt o ≡ true → o ≡ Less
 less_is Less h = refl
 less_is Equal h = absurd (true≢false (sym h))
 less_is Greater h = absurd (true≢false (sym h))
@@ -71,7 +72,7 @@ module _ (a b c : Key × ℕ) where
       by true t = absurd (true≢false (sym (before-cmp a b ∙ ap is_lt (than (less_is (row_cmp a c) (sym (before-cmp a c) ∙ t)) (row_cmp b c) refl)) ∙ h))
       by false t = refl
 
-itself : (a : Key × ℕ) → is_before a a ≡ false
+pub itself : (a : Key × ℕ) → is_before a a ≡ false
 itself a = by (is_before a a) refl
   where
     by : (t : Bool) → is_before a a ≡ t → t ≡ false
@@ -79,7 +80,7 @@ itself a = by (is_before a a) refl
     by false t = refl
 
 -- Rows that are equal in the order are equal.
-equal_is : (a b : Key × ℕ) → row_cmp a b ≡ Equal → a ≡ b
+pub equal_is : (a b : Key × ℕ) → row_cmp a b ≡ Equal → a ≡ b
 equal_is a b e =
     let m = both_equal (nat_cmp a.1 b.1) (key_order a.0 b.0) e in
     let n = both_equal (slice_cmp nat_cmp a.0.namespace b.0.namespace) (slice_cmp nat_cmp a.0.name b.0.name) m.1 in
@@ -108,7 +109,7 @@ first-least (row ∷ rows) f e = by (first_of rows) refl e (λ s. first-least ro
         at_test false t e = subst (λ f. Each (λ row. is_before row f ≡ false) (row ∷ rows)) e (itself row, weaker s t rows (ih s o))
 
 -- What holds of each row holds of what is found.
-each-at : (P : Key × ℕ → Type 0) (rows : List (Key × ℕ)) (k : Key) (moment : ℕ) → Each P rows → at same_key rows k ≡ Some moment → P (k, moment)
+pub each-at : (P : Key × ℕ → Type 0) (rows : List (Key × ℕ)) (k : Key) (moment : ℕ) → Each P rows → at same_key rows k ≡ Some moment → P (k, moment)
 each-at P [] k moment h e = absurd (true≢false (ap is_some (sym e)))
 each-at P (row ∷ rows) k moment h e = by (same_key k row.0) refl e (each-at P rows k moment h.1)
   where
@@ -136,7 +137,7 @@ distinct (row ∷ rows) d = (rest rows d.0, distinct rows d.1)
     rest [] h = tt
     rest (x ∷ some) h = (h.0, rest some h.1)
 
-shorter : (k : Key) (moment : ℕ) (rows : List (Key × ℕ)) → at same_key rows k ≡ Some moment → length (takes same_key rows k) + 1 ≡ length rows
+pub shorter : (k : Key) (moment : ℕ) (rows : List (Key × ℕ)) → at same_key rows k ≡ Some moment → length (takes same_key rows k) + 1 ≡ length rows
 shorter k moment [] e = absurd (true≢false (ap is_some (sym e)))
 shorter k moment (row ∷ rows) e = by (same_key k row.0) e (shorter k moment rows)
   where
@@ -144,7 +145,7 @@ shorter k moment (row ∷ rows) e = by (same_key k row.0) e (shorter k moment ro
     by true e ih = omega arith
     by false e ih = let rest = ih e in omega (arith, rest)
 
-is_there : (rows : List (Key × ℕ)) (k : Key) (moment : ℕ) → at same_key rows k ≡ Some moment → first_of rows ≡ None → ⊥
+pub is_there : (rows : List (Key × ℕ)) (k : Key) (moment : ℕ) → at same_key rows k ≡ Some moment → first_of rows ≡ None → ⊥
 is_there [] k moment e n = true≢false (ap is_some (sym e))
 is_there (row ∷ rows) k moment e n = true≢false (ap is_some n)
 

@@ -1,2 +1,2 @@
 mod Given
-mod Texts
+pub mod Texts

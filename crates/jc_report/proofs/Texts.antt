@@ -19,7 +19,7 @@ use Rattle.jc_report.specs.Reports.{by_key, job_lines, jobs_text, lines_with}
 
 -- ---- events
 
-event_lines-more : (n : ℕ) (ds : List Deed) (d : Deed) → event_lines n (ds ++ d ∷ []) ≡ event_lines n ds ++ event_line (n + length ds) d
+pub event_lines-more : (n : ℕ) (ds : List Deed) (d : Deed) → event_lines n (ds ++ d ∷ []) ≡ event_lines n ds ++ event_line (n + length ds) d
 event_lines-more n [] d =
     let same : n ≡ n + 0 = omega arith in
     append-nil (event_line n d) ∙ ap (λ m. event_line m d) same

@@ -6,12 +6,9 @@ use Rattle.jc_types.specs.Equality.{IsExact, same_job, same_option, same_pod}
 use Rattle.jc_types.specs.Keys.{same_key}
 use Rattle.jc_types.proofs.KeyFacts.{same_key-eq, same_key-itself}
 use Rattle.jc_types.proofs.EqualityFacts.{exact_from, option-exact}
-use Rattle.jc_types.proofs.ObjectEqualityFacts.{backoff-exact, job-exact, pod-exact}
+use Rattle.jc_types.proofs.ObjectEqualityFacts.{backoff-exact, job-exact, pod-exact, same_number}
 use Rattle.jc_states.specs.Bases.{same_basis}
 use Rattle.jc_states.specs.declared.bases.Basis.{Basis}
-
-same_number : (n : ℕ) → eqb n n ≡ true
-same_number n = eq-eqb n n refl
 
 key-exact : IsExact same_key
 key-exact = exact_from same_key same_key-eq same_key-itself

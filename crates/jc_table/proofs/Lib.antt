@@ -2,4 +2,4 @@ mod Numbers
 mod OpenPods
 mod PodRows
 pub mod ResultFacts
-mod RowFacts
+pub mod RowFacts

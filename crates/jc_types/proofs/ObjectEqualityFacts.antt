@@ -91,7 +91,7 @@ phase-equal : (a b : Phase) → eqb (phase_place a) (phase_place b) ≡ true →
 phase-equal = equal_by phase_place phase_at phase_at-place
 
 -- A number is the same as itself.
-same_number : (n : ℕ) → eqb n n ≡ true
+pub same_number : (n : ℕ) → eqb n n ≡ true
 same_number n = eq-eqb n n refl
 
 -- ---- parts

@@ -25,7 +25,7 @@ use Rattle.jc_ledger.specs.declared.counts.Verdicts.{Verdicts}
 use Rattle.jc_account.specs.declared.judgements.Judgement.{Judgement as Row}
 use Rattle.jc_verdicts.specs.Books.{AreCounts, AreFew, AreSound, IsSoundBook, Knows, done_at, rows_at, totals_of, verdicts_at}
 use Rattle.jc_ledger.specs.Ledger.{kept, Judging, Ledger, Record, entered, judged_by, ledger_of}
-use Rattle.jc_verdicts.specs.Verdicts.{IsCount, done_after, done_by, fresh_rows, new_rows, outcome_in, rows_for, success_indexes}
+use Rattle.jc_verdicts.specs.Verdicts.{IsCount, done_once_seen, done_by, fresh_rows, new_rows, outcome_in, rows_for, success_indexes}
 use Rattle.jc_ledger.specs.Ledger.{verdicts_of}
 use Rattle.jc_verdicts.proofs.VerdictFacts.{few_rows, few_kept, verdicts_are}
 use Rattle.jc_verdicts.proofs.VerdictRows.{outcomes-append, count_entered}
@@ -51,7 +51,7 @@ new-is job spec log seen known rows new pods same are knows is =
 
 -- The indexes that are done by what is known are those by the rows.
 pub done-known : (job : Job) (log : List Entry) (seen : ℕ) (known : List (Uid × Outcome)) (rows : List Row) (done more : List ℕ) (pods : List Pod) → pods ≡ pods_of job.uid (reverse (take seen log)) → Knows known rows
-    → more ≡ success_indexes job (at same_uid known) pods → join (kept job done) more ≡ done_after job rows done log seen
+    → more ≡ success_indexes job (at same_uid known) pods → join (kept job done) more ≡ done_once_seen job rows done log seen
 done-known job log seen known rows done more pods are knows is =
     ap (join (kept job done)) (is ∙ ap (λ f. success_indexes job f pods) (λ i u. knows u i) ∙ ap (success_indexes job (outcome_in rows)) are)
 
@@ -72,7 +72,7 @@ pub books-counted : (job : Job) (log : List Entry) (seen version : ℕ) (ledgers
     → ((j : Uid) → same_uid job.uid j ≡ false → at same_uid mid j ≡ at same_uid old j)
     → Sets same_uid mid new job.uid (Some book)
     → book.rows.items ≡ rows_at job.uid old ++ fresh_rows job (rows_at job.uid old) log seen
-    → book.done.items ≡ done_after job (rows_at job.uid old) (done_at job.uid old) log seen
+    → book.done.items ≡ done_once_seen job (rows_at job.uid old) (done_at job.uid old) log seen
     → AreCounts ledgers old
     → AreCounts (λ j. judged_by j (reverse log) (Some (record { job = job; seen = seen; at = version })) (ledgers j)) new
 books-counted job log seen version ledgers old mid new book others sets more joins counts j =

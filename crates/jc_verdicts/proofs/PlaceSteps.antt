@@ -15,7 +15,7 @@ use Rattle.jc_log.specs.Log.{Live, Gone, life, living, pod_in}
 use Rattle.jc_log.specs.PlainReadings.{is_about_job}
 use Rattle.jc_log.specs.Tables.{at, Sets}
 use Rattle.jc_verdicts.specs.declared.places.Places.{Places}
-use Rattle.jc_verdicts.specs.Places.{Adds, ArePlaces, is_other, owns, places_at, places_where, touches}
+use Rattle.jc_verdicts.specs.Places.{Adds, ArePlaces, was_owned, owns, places_at, places_where, touches}
 
 -- The owner of a pod.
 abbrev owner_of : Pod → Uid
@@ -48,12 +48,12 @@ module _ (older : List Entry) (place : ℕ) (long : length older ≡ place) (old
 
   -- A pod is put.
   pub pods-put : (pod : Pod) (before : Option Uid) (mid new : List (Uid × Vec ℕ Global)) → before ≡ option_map owner_of (pod_in pod.uid older)
-      → Adds same_uid old mid (same_uid pod.owner_uid) place → Adds same_uid mid new (λ j. is_other before pod.owner_uid j) place
+      → Adds same_uid old mid (same_uid pod.owner_uid) place → Adds same_uid mid new (λ j. was_owned before pod.owner_uid j) place
       → (j : Uid) → places_at same_uid new j ≡ places_where (touches j) (PodPut pod ∷ older)
   pods-put pod before mid new was own others j =
       others j
-      ∙ ap (λ ps. cond (is_other before pod.owner_uid j) (ps ++ place ∷ []) ps) (own j)
-      ∙ ap (λ o. cond (is_other o pod.owner_uid j) (told ++ place ∷ []) told) was
+      ∙ ap (λ ps. cond (was_owned before pod.owner_uid j) (ps ++ place ∷ []) ps) (own j)
+      ∙ ap (λ o. cond (was_owned o pod.owner_uid j) (told ++ place ∷ []) told) was
       ∙ by (pod_in pod.uid older)
       ∙ added j (same_uid pod.owner_uid j || owns j pod.uid older)
     where
@@ -63,7 +63,7 @@ module _ (older : List Entry) (place : ℕ) (long : length older ≡ place) (old
       told : List ℕ
       told = cond (same_uid pod.owner_uid j) (list ++ place ∷ []) list
 
-      by : (o : Option Pod) → cond (is_other (option_map owner_of o) pod.owner_uid j) (told ++ place ∷ []) told
+      by : (o : Option Pod) → cond (was_owned (option_map owner_of o) pod.owner_uid j) (told ++ place ∷ []) told
           ≡ cond (same_uid pod.owner_uid j || option_map_or (λ (p : Pod). same_uid p.owner_uid j) o false) (list ++ place ∷ []) list
       by None = told_once (same_uid pod.owner_uid j) false false (list ++ place ∷ []) list (λ h. refl) (λ h k. refl) place refl
       by (Some p) =

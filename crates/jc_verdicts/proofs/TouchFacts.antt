@@ -16,7 +16,7 @@ use Rattle.jc_states.specs.PodLists.{drop_pod}
 use Rattle.jc_log.specs.Log.{Live, job_in, life, living, pods_in, pods_of}
 use Rattle.jc_log.specs.PlainReadings.{is_about_job, job_put}
 use Rattle.jc_log.proofs.PodFacts.{pods_in-rises, pods_of-live, pods_of-owned}
-use Rattle.jc_verdicts.specs.Places.{IsCut, owns, places_where, told, touched, touches}
+use Rattle.jc_verdicts.specs.Places.{IsCut, owns, places_where, job_places, touching_places, touches}
 use Rattle.jc_verdicts.specs.Verdicts.{HasSeen, before_place}
 use Rattle.jc_verdicts.proofs.PlaceLists.{Changes, changes-cut, changes-first, changes-more, changes-next, changes-place, changes-rise}
 use Rattle.jc_verdicts.proofs.VerdictPods.{owned-drop, owned-put}
@@ -157,7 +157,7 @@ module _ {X : Type 0} (f : List Entry → X) (test : Entry → List Entry → Bo
     pub places-cut : (end count : ℕ) → end ≤ length log → IsCut end places count → f (reverse (take (before_place places count log) log)) ≡ f (reverse (take end log))
     places-cut end count high cut = changes-cut (said log) (Passes log) (length log) end places count changes high cut
 
-module _ (owner : Uid) (log : List Entry) (places : List ℕ) (are : places ≡ touched owner log) where
+module _ (owner : Uid) (log : List Entry) (places : List ℕ) (are : places ≡ touching_places owner log) where
   -- What is said of a list that has its places, is said of those of the Job.
   seen_as : (pods : List Pod) (at : ℕ) → (at ≤ length places) → pods ≡ pods_of owner (reverse (take (before_place places at log) log)) → HasSeen owner log pods at
   seen_as pods at within is =
@@ -193,10 +193,10 @@ seen-first owner log pods at none first =
     subst (HasSeen owner log pods) (sym first)
     (record {
       within = omega arith;
-      pods_are = none ∙ sym (places-first (pods_of owner) (touches owner) (untouched owner) log (touched owner log) refl);
+      pods_are = none ∙ sym (places-first (pods_of owner) (touches owner) (untouched owner) log (touching_places owner log) refl);
     })
 
-module _ (k : Key) (log : List Entry) (places : List ℕ) (are : places ≡ told k log) where
+module _ (k : Key) (log : List Entry) (places : List ℕ) (are : places ≡ job_places k log) where
   -- Where no place is below the end, there was no Job.
   pub job-none : (end : ℕ) → end ≤ length log → IsCut end places 0 → None ≡ job_in k (reverse (take end log))
   job-none end high cut =

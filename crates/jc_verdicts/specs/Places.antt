@@ -2,11 +2,11 @@
 --     owns j u older          a pod of the UID lives, and was made for the Job
 --     touches j e older       the entry puts a pod of the Job, or the pod that it is about was one
 --     places_where test log   the places of the entries of which the test is true; newest first
---     touched j log           those at which the pods of the Job change; the log oldest first
---     told k log              those about the Job of the key; the log oldest first
+--     touching_places j log           those at which the pods of the Job change; the log oldest first
+--     job_places k log              those about the Job of the key; the log oldest first
 --     places_at same lists k  the list of the key; none where it has no list
 --     Adds same old new to n  the place comes to the lists of these keys, and to no other
---     is_other before now j   the Job that had the pod before is this one, and another than now
+--     was_owned before now j   the Job that had the pod before is this one, and another than now
 --     ArePlaces log places    the lists are those of the log
 --     IsCut n ps count        so many places are below the number, and the others are not
 use Rattle.std.specs.Prelude.{◌≡◌, ℕ, ◌<◌, ◌≤◌, Bool, false, not, ◌&&◌, ◌||◌, List, [], ◌∷◌, ◌++◌, length, get_or, reverse, if◌then◌else◌, Vec, Option, option_map}
@@ -41,12 +41,12 @@ places_where test (e ∷ older) =
     if test e older then places_where test older ++ length older ∷ [] else places_where test older
 
 -- The places of the entries that touch the pods of the Job.
-abbrev pub touched : Uid → List Entry → List ℕ
-touched j log = places_where (touches j) (reverse log)
+abbrev pub touching_places : Uid → List Entry → List ℕ
+touching_places j log = places_where (touches j) (reverse log)
 
 -- The places of the entries about the Job of the key.
-abbrev pub told : Key → List Entry → List ℕ
-told k log = places_where (λ e older. is_about_job k e) (reverse log)
+abbrev pub job_places : Key → List Entry → List ℕ
+job_places k log = places_where (λ e older. is_about_job k e) (reverse log)
 
 module _ {K : Type 0} (same : K → K → Bool) where
   -- The list of the key.
@@ -61,8 +61,8 @@ module _ {K : Type 0} (same : K → K → Bool) where
       → places_at new k ≡ (if to k then places_at old k ++ place ∷ [] else places_at old k)
 
 -- The Job that a pod was made for before is this one, and not the one that it is made for now.
-abbrev pub is_other : Option Uid → Uid → Uid → Bool
-is_other before owner j =
+abbrev pub was_owned : Option Uid → Uid → Uid → Bool
+was_owned before owner j =
     option_map_or (λ other. not (same_uid other owner) && same_uid other j) before false
 
 -- The lists are those of the log, newest first, and each pod that lives has its owner.

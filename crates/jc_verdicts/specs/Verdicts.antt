@@ -12,7 +12,7 @@
 --     fresh_rows job rows log seen   those that it judges of the Job's pods among the first entries
 --     success_indexes job known pods the indexes of pods that have succeeded
 --     done_by job known done pods    the indexes that are done after a write
---     done_after ..                  those after one whose sync saw the first entries
+--     done_once_seen ..                  those after one whose sync saw the first entries
 --     IsCount rows done ledger       the rows and the indexes are those of the ledger
 --     judging_as past job seen       the write of the event judges the pods of the Job so
 --     ledger_after ..                the ledger after one more event
@@ -41,7 +41,7 @@ use Rattle.jc_failpol.specs.declared.outcomes.Outcome.{Outcome}
 use Rattle.jc_states.specs.UidLists.{join}
 use Rattle.jc_failpol.specs.declared.outcomes.Outcome.TheVariants.{Failed, Succeeded}
 use Rattle.jc_failpol.specs.Outcomes.{outcome_of, same_outcome}
-use Rattle.jc_verdicts.specs.Places.{touched}
+use Rattle.jc_verdicts.specs.Places.{touching_places}
 use Rattle.jc_account.specs.declared.judgements.Judgement.{Judgement as Row}
 use Rattle.jc_ledger.specs.Syncs.{Began, request_of, step_sync, appends}
 use Rattle.jc_account.specs.Judged.{has_come_to, is_fresh}
@@ -131,8 +131,8 @@ abbrev pub done_by : Job → (Uid → Option Outcome) → List ℕ → List Pod 
 done_by job known done pods = join (kept job done) (success_indexes job known pods)
 
 -- Those after a write whose sync saw the first entries.
-abbrev pub done_after : Job → List Row → List ℕ → List Entry → ℕ → List ℕ
-done_after job rows done log seen =
+abbrev pub done_once_seen : Job → List Row → List ℕ → List Entry → ℕ → List ℕ
+done_once_seen job rows done log seen =
     done_by job (outcome_in rows) done (pods_of job.uid (reverse (take seen log)))
 
 -- The rows and the indexes are those of the ledger.
@@ -157,5 +157,5 @@ before_place places at log = get_or places at (length log)
 -- So many of the places at which the pods of the Job change were taken, and the pods are those of
 -- the Job after the entries before the next one.
 pub record HasSeen (j : Uid) (log : List Entry) (pods : List Pod) (at : ℕ) : Type 0 where
-  pub within : at ≤ length (touched j log)
-  pub pods_are : pods ≡ pods_of j (reverse (take (before_place (touched j log) at log) log))
+  pub within : at ≤ length (touching_places j log)
+  pub pods_are : pods ≡ pods_of j (reverse (take (before_place (touching_places j log) at log) log))

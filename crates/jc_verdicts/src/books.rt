@@ -9,7 +9,7 @@ ghost use Rattle.jc_log.specs.Tables.{at};
 ghost use Rattle.jc_verdicts.specs.Books.{AreCounts, AreSound, IsSoundBook, done_at, rows_at};
 ghost use Rattle.jc_ledger.specs.Ledger.{Ledger, judged_by};
 ghost use Rattle.jc_verdicts.specs.Places.{ArePlaces};
-ghost use Rattle.jc_verdicts.specs.Verdicts.{HasSeen, done_after, fresh_rows};
+ghost use Rattle.jc_verdicts.specs.Verdicts.{HasSeen, done_once_seen, fresh_rows};
 
 use crate::places::{Places, places_at};
 use crate::rows::{new_rows, note_outcomes, success_indexes, with_indexes};
@@ -86,7 +86,7 @@ fn judge(
     ensures rows { OnOk result (book.new.rows.items
         ≡ book.old.rows.items ++ fresh_rows job.now book.old.rows.items log.now seen) }
     ensures done { OnOk result (book.new.done.items
-        ≡ done_after job.now book.old.rows.items book.old.done.items log.now seen) }
+        ≡ done_once_seen job.now book.old.rows.items book.old.done.items log.now seen) }
     ensures sound { OnOk result (IsSoundBook job.now.uid log.now book.new) }
 {
     look_in(book, job.uid, log, places, seen)?;

@@ -7,7 +7,7 @@ ghost use Rattle.jc_types.specs.declared.objects.Entry.{Entry};
 ghost use Rattle.jc_types.specs.declared.objects.Entry.TheVariants.{PodPut, PodGone};
 ghost use Rattle.jc_types.specs.Keys.{same_uid};
 ghost use Rattle.jc_log.specs.Tables.{at};
-ghost use Rattle.jc_verdicts.specs.Places.{Adds, ArePlaces, IsCut, is_other, places_at};
+ghost use Rattle.jc_verdicts.specs.Places.{Adds, ArePlaces, IsCut, was_owned, places_at};
 
 use indexmap::IndexMap;
 use jc_types::{Copied, Entry, Key, Pod, Uid, Want};
@@ -83,7 +83,7 @@ fn note_other(
     place: usize,
 ) -> Result<(), Want>
     ensures { OnOk result (Adds same_uid lists.old.entries lists.new.entries
-        (λ j. is_other before owner j) place) }
+        (λ j. was_owned before owner j) place) }
 {
     let Some(other) = before else {
         return Ok(());

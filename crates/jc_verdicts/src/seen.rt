@@ -6,7 +6,7 @@ ghost use Rattle.jc_types.specs.declared.numbers.Uid.{Uid};
 ghost use Rattle.jc_types.specs.declared.objects.Entry.{Entry};
 ghost use Rattle.jc_log.specs.Log.{job_in, pods_of};
 ghost use Rattle.jc_log.specs.PlainReadings.{job_put};
-ghost use Rattle.jc_verdicts.specs.Places.{ArePlaces, touched};
+ghost use Rattle.jc_verdicts.specs.Places.{ArePlaces, touching_places};
 ghost use Rattle.jc_verdicts.specs.Verdicts.{HasSeen};
 
 use crate::places::{Places, count_below, places_at};
@@ -104,7 +104,7 @@ fn go_on(
     from: usize,
     to: usize,
 ) -> Result<(), Want>
-    requires places { places.now ≡ touched owner log.now }
+    requires places { places.now ≡ touching_places owner log.now }
     requires order { from ≤ to }
     requires within { to ≤ length places.now }
     requires seen { HasSeen owner log.now pods.old from }
@@ -126,7 +126,7 @@ pub fn look(
     places: &[usize],
     seen: u64,
 ) -> Result<usize, Want>
-    requires places { places.now ≡ touched owner log.now }
+    requires places { places.now ≡ touching_places owner log.now }
     requires seen { HasSeen owner log.now pods.old at }
     ensures pods { OnOk result (pods.new ≡ pods_of owner (reverse (take seen log.now))) }
     ensures seen { IfOk result (λ now. HasSeen owner log.now pods.new now) }

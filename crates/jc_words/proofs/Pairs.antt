@@ -3,11 +3,6 @@ use Rattle.std.proofs.Common.{◌≡◌, ℕ, List, [], ◌∷◌, Option, Some,
 use Rattle.jc_words.specs.Options.{cut_of, option_named, pairs_of, with_pair}
 use Rattle.jc_words.specs.declared.options.OptionName.{OptionName}
 
--- A list of no length.
-pub nothing : {A : Type 0} (xs : List A) → length xs ≡ 0 → xs ≡ []
-nothing [] e = refl
-nothing (x ∷ xs) e = absurd (omega (arith, e))
-
 module _ (word : List ℕ) where
   -- A word with a `=`.
   joined : (parts : List ℕ × List ℕ) (name : Option OptionName) (words : List (List ℕ)) → cut_of word ≡ Some parts → name ≡ option_named parts.0

@@ -8,6 +8,7 @@ use Rattle.jc_words.specs.Words.{run_order, run_said, shape_alone, shape_asked}
 use Rattle.jc_words.specs.declared.options.OptionName.{OptionName}
 use Rattle.jc_words.specs.declared.options.OptionName.TheVariants.{Threads, Lock, Controllers, Workers, Window, Events, Start}
 use Rattle.jc_words.specs.declared.options.Said.{Said}
+use Rattle.std.proofs.lemmas.Bool.{and_right as later}
 
 -- Names at one place are one name.
 abbrev name_at : ℕ → OptionName
@@ -64,10 +65,6 @@ own_value Start value = refl
 -- No name has two values, test by test.
 abbrev few : OptionName → List (OptionName × List ℕ) → Bool
 few name pairs = nat_le (length (values_of name pairs)) 1
-
-later : (a b : Bool) → b ≡ false → (a && b) ≡ false
-later true b e = e
-later false b e = refl
 
 -- One test that fails.
 one_fails : {A : Type 0} (test : A → Bool) (front : List A) (x : A) (back : List A) → test x ≡ false → list_all test (front ++ x ∷ back) ≡ false

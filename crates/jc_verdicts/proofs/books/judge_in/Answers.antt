@@ -1,6 +1,6 @@
 use Rattle.std.proofs.Common.{◌++◌, ap, ◌∙◌}
 use Rattle.jc_verdicts.specs.Books.{rows_at}
-use Rattle.jc_verdicts.specs.Verdicts.{done_after, fresh_rows}
+use Rattle.jc_verdicts.specs.Verdicts.{done_once_seen, fresh_rows}
 use Rattle.jc_verdicts.proofs.BookFacts.{books-counted, books-sound}
 use Rattle.jc_verdicts.proofs.books.judge_in.Goals as goal
 
@@ -18,6 +18,6 @@ returns-clause-counts c =
     c.in_ok-insert.ensures.updates.0
     (c.in_ok-judge.ensures.rows ∙ ap (λ rows. rows ++ fresh_rows c.args.job.now rows c.args.log.now c.args.seen) c.taken-book.ensures.rows)
     (c.in_ok-judge.ensures.done
-    ∙ ap (λ rows. done_after c.args.job.now rows c.taken-book.result.done.items c.args.log.now c.args.seen) c.taken-book.ensures.rows
-    ∙ ap (λ done. done_after c.args.job.now (rows_at c.args.job.now.uid c.args.books.now.entries) done c.args.log.now c.args.seen) c.taken-book.ensures.done)
+    ∙ ap (λ rows. done_once_seen c.args.job.now rows c.taken-book.result.done.items c.args.log.now c.args.seen) c.taken-book.ensures.rows
+    ∙ ap (λ done. done_once_seen c.args.job.now (rows_at c.args.job.now.uid c.args.books.now.entries) done c.args.log.now c.args.seen) c.taken-book.ensures.done)
     counts

@@ -1,8 +1,8 @@
 use Rattle.std.proofs.Common.{◌-◌, get_or, sym, subst, arith}
 use Rattle.jc_ranges.specs.Sets.{IsIncreasing}
-use Rattle.jc_ledger.proofs.DoneFacts.{increases_with}
 use Rattle.jc_verdicts.proofs.VerdictRows.{joined_index}
 use Rattle.jc_verdicts.proofs.rows.put_indexes.Goals as goal
+use Rattle.jc_perindex.proofs.Sets.{increasing-with as increases_with}
 
 -- The index is put in its place.
 pub loop-place-preserved : goal.loop-place-preserved

@@ -1,7 +1,8 @@
 use Rattle.std.proofs.Common.{sym, subst}
 use Rattle.jc_ranges.specs.Sets.{IsIncreasing}
-use Rattle.jc_ledger.proofs.DoneFacts.{increases_join, increases_kept}
+use Rattle.jc_ledger.proofs.DoneFacts.{increases_kept}
 use Rattle.jc_verdicts.proofs.rows.with_indexes.Goals as goal
+use Rattle.jc_perindex.proofs.Sets.{increasing-join as increases_join}
 
 -- What stays of the indexes is in order.
 pub put_indexes-requires : goal.put_indexes-requires

@@ -1,7 +1,8 @@
 -- The first pair of some words.
 use Rattle.std.proofs.Common.{◌∙◌, sym, ap, map, string_bytes}
-use Rattle.jc_words.proofs.Pairs.{joined_named, joined_unnamed, apart_named, apart_unnamed, alone, nothing}
+use Rattle.jc_words.proofs.Pairs.{joined_named, joined_unnamed, apart_named, apart_unnamed, alone}
 use Rattle.jc_words.proofs.options.first_option.Goals as goal
+use Rattle.std.proofs.lemmas.List.{nil_from_length as nothing}
 
 pub returns-in_err-name_of-clause-pairs : goal.returns-in_err-name_of-clause-pairs
 returns-in_err-name_of-clause-pairs c =

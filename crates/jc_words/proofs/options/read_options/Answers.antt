@@ -1,8 +1,8 @@
 use Rattle.std.proofs.Common.{◌∙◌, ◌∷◌, sym, ap, subst, arith, List, map, string_bytes, String, Global}
 use Rattle.jc_words.specs.Options.{pairs_of}
-use Rattle.jc_words.proofs.Pairs.{nothing}
 use Rattle.jc_words.proofs.Reading.{IsRead, begins, ends, repeats_kept, takes_kept}
 use Rattle.jc_words.proofs.options.read_options.Goals as goal
+use Rattle.std.proofs.lemmas.List.{nil_from_length as nothing}
 
 pub reading-init : goal.reading-init
 reading-init c = begins _ c.new-said.result c.new-said.ensures

@@ -2,8 +2,8 @@ use Rattle.std.proofs.Common.{is_some, ap, sym, ◌∙◌, true≢false}
 use Rattle.jc_control.specs.Schedules.{ControllerView}
 use Rattle.jc_control.proofs.RoomFacts.{provided_done, room_left, supply_is}
 use Rattle.jc_control.proofs.controller.Controller.end.Goals as goal
-use Rattle.jc_queue.proofs.DueFacts.{of_some}
 use Rattle.jc_queue.specs.Queued.{has_key}
+use Rattle.std.proofs.lemmas.Option.{same_Some as of_some}
 
 -- The processing key has a supply.
 pub unreachable-requires : goal.unreachable-requires
