@@ -4,6 +4,7 @@ use Rattle.std.specs.Map.{set_value}
 use Rattle.std.specs.List.{AllByRecursion as Each}
 use Rattle.std.specs.Option.{option_map_or}
 use Rattle.std.proofs.lemmas.Bool.{cond-true, cond-false}
+use Rattle.std.proofs.lemmas.List.{length-take-le}
 use Rattle.jc_types.specs.declared.objects.Entry.{Entry}
 use Rattle.jc_types.specs.declared.objects.Entry.TheVariants.{JobPut, JobGone, PodPut, PodGone}
 use Rattle.jc_types.specs.declared.objects.Job.{Job}
@@ -18,7 +19,7 @@ use Rattle.jc_log.specs.Writes.{CanPut, CanGo, Stored}
 use Rattle.jc_types.proofs.KeyFacts.{same_key-eq, same_key-itself, same_uid-eq, same_key-either_way}
 use Rattle.jc_types.proofs.ListFacts.{Each-weaker, Each-take}
 use Rattle.jc_log.proofs.TableFacts.{set_value-puts, Sets-puts}
-use Rattle.jc_states.proofs.PodListFacts.{put_pod-above, put_pod-below, put_pod-there, rises_filter}
+use Rattle.jc_states.proofs.PodListFacts.{length-filter-le, put_pod-above, put_pod-below, put_pod-there, rises_filter}
 use Rattle.jc_log.proofs.PodFacts.{pods_in-rises, pods_in-live}
 use Rattle.jc_cache.specs.Caches.{job_rows, AreApart, pods_at, owned_after}
 
@@ -70,6 +71,10 @@ set-same k pods (row ∷ rows) h = by (same_key k row.0) h (set-same k pods rows
     by : (b : Bool) → cond b (Some row.1) (at same_key rows k) ≡ Some pods → (at same_key rows k ≡ Some pods → set_value (same_key k) rows pods ≡ rows) → cond b ((row.0, pods) ∷ rows) (row ∷ set_value (same_key k) rows pods) ≡ row ∷ rows
     by true e ih = ap (λ all. (row.0, all) ∷ rows) (sym (there row.1 pods e))
     by false e ih = ap (λ rest. row ∷ rest) (ih e)
+
+-- The pods that stand at the key are those under it.
+pub pods_there : (k : Key) (pods : List Pod) (rows : List (Key × List Pod)) → at same_key rows k ≡ Some pods → pods_at k rows ≡ pods
+pods_there k pods rows there = ap (λ found. option_map_or (λ all. all) found []) there
 
 -- The first pod of an owner is put in a row of its own.
 pub put-first : (rows before new : List (Key × List Pod)) (pod again : Pod) (owner : Key) (pods : List Pod) → before ≡ rows → owner ≡ pod.owner → again ≡ pod → pods ≡ put_pod again []
@@ -148,6 +153,13 @@ module _ (k : Key) where
       → cond (same_key pod.owner k) (put_pod pod (owned (take i pods))) (owned (take i pods)) ≡ owned (take (i + 1) pods)
   first-next pods i pod rising more =
       owned-next 0 (take i pods) pod (subst (RisesFrom 0) more (rises_take (i + 1) 0 pods rising)) ∙ ap owned (sym more)
+
+  -- They are no more than the first.
+  pub first-few : (pods : List Pod) (i : ℕ) → i ≤ length pods → length (owned (take i pods)) ≤ i
+  first-few pods i within =
+      let own = length-filter-le (λ pod. same_key pod.owner k) (take i pods) in
+      let first = length-take-le i pods within in
+      omega (arith, own, first)
 
   -- A pod that is put, where the one of its UID had the same owner.
   pub owned-put : (pod : Pod) (low : ℕ) (pods : List Pod) → RisesFrom low pods → Each (λ q. q.uid ≡ pod.uid → pod.owner ≡ q.owner) pods

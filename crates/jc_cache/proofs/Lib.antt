@@ -1,2 +1,3 @@
 pub mod CacheFacts
+pub mod CopyFacts
 mod ListedFacts

@@ -6,10 +6,11 @@
 --     job_rows jobs            each Job under its key, in the order given
 --     AreApart jobs           no two of the Jobs have the same key
 --     pods_at k rows          the pods under the owner key
+--     HasFewPods rows         under each owner key one more pod fits
 --     owned_after k e pods    the pods under the owner key after one more entry
 --     TakesIn e old new       new has under each owner key the pods of old after one more entry
 --     HoldsByOwner pods rows  the rows have the pods, each under the key of its owner
-use Rattle.std.specs.Prelude.{◌≡◌, ◌+◌, false, List, [], ◌∷◌, map, Option, Some, None, filter, if◌then◌else◌}
+use Rattle.std.specs.Prelude.{◌≡◌, ◌+◌, ◌-◌, ◌<◌, ◌^◌, false, List, [], ◌∷◌, length, map, Option, Some, None, filter, if◌then◌else◌}
 use Rattle.std.specs.List.{AllByRecursion as Each}
 use Rattle.std.specs.Option.{option_map_or}
 use Rattle.jc_types.specs.declared.numbers.Version.{Version}
@@ -49,6 +50,11 @@ AreApart (job ∷ jobs) = Each (λ other. same_key job.key other.key ≡ false) 
 -- The pods under the owner key: none where it has no row.
 abbrev pub pods_at : Key → List (Key × List Pod) → List Pod
 pods_at k rows = option_map_or (λ pods. pods) (at same_key rows k) []
+
+-- Under each owner key there are fewer pods than 2 ^ 32 - 1, so that one more is counted in 32 bits. A cache
+-- with fewer pods in all has as few.
+abbrev pub HasFewPods : List (Key × List Pod) → Type 0
+HasFewPods rows = (k : Key) → length (pods_at k rows) < 2 ^ 32 - 1
 
 -- The pods under the owner key after one more entry.
 abbrev pub owned_after : Key → Entry → List Pod → List Pod

@@ -58,6 +58,17 @@ fn take_in(table: &mut Table<Key, Job>, entry: &Entry) -> Result<(), Want>
     }
 }
 
+// Copies of the rows, in their order.
+fn copied_rows(alloc: Global, rows: &Table<Key, Job>) -> Result<Table<Key, Job>, Want>
+    ensures { IfOk result (λ copies. copies ≡ rows.now) }
+{
+    let mut copies = Table::new(alloc);
+    for (key, job) in rows.rows() {
+        copies.put(key.copy()?, job.copy()?)?;
+    }
+    Ok(copies)
+}
+
 impl JobCache {
     /// The cache without a number and without Jobs. It takes no memory.
     pub fn empty(alloc: Global) -> JobCache
@@ -122,5 +133,15 @@ impl JobCache {
     {
         self.jobs.clear();
         self.number = None;
+    }
+}
+
+impl Copied for JobCache {
+    fn copy(&self) -> Result<Self, Want> {
+        Ok(JobCache {
+            alloc: self.alloc,
+            number: self.number,
+            jobs: copied_rows(self.alloc, &self.jobs)?,
+        })
     }
 }

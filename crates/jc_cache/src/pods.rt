@@ -1,9 +1,9 @@
 //! The cache of pods.
 
-ghost use Rattle.std.specs.Prelude.{◌≡◌, [], IfOk, None, OnErr, OnOk, Some};
+ghost use Rattle.std.specs.Prelude.{◌≡◌, ◌-◌, ◌<◌, ◌^◌, [], IfOk, None, OnErr, OnOk, Some, length};
 ghost use Rattle.jc_types.specs.declared.objects.Entry.TheVariants.{PodGone, PodPut};
 ghost use Rattle.jc_states.specs.PodLists.{IsRising};
-ghost use Rattle.jc_cache.specs.Caches.{HoldsByOwner, IsNext, TakesIn, pods_at};
+ghost use Rattle.jc_cache.specs.Caches.{HasFewPods, HoldsByOwner, IsNext, TakesIn, pods_at};
 
 use crate::shared_pods::SharedPods;
 use indexmap::IndexMap;
@@ -34,6 +34,7 @@ impl Model for PodCache {
 //
 // `Want` where there is no memory for it; the rows are then as before.
 fn put_pod(alloc: Global, rows: &mut IndexMap<Key, SharedPods>, pod: &Pod) -> Result<(), Want>
+    requires few { length (pods_at pod.now.owner rows.old.entries) < 2 ^ 32 - 1 }
     ensures puts { OnOk result (TakesIn (PodPut pod.now) rows.old.entries rows.new.entries) }
     ensures kept { OnErr result (rows.new.entries ≡ rows.old.entries) }
 {
@@ -70,6 +71,7 @@ fn drop_pod(alloc: Global, rows: &mut IndexMap<Key, SharedPods>, pod: &Pod) -> R
 //
 // `Want` where there is no memory for it; the rows are then as before.
 fn take_in(alloc: Global, rows: &mut IndexMap<Key, SharedPods>, entry: &Entry) -> Result<(), Want>
+    requires few { HasFewPods rows.old.entries }
     ensures pods { OnOk result (TakesIn entry.now rows.old.entries rows.new.entries) }
     ensures kept { OnErr result (rows.new.entries ≡ rows.old.entries) }
 {
@@ -82,7 +84,8 @@ fn take_in(alloc: Global, rows: &mut IndexMap<Key, SharedPods>, entry: &Entry) -
 
 // The pods apart by owner, each in ascending UID as all of them are.
 fn rows_of(alloc: Global, pods: &[Pod]) -> Result<IndexMap<Key, SharedPods>, Want>
-    requires { IsRising pods.now }
+    requires rising { IsRising pods.now }
+    requires few { length pods.now < 2 ^ 32 }
     ensures { IfOk result (λ rows. HoldsByOwner pods.now rows.entries) }
 {
     let mut rows = IndexMap::new(alloc);
@@ -90,6 +93,20 @@ fn rows_of(alloc: Global, pods: &[Pod]) -> Result<IndexMap<Key, SharedPods>, Wan
         put_pod(alloc, &mut rows, pod)?;
     }
     Ok(rows)
+}
+
+// The rows again, in their order. Their pods are shared.
+fn copied_rows(
+    alloc: Global,
+    rows: &IndexMap<Key, SharedPods>,
+) -> Result<IndexMap<Key, SharedPods>, Want>
+    ensures { IfOk result (λ copies. copies.entries ≡ rows.now.entries) }
+{
+    let mut copies = IndexMap::new(alloc);
+    for (owner, pods) in rows.iter() {
+        copies.insert(owner.copy()?, pods.copy()?)?;
+    }
+    Ok(copies)
 }
 
 impl PodCache {
@@ -142,12 +159,14 @@ impl PodCache {
         Ok(())
     }
 
-    /// Takes the next entry of the log in. An entry about a Job moves the number alone.
+    /// Takes the next entry of the log in. An entry about a Job moves the number alone. No owner has so many
+    /// pods that one more could not be counted.
     ///
     /// # Errors
     /// `Want` where there is no memory for it; the cache is then as before.
     pub fn deliver(&mut self, entry: &Entry, version: Version) -> Result<(), Want>
-        requires { IsNext self.old.number version }
+        requires next { IsNext self.old.number version }
+        requires few { HasFewPods self.old.rows }
         ensures number { OnOk result (self.new.number ≡ Some version) }
         ensures pods { OnOk result (TakesIn entry.now self.old.rows self.new.rows) }
         ensures kept { OnErr result (self.new ≡ self.old) }
@@ -164,5 +183,15 @@ impl PodCache {
     {
         self.rows.clear();
         self.number = None;
+    }
+}
+
+impl Copied for PodCache {
+    fn copy(&self) -> Result<Self, Want> {
+        Ok(PodCache {
+            alloc: self.alloc,
+            number: self.number,
+            rows: copied_rows(self.alloc, &self.rows)?,
+        })
     }
 }

@@ -1,6 +1,6 @@
 //! Pods that share their memory with the syncs that see them.
 
-ghost use Rattle.std.specs.Prelude.{◌≡◌, ◌↔◌, IfOk, IsTrue, OnErr, OnOk, length};
+ghost use Rattle.std.specs.Prelude.{◌≡◌, ◌-◌, ◌<◌, ◌^◌, ◌↔◌, IfOk, IsTrue, OnErr, OnOk, length};
 ghost use Rattle.jc_states.specs.PodLists.{IsRising, drop_pod, put_pod};
 
 use jc_states::Pods;
@@ -62,6 +62,7 @@ impl SharedPods {
     /// # Errors
     /// `Want` where there is no memory for it; the pods are then as before.
     pub fn put(&mut self, alloc: Global, pod: Pod) -> Result<(), Want>
+        requires few { length self.old < 2 ^ 32 - 1 }
         ensures puts { OnOk result (self.new ≡ put_pod pod self.old) }
         ensures kept { OnErr result (self.new ≡ self.old) }
     {
@@ -91,5 +92,13 @@ impl SharedPods {
         pods.take(uid);
         self.shared = sync::Arc::new(alloc, pods)?;
         Ok(())
+    }
+}
+
+impl Copied for SharedPods {
+    fn copy(&self) -> Result<Self, Want> {
+        Ok(SharedPods {
+            shared: sync::Arc::try_clone(&self.shared)?,
+        })
     }
 }

@@ -1,8 +1,8 @@
 -- Laws on what one controller knows.
-use Rattle.std.proofs.Common.{◌≡◌, ℕ, suc, ◌+◌, ◌≤◌, nat_lt, Bool, true, false, cond, List, [], ◌∷◌, length, map, Option, Some, None, IfSome, is_none, is_some, slice_get, refl, sym, ap, ◌∙◌, subst, arith, true≢false}
+use Rattle.std.proofs.Common.{◌≡◌, ℕ, suc, ◌+◌, ◌-◌, ◌<◌, ◌≤◌, ◌^◌, nat_lt, Bool, true, false, cond, List, [], ◌∷◌, length, map, Option, Some, None, IfSome, is_none, is_some, slice_get, refl, sym, ap, ◌∙◌, subst, arith, true≢false}
 use Rattle.std.proofs.lemmas.Bool.Decides.{nat_tests}
 use Rattle.std.specs.Option.{unwrap_or}
-use Rattle.jc_cache.specs.Caches.{IsNext, owned_after, pods_at, job_rows}
+use Rattle.jc_cache.specs.Caches.{HasFewPods, IsNext, owned_after, pods_at, job_rows}
 use Rattle.jc_control.specs.Schedules.{ControllerView, Schedule, floor_of, MirrorsLog, MirrorsJobs, MirrorsPods, log_end, idle, known_of, number_of, unknown}
 use Rattle.jc_control.specs.ControllerCalls.{IsFresh, basis_of, begun, begun_at, begun_first, begun_unless, behind, can_begin, ended, first_lag, forgot, is_begun, lag, need_of, noted, noted_at, pods_need, ready_at, with_known}
 use Rattle.jc_control.specs.declared.begins.Begin.{Begin}
@@ -26,6 +26,7 @@ use Rattle.jc_log.specs.Tables.{at}
 use Rattle.jc_log.specs.Writes.{Stored, Writes}
 use Rattle.jc_types.proofs.KeyFacts.{same_key-eq, same_key-itself}
 use Rattle.jc_log.proofs.LogFacts.{entry_at-place, upto-all, upto-entry_at, upto-fixed}
+use Rattle.jc_log.proofs.PodFacts.{pods_under-few}
 use Rattle.jc_log.proofs.TableFacts.{Sets-puts}
 use Rattle.jc_log.proofs.WriteFacts.{Follows-upto}
 use Rattle.jc_control.proofs.TurnFacts.{each_begin, head_is}
@@ -199,3 +200,13 @@ grown-pods e log (Some n) rows h = (let within = h.0 in omega (arith, within), �
 
 pub grown : (e : Entry) (log : List Entry) (c : ControllerView) → MirrorsLog log c → MirrorsLog (e ∷ log) c
 grown e log c h = record { jobs = grown-jobs e log c.schedule.jobs_at c.jobs h.jobs; pods = grown-pods e log c.schedule.pods_at c.rows h.pods }
+
+-- ---- how many pods a cache has
+
+few-at : (log : List Entry) (number : Option Version) (rows : List (Key × List Pod)) → MirrorsPods log number rows → length log < 2 ^ 32 - 1 → HasFewPods rows
+few-at log None rows h short = λ k. let none : length (pods_at k rows) ≡ 0 = ap length (h k) in omega (arith, none)
+few-at log (Some n) rows h short = λ k. let same : length (pods_at k rows) ≡ length (pods_under k (upto n.0 log)) = ap length (h.1 k) in let few = pods_under-few k n.0 log in omega (arith, same, few, short)
+
+-- One that has what a log has is told of one more where the log is short.
+pub few-pods : (log : List Entry) (c : ControllerView) → MirrorsLog log c → length log < 2 ^ 32 - 1 → HasFewPods c.rows
+few-pods log c h short = few-at log c.schedule.pods_at c.rows h.pods short

@@ -159,9 +159,6 @@ provided_done q new d left rows supplies others k end now s busy sets delays roo
         by true t = absurd (true≢false (sym t))
         by false t = h.supplied j t
 
--- The supply that is taken is one of the key, and the delays have room for it.
-pub supply_is : (q : RoomedQueue) (d : RoomedDelays) (rows : List (Key × Known)) (supplies : List (Key × Key)) (k : Key) (taken : Option Key) → has_key k q.queue.processing ≡ true → taken ≡ at same_key supplies k → IsProvided q d rows supplies → taken ≡ Some k
-supply_is q d rows supplies k taken busy e h = e ∙ h.supplied k busy
-
+-- The delays have room for the supply of a key that is processing.
 pub room_left : (q : RoomedQueue) (d : RoomedDelays) (rows : List (Key × Known)) (supplies : List (Key × Key)) (k : Key) → has_key k q.queue.processing ≡ true → IsProvided q d rows supplies → 0 < d.room
 room_left q d rows supplies k busy h = let fewer = without-count k q.queue.processing busy in let for_delays = h.for_delays in omega (arith, fewer, for_delays)

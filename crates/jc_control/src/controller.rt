@@ -2,7 +2,7 @@
 
 ghost use Rattle.std.specs.Prelude.{◌≡◌, [], IfOk, OnErr, OnOk, Some, slice_get, true, unwrap_or};
 ghost use Rattle.std.specs.Option.{option_copied, option_map};
-ghost use Rattle.jc_cache.specs.Caches.{AreApart, HoldsByOwner, IsNext, job_rows};
+ghost use Rattle.jc_cache.specs.Caches.{AreApart, HasFewPods, HoldsByOwner, IsNext, job_rows};
 ghost use Rattle.jc_control.specs.Schedules.{idle, number_of, unknown};
 ghost use Rattle.jc_control.specs.ControllerCalls.{DeliversPods, TakesFirst, TakesKey, answered, basis_of, begun, can_begin, clocked, delivered, ended, followed, forgot, jobs_delivered, jobs_kept, kept_backoff, lag, listed_jobs, listed_pods, noted, numbered, rows_after, rows_kept, taken};
 ghost use Rattle.jc_queue.specs.Delayed.{HasOneMoment, first_of};
@@ -12,11 +12,11 @@ ghost use Rattle.jc_states.specs.PodLists.{IsRising};
 ghost use Rattle.jc_log.specs.Tables.{Sets, at};
 
 use crate::begins::{Begin, Lag, behind, later};
-use crate::ends::{SyncEnd, delay, is_lost};
+use crate::ends::{Ending, SyncEnd, delay, is_lost, take_ending};
 use crate::queues::{move_due, told, with_jobs, with_owners};
 use jc_cache::{JobCache, PodCache};
 use jc_moment::Moment;
-use jc_queue::{Delays, Queue, Supply};
+use jc_queue::{Delays, Queue};
 use jc_states::{Basis, Pods};
 use jc_table::Table;
 use jc_types::{Arc, Backoff, Copied, Entry, Jobs, Key, Kind, Version, Want};
@@ -43,7 +43,7 @@ pub struct Controller {
     // A row for each key of which a sync has begun.
     known: Table<Key, Known>,
     // The copies of each processing key that the end of its sync needs.
-    supplies: Table<Key, Supply>,
+    supplies: Table<Key, Ending>,
 }
 
 impl Model for Controller {
@@ -142,12 +142,14 @@ impl Controller {
 
     /// Tells the cache of the kind of the next entry of the log. A Job entry adds its key to the queue where
     /// the job cache is told of it, and a pod entry the key of the pod's owner where the pod cache is; an
-    /// entry of the other kind moves the cache's number alone.
+    /// entry of the other kind moves the cache's number alone. No owner has so many pods that one more could
+    /// not be counted.
     ///
     /// # Errors
     /// `Want` where there is no memory for it; the controller is then as before.
     pub fn deliver(&mut self, kind: Kind, entry: &Entry, version: Version) -> Result<(), Want>
-        requires { IsNext (number_of kind self.old.schedule) version }
+        requires next { IsNext (number_of kind self.old.schedule) version }
+        requires few { HasFewPods self.old.rows }
         ensures schedule { OnOk result
             (self.new.schedule ≡ delivered self.old.schedule kind entry.now version) }
         ensures jobs { OnOk result (self.new.jobs ≡ jobs_delivered kind entry.now self.old.jobs) }
@@ -306,11 +308,9 @@ impl Controller {
         ensures rows { self.new.rows ≡ rows_after end self.old.rows }
     {
         let _waiting = self.queue.len();
-        let Some(supply) = self.supplies.take(key) else {
-            unreachable!()
-        };
+        let (done, supply) = take_ending(&mut self.supplies, key);
         delay(&mut self.delays, key, supply, &end, now);
-        self.queue.done(key);
+        self.queue.done(done);
         if is_lost(&end) {
             self.jobs.forget();
             self.pods.forget();
@@ -376,7 +376,8 @@ impl Controller {
     //
     // `Want` where there is no memory for it; the controller is then as before.
     fn tell(&mut self, kind: Kind, entry: &Entry, version: Version) -> Result<(), Want>
-        requires { IsNext (number_of kind self.old.schedule) version }
+        requires next { IsNext (number_of kind self.old.schedule) version }
+        requires few { HasFewPods self.old.rows }
         ensures schedule { OnOk result
             (self.new.schedule ≡ numbered self.old.schedule kind (Some version)) }
         ensures jobs { OnOk result (self.new.jobs ≡ jobs_delivered kind entry.now self.old.jobs) }
@@ -477,11 +478,11 @@ fn note(rows: &mut Table<Key, Known>, key: &Key) -> Result<(), Want>
 // Puts a supply of the key, in place of an older one.
 //
 // `Want` where there is no memory for it; the supplies are then as before.
-fn supply(supplies: &mut Table<Key, Supply>, key: &Key) -> Result<(), Want>
+fn supply(supplies: &mut Table<Key, Ending>, key: &Key) -> Result<(), Want>
     ensures supplied { OnOk result
         (Sets same_key supplies.old supplies.new key.now (Some key.now)) }
     ensures kept { OnErr result (supplies.new ≡ supplies.old) }
 {
-    let supply = Supply::of(key)?;
-    supplies.put(key.copy()?, supply)
+    let ending = Ending::of(key)?;
+    supplies.put(key.copy()?, ending)
 }

@@ -1,11 +1,15 @@
 //! The end of a sync.
 
-ghost use Rattle.std.specs.Prelude.{◌≡◌, ◌+◌, ◌<◌, ◌≤◌};
+ghost use Rattle.std.specs.Prelude.{◌≡◌, ◌+◌, ◌<◌, ◌≤◌, IfOk, None, Some};
+ghost use Rattle.jc_log.specs.Tables.{Sets, at};
+ghost use Rattle.jc_types.specs.Keys.{same_key};
 ghost use Rattle.jc_control.specs.ControllerCalls.{delays_after, forgets_caches};
 
 use jc_moment::Moment;
 use jc_queue::{Delays, Supply};
-use jc_types::Key;
+use jc_table::Table;
+use jc_types::{Copied, Key, Want};
+use std::marker::Model;
 
 /// How a sync has ended.
 #[derive(Clone, Copy)]
@@ -18,6 +22,59 @@ pub enum SyncEnd {
     Gone,
     /// A request was not answered.
     Unavailable,
+}
+
+/// The copies of a key that the end of its sync needs: one that is done, and a supply where it is delayed.
+#[derive(Drop)]
+pub struct Ending {
+    done: Key,
+    supply: Supply,
+}
+
+impl Model for Ending {
+    ghost use Rattle.std.specs.Prelude.{◌≡◌};
+    ghost use Rattle.jc_types.specs.declared.objects.Key.{Key};
+
+    ghost Value = { Key };
+
+    ghost view = { λ e. e.supply };
+
+    ghost invariant = { λ e. e.done ≡ e.supply };
+}
+
+impl Ending {
+    // The copies of the key.
+    //
+    // `Want` where there is no memory for them.
+    pub(crate) fn of(key: &Key) -> Result<Ending, Want>
+        ensures { IfOk result (λ ending. ending ≡ key.now) }
+    {
+        Ok(Ending {
+            done: key.copy()?,
+            supply: Supply::of(key)?,
+        })
+    }
+
+    // The copy that is done, and the supply.
+    fn into_parts(self) -> (Key, Supply)
+        ensures done { result.0 ≡ self }
+        ensures supply { result.1 ≡ self }
+    {
+        (self.done, self.supply)
+    }
+}
+
+// Takes the copies of the key out of the table: the one that is done, and the supply.
+pub(crate) fn take_ending(endings: &mut Table<Key, Ending>, key: &Key) -> (Key, Supply)
+    requires there { at same_key endings.old key.now ≡ Some key.now }
+    ensures done { result.0 ≡ key.now }
+    ensures supply { result.1 ≡ key.now }
+    ensures sets { Sets same_key endings.old endings.new key.now None }
+{
+    let Some(ending) = endings.take(key) else {
+        unreachable!()
+    };
+    ending.into_parts()
 }
 
 // Whether the end forgets both caches.

@@ -5,7 +5,7 @@ ghost use Rattle.jc_failpol.specs.FailJob.{fails_job, policy_fails_job};
 
 use crate::judgements::outcome;
 use crate::outcomes::Outcome;
-use crate::rules::action;
+use crate::rules::decided_action;
 use jc_types::{Action, FailurePolicy, JobSpec, Pod};
 
 // Whether the failure policy, where there is one, fails the Job for the failed pod.
@@ -14,7 +14,7 @@ fn does_policy_fail_job(policy: &Option<FailurePolicy>, pod: &Pod) -> bool
 {
     match policy {
         None => false,
-        Some(policy) => match action(policy, pod).0 {
+        Some(policy) => match decided_action(policy, pod) {
             Action::FailJob => true,
             Action::Ignore | Action::Count | Action::FailIndex => false,
         },

@@ -4,7 +4,7 @@ ghost use Rattle.std.specs.Prelude.{◌≡◌};
 ghost use Rattle.jc_failpol.specs.Outcomes.{counts_marked, failure_of, outcome_of};
 
 use crate::outcomes::Outcome;
-use crate::rules::action;
+use crate::rules::decided_action;
 use jc_states::is_marked;
 use jc_types::{Action, FailurePolicy, JobSpec, Phase, Pod, Replacement};
 
@@ -24,7 +24,7 @@ fn failure(policy: &Option<FailurePolicy>, pod: &Pod) -> Outcome
 {
     match policy {
         None => Outcome::Failed,
-        Some(policy) => match action(policy, pod).0 {
+        Some(policy) => match decided_action(policy, pod) {
             Action::Ignore => Outcome::Ignored,
             Action::FailJob | Action::Count | Action::FailIndex => Outcome::Failed,
         },

@@ -9,7 +9,7 @@ ghost use Rattle.jc_types.specs.declared.specifications.JobSpec.{JobSpec};
 ghost use Rattle.jc_types.specs.declared.specifications.Replacement.TheVariants.{FailedOnly, TerminatingOrFailed};
 ghost use Rattle.jc_types.specs.Equality.{IsExact};
 ghost use Rattle.jc_types.specs.FirstPlaces.{IsLeast};
-ghost use Rattle.jc_states.specs.ValidSpecs.{IsValidSpec};
+ghost use Rattle.jc_types.specs.ValidSpecs.{IsValidSpec};
 ghost use Rattle.jc_states.specs.ObjectChanges.{JobStep, PodStep};
 ghost use Rattle.jc_failpol.specs.declared.outcomes.Outcome.TheVariants.{Failed, Ignored, Succeeded};
 ghost use Rattle.jc_failpol.specs.Outcomes.{outcome_of, same_outcome};

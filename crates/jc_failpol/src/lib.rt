@@ -12,4 +12,4 @@ pub use job_failures::fails_job;
 pub use judgements::outcome;
 pub use laws::{first_match_decides, outcomes_are_told_apart, outcomes_settle};
 pub use outcomes::{Outcome, is_same_outcome, is_verdict};
-pub use rules::action;
+pub use rules::{action, decided_action};

@@ -1,8 +1,7 @@
 //! The rules of a failure policy and the first that matches.
 
-ghost use Rattle.std.specs.Prelude.{◌≡◌};
-ghost use Rattle.jc_types.specs.FirstPlaces.{as_u32};
-ghost use Rattle.jc_failpol.specs.Rules.{action_of, code_meets, finds, has_code, has_condition, looks_at, matches, matching_place, meets, shows_one_of};
+ghost use Rattle.std.specs.Prelude.{◌≡◌, ◌<◌, ◌^◌, length};
+ghost use Rattle.jc_failpol.specs.Rules.{action_at, action_of, code_meets, finds, has_code, has_condition, looks_at, matches, matching_place, meets, shows_one_of};
 
 use jc_types::{
     Action, Codes, Container, FailurePolicy, FailureRule, Name, Operator, Pattern, Patterns, Pod,
@@ -105,23 +104,43 @@ fn first_match(policy: &FailurePolicy, pod: &Pod) -> Option<usize>
         .position(|rule| is_match(rule, pod))
 }
 
+// The action of the rule at the place, and `Count` where there is none.
+fn action_at(policy: &FailurePolicy, place: Option<usize>) -> Action
+    ensures { result ≡ action_at policy.now.rules place }
+{
+    let Some(place) = place else {
+        return Action::Count;
+    };
+    match policy.rules.as_slice().get(place) {
+        None => Action::Count,
+        Some(rule) => rule.action,
+    }
+}
+
 /// What a failure policy does with a failed pod (KEP-3329): the action of the first rule that matches,
-/// and `Count` where none does. With it the place of that rule among the policy's rules, counted
-/// from 0; a place from 2^32 on is not given.
+/// and `Count` where none does.
 ///
 /// A rule on exit codes looks at the containers and init containers that ended with a code other than
 /// 0, and of these at the named one alone where it names one. It matches where one of those codes
 /// meets the operator. A rule on conditions matches where one of its patterns has the type and the
 /// status of one of the pod's conditions.
-pub fn action(policy: &FailurePolicy, pod: &Pod) -> (Action, Option<u32>)
-    ensures action { result.0 ≡ action_of policy.now pod.now }
-    ensures place { result.1 ≡ as_u32 (matching_place policy.now pod.now) }
+pub fn decided_action(policy: &FailurePolicy, pod: &Pod) -> Action
+    ensures { result ≡ action_of policy.now pod.now }
 {
-    match first_match(policy, pod) {
-        None => (Action::Count, None),
-        Some(place) => (
-            policy.rules.as_slice()[place].action,
-            u32::try_from(place).ok(),
-        ),
+    action_at(policy, first_match(policy, pod))
+}
+
+/// The same action as `decided_action`, with the place of the first rule that matches among the
+/// policy's rules, counted from 0; none where no rule matches.
+pub fn action(policy: &FailurePolicy, pod: &Pod) -> (Action, Option<u32>)
+    requires few { length policy.now.rules < 2 ^ 32 }
+    ensures action { result.0 ≡ action_of policy.now pod.now }
+    ensures place { result.1 ≡ matching_place policy.now pod.now }
+{
+    let place = first_match(policy, pod);
+    let action = action_at(policy, place);
+    match place {
+        None => (action, None),
+        Some(place) => (action, Some(place as u32)),
     }
 }

@@ -3,7 +3,7 @@ use Rattle.std.proofs.Common.{◌≡◌, ℕ, zero, suc, ◌+◌, ◌*◌, ◌%�
 use Rattle.std.specs.List.{range_with_len}
 use Rattle.std.proofs.lemmas.Fmt.{decimal_injective}
 use Rattle.std.proofs.lemmas.List.{length-replicate, length_push as one_longer}
-use Rattle.jc_states.specs.ValidSpecs.{IsValidSpec}
+use Rattle.jc_types.specs.ValidSpecs.{IsValidSpec}
 use Rattle.jc_types.specs.declared.actions.Action1.TheVariants.{Settle}
 use Rattle.jc_types.specs.declared.objects.Key.{Key}
 use Rattle.jc_types.specs.declared.specifications.Mode.TheVariants.{Indexed}

@@ -20,7 +20,7 @@ use Rattle.jc_states.specs.Bases.{own_pods}
 use Rattle.jc_states.specs.Conditions.{has_end, has_target}
 use Rattle.jc_states.specs.Pods.{is_active, is_ending, is_marked, is_open, is_tracked, is_tracked_active}
 use Rattle.jc_states.specs.PodLists.{IsRising}
-use Rattle.jc_states.specs.ValidSpecs.{IsValidSpec}
+use Rattle.jc_types.specs.ValidSpecs.{IsValidSpec}
 use Rattle.jc_account.specs.Accounts.{counted_in, counted_out}
 use Rattle.jc_account.specs.Judged.{left_over}
 use Rattle.jc_account.proofs.AccountFacts.{empty-in, indexed-total, left-failed, left-succeeded}

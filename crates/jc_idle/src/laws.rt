@@ -6,7 +6,7 @@ ghost use Rattle.jc_types.specs.declared.objects.Job.{Job};
 ghost use Rattle.jc_states.specs.declared.bases.Basis.{Basis};
 ghost use Rattle.jc_states.specs.Conditions.{has_end};
 ghost use Rattle.jc_states.specs.PodLists.{IsRising};
-ghost use Rattle.jc_states.specs.ValidSpecs.{IsValidSpec};
+ghost use Rattle.jc_types.specs.ValidSpecs.{IsValidSpec};
 ghost use Rattle.jc_plan.specs.Plans.{planned};
 ghost use Rattle.jc_idle.specs.Waits.{AsksNothing, Waits};
 

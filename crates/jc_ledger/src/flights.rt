@@ -1,7 +1,7 @@
 //! A sync under way, as the ledger sees it.
 
 use jc_states::Basis;
-use jc_types::{Arc, JobStatus, Uids, Version};
+use jc_types::{Arc, Copied, JobStatus, Uids, Version, Want};
 
 /// A sync under way: from its begin to its end.
 #[derive(Drop)]
@@ -14,4 +14,15 @@ pub struct Flight {
     pub sends: Version,
     /// The pods whose release was answered.
     pub released: Uids,
+}
+
+impl Copied for Flight {
+    fn copy(&self) -> Result<Self, Want> {
+        Ok(Flight {
+            basis: self.basis.copy()?,
+            written: self.written.copy()?,
+            sends: self.sends,
+            released: self.released.copy()?,
+        })
+    }
 }

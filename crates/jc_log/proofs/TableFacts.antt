@@ -1,7 +1,7 @@
 -- Facts on tables: what a row that is put or taken leaves at each key.
-use Rattle.std.proofs.Common.{◌≡◌, Bool, true, false, cond, List, [], ◌∷◌, Some, None, IsSome, is_some, refl, sym, ap, ◌∙◌, true≢false}
-use Rattle.std.specs.Map.{lookup, remove_entry, set_value}
-use Rattle.std.specs.List.{AllByRecursion as Each}
+use Rattle.std.proofs.Common.{◌≡◌, Bool, true, false, cond, List, [], ◌∷◌, ◌++◌, Some, None, IsSome, is_some, refl, sym, ap, ◌∙◌, true≢false}
+use Rattle.std.specs.Map.{keys_of, lookup, remove_entry, set_value}
+use Rattle.std.specs.List.{AllByRecursion as Each, IsDistinct}
 use Rattle.std.proofs.lemmas.Bool.{cond-false}
 use Rattle.jc_log.specs.Tables.{at, puts, takes, Sets}
 use Rattle.jc_types.proofs.KeyFacts.{same_either_way}
@@ -124,3 +124,15 @@ module _ {K V : Type 0} (same : K → K → Bool) where
         by : (b : Bool) → Apart (takes same rows k) → Apart (cond b rows (row ∷ takes same rows k))
         by true rest = h.1
         by false rest = (Each-takes (λ other. same row.0 other.0 ≡ false) k rows h.0, rest)
+
+    -- The row of a new key is put behind the others.
+    pub puts-last : (k : K) (v : V) (rows after : List (K × V)) → IsDistinct same (keys_of (rows ++ (k, v) ∷ after)) → puts same rows k v ≡ rows ++ (k, v) ∷ []
+    unfolding IsDistinct
+    puts-last k v [] after once = refl
+    puts-last k v (row ∷ rows) after once =
+        cond-false (same k row.0) ((row.0, v) ∷ rows) (row ∷ puts same rows k v) (same_either_way same eq itself k row.0 ∙ far rows once.0)
+        ∙ ap (λ rest. row ∷ rest) (puts-last k v rows after once.1)
+      where
+        far : (some : List (K × V)) → Each (λ q. same row.0 q ≡ false) (keys_of (some ++ (k, v) ∷ after)) → same row.0 k ≡ false
+        far [] all = all.0
+        far (other ∷ some) all = far some all.1

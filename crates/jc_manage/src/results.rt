@@ -1,7 +1,7 @@
 //! What a sync wants of a Job's pods.
 
 use jc_moment::Moment;
-use jc_types::{Backoff, Indexes, PodVersions, Uids};
+use jc_types::{Backoff, Copied, Indexes, PodVersions, Uids, Want};
 
 /// What a sync wants of a Job's pods.
 #[derive(Drop)]
@@ -17,4 +17,16 @@ pub struct Wants {
     pub next: Option<Moment>,
     /// The failures in a row after this sync.
     pub backoff: Backoff,
+}
+
+impl Copied for Wants {
+    fn copy(&self) -> Result<Self, Want> {
+        Ok(Wants {
+            creates: self.creates.copy()?,
+            marks: self.marks.copy()?,
+            let_goes: self.let_goes.copy()?,
+            next: self.next,
+            backoff: self.backoff.copy()?,
+        })
+    }
 }

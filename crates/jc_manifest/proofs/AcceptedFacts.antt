@@ -27,7 +27,7 @@ use Rattle.jc_types.specs.declared.specifications.Replacement.TheVariants.{Termi
 use Rattle.jc_types.specs.declared.specifications.Restart.{Restart}
 use Rattle.jc_types.specs.declared.specifications.Restart.TheVariants.{Never, OnFailure}
 use Rattle.jc_types.specs.declared.specifications.Template.{Template}
-use Rattle.jc_states.specs.ValidSpecs.{FailsNoIndex, IsSuccessCount, IsValidSpec}
+use Rattle.jc_types.specs.ValidSpecs.{FailsNoIndex, IsSuccessCount, IsValidSpec}
 use Rattle.jc_rows.specs.declared.counts.Counts.{Counts}
 use Rattle.jc_manifest.specs.declared.index_limits.IndexLimits.{IndexLimits}
 use Rattle.jc_manifest.specs.declared.manifests.Head.{Head}

@@ -10,7 +10,7 @@ use Rattle.jc_types.specs.declared.specifications.Mode.{Mode}
 use Rattle.jc_types.specs.declared.specifications.Mode.TheVariants.{NonIndexed, Indexed}
 use Rattle.jc_types.specs.Equality.{same_option}
 use Rattle.jc_log.specs.Requests.{changed_spec, given_or, is_above, is_elastic, is_given_else, is_immutable, is_indexed, update_refusal}
-use Rattle.jc_states.specs.ValidSpecs.{IsValidSpec}
+use Rattle.jc_types.specs.ValidSpecs.{IsValidSpec}
 
 none_some : {A : Type 0} (x : A) → Some x ≡ None → ⊥
 none_some x e = true≢false (ap is_some e)

@@ -6,7 +6,7 @@ ghost use Rattle.serde_json.specs.Data.{Data};
 ghost use Rattle.jc_types.specs.declared.actions.SpecChange.{SpecChange};
 ghost use Rattle.jc_types.specs.declared.specifications.JobSpec.{JobSpec};
 ghost use Rattle.jc_log.specs.Requests.{changed_spec, update_refusal};
-ghost use Rattle.jc_states.specs.ValidSpecs.{IsValidSpec};
+ghost use Rattle.jc_types.specs.ValidSpecs.{IsValidSpec};
 ghost use Rattle.jc_manifest.specs.Manifests.{manifest_refusal, spec_of};
 
 /// A change that may be made keeps a valid specification valid.

@@ -3,7 +3,7 @@
 ghost use Rattle.std.specs.Prelude.{◌≡◌, ◌&&◌, IfOk, codes, is_some, not};
 ghost use Rattle.serde_json.specs.View.{view};
 ghost use Rattle.jc_json.specs.Place.{path_to};
-ghost use Rattle.jc_states.specs.ValidSpecs.{IsValidSpec};
+ghost use Rattle.jc_types.specs.ValidSpecs.{IsValidSpec};
 ghost use Rattle.jc_rows.specs.Counts.{counts_in};
 ghost use Rattle.jc_rows.specs.Rows.{Checks, Reads, rule_row, given_text_row};
 ghost use Rattle.jc_manifest.specs.Manifests.{replacement_of, is_replacement, usual_replacement, replacement_in, is_early, replacement_refusal, policies_refusal, policies_in, head_refusal, head_in, spec_refusal, spec_with, spec_in, metadata_part_refusal, spec_part_refusal, manifest_refusal, key_of, spec_of};

@@ -7,7 +7,7 @@ ghost use Rattle.jc_members.specs.declared.causes.Cause.TheVariants.{Invalid};
 
 use jc_json::{FieldFault, Path};
 use jc_rows::ManifestFault;
-use jc_types::Want;
+use jc_types::{Copied, Want};
 use std::alloc::{AllocError, AllocFailed, Global};
 
 /// Why a line is bad. Each refusal of a member has the path of the member.
@@ -36,6 +36,23 @@ pub enum LineFault {
     Bad { cause: Cause },
     /// Memory ran out.
     Want,
+}
+
+impl Copied for Cause {
+    fn copy(&self) -> Result<Self, Want> {
+        match self {
+            Cause::NotJson => Ok(Cause::NotJson),
+            Cause::LineTooLong => Ok(Cause::LineTooLong),
+            Cause::TooMany => Ok(Cause::TooMany),
+            Cause::Missing { path } => Ok(Cause::Missing { path: path.copy()? }),
+            Cause::WrongType { path } => Ok(Cause::WrongType { path: path.copy()? }),
+            Cause::OutOfRange { path } => Ok(Cause::OutOfRange { path: path.copy()? }),
+            Cause::Invalid { path, rule } => Ok(Cause::Invalid {
+                path: path.copy()?,
+                rule: *rule,
+            }),
+        }
+    }
 }
 
 impl From<FieldFault> for LineFault {

@@ -1,6 +1,6 @@
 //! How the pods of each key are to end.
 
-ghost use Rattle.std.specs.Prelude.{◌≡◌, ◌≢◌, [], IfSome, OnErr, OnOk, Some, if◌then◌else◌, option_copied};
+ghost use Rattle.std.specs.Prelude.{◌≡◌, ◌≢◌, [], IfOk, IfSome, OnErr, OnOk, Some, if◌then◌else◌, option_copied};
 ghost use Rattle.jc_types.specs.declared.objects.Key.{Key};
 ghost use Rattle.jc_types.specs.Keys.{same_key};
 ghost use Rattle.jc_log.specs.Tables.{puts};
@@ -16,6 +16,7 @@ use std::marker::Model;
 /// a pod has the end at its serial, or the last where its serial is greater.
 #[derive(Drop)]
 pub struct Fates {
+    alloc: Global,
     rows: Table<Key, Ends>,
 }
 
@@ -32,12 +33,33 @@ impl Model for Fates {
     ghost invariant = { λ f. HaveEnds f.rows };
 }
 
+// Copies of the rows, in their order.
+fn copied_rows(alloc: Global, rows: &Table<Key, Ends>) -> Result<Table<Key, Ends>, Want>
+    ensures { IfOk result (λ copies. copies ≡ rows.now) }
+{
+    let mut copies = Table::new(alloc);
+    for (key, ends) in rows.rows() {
+        copies.put(key.copy()?, ends.copy()?)?;
+    }
+    Ok(copies)
+}
+
+impl Copied for Fates {
+    fn copy(&self) -> Result<Self, Want> {
+        Ok(Fates {
+            alloc: self.alloc,
+            rows: copied_rows(self.alloc, &self.rows)?,
+        })
+    }
+}
+
 impl Fates {
     /// No fates. It takes no memory.
     pub fn new(alloc: Global) -> Fates
         ensures { result ≡ [] }
     {
         Fates {
+            alloc,
             rows: Table::new(alloc),
         }
     }

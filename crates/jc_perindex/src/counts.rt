@@ -8,7 +8,7 @@ ghost use Rattle.jc_states.specs.UidLists.{is_in};
 ghost use Rattle.jc_perindex.specs.Failures.{is_fail_index_action, newly_failed, policy_fails_index};
 ghost use Rattle.jc_perindex.specs.Steps.{one_failure, raise, raise_each, raise_for, with_failure};
 
-use jc_failpol::action;
+use jc_failpol::decided_action;
 use jc_states::{is_among, is_own};
 use jc_types::{Action, FailurePolicy, IndexCount, Job, Pod, Uid, Want};
 use std::alloc::Global;
@@ -29,7 +29,7 @@ fn policy_fails_index(failure: &Option<FailurePolicy>, pod: &Pod) -> bool
 {
     match failure {
         None => false,
-        Some(policy) => is_fail_index(action(policy, pod).0),
+        Some(policy) => is_fail_index(decided_action(policy, pod)),
     }
 }
 

@@ -5,7 +5,7 @@ ghost use Rattle.jc_ranges.specs.Sets.{IsIncreasing};
 ghost use Rattle.jc_types.specs.declared.limits.TheConstants.{GREATEST_COMPLETIONS};
 ghost use Rattle.jc_types.specs.declared.statuses.IndexCount.{IndexCount};
 ghost use Rattle.jc_states.specs.Bases.{FailuresFit, own_pods};
-ghost use Rattle.jc_states.specs.ValidSpecs.{IsValidSpec};
+ghost use Rattle.jc_types.specs.ValidSpecs.{IsValidSpec};
 ghost use Rattle.jc_perindex.specs.Failures.{failed_set, filled_counts, has_failed};
 
 use crate::counts::raise_each;

@@ -11,7 +11,7 @@ use Rattle.jc_types.specs.declared.statuses.Reason.{Reason}
 use Rattle.jc_states.specs.declared.bases.Basis.{Basis}
 use Rattle.jc_types.specs.declared.syncs.CountIn.{CountIn}
 use Rattle.jc_states.specs.Bases.{CanPlan, own_pods}
-use Rattle.jc_states.specs.ValidSpecs.{IsValidSpec}
+use Rattle.jc_types.specs.ValidSpecs.{IsValidSpec}
 use Rattle.jc_account.specs.Accounts.{counted_out}
 use Rattle.jc_finish.specs.Starts.{deadline_of, deadline_of_basis}
 use Rattle.jc_manage.specs.declared.results.Wants.{Wants}

@@ -6,7 +6,7 @@ ghost use Rattle.jc_plan.specs.Plans.{planned};
 
 use jc_moment::Moment;
 use jc_states::Basis;
-use jc_types::{Arc, Backoff, Indexes, JobStatus, PodVersions, Uids};
+use jc_types::{Arc, Backoff, Copied, Indexes, JobStatus, PodVersions, Uids, Want};
 use std::marker::Model;
 
 /// What a sync does, in the order in which it does it, and what it leaves behind.
@@ -30,6 +30,21 @@ pub struct Planned {
     pub next: Option<Moment>,
 }
 
+impl Copied for Planned {
+    fn copy(&self) -> Result<Self, Want> {
+        Ok(Planned {
+            creates: self.creates.copy()?,
+            marks: self.marks.copy()?,
+            let_goes: self.let_goes.copy()?,
+            first: self.first.copy()?,
+            releases: self.releases.copy()?,
+            second: self.second.copy()?,
+            backoff: self.backoff.copy()?,
+            next: self.next,
+        })
+    }
+}
+
 /// The plan of a sync: the requests that it makes, and what it leaves behind. It is that of its own basis.
 #[derive(Drop)]
 pub struct Plan {
@@ -46,6 +61,14 @@ impl Model for Plan {
     ghost view = { λ p. record { basis = p.basis; parts = p.parts } };
 
     ghost invariant = { λ p. p.parts ≡ planned p.basis };
+}
+
+impl Copied for Plan {
+    fn copy(&self) -> Result<Self, Want> {
+        let basis = self.basis.copy()?;
+        let parts = self.parts.copy()?;
+        Ok(Plan { basis, parts })
+    }
 }
 
 impl Plan {

@@ -1,8 +1,9 @@
 -- The row that is due first is found from the last row on, and taken out by its place; its moment is the least.
-use Rattle.std.proofs.Common.{◌≡◌, ℕ, zero, suc, ◌<◌, ◌≤◌, ◌||◌, ◌&&◌, ◌==◌, min, nat_lt, nat_le, eqb-true, arith, Bool, true, false, cond, List, [], ◌∷◌, Option, None, Some, is_some, drop, refl, sym, ap, ◌∙◌, subst, true≢false}
+use Rattle.std.proofs.Common.{◌≡◌, ℕ, zero, suc, ◌<◌, ◌≤◌, ◌||◌, ◌&&◌, ◌==◌, min, nat_lt, nat_le, eqb-true, arith, Bool, true, false, cond, List, [], ◌∷◌, Option, None, Some, is_some, drop, take, refl, sym, ap, ◌∙◌, subst, true≢false}
 use Rattle.std.proofs.lemmas.Bool.Decides.{nat_tests}
 use Rattle.std.specs.List.{AllByRecursion as Each, IsDistinct, remove, slice_get}
 use Rattle.std.specs.Map.{keys_of}
+use Rattle.indexmap.specs.IndexMap.{insert_entry}
 use Rattle.std.specs.Option.{option_and_then, option_map, unwrap_or}
 use Rattle.jc_types.specs.declared.objects.Key.{Key}
 use Rattle.jc_types.specs.Keys.{same_key}
@@ -125,3 +126,20 @@ pub first-due : (rows : List (Key × ℕ)) (now moment : ℕ) (row : Key × ℕ)
 first-due rows now moment row e come first =
     sym (ap (λ b. cond b (Some row.0) None) (ap (λ m. nat_le m now) (ap (λ o. unwrap_or o 0) (sym (e ∙ ap (λ o. option_map (λ (row : Key × ℕ). row.1) o) (sym first)))) ∙ come))
     ∙ ap (λ o. key_by o now) first
+
+-- ---- copies
+
+-- The row that is copied next.
+insert-next : {X : Type 0} (rows : List (Key × X)) (i : ℕ) (row : Key × X) → IsDistinct same_key (keys_of rows) → Some row ≡ slice_get rows i → insert_entry same_key (take i rows) row.0 row.1 ≡ take (suc i) rows
+unfolding IsDistinct
+insert-next [] zero row d e = absurd (true≢false (ap is_some e))
+insert-next [] (suc i) row d e = absurd (true≢false (ap is_some e))
+insert-next (first ∷ rows) zero row d e = ap (λ o. unwrap_or o row ∷ []) e
+insert-next (first ∷ rows) (suc i) row d e =
+    let other : same_key row.0 first.0 ≡ false = same_key-either_way row.0 first.0 ∙ key_at (λ k. same_key first.0 k ≡ false) rows i row d.0 e in
+    ap (λ b. cond b ((first.0, row.1) ∷ take i rows) (first ∷ insert_entry same_key (take i rows) row.0 row.1)) other
+    ∙ ap (λ rest. first ∷ rest) (insert-next rows i row d.1 e)
+
+pub row-copied : {X : Type 0} (rows before after : List (Key × X)) (i next : ℕ) (row : Key × X) (k : Key) (v : X) → IsDistinct same_key (keys_of rows) → Some row ≡ slice_get rows i → next ≡ suc i → k ≡ row.0 → v ≡ row.1 → before ≡ take i rows → after ≡ insert_entry same_key before k v → after ≡ take next rows
+row-copied rows before after i next row k v d e n key value b a =
+    a ∙ (λ j. insert_entry same_key (b j) (key j) (value j)) ∙ insert-next rows i row d e ∙ ap (λ n. take n rows) (sym n)

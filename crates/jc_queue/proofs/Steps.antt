@@ -1,7 +1,6 @@
 -- What the code writes into its lists is what the words on a queue say.
-use Rattle.std.proofs.Common.{◌≡◌, ℕ, suc, Bool, true, false, cond, not, ◌||◌, ◌+◌, ◌<◌, length, List, [], ◌∷◌, ◌++◌, Some, None, is_some, refl, sym, ap, ◌∙◌, true≢false, arith, nat_lt, slice_index_or}
+use Rattle.std.proofs.Common.{◌≡◌, ℕ, suc, Bool, true, false, cond, not, ◌||◌, ◌+◌, ◌<◌, length, List, [], ◌∷◌, ◌++◌, Some, None, is_some, refl, sym, ap, ◌∙◌, true≢false, arith, nat_lt}
 use Rattle.std.proofs.lemmas.Bool.Decides.{nat_tests}
-use Rattle.std.proofs.lemmas.List.Quantifiers.{position-Some}
 use Rattle.std.specs.List.{find, list_any, position, position_or_len, remove}
 use Rattle.std.specs.Option.{unwrap_or}
 use Rattle.std.specs.Set.{remove_key}
@@ -46,10 +45,6 @@ no_place test xs h e =
     let within = place_within test xs h in
     let passes : nat_lt (position_or_len test xs) (length xs) ≡ true = grind (arith, nat_tests, within) in
     true≢false (ap is_some (sym (e ∙ ap (λ b. cond b (Some (position_or_len test xs)) None) passes)))
-
--- The key at the place that was found is the key that was looked up.
-pub placed_is : (k held : Key) (keys : List Key) (i : ℕ) → Some i ≡ position (same_key k) keys → held ≡ slice_index_or keys i held → held ≡ k
-placed_is k held keys i h e = e ∙ sym (same_key-eq k (slice_index_or keys i held) (position-Some (same_key k) keys i held (sym h)).1)
 
 -- A queue with these lists is what `added` says.
 pub added-parts : (q : Queued) (k : Key) (line dirty processing : List Key) → has_key k q.dirty ≡ false → line ≡ cond (has_key k q.processing) q.line (q.line ++ k ∷ []) → dirty ≡ plus_key k q.dirty → processing ≡ q.processing → record { line = line; dirty = dirty; processing = processing } ≡ added q k

@@ -1,12 +1,20 @@
-//! Copies of a key that are made ahead, and the most room: so a queue and delays take keys with no memory.
+//! Copies of a key that are made ahead, and counts of places: so a queue and delays take keys with no memory.
 
-ghost use Rattle.std.specs.Prelude.{◌≡◌, IfOk};
+ghost use Rattle.std.specs.Prelude.{◌≡◌, ◌+◌, IfOk};
 
 use jc_types::{Copied, Key, Want};
+use std::alloc::AllocError;
 use std::marker::Model;
 
-// The most keys for which room is kept. No table of keys has so many places.
-pub(crate) const MOST_ROOM: usize = 4_294_967_295;
+// So many places and so many more. No memory has more of them than a `usize` counts.
+pub(crate) fn places(some: usize, more: usize) -> Result<usize, Want>
+    ensures { IfOk result (λ all. all ≡ some + more) }
+{
+    match some.checked_add(more) {
+        None => Err(AllocError),
+        Some(all) => Ok(all),
+    }
+}
 
 /// A key in two copies, as a queue keeps it.
 #[derive(Drop)]

@@ -10,11 +10,12 @@ ghost use Rattle.jc_types.specs.Keys.{same_key};
 ghost use Rattle.jc_log.specs.Tables.{at};
 ghost use Rattle.jc_queue.specs.Delayed.{AreCopied, HasOneMoment, at_with_moment, delayed, due_key, earlier, first_of, forgotten, is_before, least_moment, left_by, retried, row_at, seconds_after, sooner, with_moment};
 
-use crate::copies::{MOST_ROOM, Supply, Twice};
+use crate::copied::{copied_rows, copied_set};
+use crate::copies::{Supply, Twice, places};
 use indexmap::{IndexMap, IndexSet};
 use jc_moment::Moment;
-use jc_types::{Key, Want};
-use std::alloc::{AllocError, Global};
+use jc_types::{Copied, Key, Want};
+use std::alloc::Global;
 use std::marker::Model;
 
 /// The most failures in a row that are counted.
@@ -33,7 +34,7 @@ pub struct Delays {
     failures: IndexMap<Key, u32>,
     // Read at each clock event: the table is looked through only where a key is due.
     least: Option<Moment>,
-    room: u32,
+    room: usize,
 }
 
 impl Model for Delays {
@@ -80,16 +81,13 @@ impl Delays {
         ensures room { OnOk result (self.new.room ≡ max self.old.room room) }
         ensures kept { OnErr result (self.new ≡ self.old) }
     {
-        if room <= self.room as usize {
+        if room <= self.room {
             return Ok(());
-        }
-        if room > MOST_ROOM {
-            return Err(AllocError);
         }
         self.moments.reserve(room)?;
         self.copies.reserve(room)?;
         self.failures.reserve(room)?;
-        self.room = room as u32;
+        self.room = room;
         Ok(())
     }
 
@@ -103,8 +101,7 @@ impl Delays {
         ensures kept { OnErr result (self.new ≡ self.old) }
     {
         let twice = Twice::of(key)?;
-        let room = self.room as usize + 1;
-        self.reserve(room)?;
+        self.reserve(places(self.room, 1)?)?;
         self.delay(twice, moment);
         Ok(())
     }
@@ -136,8 +133,7 @@ impl Delays {
         ensures kept { OnErr result (self.new ≡ self.old) }
     {
         let supply = Supply::of(key)?;
-        let room = self.room as usize + 1;
-        self.reserve(room)?;
+        self.reserve(places(self.room, 1)?)?;
         self.fail(supply, now);
         Ok(())
     }
@@ -219,6 +215,25 @@ impl Delays {
     {
         let _delayed = self.moments.len();
         self.least
+    }
+}
+
+impl Copied for Delays {
+    fn copy(&self) -> Result<Delays, Want> {
+        let alloc = *self.moments.allocator();
+        let mut moments = copied_rows(alloc, &self.moments)?;
+        let mut copies = copied_set(alloc, self.copies.as_slice())?;
+        let mut failures = copied_rows(alloc, &self.failures)?;
+        moments.reserve(self.room)?;
+        copies.reserve(self.room)?;
+        failures.reserve(self.room)?;
+        Ok(Delays {
+            moments,
+            copies,
+            failures,
+            least: self.least,
+            room: self.room,
+        })
     }
 }
 

@@ -6,6 +6,7 @@
 #![tactic(auto)]
 
 mod calls;
+mod copied;
 mod copies;
 mod delays;
 mod laws;

@@ -9,11 +9,12 @@ ghost use Rattle.indexmap.specs.IndexSet.{spare};
 ghost use Rattle.jc_types.specs.Keys.{same_key};
 ghost use Rattle.jc_queue.specs.Queued.{IsQueue, added, finished, got, has_key, plus_key, queue_of, retracted, sent_back, key_set, without};
 
-use crate::copies::{MOST_ROOM, Twice};
+use crate::copied::{copied, copied_set};
+use crate::copies::{Twice, places};
 use indexmap::IndexSet;
 use jc_table::has_key;
 use jc_types::{Copied, Key, Want};
-use std::alloc::{AllocError, Global};
+use std::alloc::Global;
 use std::collections::VecDeque;
 use std::marker::Model;
 
@@ -26,7 +27,7 @@ pub struct Queue {
     dirty: IndexSet<Key>,
     // Few: at most one for each worker.
     processing: Vec<Key>,
-    room: u32,
+    room: usize,
 }
 
 impl Model for Queue {
@@ -73,16 +74,13 @@ impl Queue {
         ensures room { OnOk result (self.new.room ≡ max self.old.room room) }
         ensures kept { OnErr result (self.new ≡ self.old) }
     {
-        if room <= self.room as usize {
+        if room <= self.room {
             return Ok(());
         }
-        if room > MOST_ROOM {
-            return Err(AllocError);
-        }
-        self.line.reserve(self.processing.len() + room)?;
-        self.processing.reserve(self.line.len() + room)?;
+        self.line.reserve(places(self.processing.len(), room)?)?;
+        self.processing.reserve(places(self.line.len(), room)?)?;
         self.dirty.reserve(room)?;
-        self.room = room as u32;
+        self.room = room;
         Ok(())
     }
 
@@ -97,8 +95,7 @@ impl Queue {
         ensures kept { OnErr result (self.new ≡ self.old) }
     {
         let twice = Twice::of(key)?;
-        let room = self.room as usize + 1;
-        self.reserve(room)?;
+        self.reserve(places(self.room, 1)?)?;
         self.add_reserved(twice);
         Ok(())
     }
@@ -138,14 +135,14 @@ impl Queue {
     }
 
     /// Ends the processing of a key; where it is dirty it goes to the line's end. It takes no memory.
-    pub fn done(&mut self, key: &Key)
-        requires processing { has_key key.now self.old.queue.processing ≡ true }
-        ensures finished { self.new.queue ≡ finished self.old.queue key.now }
+    pub fn done(&mut self, key: Key)
+        requires processing { has_key key self.old.queue.processing ≡ true }
+        ensures finished { self.new.queue ≡ finished self.old.queue key }
         ensures room { self.new.room ≡ self.old.room }
     {
-        let held = take_out(&mut self.processing, key);
-        if is_in(&self.dirty, key) {
-            self.line.push_back_reserved(held);
+        take_out(&mut self.processing, &key);
+        if is_in(&self.dirty, &key) {
+            self.line.push_back_reserved(key);
         }
     }
 
@@ -220,14 +217,13 @@ impl Queue {
 impl Copied for Queue {
     fn copy(&self) -> Result<Queue, Want> {
         let alloc = *self.line.allocator();
-        let room = self.room as usize;
         let (front, back) = self.line.as_slices();
         let mut line = copied(alloc, front, back)?;
         let mut processing = copied(alloc, self.processing.as_slice(), &[])?;
         let mut dirty = copied_set(alloc, self.dirty.as_slice())?;
-        line.reserve(processing.len() + room)?;
-        processing.reserve(line.len() + room)?;
-        dirty.reserve(room)?;
+        line.reserve(places(processing.len(), self.room)?)?;
+        processing.reserve(places(line.len(), self.room)?)?;
+        dirty.reserve(self.room)?;
         Ok(Queue {
             line: VecDeque::from_vec(line),
             dirty,
@@ -235,38 +231,6 @@ impl Copied for Queue {
             room: self.room,
         })
     }
-}
-
-// Copies of the keys in front and of those at the back.
-fn copied(alloc: Global, front: &[Key], back: &[Key]) -> Result<Vec<Key>, Want>
-    ensures { IfOk result (λ keys. keys.items ≡ front.now ++ back.now) }
-{
-    let mut keys = Vec::new(alloc);
-    push_copies(&mut keys, front)?;
-    push_copies(&mut keys, back)?;
-    Ok(keys)
-}
-
-// Adds copies of more keys at the end.
-fn push_copies(keys: &mut Vec<Key>, more: &[Key]) -> Result<(), Want>
-    ensures { OnOk result (keys.new.items ≡ keys.old.items ++ more.now) }
-{
-    for key in more {
-        keys.push(key.copy()?)?;
-    }
-    Ok(())
-}
-
-// A set of copies of the keys, in their order.
-fn copied_set(alloc: Global, keys: &[Key]) -> Result<IndexSet<Key>, Want>
-    requires once { IsDistinct same_key keys.now }
-    ensures { IfOk result (λ set. set.keys ≡ keys.now) }
-{
-    let mut set = IndexSet::new(alloc);
-    for key in keys {
-        set.insert(key.copy()?)?;
-    }
-    Ok(set)
 }
 
 // Whether the key is one of the set.
@@ -324,10 +288,9 @@ fn place_of(keys: &[Key], key: &Key) -> Option<usize>
     keys.iter().position(|other| *key == *other)
 }
 
-// Takes the key out of the keys, and hands it over.
-fn take_out(keys: &mut Vec<Key>, key: &Key) -> Key
+// Takes the key out of the keys.
+fn take_out(keys: &mut Vec<Key>, key: &Key)
     requires there { has_key key.now keys.old.items ≡ true }
-    ensures taken { result ≡ key.now }
     ensures items { keys.new.items ≡ without key.now keys.old.items }
     ensures count { vec_len keys.new + 1 ≡ vec_len keys.old }
     ensures capacity { vec_capacity keys.new ≡ vec_capacity keys.old }
@@ -335,5 +298,5 @@ fn take_out(keys: &mut Vec<Key>, key: &Key) -> Key
     let Some(place) = place_of(keys, key) else {
         unreachable!()
     };
-    keys.remove(place)
+    keys.remove(place);
 }

@@ -21,7 +21,7 @@ use Rattle.jc_types.proofs.KeyFacts.{same_key-eq, same_key-itself, same_uid-itse
 use Rattle.jc_types.proofs.ListFacts.{Each-both, Each-weaker, Each-append as each-append}
 use Rattle.jc_states.specs.declared.bases.Basis.{Basis}
 use Rattle.jc_states.specs.Pods.{is_final}
-use Rattle.jc_states.specs.ValidSpecs.{IsValidSpec}
+use Rattle.jc_types.specs.ValidSpecs.{IsValidSpec}
 use Rattle.jc_log.specs.Acts.{Act}
 use Rattle.jc_log.specs.Deeds.{Deed}
 use Rattle.jc_log.specs.Log.{Live, job_in, life, living, pods_of, upto}

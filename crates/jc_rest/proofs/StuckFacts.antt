@@ -20,7 +20,7 @@ use Rattle.jc_states.specs.declared.bases.Basis.{Basis}
 use Rattle.jc_states.specs.Bases.{own_pods}
 use Rattle.jc_states.specs.Conditions.{has_end}
 use Rattle.jc_states.specs.PodLists.{IsRising}
-use Rattle.jc_states.specs.ValidSpecs.{IsValidSpec}
+use Rattle.jc_types.specs.ValidSpecs.{IsValidSpec}
 use Rattle.jc_states.proofs.PodListFacts.{rises_filter}
 use Rattle.jc_control.specs.ControllerCalls.{told}
 use Rattle.jc_states.specs.Pods.{is_active, is_ending, is_pending, is_marked, is_open, is_tracked, is_tracked_active}

@@ -5,13 +5,9 @@ use Rattle.std.proofs.lemmas.Option.{same_Some, none-some as none_some}
 use Rattle.jc_log.specs.Acts as does
 use Rattle.jc_log.specs.Acts.{Act}
 use Rattle.jc_log.specs.Deeds.{Deed}
-use Rattle.jc_log.specs.Log.{pods_after, pods_in, pods_under, upto}
 use Rattle.jc_log.specs.Requests.{grown}
-use Rattle.jc_states.specs.PodLists.{put_pod}
-use Rattle.jc_types.specs.Keys.{same_key, same_uid}
 use Rattle.jc_types.specs.declared.actions.Fault.{Fault}
 use Rattle.jc_types.specs.declared.objects.Entry.{Entry}
-use Rattle.jc_types.specs.declared.objects.Entry.TheVariants.{JobPut, JobGone, PodPut, PodGone}
 use Rattle.jc_types.specs.declared.objects.Key.{Key}
 use Rattle.jc_types.specs.declared.objects.Kind.{Kind}
 use Rattle.jc_types.specs.declared.objects.Pod.{Pod}
@@ -23,8 +19,8 @@ use Rattle.jc_types.specs.declared.runs.Shape.{Shape}
 use Rattle.jc_types.specs.declared.syncs.Backoff.{Backoff}
 use Rattle.jc_states.specs.declared.bases.Basis.{Basis}
 use Rattle.jc_control.specs.declared.ends.SyncEnd.{SyncEnd}
+use Rattle.jc_log.proofs.PodFacts.{pods_under-few}
 use Rattle.jc_plan.proofs.BackoffFacts.{plan-dated, plan-failures}
-use Rattle.jc_plan.proofs.Owned.{filter-least as filter-few}
 use Rattle.jc_plan.specs.Plans.{IsDated, planned}
 use Rattle.jc_history.specs.Diaries.{end_by, moment, notes, notes_taken, on_begin, on_clock, on_delivery, on_lag, on_list, on_step, restarts}
 use Rattle.jc_history.specs.Fresh.{basis as basis_at}
@@ -34,42 +30,6 @@ use Rattle.jc_history.specs.Notes.{Note, Asked, Ended, Faulted, newest}
 use Rattle.jc_history.specs.Registers.{asks_status, backoff, keeps_backoff, register, register_told}
 use Rattle.jc_history.specs.Replies.{gives, log_given}
 use Rattle.jc_history.proofs.LegalFacts.{notes-next}
-
--- ---- how many pods a sync sees
-
-put_few : (pod : Pod) (pods : List Pod) → length (put_pod pod pods) ≤ suc (length pods)
-put_few pod [] = omega arith
-put_few pod (q ∷ pods) = by (put_few pod pods) (nat_lt pod.uid.0 q.uid.0) (pod.uid.0 == q.uid.0)
-  where
-    by : length (put_pod pod pods) ≤ suc (length pods) → (a b : Bool) → length (cond a (pod ∷ q ∷ pods) (cond b (pod ∷ pods) (q ∷ put_pod pod pods))) ≤ suc (length (q ∷ pods))
-    by ih true b = omega arith
-    by ih false true = omega arith
-    by ih false false = omega (arith, ih)
-
-pods_few : (log : List Entry) → length (pods_in log) ≤ length log
-pods_few [] = omega arith
-pods_few (e ∷ older) = by (pods_few older) e
-  where
-    by : length (pods_in older) ≤ length older → (e : Entry) → length (pods_after e (pods_in older)) ≤ suc (length older)
-    by ih (JobPut job) = omega (arith, ih)
-    by ih (JobGone job) = omega (arith, ih)
-    by ih (PodPut pod) = let put = put_few pod (pods_in older) in omega (arith, ih, put)
-    by ih (PodGone pod) = let dropped = filter-few (λ (q : Pod). not (same_uid q.uid pod.uid)) (pods_in older) in omega (arith, ih, dropped)
-
-upto_few : (n : ℕ) (log : List Entry) → length (upto n log) ≤ length log
-upto_few n [] = omega arith
-upto_few n (e ∷ older) = by (upto_few n older) (nat_lt (length older) n)
-  where
-    by : length (upto n older) ≤ length older → (b : Bool) → length (cond b (e ∷ older) (upto n older)) ≤ suc (length older)
-    by ih true = omega arith
-    by ih false = omega (arith, ih)
-
-seen_few : (k : Key) (n : ℕ) (log : List Entry) → length (pods_under k (upto n log)) ≤ length log
-seen_few k n log =
-    let own = filter-few (λ (pod : Pod). same_key pod.owner k) (pods_in (upto n log)) in
-    let all = pods_few (upto n log) in
-    let part = upto_few n log in
-    omega (arith, own, all, part)
 
 -- A deed appends at most one entry.
 pub log_short : (shape : Shape) (deeds : List Deed) → length (log_given shape deeds) ≤ length deeds
@@ -156,7 +116,7 @@ module _ (n : ℕ) (bound : n ≤ 200000) (older : List Note) (s : AreSmall n ol
   begin_small worker now log short (reply.Begun key jobs_at pods_at) = record { keys = later.keys; syncs = λ w b. by w b (worker == w) }
     where
       fresh : BeganSmall (suc n) (basis_at older log now key jobs_at pods_at)
-      fresh = let few = seen_few key pods_at.0 log in record { small = later.keys key; few = omega (arith, few, short) }
+      fresh = let few = pods_under-few key pods_at.0 log in record { small = later.keys key; few = omega (arith, few, short) }
 
       by : (w : ℕ) (b : Basis) (x : Bool) → unwrap_or (option_or (cond x (Some (Some (basis_at older log now key jobs_at pods_at))) None) (newest (register_told w) older)) None ≡ Some b → BeganSmall (suc n) b
       by w b true e = subst (BeganSmall (suc n)) (same_Some (basis_at older log now key jobs_at pods_at) b e) fresh

@@ -20,7 +20,7 @@ use Rattle.jc_types.specs.declared.replies.Reply.TheVariants as reply
 use Rattle.jc_types.specs.declared.runs.Shape.{Shape}
 use Rattle.jc_types.specs.declared.specifications.JobSpec.{JobSpec}
 use Rattle.jc_types.specs.Keys.{same_key}
-use Rattle.jc_states.specs.ValidSpecs.{IsValidSpec}
+use Rattle.jc_types.specs.ValidSpecs.{IsValidSpec}
 use Rattle.jc_log.specs.Acts.{Act}
 use Rattle.jc_log.specs.Deeds.{Deed}
 use Rattle.jc_log.specs.Requests.{Answered, changed_spec, create_job_gives, delete_job_gives, grown, mark_pod_gives, refused, release_gives, report_phase_gives, update_refusal, update_spec_gives}

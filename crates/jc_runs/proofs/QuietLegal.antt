@@ -16,7 +16,7 @@ use Rattle.jc_types.specs.declared.runs.Shape.{Shape}
 use Rattle.jc_types.specs.declared.specifications.JobSpec.{JobSpec}
 use Rattle.jc_states.specs.declared.bases.Basis.{Basis}
 use Rattle.jc_states.specs.Bases.{own_pods}
-use Rattle.jc_states.specs.ValidSpecs.{IsValidSpec}
+use Rattle.jc_types.specs.ValidSpecs.{IsValidSpec}
 use Rattle.jc_log.specs.Log.{pods_under}
 use Rattle.jc_log.specs.Deeds.{Deed}
 use Rattle.jc_log.specs.Requests.{changed_spec, refused, update_refusal}

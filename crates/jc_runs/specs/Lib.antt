@@ -26,5 +26,5 @@ pub use Rattle.jc_states.specs.PodLists
 pub use Rattle.jc_states.specs.Pods
 pub use Rattle.jc_history.specs.Registers
 pub use Rattle.jc_history.specs.Replies
-pub use Rattle.jc_states.specs.ValidSpecs
+pub use Rattle.jc_types.specs.ValidSpecs
 pub use Rattle.jc_ledger.specs.declared.counts.Verdicts

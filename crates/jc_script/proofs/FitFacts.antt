@@ -14,7 +14,7 @@ use Rattle.jc_manifest.proofs.AcceptedFacts.{accepted_is_valid}
 use Rattle.jc_manifest.specs.Manifests.{manifest_refusal, spec_of, key_of}
 use Rattle.jc_rows.specs.Rows.{Row, unread, invalid}
 use Rattle.jc_states.specs.ValidActions.{IsValidAction}
-use Rattle.jc_states.specs.ValidSpecs.{IsValidSpec}
+use Rattle.jc_types.specs.ValidSpecs.{IsValidSpec}
 use Rattle.jc_types.specs.declared.actions.Action1.{Action1}
 use Rattle.jc_types.specs.declared.actions.End.{End}
 use Rattle.jc_types.specs.declared.actions.Command.{Command}

@@ -191,7 +191,10 @@ length-put_there low pod (q ∷ pods) r there =
     by false l false e true s h ih = absurd (eqb-false pod.uid.0 q.uid.0 e (sym (eqb-true q.uid.0 pod.uid.0 s)))
     by false l false e false s h ih = ap suc (ih h)
 
+-- A filter keeps at most all.
+pub length-filter-le : (test : Pod → Bool) (pods : List Pod) → length (filter test pods) ≤ length pods
+length-filter-le test pods = let h = length-filter_both test (λ p. not (test p)) (λ p. refl) pods in omega (arith, h)
+
 -- A drop adds none.
 pub length-drop_pod : (u : Uid) (pods : List Pod) → length (drop_pod u pods) ≤ length pods
-length-drop_pod u pods =
-    let h = length-filter_both (λ (p : Pod). not (same_uid p.uid u)) (λ p. not (not (same_uid p.uid u))) (λ p. refl) pods in omega (arith, h)
+length-drop_pod u pods = length-filter-le (λ p. not (same_uid p.uid u)) pods

@@ -3,7 +3,6 @@ use Rattle.std.proofs.Common.{◌≡◌, ℕ, ◌+◌, ◌-◌, ◌*◌, ◌<◌
 use Rattle.std.specs.List.{AllByRecursion as Each, list_any}
 use Rattle.std.proofs.lemmas.Bool.{cond-true, eqb-false}
 use Rattle.std.proofs.lemmas.List.Elements.{All-from_recursion, recursion_from_All}
-use Rattle.std.proofs.lemmas.List.Filters.{length-filter_both}
 use Rattle.std.proofs.lemmas.List.Sums.{sum_by-cons, sum_by-le}
 use Rattle.jc_types.specs.declared.numbers.Uid.{Uid}
 use Rattle.jc_types.specs.declared.objects.Pod.{Pod}
@@ -14,7 +13,7 @@ use Rattle.jc_states.specs.declared.tallies.Tally.{Tally}
 use Rattle.jc_states.specs.PodLists.{put_pod, drop_pod, RisesFrom, IsRising}
 use Rattle.jc_states.specs.Pods.{is_active, is_ending, is_open, is_ready, is_tracked_active}
 use Rattle.jc_states.specs.Tallies.{AreTallied, CountsPod, HasFewRestarts, HasRoom, KeepsTallies, tally_with, tally_without, open_restarts, pods_for, restarts_in, restarts_of, tally_as, tally_in, tally_of, with_pod, without_pod}
-use Rattle.jc_states.proofs.PodListFacts.{pod_among, among_none, drop-absent, rises_put, rises_filter}
+use Rattle.jc_states.proofs.PodListFacts.{pod_among, among_none, drop-absent, rises_put, rises_filter, length-filter-le}
 
 -- ---- what is counted of each pod, in any order
 
@@ -157,10 +156,6 @@ counts-entered : (t : Tally) (pod : Pod) → CountsPod (tally_with t pod) pod
 counts-entered t pod = record { open_pods = omega arith; active = omega arith; active_tracked = omega arith; open_marked = omega arith; ready = omega arith; restarts = omega arith }
 
 -- ---- how large the numbers are
-
--- A filter keeps at most all.
-length-filter-le : (test : Pod → Bool) (pods : List Pod) → length (filter test pods) ≤ length pods
-length-filter-le test pods = let h = length-filter_both test (λ p. not (test p)) (λ p. refl) pods in omega (arith, h)
 
 -- Open pods with few restarts each have few all together.
 restarts-few : (pods : List Pod) → Each HasFewRestarts pods → restarts_of pods ≤ length pods * 2 ^ 96

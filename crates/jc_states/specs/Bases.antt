@@ -17,7 +17,7 @@ use Rattle.jc_states.specs.declared.bases.Basis.{Basis}
 use Rattle.jc_types.specs.Equality.{same_backoff, same_job, same_option, same_pod}
 use Rattle.jc_types.specs.Keys.{same_key, same_uid}
 use Rattle.jc_states.specs.Indexes.{HasSmallIndex}
-use Rattle.jc_states.specs.ValidSpecs.{IsValidSpec}
+use Rattle.jc_types.specs.ValidSpecs.{IsValidSpec}
 
 -- The pod was made for the Job. One of the same key may have been made for an earlier Job.
 abbrev pub is_own : Job → Pod → Bool

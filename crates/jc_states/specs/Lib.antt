@@ -6,7 +6,6 @@ pub mod Conditions
 pub mod UidLists
 pub mod Listed
 pub mod ValidActions
-pub mod ValidSpecs
 pub mod Bases
 pub mod Owners
 pub mod Tallies

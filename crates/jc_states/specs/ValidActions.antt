@@ -4,7 +4,7 @@
 use Rattle.std.specs.Prelude.{◌≢◌, []}
 use Rattle.jc_types.specs.declared.actions.Action1.{Action1}
 use Rattle.jc_types.specs.declared.actions.Action1.TheVariants as action
-use Rattle.jc_states.specs.ValidSpecs.{IsValidSpec}
+use Rattle.jc_types.specs.ValidSpecs.{IsValidSpec}
 
 abbrev pub IsValidAction : Action1 → Type 0
 IsValidAction (action.Create key spec) = IsValidSpec spec

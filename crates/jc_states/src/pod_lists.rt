@@ -1,6 +1,6 @@
 //! Pods in ascending order of their UIDs, with the numbers of each owner.
 
-ghost use Rattle.std.specs.Prelude.{◌≡◌, ◌∷◌, ◌++◌, ◌<◌, ◌^◌, ◌↔◌, [], All, IfOk, IsSome, IsTrue, None, OnErr, OnOk, find, is_some, length};
+ghost use Rattle.std.specs.Prelude.{◌≡◌, ◌∷◌, ◌++◌, ◌-◌, ◌<◌, ◌^◌, ◌↔◌, [], All, IfOk, IsSome, IsTrue, None, OnErr, OnOk, find, is_some, length};
 ghost use Rattle.jc_types.specs.Keys.{same_uid};
 ghost use Rattle.jc_states.specs.PodLists.{IsRising, drop_pod, place_from, put_pod};
 ghost use Rattle.jc_states.specs.Tallies.{tally_of};
@@ -8,14 +8,11 @@ ghost use Rattle.jc_states.specs.Tallies.{tally_of};
 use crate::tallies::{Tally, enter, leave, tally_in};
 use indexmap::IndexMap;
 use jc_types::{Copied, Pod, Same, Uid, Want};
-use std::alloc::{AllocError, Global};
+use std::alloc::Global;
 use std::marker::Model;
 
-// The most pods that one list holds, so that 32 bits count them.
-const MOST_PODS: usize = 4_294_967_295;
-
-/// Pods in ascending order of their UIDs, none twice. A contract sees the list of the pods. Beside them
-/// stand the numbers of each owner, so that nobody counts the pods.
+/// Pods in ascending order of their UIDs, none twice, and fewer than 2 ^ 32. A contract sees the list of the
+/// pods. Beside them stand the numbers of each owner, so that nobody counts the pods.
 #[derive(Drop)]
 pub struct Pods {
     alloc: Global,
@@ -70,7 +67,8 @@ impl Pods {
     /// # Errors
     /// `Want` where there is no memory for them.
     pub fn from_slice(alloc: Global, items: &[Pod]) -> Result<Self, Want>
-        requires { IsRising items.now }
+        requires rising { IsRising items.now }
+        requires few { length items.now < 2 ^ 32 }
         ensures { IfOk result (λ pods. pods ≡ items.now) }
     {
         let mut pods = Pods::new(alloc);
@@ -99,6 +97,7 @@ impl Pods {
     /// The pods, in ascending UID.
     pub fn as_slice(&self) -> &[Pod]
         ensures pods { result.now ≡ self.now }
+        ensures few { length self.now < 2 ^ 32 }
         ensures rising { IsRising self.now }
     {
         self.pods.as_slice()
@@ -118,6 +117,7 @@ impl Pods {
     /// `Want` where there is no memory for it; the pods are then as before.
     pub fn push(&mut self, pod: Pod) -> Result<(), Want>
         requires above { All (λ (other : Pod). other.uid.0 < pod.uid.0) self.old }
+        requires few { length self.old < 2 ^ 32 - 1 }
         ensures added { OnOk result (self.new ≡ self.old ++ pod ∷ []) }
         ensures kept { OnErr result (self.new ≡ self.old) }
     {
@@ -129,6 +129,7 @@ impl Pods {
     /// # Errors
     /// `Want` where there is no memory for one more pod; the pods are then as before.
     pub fn put(&mut self, pod: Pod) -> Result<(), Want>
+        requires few { length self.old < 2 ^ 32 - 1 }
         ensures puts { OnOk result (self.new ≡ put_pod pod self.old) }
         ensures kept { OnErr result (self.new ≡ self.old) }
     {
@@ -162,12 +163,10 @@ impl Pods {
     fn insert_at(&mut self, place: usize, pod: Pod) -> Result<(), Want>
         requires place { place ≡ place_from pod.uid self.old }
         requires absent { find (λ other. same_uid other.uid pod.uid) self.old ≡ None }
+        requires few { length self.old < 2 ^ 32 - 1 }
         ensures puts { OnOk result (self.new ≡ put_pod pod self.old) }
         ensures kept { OnErr result (self.new ≡ self.old) }
     {
-        if self.pods.len() >= MOST_PODS {
-            return Err(AllocError);
-        }
         self.pods.reserve(1)?;
         self.tallies.reserve(1)?;
         enter(&mut self.tallies, &pod);

@@ -4,7 +4,7 @@
 --     count_within indexes completed   how many completed indexes are among the indexes
 --     is_met rule completed            the rule is met
 --     met_place policy completed        the least place of a rule that is met
-use Rattle.std.specs.Prelude.{ℕ, ◌^◌, nat_lt, nat_le, Bool, false, List, length, if◌then◌else◌, Option, Some, None, count_by, position}
+use Rattle.std.specs.Prelude.{ℕ, nat_le, Bool, false, List, length, Option, Some, None, count_by, position}
 use Rattle.std.specs.List.{list_all}
 use Rattle.jc_types.specs.declared.policies.SuccessPolicy.{SuccessPolicy}
 use Rattle.jc_types.specs.declared.policies.SuccessRule.{SuccessRule}

@@ -1,7 +1,6 @@
 //! The rules of a success policy and the first that is met.
 
-ghost use Rattle.std.specs.Prelude.{◌≡◌, is_some};
-ghost use Rattle.jc_types.specs.FirstPlaces.{as_u32};
+ghost use Rattle.std.specs.Prelude.{◌≡◌, ◌<◌, ◌^◌, is_some, length};
 ghost use Rattle.jc_succpol.specs.Rules.{is_met, met_place};
 
 use crate::members::{are_all_completed, completed_within};
@@ -39,15 +38,16 @@ pub fn is_met(policy: &SuccessPolicy, completed: &Ranges) -> bool
 }
 
 /// The place among a success policy's rules, counted from 0, of the first that the completed indexes
-/// meet (KEP-3998), and none where none is met; a place from 2^32 on is not given.
+/// meet (KEP-3998); none where none is met.
 ///
 /// A rule with indexes alone needs all of them. A rule with a count alone needs that many completed
 /// indexes, and one with both needs that many of its own. A rule with neither is never met.
 pub fn met(policy: &SuccessPolicy, completed: &Ranges) -> Option<u32>
-    ensures { result ≡ as_u32 (met_place policy.now completed.now) }
+    requires few { length policy.now.rules < 2 ^ 32 }
+    ensures { result ≡ met_place policy.now completed.now }
 {
     match first_met(policy, completed) {
         None => None,
-        Some(place) => u32::try_from(place).ok(),
+        Some(place) => Some(place as u32),
     }
 }

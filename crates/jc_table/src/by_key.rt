@@ -1,6 +1,8 @@
 //! Rows by key, in the order in which their keys came.
 
 ghost use Rattle.std.specs.Prelude.{◌≡◌, ◌<◌, ◌^◌, ◌↔◌, [], IsSome, IsTrue, None, OnErr, OnOk, Some, is_some, length, map, slice_get};
+ghost use Rattle.std.specs.List.{IsDistinct};
+ghost use Rattle.std.specs.Map.{keys_of};
 ghost use Rattle.std.specs.Map.Iter.{ShowsInOrder, ShowsInReverse, deref, deref_pair};
 ghost use Rattle.std.specs.Option.{option_copied, option_map};
 ghost use Rattle.jc_log.specs.Tables.{at, puts, takes, Sets};
@@ -92,6 +94,7 @@ impl<K: Eq + Hash, V> Table<K, V> {
     /// All rows, in their order, from the front or from the back.
     pub fn rows(&self) -> btree_map::Values<'_, u64, (K, V)>
         ensures rows { result ≡ self.now }
+        ensures once { IsDistinct K.eq (keys_of self.now) }
         ensures runs { ShowsInOrder (deref {X = K × V}) }
         ensures runs_back { ShowsInReverse (deref {X = K × V}) }
         ensures fits { length self.now < 2 ^ 63 }

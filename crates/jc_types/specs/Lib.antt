@@ -3,3 +3,4 @@ pub mod Equality
 pub mod FirstPlaces
 pub mod Counts
 pub mod PastLists
+pub mod ValidSpecs

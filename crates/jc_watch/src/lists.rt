@@ -1,6 +1,6 @@
 //! All objects of a kind.
 
-ghost use Rattle.std.specs.Prelude.{◌≡◌, IfOk, length, map};
+ghost use Rattle.std.specs.Prelude.{◌≡◌, ◌<◌, ◌^◌, IfOk, length, map};
 ghost use Rattle.jc_states.specs.PodLists.{IsRising};
 ghost use Rattle.jc_log.specs.Log.{RowsRise, jobs_in, pods_in};
 
@@ -25,11 +25,13 @@ pub fn list_jobs(alloc: Global, store: &Store) -> Result<(Jobs, Version), Want>
     Ok((list, store.log_len()))
 }
 
-/// The pods that are there, in ascending UID, and the log's length.
+/// The pods that are there, in ascending UID, and the log's length. The log has fewer entries than 2 ^ 32, and
+/// so has as few pods.
 ///
 /// # Errors
 /// `Want` where there is no memory for the list.
 pub fn list_pods(alloc: Global, store: &Store) -> Result<(Pods, Version), Want>
+    requires few { length store.now < 2 ^ 32 }
     ensures pods { IfOk result (λ r. r.0 ≡ pods_in store.now) }
     ensures rising { IsRising (pods_in store.now) }
     ensures at { IfOk result (λ r. r.1.0 ≡ length store.now) }

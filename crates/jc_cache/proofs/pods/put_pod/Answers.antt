@@ -1,9 +1,15 @@
-use Rattle.std.proofs.Common.{Some, ap, sym, ◌∙◌}
+use Rattle.std.proofs.Common.{Some, ap, arith, length, sym, ◌∙◌}
 use Rattle.std.specs.Option.{option_copied_mut}
 use Rattle.jc_states.specs.PodLists.{put_pod}
 use Rattle.jc_table.proofs.ResultFacts.{on_err}
-use Rattle.jc_cache.proofs.CacheFacts.{put-first, set-same}
+use Rattle.jc_cache.proofs.CacheFacts.{pods_there, put-first, set-same}
 use Rattle.jc_cache.proofs.pods.put_pod.Goals as goal
+
+-- The owner's pods are those that stand at its key.
+pub put-requires : goal.put-requires
+put-requires c =
+    let are = pods_there c.args.pod.now.owner c.in-Some.pods.now c.args.rows.now.entries (sym c.get_mut.ensures.value ∙ ap option_copied_mut c.in-Some.is) in
+    record { few = omega (arith, c.requires.few, ap length are) }
 
 -- The pods of the owner are as before, and so are all rows.
 pub returns-in_err-put-clause-kept : goal.returns-in_err-put-clause-kept

@@ -1,7 +1,12 @@
-use Rattle.std.proofs.Common.{sym, ◌∙◌}
+use Rattle.std.proofs.Common.{◌-◌, ◌<◌, ◌^◌, length, subst, sym, ◌∙◌}
+use Rattle.jc_cache.specs.Caches.{pods_at}
 use Rattle.jc_control.specs.Schedules.{ControllerView}
 use Rattle.jc_control.proofs.TurnFacts.{taken_back}
 use Rattle.jc_control.proofs.controller.Controller.deliver.Goals as goal
+
+-- A key that is added leaves the rows of the pod cache.
+pub tell-requires-2-clause-few : goal.tell-requires-2-clause-few
+tell-requires-2-clause-few c = λ k. subst (λ (seen : ControllerView). length (pods_at k seen.rows) < 2 ^ 32 - 1) (sym c.self.view_is) (c.requires.few k)
 
 -- The key that was added is taken back.
 pub returns-then-not-was_dirty-clause-kept : goal.returns-then-not-was_dirty-clause-kept

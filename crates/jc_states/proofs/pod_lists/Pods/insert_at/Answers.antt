@@ -1,4 +1,4 @@
-use Rattle.std.proofs.Common.{ap, arith, subst, sym, ◌≡◌, ◌∙◌}
+use Rattle.std.proofs.Common.{ap, arith, length, subst, sym, ◌≡◌, ◌∙◌}
 use Rattle.jc_types.specs.declared.numbers.Uid.{Uid}
 use Rattle.jc_states.specs.PodLists.{put_pod}
 use Rattle.jc_states.specs.Tallies.{HasRoom, KeepsTallies, tally_in, with_pod}
@@ -10,7 +10,7 @@ pub enter-requires-clause-few : goal.enter-requires-clause-few
 enter-requires-clause-few c =
     subst (λ rows. HasRoom (tally_in c.args.pod.owner_uid rows)) (sym c.in_ok-reserve-2.ensures.entries)
     (kept-room c.args.pod.owner_uid c.self.inside.pods.items c.self.inside.tallies.entries c.self.invariant
-    (omega (arith, c.if-len-ge-MOST_PODS.false, c.len.ensures, c.self.inside.pods.ok)))
+    (omega (arith, c.requires.few, ap length c.self.view_is)))
 
 pub insert-requires : goal.insert-requires
 insert-requires c =
@@ -24,7 +24,7 @@ invariant_of-self-2 c =
     subst (λ pods. KeepsTallies pods c.enter.new.rows.entries) (sym put)
     (kept-inserted c.args.pod items c.self.inside.tallies.entries c.enter.new.rows.entries c.self.invariant
     (absent-seen c.args.pod items c.args.self.now c.args.place c.self.view_is c.requires.place c.requires.absent)
-    (omega (arith, c.if-len-ge-MOST_PODS.false, c.len.ensures, c.self.inside.pods.ok)) c.enter.ensures.few
+    (omega (arith, c.requires.few, ap length c.self.view_is)) c.enter.ensures.few
     (subst (λ rows. (owner : Uid) → tally_in owner c.enter.new.rows.entries ≡ with_pod owner c.args.pod (tally_in owner rows)) c.in_ok-reserve-2.ensures.entries c.enter.ensures.numbers))
 
 pub returns-clause-puts : goal.returns-clause-puts

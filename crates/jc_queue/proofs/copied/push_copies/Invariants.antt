@@ -1,5 +1,5 @@
 use Rattle.std.proofs.Common.{◌≡◌, ◌++◌, take}
-use Rattle.jc_queue.proofs.queue.push_copies.Given as goal
+use Rattle.jc_queue.proofs.copied.push_copies.Given as goal
 
 -- The keys before the index are added.
 abbrev pub invariant-loop-key : goal.invariant-loop-key

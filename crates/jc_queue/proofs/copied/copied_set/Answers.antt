@@ -1,7 +1,7 @@
 use Rattle.std.proofs.Common.{arith, ◌+◌, ◌++◌, ◌∷◌, [], take, sym, ap, ◌∙◌}
 use Rattle.std.proofs.lemmas.List.{take_more}
 use Rattle.jc_queue.proofs.BackFacts.{key-copied}
-use Rattle.jc_queue.proofs.queue.copied_set.Goals as goal
+use Rattle.jc_queue.proofs.copied.copied_set.Goals as goal
 
 pub loop-key-preserved : goal.loop-key-preserved
 loop-key-preserved c =
