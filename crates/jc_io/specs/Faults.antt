@@ -1,5 +1,9 @@
--- Counts of faults, and the answers that only a fault gives.
-use Rattle.std.specs.Prelude.{ℕ, ◌≡◌, ◌<◌, ◌-◌, ◌^◌, ◌⊎◌, OnErr, Result}
+-- Counts of calls and of faults, and the answers that only a fault gives.
+use Rattle.std.specs.Prelude.{ℕ, ◌≡◌, ◌<◌, ◌+◌, ◌-◌, ◌^◌, ◌⊎◌, min, OnErr, Result}
+
+-- the count one higher, which stops at the last value of 64 bits
+abbrev pub raised_count : ℕ → ℕ
+raised_count count = min (count + 1) (2 ^ 64 - 1)
 
 -- a count of faults rose: it is greater than before, or it stands at the last value of 64 bits, which it can't leave
 abbrev pub Rose : ℕ → ℕ → Type 0

@@ -32,6 +32,10 @@ room_left s = sink_room s - length (bytes_held s)
 abbrev pub sink_most : MemSink → ℕ
 sink_most s = s.most
 
+-- how many calls of the sink's `finish` were answered Ok
+abbrev pub sink_finished : MemSink → ℕ
+sink_finished s = s.finished
+
 -- which calls of the sink fail, and how many there were
 abbrev pub sink_plan : MemSink → Plan
 sink_plan s = s.plan

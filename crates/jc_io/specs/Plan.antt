@@ -1,16 +1,13 @@
 -- Which calls are to fail: the calls of an object count from 1, and a plan lists the numbers of those that fail.
-use Rattle.std.specs.Prelude.{ℕ, ◌+◌, ◌-◌, ◌^◌, min, Bool, if◌then◌else◌, nat_eq, Vec}
+use Rattle.std.specs.Prelude.{ℕ, Bool, if◌then◌else◌, nat_eq, Vec}
 use Rattle.std.specs.List.{list_any}
 use Rattle.std.specs.declared.alloc.Global.{Global}
 use Rattle.jc_io.specs.declared.plan.Plan.{Plan}
+use Rattle.jc_io.specs.Faults.{raised_count}
 
 -- the plan before the first call
 abbrev pub new_plan : Vec ℕ Global → Plan
 new_plan fails = record { fails = fails; calls = 0; faults = 0 }
-
--- the count one higher, which stops at the last value of 64 bits
-abbrev pub raised_count : ℕ → ℕ
-raised_count count = min (count + 1) (2 ^ 64 - 1)
 
 -- whether the next call is among those that are to fail
 abbrev pub fails_next : Plan → Bool

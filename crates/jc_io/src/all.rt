@@ -1,7 +1,7 @@
 // Reading all bytes of a source, and writing all bytes to a sink.
 ghost use Rattle.std.specs.Prelude.{◌≡◌, ◌≤◌, ◌<◌, ◌+◌, ◌-◌, ℕ, List, Option, length, vec_len, IfOk, OnOk, OnErr, IsErrOf, IsFalse, IsTrue};
 ghost use Rattle.std.specs.Io.KnownBytes.{Appends, Consumes, IsAtEnd, Keeps};
-ghost use Rattle.jc_io.specs.Faults.{HasCause, Rose};
+ghost use Rattle.jc_io.specs.Faults.{HasCause, Rose, raised_count};
 ghost use Rattle.jc_io.specs.Moved.{AppendsFront, Moves, TakesAtMost, TakesCount};
 ghost use Rattle.jc_io.specs.declared.all.ReadEnd.TheVariants.{ReadFault, Want as OutOfMemory};
 
@@ -78,6 +78,7 @@ fn take_piece<S: Source>(
     ensures want { IsErrOf result ReadEnd.Want
         → TakesAtMost (S.left source.old) (S.left source.new) (limit - vec_len bytes.old) }
     ensures later { S.faults source.old ≤ S.faults source.new }
+    ensures turn { S.calls source.new ≡ raised_count (S.calls source.old) }
 {
     let left = limit - bytes.len() as u64;
     let room = left.saturating_add(1).min(piece.len() as u64) as usize;
@@ -89,7 +90,8 @@ fn take_piece<S: Source>(
     Ok(count == 0)
 }
 
-/// Reads all bytes of `source` to the end of input, of which there may be at most `limit`.
+/// Reads all bytes of `source` to the end of input, of which there may be at most `limit`. It calls the
+/// source at most `limit` + 1 times: each call but the last gives a byte at least.
 ///
 /// # Errors
 ///
@@ -114,6 +116,7 @@ pub fn read_all<S: Source>(alloc: Global, source: &mut S, limit: u64) -> Result<
     ensures want { IsErrOf result ReadEnd.Want
         → TakesAtMost (S.left source.old) (S.left source.new) limit }
     ensures later { S.faults source.old ≤ S.faults source.new }
+    ensures turns { S.calls source.new ≤ S.calls source.old + limit + 1 }
 {
     let mut piece = blank(alloc, PIECE_LEN)?;
     let mut bytes = Vec::new(alloc);
@@ -130,12 +133,16 @@ pub fn read_all<S: Source>(alloc: Global, source: &mut S, limit: u64) -> Result<
 /// # Errors
 ///
 /// `WriteFault` comes only where the sink's count of faults rose in this call. What was appended
-/// is then a front of `bytes`.
+/// is then a front of `bytes`, and the sink was not finished.
 pub fn write_all<K: Sink>(sink: &mut K, bytes: &[u8]) -> Result<(), WriteFault>
     ensures all { OnOk result (Appends (K.held sink.old) (K.held sink.new) bytes.now) }
     ensures fault { HasCause (K.faults sink.old) (K.faults sink.new) result }
     ensures front { OnErr result (AppendsFront (K.held sink.old) (K.held sink.new) bytes.now) }
     ensures later { K.faults sink.old ≤ K.faults sink.new }
+    // With Ok the sink was finished, once, behind the last byte.
+    ensures finished { OnOk result
+        (K.finished sink.new ≡ raised_count (K.finished sink.old)) }
+    ensures not_finished { OnErr result (K.finished sink.new ≡ K.finished sink.old) }
 {
     let mut at = 0;
     'writing: while at < bytes.len() {

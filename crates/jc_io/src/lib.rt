@@ -1,13 +1,14 @@
 //! Bytes in and bytes out: sources and sinks that may fail, and the calls that move all bytes.
 //!
 //! A source and a sink count their faults, and a call of theirs fails only where that count rose.
-//! A count that stands at its last value, 2^64 - 1, counts as risen.
+//! A count that stands at its last value, 2^64 - 1, counts as risen. A source counts its calls too,
+//! and a sink how often it was finished.
 #![tactic(auto)]
 
-ghost use Rattle.std.specs.Prelude.{◌≤◌, ◌<◌, ℕ, List, Option, length, IfOk};
+ghost use Rattle.std.specs.Prelude.{◌≡◌, ◌≤◌, ◌<◌, ℕ, List, Option, length, IfOk, OnErr, OnOk};
 ghost use Rattle.std.specs.Io.{ReadsAtMost, WritesAtMost};
 ghost use Rattle.std.specs.Io.KnownBytes.{Keeps, ReadConsumes, WriteAppends};
-ghost use Rattle.jc_io.specs.Faults.{HasCause};
+ghost use Rattle.jc_io.specs.Faults.{HasCause, raised_count};
 
 mod all;
 mod memory;
@@ -37,6 +38,9 @@ pub trait Source {
     // How many calls failed. The count stops at its last value, 2^64 - 1.
     ghost faults: { Self → ℕ };
 
+    // How many calls there were. The count stops at its last value, 2^64 - 1.
+    ghost calls: { Self → ℕ };
+
     /// Moves bytes from the source to the front of `buf`, and says how many.
     ///
     /// `Ok(0)` for a buffer that is not empty is the end of input. `Failed` comes only where the
@@ -46,7 +50,8 @@ pub trait Source {
         // The bytes that are given leave the source, none only at its end, and none at a fault.
         ensures bytes { ReadConsumes (left self.old) (left self.new) result buf.new }
         ensures cause { HasCause (faults self.old) (faults self.new) result }
-        ensures never_falls { faults self.old ≤ faults self.new };
+        ensures never_falls { faults self.old ≤ faults self.new }
+        ensures call { calls self.new ≡ raised_count (calls self.old) };
 }
 
 /// Where bytes go.
@@ -57,16 +62,19 @@ pub trait Sink {
     // How many calls failed. The count stops at its last value, 2^64 - 1.
     ghost faults: { Self → ℕ };
 
-    /// Appends bytes from the front of `piece`, at least one, and says how many.
+    // How many calls of `finish` were answered Ok. The count stops at its last value, 2^64 - 1.
+    ghost finished: { Self → ℕ };
+
+    /// Appends bytes from the front of `piece`, at least one where it has any, and says how many.
     ///
     /// `Failed` comes only where the count of faults rose, and appends nothing.
     fn write_some(&mut self, piece: &[u8]) -> Result<usize, Failed>
-        requires { 0 < length piece.now }
         ensures bound { WritesAtMost result piece.now }
-        ensures some { IfOk result (λ n. 0 < n) }
+        ensures some { 0 < length piece.now → IfOk result (λ n. 0 < n) }
         ensures bytes { WriteAppends (held self.old) (held self.new) result piece.now }
         ensures cause { HasCause (faults self.old) (faults self.new) result }
-        ensures never_falls { faults self.old ≤ faults self.new };
+        ensures never_falls { faults self.old ≤ faults self.new }
+        ensures not_finished { finished self.new ≡ finished self.old };
 
     /// Flushes what was written. It changes nothing that is held.
     ///
@@ -74,5 +82,7 @@ pub trait Sink {
     fn finish(&mut self) -> Result<(), Failed>
         ensures bytes { Keeps (held self.old) (held self.new) }
         ensures cause { HasCause (faults self.old) (faults self.new) result }
-        ensures never_falls { faults self.old ≤ faults self.new };
+        ensures never_falls { faults self.old ≤ faults self.new }
+        ensures finished { OnOk result (finished self.new ≡ raised_count (finished self.old)) }
+        ensures not_finished { OnErr result (finished self.new ≡ finished self.old) };
 }

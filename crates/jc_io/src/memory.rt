@@ -58,13 +58,15 @@ impl Source for MemSource {
     ghost use Rattle.std.specs.Prelude.{◌≡◌, ◌≤◌, ℕ, List, Option, Some, min, length, is_err, IfOk};
     ghost use Rattle.std.specs.Io.{ReadsAtMost};
     ghost use Rattle.std.specs.Io.KnownBytes.{ReadConsumes};
-    ghost use Rattle.jc_io.specs.Faults.{HasCause};
+    ghost use Rattle.jc_io.specs.Faults.{HasCause, raised_count};
     ghost use Rattle.jc_io.specs.Memory.{bytes_left, source_most, source_plan};
     ghost use Rattle.jc_io.specs.Plan.{after_call, fails_next};
 
     ghost left = { λ s. Some (bytes_left s) };
 
     ghost faults = { λ s. (source_plan s).faults };
+
+    ghost calls = { λ s. (source_plan s).calls };
 
     fn read_some(&mut self, buf: &mut [u8]) -> Result<usize, Failed>
         ensures bound { ReadsAtMost result buf.new }
@@ -73,6 +75,7 @@ impl Source for MemSource {
         ensures cause { HasCause
             (source_plan self.old).faults (source_plan self.new).faults result }
         ensures never_falls { (source_plan self.old).faults ≤ (source_plan self.new).faults }
+        ensures call { (source_plan self.new).calls ≡ raised_count (source_plan self.old).calls }
         // A call gives as much as a piece may have and the buffer has room for, and fails exactly
         // where that is planned.
         ensures count { IfOk result (λ n. n
@@ -99,6 +102,7 @@ pub struct MemSink {
     room: usize,
     most: usize,
     plan: Plan,
+    finished: u64,
     ghost within: { vec_len held ≤ room },
     ghost reserved: { room ≤ vec_capacity held },
     ghost moves: { 0 < most },
@@ -106,7 +110,7 @@ pub struct MemSink {
 
 impl MemSink {
     ghost use Rattle.std.specs.Prelude.{◌≡◌, ◌≤◌, ◌-◌, ◌^◌, [], IfOk};
-    ghost use Rattle.jc_io.specs.Memory.{bytes_held, sink_most, sink_plan, sink_room};
+    ghost use Rattle.jc_io.specs.Memory.{bytes_held, sink_finished, sink_most, sink_plan, sink_room};
     ghost use Rattle.jc_io.specs.Plan.{new_plan};
 
     /// A sink with room for `room` bytes, whose calls with a number in `fails` fail.
@@ -116,6 +120,7 @@ impl MemSink {
         ensures plan { IfOk result (λ s. sink_plan s ≡ new_plan fails) }
         // More than any piece has.
         ensures pieces { IfOk result (λ s. sink_most s ≡ 2 ^ 64 - 1) }
+        ensures not_finished { IfOk result (λ s. sink_finished s ≡ 0) }
     {
         let room = room as usize;
         Ok(MemSink {
@@ -123,6 +128,7 @@ impl MemSink {
             room,
             most: usize::MAX,
             plan: Plan::new(fails),
+            finished: 0,
         })
     }
 
@@ -133,12 +139,14 @@ impl MemSink {
         ensures room { sink_room result ≡ sink_room self }
         ensures plan { sink_plan result ≡ sink_plan self }
         ensures pieces { sink_most result ≡ most }
+        ensures finished { sink_finished result ≡ sink_finished self }
     {
         MemSink {
             held: self.held,
             room: self.room,
             most: most as usize,
             plan: self.plan,
+            finished: self.finished,
         }
     }
 
@@ -151,25 +159,27 @@ impl MemSink {
 }
 
 impl Sink for MemSink {
-    ghost use Rattle.std.specs.Prelude.{◌≡◌, ◌≤◌, ◌<◌, ◌||◌, ◌==◌, ℕ, List, Option, Some, min, length, is_err, IfOk};
+    ghost use Rattle.std.specs.Prelude.{◌≡◌, ◌≤◌, ◌<◌, ◌||◌, ◌==◌, ℕ, List, Option, Some, min, length, is_err, IfOk, OnErr, OnOk};
     ghost use Rattle.std.specs.Io.{WritesAtMost};
     ghost use Rattle.std.specs.Io.KnownBytes.{Keeps, WriteAppends};
-    ghost use Rattle.jc_io.specs.Faults.{HasCause};
-    ghost use Rattle.jc_io.specs.Memory.{bytes_held, room_left, sink_most, sink_plan, sink_room};
+    ghost use Rattle.jc_io.specs.Faults.{HasCause, raised_count};
+    ghost use Rattle.jc_io.specs.Memory.{bytes_held, room_left, sink_finished, sink_most, sink_plan, sink_room};
     ghost use Rattle.jc_io.specs.Plan.{after_call, fails_next};
 
     ghost held = { λ s. Some (bytes_held s) };
 
     ghost faults = { λ s. (sink_plan s).faults };
 
+    ghost finished = { λ s. sink_finished s };
+
     fn write_some(&mut self, piece: &[u8]) -> Result<usize, Failed>
-        requires { 0 < length piece.now }
         ensures bound { WritesAtMost result piece.now }
-        ensures some { IfOk result (λ n. 0 < n) }
+        ensures some { 0 < length piece.now → IfOk result (λ n. 0 < n) }
         ensures bytes { WriteAppends
             (Some (bytes_held self.old)) (Some (bytes_held self.new)) result piece.now }
         ensures cause { HasCause (sink_plan self.old).faults (sink_plan self.new).faults result }
         ensures never_falls { (sink_plan self.old).faults ≤ (sink_plan self.new).faults }
+        ensures not_finished { sink_finished self.new ≡ sink_finished self.old }
         // A call appends as much as a piece may have and there is room for, and fails exactly where
         // that is planned or no room is left.
         ensures count { IfOk result (λ n. n
@@ -193,13 +203,18 @@ impl Sink for MemSink {
         ensures bytes { Keeps (Some (bytes_held self.old)) (Some (bytes_held self.new)) }
         ensures cause { HasCause (sink_plan self.old).faults (sink_plan self.new).faults result }
         ensures never_falls { (sink_plan self.old).faults ≤ (sink_plan self.new).faults }
+        ensures finished { OnOk result
+            (sink_finished self.new ≡ raised_count (sink_finished self.old)) }
+        ensures not_finished { OnErr result (sink_finished self.new ≡ sink_finished self.old) }
         // A call fails exactly where that is planned.
         ensures same_room { sink_room self.new ≡ sink_room self.old }
         ensures same_pieces { sink_most self.new ≡ sink_most self.old }
         ensures refused { is_err result ≡ fails_next (sink_plan self.old) }
         ensures counted { sink_plan self.new ≡ after_call (sink_plan self.old) (is_err result) }
     {
-        self.plan.call(true)
+        self.plan.call(true)?;
+        self.finished = self.finished.saturating_add(1);
+        Ok(())
     }
 }
 

@@ -11,14 +11,19 @@ use std::io::{Read, Write};
 pub struct StdSource<R> {
     inner: R,
     faults: u64,
+    calls: u64,
 }
 
 impl<R> StdSource<R> {
-    /// A source that reads from `inner` and had no fault yet.
+    /// A source that reads from `inner` and had no call yet.
     pub fn new(inner: R) -> StdSource<R>
-        ensures { result ≡ record { inner = inner; faults = 0 } }
+        ensures { result ≡ record { inner = inner; faults = 0; calls = 0 } }
     {
-        StdSource { inner, faults: 0 }
+        StdSource {
+            inner,
+            faults: 0,
+            calls: 0,
+        }
     }
 }
 
@@ -27,7 +32,10 @@ impl<R: Read> Source for StdSource<R> {
 
     ghost faults = { λ s. s.faults };
 
+    ghost calls = { λ s. s.calls };
+
     fn read_some(&mut self, buf: &mut [u8]) -> Result<usize, Failed> {
+        self.calls = self.calls.saturating_add(1);
         match self.inner.read(buf) {
             Ok(count) => Ok(count),
             Err(_) => {
@@ -44,14 +52,19 @@ impl<R: Read> Source for StdSource<R> {
 pub struct StdSink<W> {
     inner: W,
     faults: u64,
+    finished: u64,
 }
 
 impl<W> StdSink<W> {
-    /// A sink that writes to `inner` and had no fault yet.
+    /// A sink that writes to `inner`, had no fault yet and was not finished.
     pub fn new(inner: W) -> StdSink<W>
-        ensures { result ≡ record { inner = inner; faults = 0 } }
+        ensures { result ≡ record { inner = inner; faults = 0; finished = 0 } }
     {
-        StdSink { inner, faults: 0 }
+        StdSink {
+            inner,
+            faults: 0,
+            finished: 0,
+        }
     }
 }
 
@@ -60,7 +73,12 @@ impl<W: Write> Sink for StdSink<W> {
 
     ghost faults = { λ s. s.faults };
 
+    ghost finished = { λ s. s.finished };
+
     fn write_some(&mut self, piece: &[u8]) -> Result<usize, Failed> {
+        if piece.is_empty() {
+            return Ok(0);
+        }
         match self.inner.write(piece) {
             Ok(count) if count > 0 => Ok(count),
             _ => {
@@ -72,7 +90,10 @@ impl<W: Write> Sink for StdSink<W> {
 
     fn finish(&mut self) -> Result<(), Failed> {
         match self.inner.flush() {
-            Ok(()) => Ok(()),
+            Ok(()) => {
+                self.finished = self.finished.saturating_add(1);
+                Ok(())
+            }
             Err(_) => {
                 self.faults = self.faults.saturating_add(1);
                 Err(Failed)

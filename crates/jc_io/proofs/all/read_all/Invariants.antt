@@ -9,6 +9,7 @@ invariant-reading g l = record {
   buffer : 0 < vec_len l.piece;
   kept : Consumes (g.S.Source.left l.fn.source) (g.S.Source.left l.source) l.bytes.items;
   later : g.S.Source.faults l.fn.source ≤ g.S.Source.faults l.source;
+  turns : g.S.Source.calls l.source ≤ g.S.Source.calls l.fn.source + vec_len l.bytes;
 }
 
 abbrev pub decreases-reading : goal.decreases-reading
