@@ -1,10 +1,10 @@
-pub mod Kept
-pub mod Finishes
-pub mod Fits
-pub mod Diaries
-pub mod Idle
-pub mod Syncs
-pub mod Longer
+pub mod Changes
+pub mod Shared
 -- Words of the crates below, handed on to those above.
-pub use Rattle.jc_lanes.specs.Places
-pub use Rattle.jc_order.specs.Plays
+pub use Rattle.jc_machine.specs.declared.apply.ApplyFault
+pub use Rattle.jc_machine.specs.Diaries
+pub use Rattle.jc_machine.specs.Places
+pub use Rattle.jc_machine.specs.Plays
+pub use Rattle.jc_play.specs.Actors
+pub use Rattle.jc_play.specs.Slots
+pub use Rattle.jc_play.specs.Turns

@@ -1,240 +1,98 @@
-//! The type of the cluster, what can be read of it, and how its script grows.
+//! The type of the cluster, and one event.
 
-ghost use Rattle.std.specs.Prelude.{◌≡◌, ◌<◌, ◌≤◌, ◌^◌, [], ◌+◌, IfOk, OnErr, OnOk, Some, is_none, is_some, length, reverse};
+ghost use Rattle.std.specs.Prelude.{◌≡◌, ◌↔◌, ◌<◌, ◌≤◌, ◌^◌, [], Err, IfOk, IsTrue, OnErr, OnOk, false, length, map};
 ghost use Rattle.std.specs.List.{AllByRecursion as Each};
 ghost use Rattle.jc_types.specs.declared.actions.Command.{Command};
-ghost use Rattle.jc_types.specs.declared.objects.Job.{Job};
-ghost use Rattle.jc_types.specs.declared.objects.Key.{Key};
 ghost use Rattle.jc_runs.specs.ValidActions.{IsValidAction};
-ghost use Rattle.jc_log.specs.Log.{job_in};
-ghost use Rattle.jc_runs.specs.Once.{AllJustified, OnceAtEach};
-ghost use Rattle.jc_history.specs.Diaries.{moment};
-ghost use Rattle.jc_history.specs.Legal.{InLanes, IsHistory, IsLegal, next_place};
-ghost use Rattle.jc_history.specs.Delays.{least_delay};
-ghost use Rattle.jc_history.specs.Fresh.{may_begin};
-ghost use Rattle.jc_history.specs.Nodes.{fate, node_step};
-ghost use Rattle.jc_history.specs.Numbers.{number};
-ghost use Rattle.jc_history.specs.Registers.{register};
-ghost use Rattle.jc_bounds.specs.Histories.{HoldsBounds};
-ghost use Rattle.jc_runs.specs.Seen.{deeds_seen, log_seen};
-ghost use Rattle.jc_runs.specs.Teams.{KnowsNothing};
-ghost use Rattle.jc_core.specs.Diaries.{diary_seen};
-ghost use Rattle.jc_core.specs.Longer.{extended};
+ghost use Rattle.jc_runs.specs.Seen.{Admits, act_seen, happened, reply_seen};
+ghost use Rattle.jc_machine.specs.Plays.{IsProper};
+ghost use Rattle.jc_machine.specs.declared.apply.ApplyFault.TheVariants.{HistoryFull};
+ghost use Rattle.jc_core.specs.Shared.{all_registers, fresh_slot, has_holders, slots_after};
 
-use jc_bounds::one_controller_holds_the_bounds;
-use jc_lanes::{Lanes, longer_scripts_keep_histories};
-use jc_node::{Fates, node_step};
-use jc_runs::{runs_count_once, runs_start};
-use jc_store::Store;
-use jc_team::{Member, Moment};
-use jc_types::{Command, History, Kind, Pasts, Script, Shape, Version, Want};
-use std::alloc::{AllocError, Global};
+use crate::registers::fresh_slots;
+use crate::touches::{touch_all, touch_of_event};
+use jc_machine::{ApplyFault, Machine};
+use jc_play::Slot;
+use jc_types::{Event, Reply, Script, Shape, Want};
+use std::alloc::Global;
 use std::marker::Model;
 
-/// A cluster: the store, the controllers with their workers, the moment, and the history of all
-/// that happened. It is what the history says of the script and the shape, and the history is legal:
-/// so the type keeps it.
+/// A cluster: the store, the controllers with their workers, the moment, the history of all that happened, and
+/// which seat of a threaded run holds which worker's register. It is what the history says of the script and
+/// the shape; the history is legal and counts once, and the script can be played on the shape: so the type
+/// keeps it.
 ///
-/// A contract sees the script, the shape, and what happened, the newest first.
+/// A contract sees what happened (`seen`: the script, the shape, and the events, the newest first) and the
+/// registers as seats see them (`slots`, by controller and worker). Plans, holds and seats are not in the
+/// history, and no reply depends on them.
 #[derive(Drop)]
 pub struct Cluster {
-    pub(crate) alloc: Global,
-    pub(crate) script: Script,
-    pub(crate) shape: Shape,
-    pub(crate) store: Store,
-    pub(crate) members: Vec<Member>,
-    // How the pods of keys are to end, by key.
-    pub(crate) fates: Fates,
-    pub(crate) clock: Moment,
-    pub(crate) history: History,
-    pub(crate) lanes: Lanes,
+    pub(crate) machine: Machine,
+    pub(crate) slots: Vec<Slot>,
 }
 
 impl Model for Cluster {
-    ghost use Rattle.std.specs.Prelude.{reverse};
-    ghost use Rattle.jc_runs.specs.Seen.{Seen};
-    ghost use Rattle.jc_core.specs.Kept.{IsClusterKept};
+    ghost use Rattle.jc_core.specs.Shared.{KeepsShared, Shared};
 
-    ghost Value = { Seen };
+    ghost Value = { Shared };
 
-    ghost view = { λ c. record {
-      script = c.script;
-      shape = c.shape;
-      pasts = reverse c.history.events.items;
-    } };
+    ghost view = { λ c. record { seen = c.machine; slots = c.slots.items } };
 
-    ghost invariant = { λ c.
-        IsClusterKept c.script c.shape (reverse c.history.events.items) c.lanes c.store c.members.items
-        c.fates c.clock };
-}
-
-// Controllers that know nothing, with workers that have no syncs.
-//
-// `Want` where there is no memory for them.
-fn fresh_members(alloc: Global, controllers: usize, workers: usize) -> Result<Vec<Member>, Want>
-    ensures count { IfOk result (λ members. length members.items ≡ controllers) }
-    ensures fresh { IfOk result (λ members. Each (KnowsNothing workers) members.items) }
-{
-    let mut members = Vec::new(alloc);
-    for _ in 0..controllers {
-        members.push(Member::new(alloc, workers)?)?;
-    }
-    Ok(members)
+    ghost invariant = { λ c. KeepsShared c.machine c.slots.items };
 }
 
 impl Cluster {
-    /// A cluster of the shape in which nothing has happened, for the commands of the script.
+    /// A cluster of the shape in which nothing has happened, for the commands of the script. Nobody
+    /// holds a register.
     ///
     /// # Errors
     /// `Want` where there is no memory for it.
     pub fn new(alloc: Global, script: Script, shape: Shape) -> Result<Cluster, Want>
         requires fine { Each (λ (command : Command). IsValidAction command.action) script.commands }
+        requires proper { IsProper script shape }
         requires fits { length script.commands < 2 ^ 32 }
         requires bound { shape.events ≤ 200000 }
-        ensures { IfOk result (λ c. c ≡ record { script = script; shape = shape; pasts = [] }) }
+        ensures seen { IfOk result
+            (λ c. c.seen ≡ record { script = script; shape = shape; pasts = [] }) }
+        ensures slots { IfOk result (λ c. c.slots ≡ map fresh_slot (all_registers shape)) }
+        ensures free { IfOk result (λ c. has_holders c.slots ≡ false) }
     {
-        runs_start();
-        let members = fresh_members(alloc, shape.controllers as usize, shape.workers as usize)?;
-        let lanes = Lanes::new(alloc, script.commands.as_slice())?;
-        let history = History {
-            events: Pasts::new(alloc),
-        };
-        Ok(Cluster {
-            alloc,
-            script,
-            shape,
-            store: Store::new(alloc),
-            members,
-            fates: Fates::new(alloc),
-            clock: shape.start,
-            history,
-            lanes,
-        })
+        let slots = fresh_slots(alloc, &shape)?;
+        let machine = Machine::new(alloc, script, shape)?;
+        Ok(Cluster { machine, slots })
     }
 
-    /// The script.
-    pub fn script(&self) -> &Script
-        ensures { result.now ≡ self.now.script }
+    /// Whether the event may come next: a command is its lane's next one, the controller and the
+    /// worker are of the shape, and a settle comes only where the cluster is quiescent.
+    pub fn admits(&self, event: &Event) -> bool
+        ensures { IsTrue result ↔ Admits self.now.seen event.now }
     {
-        &self.script
+        self.machine.admits(event)
     }
 
-    /// The shape.
-    pub fn shape(&self) -> &Shape
-        ensures { result.now ≡ self.now.shape }
-    {
-        &self.shape
-    }
-
-    /// What happened, in order. The history is legal, its commands came in the order of their lanes,
-    /// and after each of its events each pod was counted once (KEP-2307). A sync took a finalizer of a
-    /// pod of a Job that is there only where the pod was judged before, or is ignored, was active, or
-    /// its index was complete or not below the completions: so no ended pod that needs a count lost it
-    /// uncounted, but by a command.
-    ///
-    /// Where the shape has a single controller: no more pods of a Job run at once than its parallelism
-    /// says (batch/v1), since each pod fitted when it was made, also one whose reply was lost. And a Job
-    /// that has finished stayed finished: from the write that set Complete or Failed on, while the Job
-    /// was there, its status did not change, none of its pods was open or had its finalizer, and none
-    /// was made.
-    pub fn history(&self) -> &History
-        ensures events { reverse result.now.events.items ≡ self.now.pasts }
-        ensures follows { IsHistory self.now.script self.now.shape result.now }
-        ensures legal { IsLegal self.now.shape (deeds_seen self.now) }
-        ensures lanes { InLanes self.now.script.commands self.now.pasts }
-        ensures few { length self.now.pasts ≤ self.now.shape.events }
-        ensures once { OnceAtEach (deeds_seen self.now) (log_seen self.now) }
-        ensures justified { (k : Key) (job : Job) → job_in k (log_seen self.now) ≡ Some job
-            → AllJustified job (deeds_seen self.now) (log_seen self.now) }
-        ensures bounds { self.now.shape.controllers ≡ 1
-            → HoldsBounds self.now.shape (deeds_seen self.now) }
-    {
-        runs_count_once();
-        one_controller_holds_the_bounds();
-        &self.history
-    }
-
-    /// The store. Its log is what the history says.
-    pub fn store(&self) -> &Store
-        ensures { result.now ≡ log_seen self.now }
-    {
-        &self.store
-    }
-
-    /// The moment.
-    pub fn moment(&self) -> Moment
-        ensures { result ≡ moment self.now.shape (deeds_seen self.now) }
-    {
-        self.clock
-    }
-
-    /// Up to which version the controller's cache of the kind has seen the log; `None` exactly where
-    /// the cache has no number.
-    pub fn cache_at(&self, controller: u32, kind: Kind) -> Option<Version>
-        requires { controller < self.now.shape.controllers }
-        ensures { result ≡ number kind (diary_seen self.now controller) }
-    {
-        self.members[controller as usize].cache_at(kind)
-    }
-
-    /// Whether the controller's worker has no sync.
-    pub fn is_free(&self, controller: u32, worker: u32) -> bool
-        requires of_shape { controller < self.now.shape.controllers }
-        requires worker { worker < self.now.shape.workers }
-        ensures { result ≡ is_none (register worker (diary_seen self.now controller)) }
-    {
-        self.members[controller as usize].is_free(worker as usize)
-    }
-
-    /// Whether the controller's next begin by a free worker starts a sync.
-    pub fn may_begin(&self, controller: u32) -> bool
-        requires { controller < self.now.shape.controllers }
-        ensures { result ≡ may_begin (diary_seen self.now controller) (log_seen self.now) }
-    {
-        self.members[controller as usize].may_begin()
-    }
-
-    /// The earliest moment at which a key of the controller is due; `None` exactly where none is
-    /// delayed.
-    pub fn next_delay(&self, controller: u32) -> Option<Moment>
-        requires { controller < self.now.shape.controllers }
-        ensures { result ≡ least_delay (diary_seen self.now controller) }
-    {
-        self.members[controller as usize].next_delay()
-    }
-
-    /// The place in the script of the lane's next command; `None` exactly where the lane is used up.
-    pub fn next_command(&self, lane: u8) -> Option<u32>
-        ensures { result ≡ next_place self.now.script.commands lane self.now.pasts }
-    {
-        self.lanes.next_of(lane)
-    }
-
-    /// Whether the node has something to do.
-    pub fn node_has_step(&self) -> bool
-        ensures { result
-            ≡ is_some (node_step (log_seen self.now) (fate (deeds_seen self.now))) }
-    {
-        node_step(&self.store, &self.fates).is_some()
-    }
-
-    /// Puts the command at the end of the script, as its lane's last one. What happened stays.
+    /// Does the event, and answers it. It is kept with its reply and the length of the log; the
+    /// earlier events stay, as do script and shape. A begin of a sync wants a plan from then on, a step of it
+    /// wants none any more, and a restart frees its controller's registers; no other hold changes.
     ///
     /// # Errors
-    /// `Want` where there is no memory; the cluster is then as before.
-    pub fn extend(&mut self, command: Command) -> Result<(), Want>
-        requires fine { IsValidAction command.action }
-        requires fits { length self.old.script.commands + 1 < 2 ^ 32 }
-        ensures ok { OnOk result (self.new ≡ extended self.old command) }
+    /// `HistoryFull` exactly where the history has as many events as the shape allows; `Want` where
+    /// there is no memory. Nothing has changed then.
+    pub fn apply(&mut self, event: Event) -> Result<Reply, ApplyFault>
+        requires { Admits self.old.seen event }
+        ensures ok { OnOk result (self.new.seen ≡ happened self.old.seen event) }
+        ensures reply { IfOk result (λ r. r ≡ reply_seen self.old.seen event) }
+        ensures slots { OnOk result (self.new.slots ≡ slots_after (act_seen self.old.seen event)
+            (reply_seen self.old.seen event) self.old.slots) }
+        ensures free { has_holders self.old.slots ≡ false → has_holders self.new.slots ≡ false }
         ensures kept { OnErr result (self.new ≡ self.old) }
+        ensures full { self.old.seen.shape.events ≤ length self.old.seen.pasts
+            → result ≡ Err HistoryFull }
+        ensures room { result ≡ Err HistoryFull
+            → self.old.seen.shape.events ≤ length self.old.seen.pasts }
     {
-        longer_scripts_keep_histories();
-        let place = self.script.commands.len() as u32;
-        let lane = command.lane;
-        if self.script.commands.push(command).is_err() {
-            return Err(AllocError);
-        }
-        self.lanes.append(lane, place);
-        Ok(())
+        let touch = touch_of_event(self.machine.script(), event);
+        let reply = self.machine.apply(event)?;
+        touch_all(&mut self.slots, touch, &reply);
+        Ok(reply)
     }
 }

@@ -1,15 +1,16 @@
-//! The cluster: the store, the controllers with their workers, and the history of what happened.
+//! The cluster with all its calls: one event, what is available, plays, and the plans that seats make beside it.
 #![tactic(auto)]
 
-mod apply;
-mod caches;
+mod changes;
 mod cluster;
-mod keeping;
-mod node_clock;
-mod quiescent;
-mod store_commands;
-mod sync;
-mod workers;
+mod going;
+mod holding;
+mod offers;
+mod reading;
+mod registers;
+mod touches;
 
-pub use apply::ApplyFault;
 pub use cluster::Cluster;
+pub use holding::Work;
+pub use jc_machine::ApplyFault;
+pub use jc_play::{Actor, new_machines_play_the_whole_script};

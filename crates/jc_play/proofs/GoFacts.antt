@@ -1,4 +1,4 @@
--- A cluster that settles.
+-- A machine that settles.
 use Rattle.std.proofs.Common.{◌≡◌, ℕ, List, [], ◌∷◌, ◌++◌, append_assoc, ◌-◌, ◌<◌, ◌≤◌, nat_lt, Bool, true, false, length, Option, Some, None, refl, sym, ap, ◌∙◌, subst, arith, ltb-true, ltb-false}
 use Rattle.std.specs.Prelude.{Result, Ok, Err}
 use Rattle.jc_types.specs.declared.runs.Event.{Event}
@@ -9,8 +9,8 @@ use Rattle.jc_history.specs.Available.{IsOrderly}
 use Rattle.jc_history.specs.Play.{Playing, until_done}
 use Rattle.jc_runs.specs.Seen.{Seen, deeds_seen, happened, past_seen}
 use Rattle.jc_play.specs.Turns.{HasGoneOn, HasGrown, IsComing, Reaches, playing_of}
-use Rattle.jc_core.specs.declared.apply.ApplyFault.{ApplyFault}
-use Rattle.jc_core.specs.declared.apply.ApplyFault.TheVariants.{HistoryFull}
+use Rattle.jc_machine.specs.declared.apply.ApplyFault.{ApplyFault}
+use Rattle.jc_machine.specs.declared.apply.ApplyFault.TheVariants.{HistoryFull}
 use Rattle.jc_play.proofs.OnFacts.{all-done, all-full, none-yet, one-more}
 use Rattle.jc_play.proofs.SystemFacts.{coming-orderly}
 

@@ -1,4 +1,4 @@
--- A play that goes on and on, and a cluster that does what comes next in it.
+-- A play that goes on and on, and a machine that does what comes next in it.
 use Rattle.std.proofs.Common.{◌≡◌, ℕ, zero, suc, ◌+◌, ◌-◌, ◌<◌, ◌≤◌, nat_lt, Bool, true, false, cond, ◌∷◌, length, Option, Some, None, refl, sym, ap, ◌∙◌, subst, arith, ltb-true, ltb-false}
 use Rattle.jc_types.specs.declared.runs.Event.{Event}
 use Rattle.std.specs.List.{list_any}

@@ -1,4 +1,4 @@
--- The parts of a play by a cluster.
+-- The parts of a play by a machine.
 use Rattle.std.proofs.Common.{◌≡◌, ℕ, ◌+◌, ◌||◌, ◌++◌, eq-eqb, ◌<◌, ◌≤◌, nat_lt, Bool, true, false, cond, List, [], ◌∷◌, length, slice_get, refl, sym, ap, ◌∙◌, subst, arith, ltb-true}
 use Rattle.std.specs.List.{list_any}
 use Rattle.std.specs.Prelude.{Result, Ok, Err, OnErr, OnOk}
@@ -16,8 +16,8 @@ use Rattle.jc_history.specs.Available.{WasAvailable, available}
 use Rattle.jc_history.specs.Legal.{ComesNext, IsOfShape, MaySettle, lane_count, lane_places}
 use Rattle.jc_history.specs.Play.{Playing, after_begin, brought_up, event_played, has_just_begun, is_command, stepped_if, stepped_through}
 use Rattle.jc_runs.specs.Seen.{Admits, IsDoable, Seen, act_seen, deeds_seen, happened, log_seen, past_seen, reply_seen}
-use Rattle.jc_core.specs.declared.apply.ApplyFault.{ApplyFault}
-use Rattle.jc_core.specs.declared.apply.ApplyFault.TheVariants.{HistoryFull}
+use Rattle.jc_machine.specs.declared.apply.ApplyFault.{ApplyFault}
+use Rattle.jc_machine.specs.declared.apply.ApplyFault.TheVariants.{HistoryFull}
 use Rattle.jc_play.specs.Turns.{HasCome, HasGrown, IsOwn, NeedsNoRest, Reaches, has_rest, is_begun_reply, next_to_bring, playing_of}
 use Rattle.jc_play.proofs.GoFacts.{done-reaches, grown-on, none-grown, ok-err, room-left, stop, stop-reaches}
 use Rattle.jc_play.proofs.OnFacts.{fills, happens, stays-full}

@@ -19,14 +19,14 @@ use Rattle.jc_history.specs.Replies.{log_given}
 use Rattle.jc_order.proofs.LaneFacts.{comes-next, played-is}
 use Rattle.jc_order.specs.Plays.{IsProper}
 use Rattle.jc_runs.specs.Seen.{IsDoable, Seen}
-use Rattle.jc_core.specs.declared.apply.ApplyFault.{ApplyFault}
+use Rattle.jc_machine.specs.declared.apply.ApplyFault.{ApplyFault}
 use Rattle.jc_play.specs.Turns.{HasCome, HasGrown, IsOwn, Reaches, playing_of}
 use Rattle.jc_play.specs.Ways.{ArePlayed, FitsWay, IsAtPlace, by_way, place_played, way_of}
 use Rattle.jc_play.proofs.GoFacts.{grown-then, stop, stopped}
 use Rattle.jc_play.proofs.PlayFacts.{any-more}
-use Rattle.jc_core.proofs.OrderFacts.{each-slice as each-at}
+use Rattle.jc_machine.proofs.OrderFacts.{each-slice as each-at}
 
--- ---- a new cluster
+-- ---- a new machine
 
 -- Nothing was played.
 pub new-plays-nothing : (seen : Seen) → seen.pasts ≡ [] → playing_of false seen ≡ nothing

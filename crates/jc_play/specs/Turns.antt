@@ -1,6 +1,6 @@
--- What a cluster does of itself.
+-- What a machine does of itself.
 --     earliest_of found other     the earlier of two moments, where they are there
---     played full seen            what has happened to a cluster, as a play so far
+--     played full seen            what has happened to a machine, as a play so far
 --     next_to_settle script shape what comes next in a play that settles: the first that is available
 --     next_to_bring, next_to_step what brings a cache on, and what a worker does
 --     IsComing seen event         the event is one of the system that is available
@@ -31,15 +31,15 @@ use Rattle.jc_history.specs.Numbers.{number}
 use Rattle.jc_history.specs.Play.{Playing, brings, deeds_played, first_event, is_command, next_step, notes_in, on_and_on}
 use Rattle.jc_history.specs.Registers.{register}
 use Rattle.jc_runs.specs.Seen.{IsDoable, Seen, act_seen, deeds_seen, log_seen}
-use Rattle.jc_core.specs.declared.apply.ApplyFault.{ApplyFault}
-use Rattle.jc_core.specs.declared.apply.ApplyFault.TheVariants.{HistoryFull}
+use Rattle.jc_machine.specs.declared.apply.ApplyFault.{ApplyFault}
+use Rattle.jc_machine.specs.declared.apply.ApplyFault.TheVariants.{HistoryFull}
 
 -- The earlier of two moments, where they are there.
 abbrev pub earliest_of : Option ℕ → Option ℕ → Option ℕ
 earliest_of found None = found
 earliest_of found (Some moment) = Some (earlier found moment)
 
--- What has happened to a cluster, as a play so far; it is full where one event more was to come and
+-- What has happened to a machine, as a play so far; it is full where one event more was to come and
 -- had no room.
 abbrev pub playing_of : Bool → Seen → Playing
 playing_of full seen = record { pasts = seen.pasts; log = log_seen seen; full = full }

@@ -6,7 +6,7 @@ ghost use Rattle.jc_play.specs.Actors.{CanCome, IsOfActor};
 
 use crate::actors::Actor;
 use crate::offers::available;
-use jc_core::Cluster;
+use jc_machine::Machine;
 use jc_types::{Event, Sys};
 
 // Who can make the event of the system.
@@ -27,11 +27,11 @@ fn actor_of(system: Sys) -> Actor
 
 /// Whether the event is a command that may come next, or an event of the system that is available,
 /// whether or not a seat holds its register. It takes no memory.
-pub fn fits(cluster: &Cluster, event: &Event) -> bool
-    ensures { IsTrue result ↔ CanCome cluster.now event.now }
+pub fn fits(machine: &Machine, event: &Event) -> bool
+    ensures { IsTrue result ↔ CanCome machine.now event.now }
 {
     match *event {
-        Event::Command { .. } => cluster.admits(event),
-        Event::System(system) => available(cluster, actor_of(system)) == Some(*event),
+        Event::Command { .. } => machine.admits(event),
+        Event::System(system) => available(machine, actor_of(system)) == Some(*event),
     }
 }

@@ -1,4 +1,4 @@
-//! Laws on plays. Each function is empty: what it ensures holds of every cluster, and its callers
+//! Laws on plays. Each function is empty: what it ensures holds of every machine, and its callers
 //! may cite it.
 
 ghost use Rattle.std.specs.Prelude.{◌≡◌, [], Some, false};
@@ -13,7 +13,7 @@ ghost use Rattle.jc_play.specs.Turns.{playing_of};
 
 /// Where nothing has happened yet, nothing was played: so the play of the rest of a script is that
 /// of the whole.
-pub fn new_clusters_play_the_whole_script()
+pub fn new_machines_play_the_whole_script()
     ensures new { (seen : Seen) → seen.pasts ≡ [] → playing_of false seen ≡ nothing }
     ensures whole { (script : Script) (shape : Shape) (seen : Seen) → seen.pasts ≡ []
         → whole_play script shape

@@ -1,4 +1,4 @@
-//! What a cluster can do of itself, and doing it: one event after another until nothing is left.
+//! What a machine can do of itself, and doing it: one event after another until nothing is left.
 #![tactic(auto)]
 
 mod actors;
@@ -17,7 +17,7 @@ mod whole;
 
 pub use actors::Actor;
 pub use fitting::fits;
-pub use laws::{available_events_keep_the_order, new_clusters_play_the_whole_script};
+pub use laws::{available_events_keep_the_order, new_machines_play_the_whole_script};
 pub use next::{is_quiescent, next_event};
 pub use offers::available;
 pub use settling::settle;

@@ -2,7 +2,7 @@
 
 ghost use Rattle.std.specs.Prelude.{◌≡◌, IfSome, is_some};
 ghost use Rattle.std.specs.List.{flat_map};
-ghost use Rattle.jc_core.specs.Diaries.{diary_seen};
+ghost use Rattle.jc_machine.specs.Diaries.{diary_seen};
 ghost use Rattle.jc_history.specs.Available.{available, begin_events, below, but_clock, clock_events, delivery_events, least_of_all, list_events, node_events, step_events};
 ghost use Rattle.jc_history.specs.Diaries.{moment};
 ghost use Rattle.jc_history.specs.Nodes.{fate, node_step};
@@ -11,17 +11,17 @@ ghost use Rattle.jc_runs.specs.Seen.{Admits, deeds_seen, log_seen};
 ghost use Rattle.jc_play.specs.Turns.{earliest_of, has_rest};
 
 use crate::kinds::{controller_begins, controller_delivers, controller_lists, controller_steps};
-use jc_core::Cluster;
+use jc_machine::Machine;
 use jc_moment::Moment;
 use jc_types::{Event, Sys};
 
 // The first list of all controllers.
-pub(crate) fn first_list(cluster: &Cluster) -> Option<Event>
+pub(crate) fn first_list(machine: &Machine) -> Option<Event>
     ensures { result ≡ first_event (flat_map
-        (λ c. list_events (diary_seen cluster.now c) c) (below cluster.now.shape.controllers)) }
+        (λ c. list_events (diary_seen machine.now c) c) (below machine.now.shape.controllers)) }
 {
-    for controller in 0..cluster.shape().controllers {
-        if let Some(event) = controller_lists(cluster, controller) {
+    for controller in 0..machine.shape().controllers {
+        if let Some(event) = controller_lists(machine, controller) {
             return Some(event);
         }
     }
@@ -29,13 +29,13 @@ pub(crate) fn first_list(cluster: &Cluster) -> Option<Event>
 }
 
 // The first delivery.
-pub(crate) fn first_delivery(cluster: &Cluster) -> Option<Event>
+pub(crate) fn first_delivery(machine: &Machine) -> Option<Event>
     ensures { result ≡ first_event (flat_map
-        (λ c. delivery_events (diary_seen cluster.now c) (log_seen cluster.now) c)
-        (below cluster.now.shape.controllers)) }
+        (λ c. delivery_events (diary_seen machine.now c) (log_seen machine.now) c)
+        (below machine.now.shape.controllers)) }
 {
-    for controller in 0..cluster.shape().controllers {
-        if let Some(event) = controller_delivers(cluster, controller) {
+    for controller in 0..machine.shape().controllers {
+        if let Some(event) = controller_delivers(machine, controller) {
             return Some(event);
         }
     }
@@ -43,13 +43,13 @@ pub(crate) fn first_delivery(cluster: &Cluster) -> Option<Event>
 }
 
 // The first step.
-fn first_step(cluster: &Cluster) -> Option<Event>
+fn first_step(machine: &Machine) -> Option<Event>
     ensures { result ≡ first_event (flat_map
-        (λ c. step_events (diary_seen cluster.now c) cluster.now.shape.workers c)
-        (below cluster.now.shape.controllers)) }
+        (λ c. step_events (diary_seen machine.now c) machine.now.shape.workers c)
+        (below machine.now.shape.controllers)) }
 {
-    for controller in 0..cluster.shape().controllers {
-        if let Some(event) = controller_steps(cluster, controller) {
+    for controller in 0..machine.shape().controllers {
+        if let Some(event) = controller_steps(machine, controller) {
             return Some(event);
         }
     }
@@ -57,13 +57,13 @@ fn first_step(cluster: &Cluster) -> Option<Event>
 }
 
 // The first begin.
-pub(crate) fn first_begin(cluster: &Cluster) -> Option<Event>
+pub(crate) fn first_begin(machine: &Machine) -> Option<Event>
     ensures { result ≡ first_event (flat_map
-        (λ c. begin_events (diary_seen cluster.now c) (log_seen cluster.now)
-        cluster.now.shape.workers c) (below cluster.now.shape.controllers)) }
+        (λ c. begin_events (diary_seen machine.now c) (log_seen machine.now)
+        machine.now.shape.workers c) (below machine.now.shape.controllers)) }
 {
-    for controller in 0..cluster.shape().controllers {
-        if let Some(event) = controller_begins(cluster, controller) {
+    for controller in 0..machine.shape().controllers {
+        if let Some(event) = controller_begins(machine, controller) {
             return Some(event);
         }
     }
@@ -88,23 +88,23 @@ fn earliest_of(found: Option<Moment>, other: Option<Moment>) -> Option<Moment>
 }
 
 // The least delay of all controllers.
-fn least_of_all(cluster: &Cluster) -> Option<Moment>
-    ensures { result ≡ least_of_all cluster.now.shape (deeds_seen cluster.now)
-        (log_seen cluster.now) }
+fn least_of_all(machine: &Machine) -> Option<Moment>
+    ensures { result ≡ least_of_all machine.now.shape (deeds_seen machine.now)
+        (log_seen machine.now) }
 {
     let mut found = None;
-    for controller in 0..cluster.shape().controllers {
-        found = earliest_of(found, cluster.next_delay(controller));
+    for controller in 0..machine.shape().controllers {
+        found = earliest_of(found, machine.next_delay(controller));
     }
     found
 }
 
 // The step of the node, where it has one.
-pub(crate) fn node_event(cluster: &Cluster) -> Option<Event>
+pub(crate) fn node_event(machine: &Machine) -> Option<Event>
     ensures { result ≡ first_event (node_events
-        (is_some (node_step (log_seen cluster.now) (fate (deeds_seen cluster.now))))) }
+        (is_some (node_step (log_seen machine.now) (fate (deeds_seen machine.now))))) }
 {
-    if cluster.node_has_step() {
+    if machine.node_has_step() {
         Some(Event::System(Sys::Node))
     } else {
         None
@@ -112,44 +112,44 @@ pub(crate) fn node_event(cluster: &Cluster) -> Option<Event>
 }
 
 // What there is but for the clock.
-pub(crate) fn but_clock_event(cluster: &Cluster) -> Option<Event>
-    ensures { result ≡ first_event (but_clock cluster.now.shape (deeds_seen cluster.now)
-        (log_seen cluster.now)) }
+pub(crate) fn but_clock_event(machine: &Machine) -> Option<Event>
+    ensures { result ≡ first_event (but_clock machine.now.shape (deeds_seen machine.now)
+        (log_seen machine.now)) }
 {
-    if let Some(event) = first_list(cluster) {
+    if let Some(event) = first_list(machine) {
         return Some(event);
     }
-    if let Some(event) = first_delivery(cluster) {
+    if let Some(event) = first_delivery(machine) {
         return Some(event);
     }
-    if let Some(event) = first_step(cluster) {
+    if let Some(event) = first_step(machine) {
         return Some(event);
     }
-    match first_begin(cluster) {
+    match first_begin(machine) {
         Some(event) => Some(event),
-        None => node_event(cluster),
+        None => node_event(machine),
     }
 }
 
 // The clock to the least delay, by 0 seconds where it has passed.
-pub(crate) fn clock_event(cluster: &Cluster) -> Option<Event>
+pub(crate) fn clock_event(machine: &Machine) -> Option<Event>
     ensures { result ≡ first_event (clock_events
-        (moment cluster.now.shape (deeds_seen cluster.now))
-        (least_of_all cluster.now.shape (deeds_seen cluster.now) (log_seen cluster.now))) }
+        (moment machine.now.shape (deeds_seen machine.now))
+        (least_of_all machine.now.shape (deeds_seen machine.now) (log_seen machine.now))) }
 {
-    let due = least_of_all(cluster)?;
-    let add = due.since(&cluster.moment());
+    let due = least_of_all(machine)?;
+    let add = due.since(&machine.moment());
     Some(Event::System(Sys::Clock { add }))
 }
 
 // The first of all that is available.
-fn first_available(cluster: &Cluster) -> Option<Event>
-    ensures { result ≡ first_event (available cluster.now.shape (deeds_seen cluster.now)
-        (log_seen cluster.now)) }
+fn first_available(machine: &Machine) -> Option<Event>
+    ensures { result ≡ first_event (available machine.now.shape (deeds_seen machine.now)
+        (log_seen machine.now)) }
 {
-    match but_clock_event(cluster) {
+    match but_clock_event(machine) {
         Some(event) => Some(event),
-        None => clock_event(cluster),
+        None => clock_event(machine),
     }
 }
 
@@ -158,17 +158,17 @@ fn first_available(cluster: &Cluster) -> Option<Event>
 /// node, and the clock only where there is nothing else. Within a kind it goes by controller, then
 /// Jobs before pods, then by worker. `None` exactly where nothing is available. The time it takes
 /// does not grow with what was kept so far.
-pub fn next_event(cluster: &Cluster) -> Option<Event>
-    ensures first { result ≡ first_event (available cluster.now.shape (deeds_seen cluster.now)
-        (log_seen cluster.now)) }
-    ensures admits { IfSome result (λ event. Admits cluster.now event) }
+pub fn next_event(machine: &Machine) -> Option<Event>
+    ensures first { result ≡ first_event (available machine.now.shape (deeds_seen machine.now)
+        (log_seen machine.now)) }
+    ensures admits { IfSome result (λ event. Admits machine.now event) }
 {
-    first_available(cluster)
+    first_available(machine)
 }
 
 /// Whether nothing is available.
-pub fn is_quiescent(cluster: &Cluster) -> bool
-    ensures { result ≡ has_rest cluster.now }
+pub fn is_quiescent(machine: &Machine) -> bool
+    ensures { result ≡ has_rest machine.now }
 {
-    next_event(cluster).is_none()
+    next_event(machine).is_none()
 }

@@ -1,7 +1,7 @@
 //! The one event that an actor can make now.
 
 ghost use Rattle.std.specs.Prelude.{◌≡◌, ◌<◌, ◌↔◌, IfSome, IsTrue, Some, true};
-ghost use Rattle.jc_core.specs.Diaries.{diary_seen};
+ghost use Rattle.jc_machine.specs.Diaries.{diary_seen};
 ghost use Rattle.jc_history.specs.Available.{free_worker};
 ghost use Rattle.jc_history.specs.Fresh.{may_begin};
 ghost use Rattle.jc_runs.specs.Seen.{log_seen};
@@ -12,16 +12,16 @@ ghost use Rattle.jc_play.specs.Actors.{CanCome, IsOfActor, IsOnly};
 use crate::actors::Actor;
 use crate::kinds::{delivery_of, first_free, list_of};
 use crate::next::{but_clock_event, clock_event, node_event};
-use jc_core::Cluster;
+use jc_machine::Machine;
 use jc_types::{Event, Kind, Sys};
 
 // The lane's next command, where it may come.
-fn lane_offer(cluster: &Cluster, lane: u8) -> Option<Event>
-    ensures { IsOnly (actor.Lane lane) cluster.now result }
+fn lane_offer(machine: &Machine, lane: u8) -> Option<Event>
+    ensures { IsOnly (actor.Lane lane) machine.now result }
 {
-    let number = cluster.next_command(lane)?;
+    let number = machine.next_command(lane)?;
     let event = Event::Command { lane, number };
-    if cluster.admits(&event) {
+    if machine.admits(&event) {
         Some(event)
     } else {
         None
@@ -29,41 +29,41 @@ fn lane_offer(cluster: &Cluster, lane: u8) -> Option<Event>
 }
 
 // The list of the cache, or the delivery to it.
-fn cache_offer(cluster: &Cluster, controller: u32, kind: Kind) -> Option<Event>
-    ensures { IsOnly (actor.Cache controller kind) cluster.now result }
+fn cache_offer(machine: &Machine, controller: u32, kind: Kind) -> Option<Event>
+    ensures { IsOnly (actor.Cache controller kind) machine.now result }
 {
-    if controller >= cluster.shape().controllers {
+    if controller >= machine.shape().controllers {
         return None;
     }
-    let list = list_of(cluster, controller, kind);
-    let delivery = delivery_of(cluster, controller, kind);
+    let list = list_of(machine, controller, kind);
+    let delivery = delivery_of(machine, controller, kind);
     list.or(delivery)
 }
 
 // Whether the worker is the one to begin the controller's next sync: one can begin, and this is the
 // least free worker.
-fn is_to_begin(cluster: &Cluster, controller: u32, worker: u32) -> bool
-    requires { controller < cluster.now.shape.controllers }
+fn is_to_begin(machine: &Machine, controller: u32, worker: u32) -> bool
+    requires { controller < machine.now.shape.controllers }
     ensures { IsTrue result
-        ↔ ((may_begin (diary_seen cluster.now controller) (log_seen cluster.now) ≡ true)
-        × (free_worker (diary_seen cluster.now controller) cluster.now.shape.workers
+        ↔ ((may_begin (diary_seen machine.now controller) (log_seen machine.now) ≡ true)
+        × (free_worker (diary_seen machine.now controller) machine.now.shape.workers
         ≡ Some worker)) }
 {
-    cluster.may_begin(controller) && first_free(cluster, controller) == Some(worker)
+    machine.may_begin(controller) && first_free(machine, controller) == Some(worker)
 }
 
 // The step of the worker's sync, or the begin of one.
-fn worker_offer(cluster: &Cluster, controller: u32, worker: u32) -> Option<Event>
-    ensures { IsOnly (actor.Worker controller worker) cluster.now result }
+fn worker_offer(machine: &Machine, controller: u32, worker: u32) -> Option<Event>
+    ensures { IsOnly (actor.Worker controller worker) machine.now result }
 {
-    let shape = cluster.shape();
+    let shape = machine.shape();
     if controller >= shape.controllers || worker >= shape.workers {
         return None;
     }
-    if !cluster.is_free(controller, worker) {
+    if !machine.is_free(controller, worker) {
         return Some(Event::System(Sys::Step { controller, worker }));
     }
-    if is_to_begin(cluster, controller, worker) {
+    if is_to_begin(machine, controller, worker) {
         Some(Event::System(Sys::Begin { controller, worker }))
     } else {
         None
@@ -71,18 +71,18 @@ fn worker_offer(cluster: &Cluster, controller: u32, worker: u32) -> Option<Event
 }
 
 // The step of the node, where it has one.
-fn node_offer(cluster: &Cluster) -> Option<Event>
-    ensures { IsOnly actor.Node cluster.now result }
+fn node_offer(machine: &Machine) -> Option<Event>
+    ensures { IsOnly actor.Node machine.now result }
 {
-    node_event(cluster)
+    node_event(machine)
 }
 
 // The clock, to the least delay, where nothing else but commands can come.
-fn clock_offer(cluster: &Cluster) -> Option<Event>
-    ensures { IsOnly actor.Clock cluster.now result }
+fn clock_offer(machine: &Machine) -> Option<Event>
+    ensures { IsOnly actor.Clock machine.now result }
 {
-    match but_clock_event(cluster) {
-        None => clock_event(cluster),
+    match but_clock_event(machine) {
+        None => clock_event(machine),
         Some(_) => None,
     }
 }
@@ -94,17 +94,17 @@ fn clock_offer(cluster: &Cluster) -> Option<Event>
 /// both caches have numbers, and they are new enough for the line's first key. The node gives its
 /// next step, where it has one; and the clock the seconds to the least delay, where nobody but the
 /// lanes has an event. The time it takes does not grow with what was kept so far.
-pub fn available(cluster: &Cluster, actor: Actor) -> Option<Event>
+pub fn available(machine: &Machine, actor: Actor) -> Option<Event>
     ensures some { IfSome result (λ event. IsOfActor actor event) }
-    ensures can_come { IfSome result (λ event. CanCome cluster.now event) }
-    ensures exactly { (event : Event) → IsOfActor actor event → CanCome cluster.now event
+    ensures can_come { IfSome result (λ event. CanCome machine.now event) }
+    ensures exactly { (event : Event) → IsOfActor actor event → CanCome machine.now event
         → result ≡ Some event }
 {
     match actor {
-        Actor::Lane(lane) => lane_offer(cluster, lane),
-        Actor::Cache { controller, kind } => cache_offer(cluster, controller, kind),
-        Actor::Worker { controller, worker } => worker_offer(cluster, controller, worker),
-        Actor::Node => node_offer(cluster),
-        Actor::Clock => clock_offer(cluster),
+        Actor::Lane(lane) => lane_offer(machine, lane),
+        Actor::Cache { controller, kind } => cache_offer(machine, controller, kind),
+        Actor::Worker { controller, worker } => worker_offer(machine, controller, worker),
+        Actor::Node => node_offer(machine),
+        Actor::Clock => clock_offer(machine),
     }
 }

@@ -1,7 +1,7 @@
 //! The play of a script: its commands in their order, with what comes round a sync and a settle.
 
 ghost use Rattle.std.specs.Prelude.{◌≡◌, ◌<◌, ◌≤◌, Err, IfOk, OnErr, OnOk, false, length};
-ghost use Rattle.jc_core.specs.declared.apply.ApplyFault.TheVariants.{HistoryFull};
+ghost use Rattle.jc_machine.specs.declared.apply.ApplyFault.TheVariants.{HistoryFull};
 ghost use Rattle.jc_history.specs.Play.{after_begin, brought_up, event_played, has_just_begun, settled_down};
 ghost use Rattle.jc_types.specs.declared.objects.Kind.TheVariants.{Jobs, Pods};
 ghost use Rattle.jc_types.specs.declared.runs.Event.{Event};
@@ -12,7 +12,7 @@ ghost use Rattle.jc_play.specs.Ways.{FitsWay, by_way};
 use crate::bringing::{bring_up, step_through};
 use crate::settling::{happen, settle};
 use crate::ways::Way;
-use jc_core::{ApplyFault, Cluster};
+use jc_machine::{ApplyFault, Machine};
 use jc_types::{Event, Kind, Reply};
 
 // Whether the reply says that a sync began.
@@ -24,125 +24,125 @@ fn is_begun(reply: Reply) -> bool
 
 // Does the event, and says whether a sync began by it.
 //
-// As `apply` where it is not done; the cluster is then as before.
-fn begin_own(cluster: &mut Cluster, event: Event) -> Result<bool, ApplyFault>
-    requires { Admits cluster.old event }
-    ensures ok { OnOk result (cluster.new ≡ happened cluster.old event) }
-    ensures begun { IfOk result (λ b. b ≡ has_just_begun (happened cluster.old event).pasts) }
-    ensures kept { OnErr result (cluster.new ≡ cluster.old) }
-    ensures full { cluster.old.shape.events ≤ length cluster.old.pasts
+// As `apply` where it is not done; the machine is then as before.
+fn begin_own(machine: &mut Machine, event: Event) -> Result<bool, ApplyFault>
+    requires { Admits machine.old event }
+    ensures ok { OnOk result (machine.new ≡ happened machine.old event) }
+    ensures begun { IfOk result (λ b. b ≡ has_just_begun (happened machine.old event).pasts) }
+    ensures kept { OnErr result (machine.new ≡ machine.old) }
+    ensures full { machine.old.shape.events ≤ length machine.old.pasts
         → result ≡ Err HistoryFull }
     ensures room { result ≡ Err HistoryFull
-        → cluster.old.shape.events ≤ length cluster.old.pasts }
+        → machine.old.shape.events ≤ length machine.old.pasts }
 {
-    let reply = cluster.apply(event)?;
+    let reply = machine.apply(event)?;
     Ok(is_begun(reply))
 }
 
 // Does the own event of a sync, and the steps after it where the sync began.
 fn begin_and_step(
-    cluster: &mut Cluster,
+    machine: &mut Machine,
     event: Event,
     controller: u32,
     worker: u32,
 ) -> Result<(), ApplyFault>
-    requires of_shape { controller < cluster.old.shape.controllers }
-    requires worker { worker < cluster.old.shape.workers }
-    requires own { IsOwn cluster.old event }
-    requires free { NeedsNoRest cluster.old event }
+    requires of_shape { controller < machine.old.shape.controllers }
+    requires worker { worker < machine.old.shape.workers }
+    requires own { IsOwn machine.old event }
+    requires free { NeedsNoRest machine.old event }
     ensures reaches { Reaches result
-        (after_begin cluster.old.script cluster.old.shape controller worker
-        (event_played cluster.old.script cluster.old.shape event (playing_of false cluster.old)))
-        cluster.new }
-    ensures grown { HasGrown cluster.old cluster.new }
-    ensures came { OnOk result (HasCome event cluster.new) }
+        (after_begin machine.old.script machine.old.shape controller worker
+        (event_played machine.old.script machine.old.shape event (playing_of false machine.old)))
+        machine.new }
+    ensures grown { HasGrown machine.old machine.new }
+    ensures came { OnOk result (HasCome event machine.new) }
 {
-    let begun = begin_own(cluster, event)?;
+    let begun = begin_own(machine, event)?;
     if begun {
-        step_through(cluster, controller, worker)
+        step_through(machine, controller, worker)
     } else {
         Ok(())
     }
 }
 
 // Brings both caches of the controller on, that of Jobs first.
-fn bring_both(cluster: &mut Cluster, controller: u32) -> Result<(), ApplyFault>
-    requires { controller < cluster.old.shape.controllers }
+fn bring_both(machine: &mut Machine, controller: u32) -> Result<(), ApplyFault>
+    requires { controller < machine.old.shape.controllers }
     ensures reaches { Reaches result
-        (brought_up cluster.old.script cluster.old.shape controller Pods
-        (brought_up cluster.old.script cluster.old.shape controller Jobs
-        (playing_of false cluster.old))) cluster.new }
-    ensures grown { HasGrown cluster.old cluster.new }
-    ensures own { (event : Event) → IsOwn cluster.old event → IsOwn cluster.new event }
+        (brought_up machine.old.script machine.old.shape controller Pods
+        (brought_up machine.old.script machine.old.shape controller Jobs
+        (playing_of false machine.old))) machine.new }
+    ensures grown { HasGrown machine.old machine.new }
+    ensures own { (event : Event) → IsOwn machine.old event → IsOwn machine.new event }
 {
-    bring_up(cluster, controller, Kind::Jobs)?;
-    bring_up(cluster, controller, Kind::Pods)
+    bring_up(machine, controller, Kind::Jobs)?;
+    bring_up(machine, controller, Kind::Pods)
 }
 
 // Plays the command Sync.
 fn play_sync(
-    cluster: &mut Cluster,
+    machine: &mut Machine,
     event: Event,
     controller: u32,
     worker: u32,
 ) -> Result<(), ApplyFault>
-    requires of_shape { controller < cluster.old.shape.controllers }
-    requires worker { worker < cluster.old.shape.workers }
-    requires own { IsOwn cluster.old event }
-    requires free { NeedsNoRest cluster.old event }
+    requires of_shape { controller < machine.old.shape.controllers }
+    requires worker { worker < machine.old.shape.workers }
+    requires own { IsOwn machine.old event }
+    requires free { NeedsNoRest machine.old event }
     ensures reaches { Reaches result
-        (after_begin cluster.old.script cluster.old.shape controller worker
-        (event_played cluster.old.script cluster.old.shape event
-        (brought_up cluster.old.script cluster.old.shape controller Pods
-        (brought_up cluster.old.script cluster.old.shape controller Jobs
-        (playing_of false cluster.old))))) cluster.new }
-    ensures grown { HasGrown cluster.old cluster.new }
-    ensures came { OnOk result (HasCome event cluster.new) }
+        (after_begin machine.old.script machine.old.shape controller worker
+        (event_played machine.old.script machine.old.shape event
+        (brought_up machine.old.script machine.old.shape controller Pods
+        (brought_up machine.old.script machine.old.shape controller Jobs
+        (playing_of false machine.old))))) machine.new }
+    ensures grown { HasGrown machine.old machine.new }
+    ensures came { OnOk result (HasCome event machine.new) }
 {
-    bring_both(cluster, controller)?;
-    begin_and_step(cluster, event, controller, worker)
+    bring_both(machine, controller)?;
+    begin_and_step(machine, event, controller, worker)
 }
 
 // Plays a command that is its own event alone.
-fn play_plain(cluster: &mut Cluster, event: Event) -> Result<(), ApplyFault>
-    requires own { IsOwn cluster.old event }
-    requires admits { Admits cluster.old event }
+fn play_plain(machine: &mut Machine, event: Event) -> Result<(), ApplyFault>
+    requires own { IsOwn machine.old event }
+    requires admits { Admits machine.old event }
     ensures reaches { Reaches result
-        (event_played cluster.old.script cluster.old.shape event (playing_of false cluster.old))
-        cluster.new }
-    ensures grown { HasGrown cluster.old cluster.new }
-    ensures came { OnOk result (HasCome event cluster.new) }
+        (event_played machine.old.script machine.old.shape event (playing_of false machine.old))
+        machine.new }
+    ensures grown { HasGrown machine.old machine.new }
+    ensures came { OnOk result (HasCome event machine.new) }
 {
-    happen(cluster, event)
+    happen(machine, event)
 }
 
 // Plays the command Settle.
-fn play_settle(cluster: &mut Cluster, event: Event) -> Result<(), ApplyFault>
-    requires own { IsOwn cluster.old event }
+fn play_settle(machine: &mut Machine, event: Event) -> Result<(), ApplyFault>
+    requires own { IsOwn machine.old event }
     ensures reaches { Reaches result
-        (event_played cluster.old.script cluster.old.shape event
-        (settled_down cluster.old.script cluster.old.shape (playing_of false cluster.old)))
-        cluster.new }
-    ensures grown { HasGrown cluster.old cluster.new }
-    ensures came { OnOk result (HasCome event cluster.new) }
+        (event_played machine.old.script machine.old.shape event
+        (settled_down machine.old.script machine.old.shape (playing_of false machine.old)))
+        machine.new }
+    ensures grown { HasGrown machine.old machine.new }
+    ensures came { OnOk result (HasCome event machine.new) }
 {
-    settle(cluster)?;
-    play_plain(cluster, event)
+    settle(machine)?;
+    play_plain(machine, event)
 }
 
 // Plays a command with what comes round it.
-pub(crate) fn play_own(cluster: &mut Cluster, event: Event, way: Way) -> Result<(), ApplyFault>
-    requires own { IsOwn cluster.old event }
-    requires fits { FitsWay way cluster.old event }
+pub(crate) fn play_own(machine: &mut Machine, event: Event, way: Way) -> Result<(), ApplyFault>
+    requires own { IsOwn machine.old event }
+    requires fits { FitsWay way machine.old event }
     ensures reaches { Reaches result
-        (by_way way cluster.old.script cluster.old.shape event (playing_of false cluster.old))
-        cluster.new }
-    ensures grown { HasGrown cluster.old cluster.new }
-    ensures came { OnOk result (HasCome event cluster.new) }
+        (by_way way machine.old.script machine.old.shape event (playing_of false machine.old))
+        machine.new }
+    ensures grown { HasGrown machine.old machine.new }
+    ensures came { OnOk result (HasCome event machine.new) }
 {
     match way {
-        Way::Round { controller, worker } => play_sync(cluster, event, controller, worker),
-        Way::Rest => play_settle(cluster, event),
-        Way::Plain => play_plain(cluster, event),
+        Way::Round { controller, worker } => play_sync(machine, event, controller, worker),
+        Way::Rest => play_settle(machine, event),
+        Way::Plain => play_plain(machine, event),
     }
 }

@@ -1,28 +1,28 @@
 //! Doing what is available until nothing is.
 
 ghost use Rattle.std.specs.Prelude.{◌≡◌, ◌≤◌, Err, OnErr, OnOk, false, length, true};
-ghost use Rattle.jc_core.specs.declared.apply.ApplyFault.TheVariants.{HistoryFull};
+ghost use Rattle.jc_machine.specs.declared.apply.ApplyFault.TheVariants.{HistoryFull};
 ghost use Rattle.jc_history.specs.Play.{settled_down};
 ghost use Rattle.jc_runs.specs.Seen.{Admits, happened};
 ghost use Rattle.jc_play.specs.Turns.{HasGoneOn, HasGrown, Reaches, has_rest, next_to_settle, playing_of};
 
 use crate::next::next_event;
-use jc_core::{ApplyFault, Cluster};
+use jc_machine::{ApplyFault, Machine};
 use jc_types::Event;
 
 // Does the event, whose reply is kept in the history.
 //
-// As `apply` where it is not done; the cluster is then as before.
-pub(crate) fn happen(cluster: &mut Cluster, event: Event) -> Result<(), ApplyFault>
-    requires { Admits cluster.old event }
-    ensures ok { OnOk result (cluster.new ≡ happened cluster.old event) }
-    ensures kept { OnErr result (cluster.new ≡ cluster.old) }
-    ensures full { cluster.old.shape.events ≤ length cluster.old.pasts
+// As `apply` where it is not done; the machine is then as before.
+pub(crate) fn happen(machine: &mut Machine, event: Event) -> Result<(), ApplyFault>
+    requires { Admits machine.old event }
+    ensures ok { OnOk result (machine.new ≡ happened machine.old event) }
+    ensures kept { OnErr result (machine.new ≡ machine.old) }
+    ensures full { machine.old.shape.events ≤ length machine.old.pasts
         → result ≡ Err HistoryFull }
     ensures room { result ≡ Err HistoryFull
-        → cluster.old.shape.events ≤ length cluster.old.pasts }
+        → machine.old.shape.events ≤ length machine.old.pasts }
 {
-    cluster.apply(event)?;
+    machine.apply(event)?;
     Ok(())
 }
 
@@ -32,17 +32,17 @@ pub(crate) fn happen(cluster: &mut Cluster, event: Event) -> Result<(), ApplyFau
 /// # Errors
 /// `HistoryFull` exactly where the history has as many events as the shape allows and one is still
 /// to come; `Want` where there is no memory. The events before it are kept.
-pub fn settle(cluster: &mut Cluster) -> Result<(), ApplyFault>
+pub fn settle(machine: &mut Machine) -> Result<(), ApplyFault>
     ensures reaches { Reaches result
-        (settled_down cluster.old.script cluster.old.shape (playing_of false cluster.old))
-        cluster.new }
-    ensures rests { OnOk result (has_rest cluster.new ≡ true) }
-    ensures kept { HasGoneOn (next_to_settle cluster.old.script cluster.old.shape) cluster.old
-        cluster.new }
-    ensures grown { HasGrown cluster.old cluster.new }
+        (settled_down machine.old.script machine.old.shape (playing_of false machine.old))
+        machine.new }
+    ensures rests { OnOk result (has_rest machine.new ≡ true) }
+    ensures kept { HasGoneOn (next_to_settle machine.old.script machine.old.shape) machine.old
+        machine.new }
+    ensures grown { HasGrown machine.old machine.new }
 {
-    'settling: while let Some(event) = next_event(cluster) {
-        happen(cluster, event)?;
+    'settling: while let Some(event) = next_event(machine) {
+        happen(machine, event)?;
     }
     Ok(())
 }

@@ -2,7 +2,7 @@
 
 ghost use Rattle.std.specs.Prelude.{◌≡◌, ◌<◌, IfSome, filter};
 ghost use Rattle.std.specs.List.{flat_map};
-ghost use Rattle.jc_core.specs.Diaries.{diary_seen};
+ghost use Rattle.jc_machine.specs.Diaries.{diary_seen};
 ghost use Rattle.jc_history.specs.Available.{below, but_clock, step_event, step_events};
 ghost use Rattle.jc_history.specs.Play.{first_event};
 ghost use Rattle.jc_runs.specs.Seen.{deeds_seen, log_seen};
@@ -13,7 +13,7 @@ use crate::next::{
     but_clock_event, clock_event, first_begin, first_delivery, first_list, node_event,
 };
 use crate::slots::Slot;
-use jc_core::Cluster;
+use jc_machine::Machine;
 use jc_types::{Event, Sys};
 
 // Whether a seat holds the register of the controller's worker.
@@ -24,13 +24,13 @@ fn is_held(slots: &[Slot], controller: u32, worker: u32) -> bool
 }
 
 // The step of the worker's sync, where it has one and its register is not held.
-fn unheld_step(cluster: &Cluster, slots: &[Slot], controller: u32, worker: u32) -> Option<Event>
-    requires of_shape { controller < cluster.now.shape.controllers }
-    requires worker { worker < cluster.now.shape.workers }
+fn unheld_step(machine: &Machine, slots: &[Slot], controller: u32, worker: u32) -> Option<Event>
+    requires of_shape { controller < machine.now.shape.controllers }
+    requires worker { worker < machine.now.shape.workers }
     ensures { result ≡ first_event (filter (is_unheld slots.now)
-        (step_event (diary_seen cluster.now controller) controller worker)) }
+        (step_event (diary_seen machine.now controller) controller worker)) }
 {
-    if cluster.is_free(controller, worker) || is_held(slots, controller, worker) {
+    if machine.is_free(controller, worker) || is_held(slots, controller, worker) {
         None
     } else {
         Some(Event::System(Sys::Step { controller, worker }))
@@ -38,13 +38,13 @@ fn unheld_step(cluster: &Cluster, slots: &[Slot], controller: u32, worker: u32) 
 }
 
 // The first such step of the controller's workers.
-fn controller_unheld_steps(cluster: &Cluster, slots: &[Slot], controller: u32) -> Option<Event>
-    requires { controller < cluster.now.shape.controllers }
+fn controller_unheld_steps(machine: &Machine, slots: &[Slot], controller: u32) -> Option<Event>
+    requires { controller < machine.now.shape.controllers }
     ensures { result ≡ first_event (filter (is_unheld slots.now)
-        (step_events (diary_seen cluster.now controller) cluster.now.shape.workers controller)) }
+        (step_events (diary_seen machine.now controller) machine.now.shape.workers controller)) }
 {
-    for worker in 0..cluster.shape().workers {
-        if let Some(event) = unheld_step(cluster, slots, controller, worker) {
+    for worker in 0..machine.shape().workers {
+        if let Some(event) = unheld_step(machine, slots, controller, worker) {
             return Some(event);
         }
     }
@@ -52,13 +52,13 @@ fn controller_unheld_steps(cluster: &Cluster, slots: &[Slot], controller: u32) -
 }
 
 // The first such step of all.
-fn first_unheld_step(cluster: &Cluster, slots: &[Slot]) -> Option<Event>
+fn first_unheld_step(machine: &Machine, slots: &[Slot]) -> Option<Event>
     ensures { result ≡ first_event (filter (is_unheld slots.now) (flat_map
-        (λ c. step_events (diary_seen cluster.now c) cluster.now.shape.workers c)
-        (below cluster.now.shape.controllers))) }
+        (λ c. step_events (diary_seen machine.now c) machine.now.shape.workers c)
+        (below machine.now.shape.controllers))) }
 {
-    for controller in 0..cluster.shape().controllers {
-        if let Some(event) = controller_unheld_steps(cluster, slots, controller) {
+    for controller in 0..machine.shape().controllers {
+        if let Some(event) = controller_unheld_steps(machine, slots, controller) {
             return Some(event);
         }
     }
@@ -66,36 +66,36 @@ fn first_unheld_step(cluster: &Cluster, slots: &[Slot]) -> Option<Event>
 }
 
 // What there is but for the clock and the steps of registers that are held.
-fn but_clock_unheld(cluster: &Cluster, slots: &[Slot]) -> Option<Event>
+fn but_clock_unheld(machine: &Machine, slots: &[Slot]) -> Option<Event>
     ensures { result ≡ first_event (filter (is_unheld slots.now)
-        (but_clock cluster.now.shape (deeds_seen cluster.now) (log_seen cluster.now))) }
+        (but_clock machine.now.shape (deeds_seen machine.now) (log_seen machine.now))) }
 {
-    if let Some(event) = first_list(cluster) {
+    if let Some(event) = first_list(machine) {
         return Some(event);
     }
-    if let Some(event) = first_delivery(cluster) {
+    if let Some(event) = first_delivery(machine) {
         return Some(event);
     }
-    if let Some(event) = first_unheld_step(cluster, slots) {
+    if let Some(event) = first_unheld_step(machine, slots) {
         return Some(event);
     }
-    match first_begin(cluster) {
+    match first_begin(machine) {
         Some(event) => Some(event),
-        None => node_event(cluster),
+        None => node_event(machine),
     }
 }
 
 /// The first event of the system that is available and is not the step of a register that is held.
 /// Such a step counts as available all the same: the clock has to wait for it. `None` exactly where
 /// nothing is available but for such steps.
-pub fn next_unheld(cluster: &Cluster, slots: &[Slot]) -> Option<Event>
-    ensures first { result ≡ first_event (unheld_seen slots.now cluster.now) }
-    ensures can_come { IfSome result (λ event. CanCome cluster.now event) }
+pub fn next_unheld(machine: &Machine, slots: &[Slot]) -> Option<Event>
+    ensures first { result ≡ first_event (unheld_seen slots.now machine.now) }
+    ensures can_come { IfSome result (λ event. CanCome machine.now event) }
 {
-    let found = but_clock_unheld(cluster, slots);
-    if found.is_some() || but_clock_event(cluster).is_some() {
+    let found = but_clock_unheld(machine, slots);
+    if found.is_some() || but_clock_event(machine).is_some() {
         found
     } else {
-        clock_event(cluster)
+        clock_event(machine)
     }
 }

@@ -10,7 +10,7 @@ ghost use Rattle.jc_play.specs.Ways.{ArePlayed, FitsWay, IsAtPlace, by_way, plac
 
 use crate::playing::play_own;
 use crate::ways::{Way, way_of};
-use jc_core::{ApplyFault, Cluster};
+use jc_machine::{ApplyFault, Machine};
 use jc_order::the_rest_is_played;
 use jc_types::{Command, Event, Script};
 
@@ -32,23 +32,23 @@ fn command_at(script: &Script, place: usize) -> &Command
 }
 
 // What is to be played of the place, where its command was not played yet.
-fn own_at(cluster: &Cluster, place: usize) -> Option<Own>
-    requires proper { IsProper cluster.now.script cluster.now.shape }
-    requires there { place < length cluster.now.script.commands }
-    requires before { ArePlayed place cluster.now.pasts }
-    ensures none { result ≡ None → list_any (is_command place) cluster.now.pasts ≡ true }
+fn own_at(machine: &Machine, place: usize) -> Option<Own>
+    requires proper { IsProper machine.now.script machine.now.shape }
+    requires there { place < length machine.now.script.commands }
+    requires before { ArePlayed place machine.now.pasts }
+    ensures none { result ≡ None → list_any (is_command place) machine.now.pasts ≡ true }
     ensures place { IfSome result (λ own. IsAtPlace place own.event) }
-    ensures own { IfSome result (λ own. IsOwn cluster.now own.event) }
-    ensures fits { IfSome result (λ own. FitsWay own.way cluster.now own.event) }
+    ensures own { IfSome result (λ own. IsOwn machine.now own.event) }
+    ensures fits { IfSome result (λ own. FitsWay own.way machine.now own.event) }
     ensures play { IfSome result (λ own.
-        place_played place (slice_get cluster.now.script.commands place) cluster.now.script
-        cluster.now.shape (playing_of false cluster.now)
-        ≡ by_way own.way cluster.now.script cluster.now.shape own.event
-        (playing_of false cluster.now)) }
+        place_played place (slice_get machine.now.script.commands place) machine.now.script
+        machine.now.shape (playing_of false machine.now)
+        ≡ by_way own.way machine.now.script machine.now.shape own.event
+        (playing_of false machine.now)) }
 {
-    let _history = cluster.history();
-    let command = command_at(cluster.script(), place);
-    let number = cluster.next_command(command.lane)?;
+    let _history = machine.history();
+    let command = command_at(machine.script(), place);
+    let number = machine.next_command(command.lane)?;
     if number as usize != place {
         return None;
     }
@@ -62,32 +62,32 @@ fn own_at(cluster: &Cluster, place: usize) -> Option<Own>
 }
 
 // Plays the command at the place, where it was not played yet.
-fn play_place(cluster: &mut Cluster, place: usize) -> Result<(), ApplyFault>
-    requires proper { IsProper cluster.old.script cluster.old.shape }
-    requires there { place < length cluster.old.script.commands }
-    requires before { ArePlayed place cluster.old.pasts }
+fn play_place(machine: &mut Machine, place: usize) -> Result<(), ApplyFault>
+    requires proper { IsProper machine.old.script machine.old.shape }
+    requires there { place < length machine.old.script.commands }
+    requires before { ArePlayed place machine.old.pasts }
     ensures reaches { Reaches result
-        (place_played place (slice_get cluster.old.script.commands place) cluster.old.script
-        cluster.old.shape (playing_of false cluster.old)) cluster.new }
-    ensures grown { HasGrown cluster.old cluster.new }
-    ensures played { OnOk result (ArePlayed (place + 1) cluster.new.pasts) }
+        (place_played place (slice_get machine.old.script.commands place) machine.old.script
+        machine.old.shape (playing_of false machine.old)) machine.new }
+    ensures grown { HasGrown machine.old machine.new }
+    ensures played { OnOk result (ArePlayed (place + 1) machine.new.pasts) }
 {
-    let Some(own) = own_at(cluster, place) else {
+    let Some(own) = own_at(machine, place) else {
         return Ok(());
     };
-    play_own(cluster, own.event, own.way)
+    play_own(machine, own.event, own.way)
 }
 
 // Plays the commands that were not played yet, one place after the other.
-fn play_places(cluster: &mut Cluster) -> Result<(), ApplyFault>
-    requires { IsProper cluster.old.script cluster.old.shape }
-    ensures reaches { Reaches result (rest_played cluster.old.script cluster.old.shape 0
-        cluster.old.script.commands (playing_of false cluster.old)) cluster.new }
-    ensures grown { HasGrown cluster.old cluster.new }
+fn play_places(machine: &mut Machine) -> Result<(), ApplyFault>
+    requires { IsProper machine.old.script machine.old.shape }
+    ensures reaches { Reaches result (rest_played machine.old.script machine.old.shape 0
+        machine.old.script.commands (playing_of false machine.old)) machine.new }
+    ensures grown { HasGrown machine.old machine.new }
 {
-    let count = cluster.script().commands.len();
+    let count = machine.script().commands.len();
     for place in 0..count {
-        play_place(cluster, place)?;
+        play_place(machine, place)?;
     }
     Ok(())
 }
@@ -103,14 +103,14 @@ fn play_places(cluster: &mut Cluster) -> Result<(), ApplyFault>
 /// # Errors
 /// `HistoryFull` exactly where the history has as many events as the shape allows and one is still
 /// to come; `Want` where there is no memory. The events before it are kept.
-pub fn play(cluster: &mut Cluster) -> Result<(), ApplyFault>
-    requires { IsProper cluster.old.script cluster.old.shape }
-    ensures reaches { Reaches result (rest_played cluster.old.script cluster.old.shape 0
-        cluster.old.script.commands (playing_of false cluster.old)) cluster.new }
-    ensures used { OnOk result (AreUsed cluster.new.script.commands cluster.new.pasts) }
-    ensures grown { HasGrown cluster.old cluster.new }
+pub fn play(machine: &mut Machine) -> Result<(), ApplyFault>
+    requires { IsProper machine.old.script machine.old.shape }
+    ensures reaches { Reaches result (rest_played machine.old.script machine.old.shape 0
+        machine.old.script.commands (playing_of false machine.old)) machine.new }
+    ensures used { OnOk result (AreUsed machine.new.script.commands machine.new.pasts) }
+    ensures grown { HasGrown machine.old machine.new }
 {
     the_rest_is_played();
-    let _history = cluster.history();
-    play_places(cluster)
+    let _history = machine.history();
+    play_places(machine)
 }

@@ -1,5 +1,4 @@
 mod LeftFacts
-mod UsedFacts
 mod LeaveFacts
-mod PlanFacts
 mod SeenFacts
+mod TurnFacts

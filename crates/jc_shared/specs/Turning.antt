@@ -5,7 +5,7 @@
 --     IsDone seen event answer new    what an event is answered, and what it leaves
 --     IsOutAnswer answer              the value was out
 --     SeatIsAnswered ..                   what a seat is answered, and what it has seen then
-use Rattle.std.specs.Prelude.{◌≡◌, ℕ, ◌<◌, ◌≤◌, List, [], ◌∷◌, ◌++◌, length, reverse, Result, Ok, Err}
+use Rattle.std.specs.Prelude.{◌≡◌, ◌<◌, ◌≤◌, List, [], ◌∷◌, ◌++◌, length, reverse, Result, Ok, Err}
 use mathlib.Core.List.{IsPrefix}
 use Rattle.jc_types.specs.declared.actions.Script.{Script}
 use Rattle.jc_types.specs.declared.runs.Event.{Event}
@@ -15,8 +15,8 @@ use Rattle.jc_runs.specs.Once.{OnceAtEach}
 use Rattle.jc_history.specs.Available.{IsOrderly}
 use Rattle.jc_history.specs.Legal.{InLanes, IsLegal}
 use Rattle.jc_runs.specs.Seen.{Seen, deeds_seen, happened, log_seen, past_seen, reply_seen}
-use Rattle.jc_core.specs.declared.apply.ApplyFault.{ApplyFault}
-use Rattle.jc_core.specs.declared.apply.ApplyFault.TheVariants.{HistoryFull, Want}
+use Rattle.jc_core.specs.ApplyFault.{ApplyFault}
+use Rattle.jc_core.specs.ApplyFault.TheVariants.{HistoryFull, Want}
 use Rattle.jc_play.specs.Actors.{CanCome}
 use Rattle.jc_shared.specs.declared.seen.SeenReply.{SeenReply}
 use Rattle.jc_shared.specs.declared.seen.SeenReply.TheVariants as seen

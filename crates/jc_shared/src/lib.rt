@@ -4,15 +4,20 @@
 
 mod finishing;
 mod gate;
+mod kept;
+mod lanes;
+mod naming;
 mod players;
+mod seats;
 mod seen;
 mod threads;
 mod turning;
+mod turns;
 
 pub use gate::{FreeGate, Gate};
 pub use jc_core::{ApplyFault, Cluster};
-pub use jc_kept::{Kept, Naming, keep};
-pub use jc_play::{new_clusters_play_the_whole_script, play};
+pub use kept::{Kept, keep};
+pub use naming::Naming;
 pub use seen::{SeenReply, apply_seen};
 pub use threads::{ThreadsFault, run_threads};
 pub use turning::run_turn;

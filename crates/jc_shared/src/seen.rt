@@ -1,13 +1,13 @@
 //! One event, done by a seat of a turn lock that knows what came before.
 
 ghost use Rattle.std.specs.Prelude.{◌≡◌, ◌<◌, ◌↔◌, false};
-ghost use Rattle.jc_kept.specs.Names.{IsOfName};
+ghost use Rattle.jc_shared.specs.Names.{IsOfName};
 ghost use Rattle.jc_turn.specs.Seats.{IsSameSeat};
 ghost use Rattle.jc_shared.specs.Turning.{SeatIsAnswered, IsDone, IsOutAnswer, IsSeenHistory};
 
+use crate::kept::Kept;
+use crate::naming::Naming;
 use jc_core::ApplyFault;
-use jc_kept::{Kept, Naming};
-use jc_play::fits;
 use jc_turn::{Seat, Taken, Turn};
 use jc_types::{Event, Reply};
 
@@ -36,7 +36,7 @@ fn done<J: Naming>(kept: &mut Kept<J>, event: Event) -> Result<SeenReply, ApplyF
     ensures { IsDone kept.old.seen event result kept.new.seen }
 {
     let _history = kept.cluster().history();
-    if !fits(kept.cluster(), &event) {
+    if !kept.cluster().fits(&event) {
         return Ok(SeenReply::NotNow);
     }
     Ok(SeenReply::Reply(kept.apply(event)?))

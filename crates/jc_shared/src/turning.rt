@@ -5,20 +5,22 @@ ghost use Rattle.std.specs.List.{AllByRecursion as Each};
 ghost use Rattle.jc_types.specs.declared.actions.Command.{Command};
 ghost use Rattle.jc_runs.specs.Bases.{CanPlan};
 ghost use Rattle.jc_runs.specs.ValidActions.{IsValidAction};
-ghost use Rattle.jc_runs.specs.Sends.{new_sync};
-ghost use Rattle.jc_kept.specs.declared.kept.Work.{Work};
-ghost use Rattle.jc_order.specs.Plays.{IsProper};
-ghost use Rattle.jc_runs.specs.Seen.{Seen};
+ghost use Rattle.jc_core.specs.Plays.{IsProper};
+ghost use Rattle.jc_core.specs.Shared.{Shared};
+ghost use Rattle.jc_core.specs.declared.holding.Work.{Work};
 ghost use Rattle.jc_turn.specs.Seats.{NoSeatHolds, BelongTo, IsSameSeat};
 ghost use Rattle.jc_shared.specs.Runs.{IsLeft, IsWhole};
 
 use crate::finishing::finish;
 use crate::gate::Gate;
-use crate::players::{hand_in, plan_of};
+use crate::kept::Kept;
+use crate::naming::Naming;
+use crate::players::hand_in;
+use crate::seats::Seat;
 use crate::threads::{ThreadsFault, new_kept};
-use jc_core::{ApplyFault, Cluster};
-use jc_kept::{Kept, Naming, Seat, Turn, Work};
-use jc_sync::Syncing;
+use crate::turns::Turn;
+use jc_core::{ApplyFault, Cluster, Work};
+use jc_plan::plan;
 use jc_turn::{Seat as Place, Taken, Turn as Lock, make};
 use jc_types::{Copied, Script, Shape, Want};
 use std::alloc::Global;
@@ -82,7 +84,7 @@ fn make_plan<J: Naming, R: Wait, G: Gate>(
     requires plannable { IsSome work.now.basis.job → CanPlan work.now.basis }
     ensures { IsSameSeat place.old place.new × (place.new.holds ≡ false) }
 {
-    let made = plan_of(alloc, work);
+    let made = plan(alloc, &work.basis);
     if made.is_ok() {
         gate.planned(seat, &work.basis.key);
     }
@@ -209,13 +211,14 @@ fn run_named<J: Naming + Send + Sync, R: Threads + Wait + Sync, G: Gate + Sync>(
     requires proper { IsProper script.now shape.now }
     requires fits { length script.now.commands < 2 ^ 32 }
     requires bound { shape.now.events ≤ 200000 }
-    ensures left { IfOk result (λ cluster. IsLeft script.now shape.now cluster) }
-    ensures whole { IfOk result (λ cluster. IsWhole cluster) }
-    ensures full { (seen : Seen) → IsErrOf result (ThreadsFault.Full seen)
-        → IsLeft script.now shape.now seen }
-    ensures filled { (seen : Seen) → IsErrOf result (ThreadsFault.Full seen)
-        → length seen.pasts ≡ shape.now.events }
-    ensures to_come { (seen : Seen) → IsErrOf result (ThreadsFault.Full seen) → ¬ IsWhole seen }
+    ensures left { IfOk result (λ cluster. IsLeft script.now shape.now cluster.seen) }
+    ensures whole { IfOk result (λ cluster. IsWhole cluster.seen) }
+    ensures full { (left : Shared) → IsErrOf result (ThreadsFault.Full left)
+        → IsLeft script.now shape.now left.seen }
+    ensures filled { (left : Shared) → IsErrOf result (ThreadsFault.Full left)
+        → length left.seen.pasts ≡ shape.now.events }
+    ensures to_come { (left : Shared) → IsErrOf result (ThreadsFault.Full left)
+        → ¬ IsWhole left.seen }
 {
     let Ok(kept) = new_kept::<J>(alloc, script, shape) else {
         return Err(ThreadsFault::Want);
@@ -233,12 +236,13 @@ fn run_named<J: Naming + Send + Sync, R: Threads + Wait + Sync, G: Gate + Sync>(
         places.as_mut_slice(),
         threads,
     );
-    let mut kept = lock.close(places);
+    let kept = lock.close(places);
     if want.load(Ordering::SeqCst) {
         return Err(ThreadsFault::Want);
     }
-    kept.free_all();
-    finish(kept.into_cluster(), script, shape)
+    let mut cluster = kept.into_cluster();
+    cluster.free_all();
+    finish(cluster, script, shape)
 }
 
 /// Plays the script as `run_threads` does, but the seats share the cluster by a turn lock: a seat
@@ -261,13 +265,14 @@ pub fn run_turn<R: Threads + Wait + Sync, G: Gate + Sync>(
     requires proper { IsProper script.now shape.now }
     requires fits { length script.now.commands < 2 ^ 32 }
     requires bound { shape.now.events ≤ 200000 }
-    ensures left { IfOk result (λ cluster. IsLeft script.now shape.now cluster) }
-    ensures whole { IfOk result (λ cluster. IsWhole cluster) }
-    ensures full { (seen : Seen) → IsErrOf result (ThreadsFault.Full seen)
-        → IsLeft script.now shape.now seen }
-    ensures filled { (seen : Seen) → IsErrOf result (ThreadsFault.Full seen)
-        → length seen.pasts ≡ shape.now.events }
-    ensures to_come { (seen : Seen) → IsErrOf result (ThreadsFault.Full seen) → ¬ IsWhole seen }
+    ensures left { IfOk result (λ cluster. IsLeft script.now shape.now cluster.seen) }
+    ensures whole { IfOk result (λ cluster. IsWhole cluster.seen) }
+    ensures full { (left : Shared) → IsErrOf result (ThreadsFault.Full left)
+        → IsLeft script.now shape.now left.seen }
+    ensures filled { (left : Shared) → IsErrOf result (ThreadsFault.Full left)
+        → length left.seen.pasts ≡ shape.now.events }
+    ensures to_come { (left : Shared) → IsErrOf result (ThreadsFault.Full left)
+        → ¬ IsWhole left.seen }
 {
     run_named::<Brand, R, G>(rt, alloc, script, shape, threads, gate)
 }

@@ -22,7 +22,7 @@ use Rattle.jc_log.specs.Deeds.{Deed}
 use Rattle.jc_log.specs.Log.{Live, job_in, life, next_uid, next_version, pod_in}
 use Rattle.jc_states.specs.Pods.{is_final, is_marked}
 use Rattle.jc_types.specs.Equality.{same_limits, same_phase}
-use Rattle.jc_states.specs.ValidSpecs.{IsValidSpec}
+use Rattle.jc_types.specs.ValidSpecs.{IsValidSpec}
 use Rattle.jc_log.specs.Writes.{IsOwned, Stored}
 use Rattle.jc_log.proofs.PodFacts.{living-live}
 use Rattle.jc_log.proofs.WriteFacts.{job_in-key, life-uid}

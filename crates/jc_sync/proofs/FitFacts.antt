@@ -21,7 +21,7 @@ use Rattle.jc_log.specs.Requests.{Answered, accepted, changed_spec, create_job_a
 use Rattle.jc_log.specs.Log.{Live, job_in, life, next_version, pod_in}
 use Rattle.jc_states.specs.Pods.{goes, is_final}
 use Rattle.jc_types.specs.Equality.{same_limits, same_phase}
-use Rattle.jc_states.specs.ValidSpecs.{IsValidSpec}
+use Rattle.jc_types.specs.ValidSpecs.{IsValidSpec}
 use Rattle.jc_log.specs.Writes.{Legal, Stored}
 use Rattle.jc_log.proofs.PlaceFacts.{job_in-entry, life-entry}
 use Rattle.jc_log.proofs.PodFacts.{living-live}

@@ -17,7 +17,7 @@ use Rattle.jc_types.specs.Keys.{same_key}
 use Rattle.jc_log.specs.Log.{Live, entry_at, job_in, life, pods_in, pods_of, upto}
 use Rattle.jc_states.specs.PodLists.{RisesFrom}
 use Rattle.jc_states.specs.Indexes.{HasSmallIndex}
-use Rattle.jc_states.specs.ValidSpecs.{IsValidSpec}
+use Rattle.jc_types.specs.ValidSpecs.{IsValidSpec}
 use Rattle.jc_log.specs.Writes.{Allowed, Stored, Writes}
 use Rattle.jc_types.proofs.ListFacts.{Each-filter, Each-weaker}
 use Rattle.std.proofs.lemmas.Option.{same_Some}

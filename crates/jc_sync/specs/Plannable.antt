@@ -9,7 +9,7 @@ use Rattle.jc_types.specs.declared.objects.Job.{Job}
 use Rattle.jc_types.specs.declared.objects.Pod.{Pod}
 use Rattle.jc_log.specs.Log.{entry_at}
 use Rattle.jc_states.specs.Indexes.{HasSmallIndex}
-use Rattle.jc_states.specs.ValidSpecs.{IsValidSpec}
+use Rattle.jc_types.specs.ValidSpecs.{IsValidSpec}
 use Rattle.jc_log.specs.Requests.{Answered}
 
 -- Each version of a Job has a valid specification, and each of a pod a small index.

@@ -15,7 +15,7 @@ ghost use Rattle.jc_types.specs.declared.specifications.JobSpec.{JobSpec};
 ghost use Rattle.jc_states.specs.declared.bases.Basis.{Basis};
 ghost use Rattle.jc_states.specs.Bases.{CanPlan};
 ghost use Rattle.jc_states.specs.PodLists.{IsRising};
-ghost use Rattle.jc_states.specs.ValidSpecs.{IsValidSpec};
+ghost use Rattle.jc_types.specs.ValidSpecs.{IsValidSpec};
 ghost use Rattle.jc_log.specs.Deeds.{Deed};
 ghost use Rattle.jc_log.specs.Log.{job_in};
 ghost use Rattle.jc_log.specs.Requests.{create_job_gives, delete_job_gives, mark_pod_gives, release_gives, report_phase_gives, update_spec_gives};

@@ -10,6 +10,6 @@ mod twice;
 
 pub use jc_moment::Moment;
 pub use jc_states::Basis;
-pub use jc_sync::Syncing;
+pub use jc_sync::Plan;
 pub use member::Member;
 pub use twice::Twice;

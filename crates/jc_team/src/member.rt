@@ -7,13 +7,12 @@ ghost use Rattle.jc_states.specs.Bases.{CanPlan};
 ghost use Rattle.jc_states.specs.PodLists.{IsRising};
 ghost use Rattle.jc_log.specs.Log.{jobs_in, pods_in};
 ghost use Rattle.jc_log.specs.Requests.{grown};
-ghost use Rattle.jc_cache.specs.Caches.{AreApart};
+ghost use Rattle.jc_cache.specs.Caches.{AreApart, HasFewPods};
 ghost use Rattle.jc_queue.specs.Delayed.{first_of};
 ghost use Rattle.jc_queue.specs.Queued.{has_key};
 ghost use Rattle.jc_control.specs.Schedules.{MirrorsLog, log_end, number_of};
 ghost use Rattle.jc_control.specs.ControllerCalls.{begun, can_begin};
 ghost use Rattle.jc_control.specs.declared.begins.Begin.TheVariants.{Begun};
-ghost use Rattle.jc_sync.specs.Sends.{new_sync};
 ghost use Rattle.jc_sync.specs.Steps.{Sync};
 ghost use Rattle.jc_types.specs.declared.replies.Reply.TheVariants as reply;
 ghost use Rattle.jc_runs.specs.Replies.{deliver_gives};
@@ -28,7 +27,7 @@ use jc_cache::listed_jobs_fill_the_table;
 use jc_control::{Controller, caches_follow_the_log};
 use jc_moment::Moment;
 use jc_states::{Basis, Pods};
-use jc_sync::Syncing;
+use jc_sync::Plan;
 use jc_types::{Arc, Fault, Jobs, Kind, Reply, Version, Want};
 use jc_watch::{Store, list_jobs, list_pods};
 use std::alloc::Global;
@@ -71,6 +70,7 @@ fn all_jobs(alloc: Global, store: &Store) -> Result<Jobs, Want>
 //
 // `Want` where there is no memory for the list.
 fn all_pods(alloc: Global, store: &Store) -> Result<Pods, Want>
+    requires few { length store.now < 2 ^ 32 }
     ensures pods { IfOk result (λ pods. pods ≡ pods_in store.now) }
     ensures rising { IfOk result (λ pods. IsRising pods) }
 {
@@ -131,17 +131,16 @@ impl Member {
         }
     }
 
-    /// Gives the worker's sync its plan with all its requests, where it has none yet. It takes no
-    /// memory.
-    pub fn give_plan(&mut self, worker: usize, planned: Syncing)
+    /// Gives the worker's sync its plan, where it has none yet. Its requests are made of it at the first
+    /// step. It takes no memory.
+    pub fn give_plan(&mut self, worker: usize, plan: Plan)
         requires worker { worker < length self.old.registers }
-        requires whole { planned ≡ new_sync planned.flight.basis }
         requires own { (sync : Sync) → slice_get self.old.registers worker ≡ Some (Some sync)
-            → planned.flight.basis ≡ sync.flight.basis }
+            → plan.basis ≡ sync.flight.basis }
         ensures { self.new ≡ self.old }
     {
         if let Some(started) = &mut self.registers[worker] {
-            started.give(planned);
+            started.give(plan);
         }
     }
 
@@ -189,6 +188,7 @@ impl Member {
     /// # Errors
     /// `Want` where there is no memory for it; all is then as before.
     pub fn list(&mut self, alloc: Global, store: &Store, kind: Kind) -> Result<Reply, Want>
+        requires few { length store.now < 2 ^ 32 }
         ensures reply { IfOk result (λ r. r ≡ reply.Listed (log_end store.now)) }
         ensures schedule { OnOk result
             (self.new.con.schedule ≡ listed self.old.con.schedule kind store.now) }
@@ -219,6 +219,7 @@ impl Member {
     /// # Errors
     /// `Want` where there is no memory for it; all is then as before.
     pub fn deliver(&mut self, store: &Store, window: u32, kind: Kind) -> Result<Reply, Want>
+        requires few { HasFewPods self.old.con.rows }
         ensures reply { IfOk result (λ r. MirrorsLog store.now self.old.con → r
             ≡ (deliver_gives store.now window (number_of kind self.old.con.schedule)).reply) }
         ensures schedule { OnOk result (MirrorsLog store.now self.old.con → self.new.con.schedule

@@ -1,7 +1,7 @@
 //! Values put in the place of others. The types are left open, so that no proof has to follow what is
 //! dropped there.
 
-ghost use Rattle.std.specs.Prelude.{◌≡◌, ◌<◌, Some, is_none, if◌then◌else◌, length, set};
+ghost use Rattle.std.specs.Prelude.{◌≡◌, ◌<◌, Some, length, set};
 ghost use Rattle.std.specs.Option.{option_map_or};
 
 // Puts the value in the place of the one that is there.
@@ -9,15 +9,6 @@ pub(crate) fn put<T: Drop>(place: &mut T, value: T)
     ensures { place.new ≡ value }
 {
     *place = value;
-}
-
-// Puts the value where there is none yet.
-pub(crate) fn put_first<T: Drop>(place: &mut Option<T>, value: T)
-    ensures { place.new ≡ (if is_none place.old then Some value else place.old) }
-{
-    if place.is_none() {
-        *place = Some(value);
-    }
 }
 
 // Puts the value there among the items.

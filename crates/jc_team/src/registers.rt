@@ -21,13 +21,33 @@ pub(crate) fn prepared(answer: &Begin) -> Result<(Twice, Option<Started>), Want>
     ensures reply { IfOk result (λ r. r.0 ≡ reply_of_begin answer.now) }
     ensures sync { IfOk result (λ r. r.1 ≡ begun_sync answer.now) }
 {
-    let sync = match answer {
-        Begin::Begun(basis) => Some(Started::new(basis.copy()?)),
-        Begin::NotSynced | Begin::NoKey | Begin::Behind { .. } => None,
-    };
+    let replies = replies_to(answer)?;
+    let sync = sync_of(answer)?;
+    Ok((replies, sync))
+}
+
+// The sync that begins, where one does.
+//
+// `Want` where there is no memory for it.
+fn sync_of(answer: &Begin) -> Result<Option<Started>, Want>
+    requires { (basis : Basis) → answer.now ≡ Begun basis → IsSome basis.job → CanPlan basis }
+    ensures { IfOk result (λ sync. sync ≡ begun_sync answer.now) }
+{
+    match answer {
+        Begin::Begun(basis) => Ok(Some(Started::new(basis.copy()?))),
+        Begin::NotSynced | Begin::NoKey | Begin::Behind { .. } => Ok(None),
+    }
+}
+
+// The reply to a begin, twice.
+//
+// `Want` where there is no memory for it.
+fn replies_to(answer: &Begin) -> Result<Twice, Want>
+    ensures { IfOk result (λ r. r ≡ reply_of_begin answer.now) }
+{
     let reply = reply_to(answer)?;
     let again = reply.copy()?;
-    Ok((Twice::join(reply, again), sync))
+    Ok(Twice::join(reply, again))
 }
 
 // The reply to a begin.

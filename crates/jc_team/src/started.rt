@@ -10,25 +10,38 @@ ghost use Rattle.jc_sync.specs.Sends.{new_sync};
 ghost use Rattle.jc_sync.specs.Steps.{stepped};
 ghost use Rattle.jc_sync.specs.Registers.{register_of};
 ghost use Rattle.jc_runs.specs.Teams.{end_of_next, fault_left, stride_by};
-ghost use Rattle.jc_team.specs.Started.{sync_or_new};
+ghost use Rattle.jc_team.specs.Started.{IsOfBasis, is_going, staged};
+ghost use Rattle.jc_team.specs.declared.started.Stage.TheVariants.{Going};
 
-use crate::places::put_first;
+use crate::places::put;
 use crate::strides::{Taken, step_sync};
 use jc_control::Controller;
 use jc_moment::Moment;
 use jc_states::Basis;
-use jc_sync::{Syncing, plan};
+use jc_sync::{Plan, Syncing, plan};
 use jc_types::{Arc, Fault, Want};
 use jc_watch::Store;
 use std::alloc::Global;
 use std::marker::Model;
+use std::mem::replace;
 
-/// A sync of a worker: what it began with and, once its plan was made or handed in, what is left of
-/// that. A contract sees the same sync before and after, since a basis has one plan.
+/// How far a sync has come with its plan.
+#[derive(Drop)]
+pub(crate) enum Stage {
+    /// It has none.
+    Unplanned,
+    /// Its plan was handed in. Its requests are made at the first step.
+    Planned(Plan),
+    /// Its requests are made, and are under way.
+    Going(Syncing),
+}
+
+/// A sync of a worker: what it began with and, once its plan was made or handed in, that, and then what is
+/// left of it. A contract sees the same sync before and after, since a basis has one plan.
 #[derive(Drop)]
 pub(crate) struct Started {
     basis: Arc<Basis>,
-    sync: Option<Syncing>,
+    stage: Stage,
 }
 
 impl Model for Started {
@@ -36,25 +49,53 @@ impl Model for Started {
 
     ghost Value = { Sync };
 
-    ghost use Rattle.jc_team.specs.Started.{IsStarted, sync_or_new};
+    ghost use Rattle.jc_team.specs.Started.{IsStarted, staged};
 
-    ghost view = { λ s. sync_or_new s.basis s.sync };
+    ghost view = { λ s. staged s.basis s.stage };
 
-    ghost invariant = { λ s. IsStarted s.basis s.sync };
+    ghost invariant = { λ s. IsStarted s.basis s.stage };
 }
 
-// Makes the plan of the basis, where it is not made yet.
-//
-// `Want` where there is no memory for it; nothing has changed then.
-fn fill(alloc: Global, basis: &Arc<Basis>, sync: &mut Option<Syncing>) -> Result<(), Want>
-    requires { IsSome basis.now.job → CanPlan basis.now }
-    ensures made { OnOk result (sync.new ≡ Some (sync_or_new basis.now sync.old)) }
-    ensures kept { OnErr result (sync.new ≡ sync.old) }
+// Whether its requests are made.
+fn is_going(stage: &Stage) -> bool
+    ensures { result ≡ is_going stage.now }
 {
-    if sync.is_none() {
-        let planned = Syncing::new(alloc, plan(alloc, basis)?)?;
-        *sync = Some(planned);
+    matches!(stage, Stage::Going(_))
+}
+
+// The sync with all its requests. Its plan is the one that was handed in, or is made now.
+//
+// `Want` where there is no memory for it, so only where its requests were not made yet.
+fn requested(alloc: Global, basis: &Arc<Basis>, stage: Stage) -> Result<Syncing, Want>
+    requires plannable { IsSome basis.now.job → CanPlan basis.now }
+    requires own { IsOfBasis basis.now stage }
+    ensures made { IfOk result (λ sync. sync ≡ staged basis.now stage) }
+    ensures first { OnErr result (staged basis.now stage ≡ new_sync basis.now) }
+{
+    match stage {
+        Stage::Unplanned => Syncing::new(alloc, plan(alloc, basis)?),
+        Stage::Planned(plan) => Syncing::new(alloc, plan),
+        Stage::Going(sync) => Ok(sync),
     }
+}
+
+// Makes the requests of the sync, where they are not made yet.
+//
+// `Want` where there is no memory for it; the sync that a contract sees is then as before. A plan that was
+// handed in may be lost, and is made anew at the next step.
+fn fill(alloc: Global, basis: &Arc<Basis>, stage: &mut Stage) -> Result<(), Want>
+    requires plannable { IsSome basis.now.job → CanPlan basis.now }
+    requires own { IsOfBasis basis.now stage.old }
+    ensures made { OnOk result (stage.new ≡ Going (staged basis.now stage.old)) }
+    ensures kept { OnErr result (staged basis.now stage.new ≡ staged basis.now stage.old) }
+    ensures own { IsOfBasis basis.now stage.new }
+{
+    if is_going(stage) {
+        return Ok(());
+    }
+    let taken = replace(stage, Stage::Unplanned);
+    let sync = requested(alloc, basis, taken)?;
+    put(stage, Stage::Going(sync));
     Ok(())
 }
 
@@ -64,7 +105,10 @@ impl Started {
         requires plannable { IsSome basis.job → CanPlan basis }
         ensures { result ≡ new_sync basis }
     {
-        Started { basis, sync: None }
+        Started {
+            basis,
+            stage: Stage::Unplanned,
+        }
     }
 
     // What it began with. It can be planned.
@@ -75,13 +119,14 @@ impl Started {
         &self.basis
     }
 
-    // Takes the plan with all its requests, where it has none yet. It takes no memory.
-    pub(crate) fn give(&mut self, planned: Syncing)
-        requires whole { planned ≡ new_sync planned.flight.basis }
-        requires own { planned.flight.basis ≡ self.old.flight.basis }
+    // Takes the plan, where it has none yet. It takes no memory.
+    pub(crate) fn give(&mut self, plan: Plan)
+        requires { plan.basis ≡ self.old.flight.basis }
         ensures { self.new ≡ self.old }
     {
-        put_first(&mut self.sync, planned);
+        if let Stage::Unplanned = self.stage {
+            put(&mut self.stage, Stage::Planned(plan));
+        }
     }
 
     // Makes the next request, and takes note of the answer and of its end. The plan is made first,
@@ -118,8 +163,8 @@ impl Started {
         ensures sync_kept { OnErr result (self.new ≡ self.old) }
         ensures log_kept { OnErr result (store.new ≡ store.old) }
     {
-        fill(alloc, &self.basis, &mut self.sync)?;
-        let Some(sync) = &mut self.sync else {
+        fill(alloc, &self.basis, &mut self.stage)?;
+        let Stage::Going(sync) = &mut self.stage else {
             unreachable!()
         };
         let taken = step_sync(controller, sync, store, pending, now)?;

@@ -9,11 +9,11 @@ use Rattle.jc_play.proofs.bringing.step_through.Goals as goal
 use Rattle.jc_play.proofs.bringing.step_through.Goals.{In_ok-happen}
 
 -- There was room for the event.
-had-room : (c : In_ok-happen) → length c.stepping.cluster.pasts < c.stepping.cluster.shape.events
+had-room : (c : In_ok-happen) → length c.stepping.machine.pasts < c.stepping.machine.shape.events
 had-room c = room-left _ _ (λ le. ok-err _ _ (c.in_ok-happen.ensures.full le))
 
 pub stepping-init : goal.stepping-init
-stepping-init c = started (next_to_step c.args.controller c.args.worker) c.args.cluster.now
+stepping-init c = started (next_to_step c.args.controller c.args.worker) c.args.machine.now
 
 pub step_event-requires : goal.step_event-requires
 step_event-requires c = record {
@@ -22,22 +22,22 @@ step_event-requires c = record {
 }
 
 pub happen-requires : goal.happen-requires
-happen-requires c = coming-admits c.stepping.cluster c.in-Some.event c.in-Some.ensures.coming
+happen-requires c = coming-admits c.stepping.machine c.in-Some.event c.in-Some.ensures.coming
 
 pub stepping-preserved : goal.stepping-preserved
-stepping-preserved c = goes-on (next_to_step c.args.controller c.args.worker) c.args.cluster.now c.stepping.cluster c.stepping.invariant c.happen.new.cluster c.in-Some.event (sym c.step_event.ensures.first ∙ c.in-Some.is) (c.in-Some.ensures.coming) (had-room c) c.in_ok-happen.ensures.ok
+stepping-preserved c = goes-on (next_to_step c.args.controller c.args.worker) c.args.machine.now c.stepping.machine c.stepping.invariant c.happen.new.machine c.in-Some.event (sym c.step_event.ensures.first ∙ c.in-Some.is) (c.in-Some.ensures.coming) (had-room c) c.in_ok-happen.ensures.ok
 
 pub stepping-smaller : goal.stepping-smaller
-stepping-smaller c = less-room c.stepping.cluster c.happen.new.cluster c.in-Some.event c.in_ok-happen.ensures.ok (had-room c)
+stepping-smaller c = less-room c.stepping.machine c.happen.new.machine c.in-Some.event c.in_ok-happen.ensures.ok (had-room c)
 
 pub returns-in_err-happen-clause-reaches : goal.returns-in_err-happen-clause-reaches
 unfolding stepped_through
 returns-in_err-happen-clause-reaches c =
     let p = err_from_is_err_and c.from_residual.result c.from_residual.ensures.1 in
-    subst (Reaches c.from_residual.result (stepped_through c.args.cluster.now.script c.args.cluster.now.shape c.args.controller c.args.worker (playing_of false c.args.cluster.now))) (sym c.in_err-happen.ensures.kept)
-    (stop-reaches c.from_residual.result c.in_err-happen.field-0.0 _ c.stepping.cluster (cc (p.1, p.2)) (λ h.
-    (has-no-room (next_to_step c.args.controller c.args.worker) c.args.cluster.now c.stepping.cluster c.stepping.invariant c.in-Some.event (sym c.step_event.ensures.first ∙ c.in-Some.is) (c.in_err-happen.ensures.room h), c.in_err-happen.ensures.room h)))
+    subst (Reaches c.from_residual.result (stepped_through c.args.machine.now.script c.args.machine.now.shape c.args.controller c.args.worker (playing_of false c.args.machine.now))) (sym c.in_err-happen.ensures.kept)
+    (stop-reaches c.from_residual.result c.in_err-happen.field-0.0 _ c.stepping.machine (cc (p.1, p.2)) (λ h.
+    (has-no-room (next_to_step c.args.controller c.args.worker) c.args.machine.now c.stepping.machine c.stepping.invariant c.in-Some.event (sym c.step_event.ensures.first ∙ c.in-Some.is) (c.in_err-happen.ensures.room h), c.in_err-happen.ensures.room h)))
 
 pub returns-clause-reaches : goal.returns-clause-reaches
 unfolding stepped_through
-returns-clause-reaches c = done-reaches _ c.stepping.cluster (settles (next_to_step c.args.controller c.args.worker) c.args.cluster.now c.stepping.cluster c.stepping.invariant (sym c.step_event.ensures.first ∙ c.in_default.is))
+returns-clause-reaches c = done-reaches _ c.stepping.machine (settles (next_to_step c.args.controller c.args.worker) c.args.machine.now c.stepping.machine c.stepping.invariant (sym c.step_event.ensures.first ∙ c.in_default.is))

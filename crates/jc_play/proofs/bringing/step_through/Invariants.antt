@@ -5,8 +5,8 @@ use Rattle.jc_play.proofs.bringing.step_through.Given as goal
 
 -- What came next has come, one after the other.
 abbrev pub invariant-stepping : goal.invariant-stepping
-invariant-stepping l = IsGoing (next_to_step l.controller l.worker) l.initial.cluster l.cluster
+invariant-stepping l = IsGoing (next_to_step l.controller l.worker) l.initial.machine l.machine
 
 -- How many events there is room for.
 abbrev pub decreases-stepping : goal.decreases-stepping
-decreases-stepping l = l.cluster.shape.events - length l.cluster.pasts
+decreases-stepping l = l.machine.shape.events - length l.machine.pasts

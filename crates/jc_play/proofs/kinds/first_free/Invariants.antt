@@ -1,8 +1,8 @@
 use Rattle.std.proofs.Common.{◌≡◌, ℕ, ◌<◌, false, is_none}
-use Rattle.jc_core.specs.Diaries.{diary_seen}
+use Rattle.jc_machine.specs.Diaries.{diary_seen}
 use Rattle.jc_history.specs.Registers.{register}
 use Rattle.jc_play.proofs.kinds.first_free.Given as goal
 
 -- The workers before this one have syncs.
 abbrev pub invariant-loop-worker : goal.invariant-loop-worker
-invariant-loop-worker l = (k : ℕ) → k < l.worker → is_none (register k (diary_seen l.cluster l.controller)) ≡ false
+invariant-loop-worker l = (k : ℕ) → k < l.worker → is_none (register k (diary_seen l.machine l.controller)) ≡ false

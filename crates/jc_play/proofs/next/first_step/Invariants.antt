@@ -1,9 +1,9 @@
 use Rattle.std.proofs.Common.{◌≡◌, ℕ, ◌<◌, None}
-use Rattle.jc_core.specs.Diaries.{diary_seen}
+use Rattle.jc_machine.specs.Diaries.{diary_seen}
 use Rattle.jc_history.specs.Available.{step_events}
 use Rattle.jc_history.specs.Play.{first_event}
 use Rattle.jc_play.proofs.next.first_step.Given as goal
 
 -- The controllers before this one have none.
 abbrev pub invariant-loop-controller : goal.invariant-loop-controller
-invariant-loop-controller l = (k : ℕ) → k < l.controller → first_event (step_events (diary_seen l.cluster k) l.cluster.shape.workers k) ≡ None
+invariant-loop-controller l = (k : ℕ) → k < l.controller → first_event (step_events (diary_seen l.machine k) l.machine.shape.workers k) ≡ None

@@ -8,26 +8,26 @@ use Rattle.jc_play.proofs.settling.settle.Goals as goal
 use Rattle.jc_play.proofs.settling.settle.Goals.{In_ok-happen}
 
 -- There was room for the event.
-had-room : (c : In_ok-happen) → length c.settling.cluster.pasts < c.settling.cluster.shape.events
+had-room : (c : In_ok-happen) → length c.settling.machine.pasts < c.settling.machine.shape.events
 had-room c = room-left _ _ (λ le. ok-err _ _ (c.in_ok-happen.ensures.full le))
 
 pub settling-init : goal.settling-init
-settling-init c = started next_to_settle c.args.cluster.now
+settling-init c = started next_to_settle c.args.machine.now
 
 pub settling-preserved : goal.settling-preserved
-settling-preserved c = goes-on next_to_settle c.args.cluster.now c.settling.cluster c.settling.invariant c.happen.new.cluster c.in-Some.event (sym c.next_event.ensures.first ∙ c.in-Some.is) (first-coming c.settling.cluster c.in-Some.event (sym c.next_event.ensures.first ∙ c.in-Some.is)) (had-room c) c.in_ok-happen.ensures.ok
+settling-preserved c = goes-on next_to_settle c.args.machine.now c.settling.machine c.settling.invariant c.happen.new.machine c.in-Some.event (sym c.next_event.ensures.first ∙ c.in-Some.is) (first-coming c.settling.machine c.in-Some.event (sym c.next_event.ensures.first ∙ c.in-Some.is)) (had-room c) c.in_ok-happen.ensures.ok
 
 pub settling-smaller : goal.settling-smaller
-settling-smaller c = less-room c.settling.cluster c.happen.new.cluster c.in-Some.event c.in_ok-happen.ensures.ok (had-room c)
+settling-smaller c = less-room c.settling.machine c.happen.new.machine c.in-Some.event c.in_ok-happen.ensures.ok (had-room c)
 
 pub returns-in_err-happen-clause-reaches : goal.returns-in_err-happen-clause-reaches
 unfolding settled_down
 returns-in_err-happen-clause-reaches c =
     let p = err_from_is_err_and c.from_residual.result c.from_residual.ensures.1 in
-    subst (Reaches c.from_residual.result (settled_down c.args.cluster.now.script c.args.cluster.now.shape (playing_of false c.args.cluster.now))) (sym c.in_err-happen.ensures.kept)
-    (stop-reaches c.from_residual.result c.in_err-happen.field-0.0 _ c.settling.cluster (cc (p.1, p.2)) (λ h.
-    (has-no-room next_to_settle c.args.cluster.now c.settling.cluster c.settling.invariant c.in-Some.event (sym c.next_event.ensures.first ∙ c.in-Some.is) (c.in_err-happen.ensures.room h), c.in_err-happen.ensures.room h)))
+    subst (Reaches c.from_residual.result (settled_down c.args.machine.now.script c.args.machine.now.shape (playing_of false c.args.machine.now))) (sym c.in_err-happen.ensures.kept)
+    (stop-reaches c.from_residual.result c.in_err-happen.field-0.0 _ c.settling.machine (cc (p.1, p.2)) (λ h.
+    (has-no-room next_to_settle c.args.machine.now c.settling.machine c.settling.invariant c.in-Some.event (sym c.next_event.ensures.first ∙ c.in-Some.is) (c.in_err-happen.ensures.room h), c.in_err-happen.ensures.room h)))
 
 pub returns-clause-reaches : goal.returns-clause-reaches
 unfolding settled_down
-returns-clause-reaches c = done-reaches _ c.settling.cluster (settles next_to_settle c.args.cluster.now c.settling.cluster c.settling.invariant (sym c.next_event.ensures.first ∙ c.in_default.is))
+returns-clause-reaches c = done-reaches _ c.settling.machine (settles next_to_settle c.args.machine.now c.settling.machine c.settling.invariant (sym c.next_event.ensures.first ∙ c.in_default.is))

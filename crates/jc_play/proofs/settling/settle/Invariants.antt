@@ -5,8 +5,8 @@ use Rattle.jc_play.proofs.settling.settle.Given as goal
 
 -- What came next has come, one after the other.
 abbrev pub invariant-settling : goal.invariant-settling
-invariant-settling l = IsGoing next_to_settle l.initial.cluster l.cluster
+invariant-settling l = IsGoing next_to_settle l.initial.machine l.machine
 
 -- How many events there is room for.
 abbrev pub decreases-settling : goal.decreases-settling
-decreases-settling l = l.cluster.shape.events - length l.cluster.pasts
+decreases-settling l = l.machine.shape.events - length l.machine.pasts

@@ -8,7 +8,7 @@ use Rattle.jc_play.proofs.unheld.next_unheld.Goals.{then-is_some, else-is_some}
 
 pub returns-then-is_some-2-clause-first : goal.returns-then-is_some-2-clause-first
 returns-then-is_some-2-clause-first c =
-    let seen = c.args.cluster.now in
+    let seen = c.args.machine.now in
     let rest = first_event (but_clock seen.shape (deeds_seen seen) (log_seen seen)) in
     elim c.if-is_some.branch [
       | then-is_some w ↦ left-there c.args.slots.now seen c.but_clock_unheld-found.result rest c.but_clock_unheld-found.ensures refl (ap (λ b. b || is_some rest) (sym c.is_some.ensures ∙ w.if-is_some.true))
@@ -18,11 +18,11 @@ returns-then-is_some-2-clause-first c =
     ]
 
 pub returns-then-is_some-2-clause-can_come : goal.returns-then-is_some-2-clause-can_come
-returns-then-is_some-2-clause-can_come c = unheld-comes c.args.cluster.now c.args.slots.now _ (returns-then-is_some-2-clause-first c)
+returns-then-is_some-2-clause-can_come c = unheld-comes c.args.machine.now c.args.slots.now _ (returns-then-is_some-2-clause-first c)
 
 pub returns-else-is_some-2-clause-first : goal.returns-else-is_some-2-clause-first
 returns-else-is_some-2-clause-first c =
-    let seen = c.args.cluster.now in
+    let seen = c.args.machine.now in
     elim c.if-is_some.branch [
       | then-is_some w ↦ absurd (true≢false (sym (w.value-is ∙ w.if-is_some.true) ∙ c.if-is_some-2.false))
       | else-is_some w ↦
@@ -32,4 +32,4 @@ returns-else-is_some-2-clause-first c =
     ]
 
 pub returns-else-is_some-2-clause-can_come : goal.returns-else-is_some-2-clause-can_come
-returns-else-is_some-2-clause-can_come c = unheld-comes c.args.cluster.now c.args.slots.now _ (returns-else-is_some-2-clause-first c)
+returns-else-is_some-2-clause-can_come c = unheld-comes c.args.machine.now c.args.slots.now _ (returns-else-is_some-2-clause-first c)

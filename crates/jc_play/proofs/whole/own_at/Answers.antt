@@ -9,35 +9,35 @@ use Rattle.jc_play.proofs.whole.own_at.Goals as goal
 
 pub returns-in_err-number-clause-none : goal.returns-in_err-number-clause-none
 returns-in_err-number-clause-none c = λ none.
-    was-played c.args.cluster.now.script.commands c.args.cluster.now.pasts c.history-history.ensures.lanes c.args.place c.command_at-command.result.now
+    was-played c.args.machine.now.script.commands c.args.machine.now.pasts c.history-history.ensures.lanes c.args.place c.command_at-command.result.now
     (ap (λ (script : Script). slice_get script.commands c.args.place) (sym c.script.ensures) ∙ c.command_at-command.ensures) c.requires.before
-    (none-next c.next_command.result (next_place c.args.cluster.now.script.commands c.command_at-command.result.now.lane c.args.cluster.now.pasts) c.args.place c.next_command.ensures c.in_err-number.was)
+    (none-next c.next_command.result (next_place c.args.machine.now.script.commands c.command_at-command.result.now.lane c.args.machine.now.pasts) c.args.place c.next_command.ensures c.in_err-number.was)
 
 pub returns-then-number-place-clause-none : goal.returns-then-number-place-clause-none
 returns-then-number-place-clause-none c = λ none.
-    was-played c.args.cluster.now.script.commands c.args.cluster.now.pasts c.history-history.ensures.lanes c.args.place c.command_at-command.result.now
+    was-played c.args.machine.now.script.commands c.args.machine.now.pasts c.history-history.ensures.lanes c.args.place c.command_at-command.result.now
     (ap (λ (script : Script). slice_get script.commands c.args.place) (sym c.script.ensures) ∙ c.command_at-command.ensures) c.requires.before
-    (other-next c.next_command.result (next_place c.args.cluster.now.script.commands c.command_at-command.result.now.lane c.args.cluster.now.pasts) c.in_ok-number.number c.args.place c.next_command.ensures c.in_ok-number.was c.if-number-place.true)
+    (other-next c.next_command.result (next_place c.args.machine.now.script.commands c.command_at-command.result.now.lane c.args.machine.now.pasts) c.in_ok-number.number c.args.place c.next_command.ensures c.in_ok-number.was c.if-number-place.true)
 
 pub returns-clause-own : goal.returns-clause-own
 returns-clause-own c =
     let same = c.if-number-place.false in
-    subst (λ n. IsOwn c.args.cluster.now (Command c.command_at-command.result.now.lane n)) (sym same)
-    (own-is c.args.cluster.now c.args.place c.command_at-command.result.now (ap (λ (script : Script). slice_get script.commands c.args.place) (sym c.script.ensures) ∙ c.command_at-command.ensures) c.requires.proper
-    (that-next c.next_command.result (next_place c.args.cluster.now.script.commands c.command_at-command.result.now.lane c.args.cluster.now.pasts) c.in_ok-number.number c.args.place c.next_command.ensures c.in_ok-number.was same))
+    subst (λ n. IsOwn c.args.machine.now (Command c.command_at-command.result.now.lane n)) (sym same)
+    (own-is c.args.machine.now c.args.place c.command_at-command.result.now (ap (λ (script : Script). slice_get script.commands c.args.place) (sym c.script.ensures) ∙ c.command_at-command.ensures) c.requires.proper
+    (that-next c.next_command.result (next_place c.args.machine.now.script.commands c.command_at-command.result.now.lane c.args.machine.now.pasts) c.in_ok-number.number c.args.place c.next_command.ensures c.in_ok-number.was same))
 
 pub returns-clause-fits : goal.returns-clause-fits
 returns-clause-fits c =
     let same = c.if-number-place.false in
-    subst (λ n. FitsWay c.way_of.result c.args.cluster.now (Command c.command_at-command.result.now.lane n)) (sym same)
-    (subst (λ way. FitsWay way c.args.cluster.now (Command c.command_at-command.result.now.lane c.args.place)) (sym c.way_of.ensures)
-    (own-fits c.args.cluster.now c.args.place c.command_at-command.result.now (ap (λ (script : Script). slice_get script.commands c.args.place) (sym c.script.ensures) ∙ c.command_at-command.ensures) c.requires.proper))
+    subst (λ n. FitsWay c.way_of.result c.args.machine.now (Command c.command_at-command.result.now.lane n)) (sym same)
+    (subst (λ way. FitsWay way c.args.machine.now (Command c.command_at-command.result.now.lane c.args.place)) (sym c.way_of.ensures)
+    (own-fits c.args.machine.now c.args.place c.command_at-command.result.now (ap (λ (script : Script). slice_get script.commands c.args.place) (sym c.script.ensures) ∙ c.command_at-command.ensures) c.requires.proper))
 
 pub returns-clause-play : goal.returns-clause-play
 returns-clause-play c =
     let same = c.if-number-place.false in
-    plays-it c.args.cluster.now c.args.place c.command_at-command.result.now (ap (λ (script : Script). slice_get script.commands c.args.place) (sym c.script.ensures) ∙ c.command_at-command.ensures)
-    (not-yet c.args.cluster.now.script.commands c.args.cluster.now.pasts c.history-history.ensures.lanes c.command_at-command.result.now.lane c.args.place
-    (that-next c.next_command.result (next_place c.args.cluster.now.script.commands c.command_at-command.result.now.lane c.args.cluster.now.pasts) c.in_ok-number.number c.args.place c.next_command.ensures c.in_ok-number.was same))
-    ∙ ap (λ way. by_way way c.args.cluster.now.script c.args.cluster.now.shape (Command c.command_at-command.result.now.lane c.args.place) (playing_of false c.args.cluster.now)) (sym c.way_of.ensures)
-    ∙ ap (λ n. by_way c.way_of.result c.args.cluster.now.script c.args.cluster.now.shape (Command c.command_at-command.result.now.lane n) (playing_of false c.args.cluster.now)) (sym same)
+    plays-it c.args.machine.now c.args.place c.command_at-command.result.now (ap (λ (script : Script). slice_get script.commands c.args.place) (sym c.script.ensures) ∙ c.command_at-command.ensures)
+    (not-yet c.args.machine.now.script.commands c.args.machine.now.pasts c.history-history.ensures.lanes c.command_at-command.result.now.lane c.args.place
+    (that-next c.next_command.result (next_place c.args.machine.now.script.commands c.command_at-command.result.now.lane c.args.machine.now.pasts) c.in_ok-number.number c.args.place c.next_command.ensures c.in_ok-number.was same))
+    ∙ ap (λ way. by_way way c.args.machine.now.script c.args.machine.now.shape (Command c.command_at-command.result.now.lane c.args.place) (playing_of false c.args.machine.now)) (sym c.way_of.ensures)
+    ∙ ap (λ n. by_way c.way_of.result c.args.machine.now.script c.args.machine.now.shape (Command c.command_at-command.result.now.lane n) (playing_of false c.args.machine.now)) (sym same)

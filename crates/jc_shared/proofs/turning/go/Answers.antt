@@ -8,4 +8,4 @@ pub give-requires-clause-longer : goal.give-requires-clause-longer
 give-requires-clause-longer g c =
     let t = c.turn-next.ensures in
     subst (λ (xs : List Past). IsPrefix xs (reverse c.turn-next.new.self.seen.pasts)) (sym c.in-Value.ensures.value.1)
-    (turn_begins c.in-Value.kept c.turn-next.new.self c.turn-next.result _ _ _ (λ w f. f.4) (λ x. x.0) (λ x. x.0) t.plan t.went t.waits t.ends t.kept)
+    (turn_begins c.in-Value.kept c.turn-next.new.self c.turn-next.result _ _ _ _ (λ w f. f.4) (λ x. x.0) (λ x. x.0) t.plan t.went t.waits t.ends t.kept)

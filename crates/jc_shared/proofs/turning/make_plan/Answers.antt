@@ -1,12 +1,8 @@
 use Rattle.std.proofs.Common.{List, reverse, sym, subst}
 use mathlib.Core.List.{IsPrefix}
 use Rattle.jc_types.specs.declared.runs.Past.{Past}
-use Rattle.jc_shared.proofs.PlanFacts.{own-plan}
 use Rattle.jc_shared.proofs.SeenFacts.{same_begins}
 use Rattle.jc_shared.proofs.turning.make_plan.Goals as goal
-
-pub hand_in-is_made-requires : goal.hand_in-is_made-requires
-hand_in-is_made-requires g c = own-plan c.plan_of-made.result c.args.work.now.basis c.plan_of-made.ensures
 
 pub give-requires-clause-longer : goal.give-requires-clause-longer
 give-requires-clause-longer g c =

@@ -1,9 +1,11 @@
-use Rattle.std.proofs.Common.{[], subst}
-use Rattle.jc_lanes.specs.Places.{HasPlaces}
-use Rattle.jc_core.proofs.Starts.{starts}
+use Rattle.std.proofs.Common.{ap, ◌∙◌}
+use Rattle.jc_core.specs.Shared.{all_registers, has_holders}
+use Rattle.jc_core.proofs.SlotFacts.{new-kept}
+use Rattle.jc_core.proofs.ToldFacts.{fresh-free}
 use Rattle.jc_core.proofs.cluster.Cluster.new.Goals as goal
 
 pub invariant_of-result : goal.invariant_of-result
-invariant_of-result c =
-    starts c.args.script c.args.shape c.new-2.result.items c.in_ok-lanes.lanes c.new-3.result c.in_ok-members.members.items c.new-4.result c.new-2.ensures c.new-3.ensures c.new-4.ensures c.in_ok-members.ensures.count c.in_ok-members.ensures.fresh
-    c.runs_start.ensures (subst (λ commands. HasPlaces commands [] c.in_ok-lanes.lanes) c.as_slice.ensures c.in_ok-lanes.ensures) c.requires.fits c.requires.fine c.requires.bound
+invariant_of-result c = new-kept c.args.script c.args.shape c.in_ok-machine.machine c.in_ok-slots.slots.items c.in_ok-machine.ensures c.in_ok-slots.ensures c.requires.proper c.requires.bound
+
+pub returns-clause-free : goal.returns-clause-free
+returns-clause-free c = ap has_holders c.in_ok-slots.ensures ∙ fresh-free (all_registers c.args.shape)

@@ -1,22 +1,21 @@
-use Rattle.std.proofs.Common.{subst}
-use Rattle.jc_core.specs.Syncs.{StepsOn}
-use Rattle.jc_core.proofs.QuietSyncs.{begins-told, reached}
+use Rattle.std.proofs.Common.{◌≡◌, IfOk, OnOk, sym, subst}
+use Rattle.jc_types.specs.declared.objects.Job.{Job}
+use Rattle.jc_types.specs.declared.objects.Key.{Key}
+use Rattle.jc_types.specs.declared.replies.Reply.TheVariants.{Ended}
+use Rattle.jc_runs.specs.Seen.{Seen, happened}
+use Rattle.jc_machine.specs.Syncs.{StartsCurrent, StepsQuietly, begin_event, next_seen}
+use Rattle.jc_core.specs.Shared.{Shared}
+use Rattle.jc_core.proofs.ToldFacts.{synced-up}
 use Rattle.jc_core.proofs.cluster.Cluster.sync.Goals as goal
 
-pub returns-then-not-tells_begin-clause-ended : goal.returns-then-not-tells_begin-clause-ended
-returns-then-not-tells_begin-clause-ended c = λ k job cur. absurd (begins-told c.args.self.now c.args.controller c.args.worker k job cur c.facts.ensures.legal c.in_ok-begun.begun c.tells_begin.result c.in_ok-begun.ensures.reply c.tells_begin.ensures c.if-not-tells_begin.true)
-
-pub returns-then-not-tells_begin-clause-next : goal.returns-then-not-tells_begin-clause-next
-returns-then-not-tells_begin-clause-next c = λ k job cur. absurd (begins-told c.args.self.now c.args.controller c.args.worker k job cur c.facts.ensures.legal c.in_ok-begun.begun c.tells_begin.result c.in_ok-begun.ensures.reply c.tells_begin.ensures c.if-not-tells_begin.true)
-
-pub returns-then-not-tells_begin-clause-silent : goal.returns-then-not-tells_begin-clause-silent
-returns-then-not-tells_begin-clause-silent c = λ k job cur same. absurd (begins-told c.args.self.now c.args.controller c.args.worker k job cur c.facts.ensures.legal c.in_ok-begun.begun c.tells_begin.result c.in_ok-begun.ensures.reply c.tells_begin.ensures c.if-not-tells_begin.true)
-
 pub returns-clause-ended : goal.returns-clause-ended
-returns-clause-ended c = λ k job cur. (reached c.args.self.now c.args.controller c.args.worker k job cur c.facts.ensures.legal c.quiet_syncs_reach_the_next_status.ensures.ended c.quiet_syncs_reach_the_next_status.ensures.next c.quiet_syncs_reach_the_next_status.ensures.nothing c.step_through.new.self (subst (λ s. StepsOn c.args.controller c.args.worker s c.step_through.new.self) c.in_ok-begun.ensures.ok c.in_ok-last.ensures.steps) c.in_ok-last.ensures.free c.facts-2.ensures.legal c.facts-2.ensures.valid).ended c.in_ok-last.last c.in_ok-last.ensures.last
-
-pub returns-clause-next : goal.returns-clause-next
-returns-clause-next c = λ k job cur. (reached c.args.self.now c.args.controller c.args.worker k job cur c.facts.ensures.legal c.quiet_syncs_reach_the_next_status.ensures.ended c.quiet_syncs_reach_the_next_status.ensures.next c.quiet_syncs_reach_the_next_status.ensures.nothing c.step_through.new.self (subst (λ s. StepsOn c.args.controller c.args.worker s c.step_through.new.self) c.in_ok-begun.ensures.ok c.in_ok-last.ensures.steps) c.in_ok-last.ensures.free c.facts-2.ensures.legal c.facts-2.ensures.valid).next
+returns-clause-ended c = subst (λ (s : Shared). IfOk c.sync-ended.result (λ r. (k : Key) (job : Job) → StartsCurrent s.seen c.args.controller c.args.worker k job → r ≡ Ended)) c.self.view_is c.sync-ended.ensures.ended
 
 pub returns-clause-silent : goal.returns-clause-silent
-returns-clause-silent c = λ k job cur same. record { on = (subst (λ s. StepsOn c.args.controller c.args.worker s c.step_through.new.self) c.in_ok-begun.ensures.ok c.in_ok-last.ensures.steps); silent = (reached c.args.self.now c.args.controller c.args.worker k job cur c.facts.ensures.legal c.quiet_syncs_reach_the_next_status.ensures.ended c.quiet_syncs_reach_the_next_status.ensures.next c.quiet_syncs_reach_the_next_status.ensures.nothing c.step_through.new.self (subst (λ s. StepsOn c.args.controller c.args.worker s c.step_through.new.self) c.in_ok-begun.ensures.ok c.in_ok-last.ensures.steps) c.in_ok-last.ensures.free c.facts-2.ensures.legal c.facts-2.ensures.valid).silent same }
+returns-clause-silent c =
+    subst (λ (s : Shared). OnOk c.sync-ended.result ((k : Key) (job : Job) → StartsCurrent s.seen c.args.controller c.args.worker k job → next_seen s.seen c.args.controller k job ≡ job.status → StepsQuietly c.args.controller c.args.worker (happened s.seen (begin_event c.args.controller c.args.worker)) c.keep_up.new.self.seen)) c.self.view_is
+    (subst (λ (s : Seen). OnOk c.sync-ended.result ((k : Key) (job : Job) → StartsCurrent c.self.inside.machine c.args.controller c.args.worker k job → next_seen c.self.inside.machine c.args.controller k job ≡ job.status → StepsQuietly c.args.controller c.args.worker (happened c.self.inside.machine (begin_event c.args.controller c.args.worker)) s)) (sym c.keep_up.ensures.seen) c.sync-ended.ensures.silent)
+
+pub returns-clause-slots : goal.returns-clause-slots
+returns-clause-slots c =
+    synced-up c.self.inside.machine c.sync-ended.new.self c.self.inside.slots.items c.args.self.now c.keep_up.new.self c.args.controller c.args.worker c.len-from.result c.history.result.now.events.items c.self.view_is c.sync-ended.ensures.appended c.history.ensures.events c.len-from.ensures c.keep_up.ensures.seen c.keep_up.ensures.slots

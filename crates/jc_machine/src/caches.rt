@@ -1,0 +1,79 @@
+//! The events List and Deliver, and the command Restart: what a controller's caches have seen.
+
+ghost use Rattle.std.specs.Prelude.{◌≡◌, ◌<◌, IfOk, OnErr, OnOk, length};
+ghost use Rattle.jc_log.specs.Acts as does;
+ghost use Rattle.jc_runs.specs.Seen.{Admits, act_seen, happened, reply_seen};
+
+use crate::keeping::keep;
+use crate::machine::Machine;
+use jc_team::Member;
+use jc_types::{Event, Kind, Reply, Want};
+
+impl Machine {
+    // A controller lists the objects of the kind into its cache.
+    //
+    // `Want` where there is no memory for it; the machine is then as before.
+    pub(crate) fn list(&mut self, event: Event, controller: u32, kind: Kind) -> Result<Reply, Want>
+        requires admits { Admits self.old event }
+        requires act { act_seen self.old event ≡ does.List controller kind }
+        requires room { length self.old.pasts < self.old.shape.events }
+        ensures ok { OnOk result (self.new ≡ happened self.old event) }
+        ensures reply { IfOk result (λ r. r ≡ reply_seen self.old event) }
+        ensures kept { OnErr result (self.new ≡ self.old) }
+    {
+        self.history.events.reserve(1)?;
+        let member = &mut self.members[controller as usize];
+        let reply = member.list(self.alloc, &self.store, kind)?;
+        let length = self.store.log_len();
+        let events = &mut self.history.events;
+        let reply = keep(events, &mut self.lanes, &self.script, event, reply, length);
+        Ok(reply)
+    }
+
+    // A controller's cache of the kind is told of the next entry of the log.
+    //
+    // `Want` where there is no memory for it; the machine is then as before.
+    pub(crate) fn deliver(
+        &mut self,
+        event: Event,
+        controller: u32,
+        kind: Kind,
+    ) -> Result<Reply, Want>
+        requires admits { Admits self.old event }
+        requires act { act_seen self.old event ≡ does.Deliver controller kind }
+        requires room { length self.old.pasts < self.old.shape.events }
+        ensures ok { OnOk result (self.new ≡ happened self.old event) }
+        ensures reply { IfOk result (λ r. r ≡ reply_seen self.old event) }
+        ensures kept { OnErr result (self.new ≡ self.old) }
+    {
+        self.history.events.reserve(1)?;
+        let member = &mut self.members[controller as usize];
+        let reply = member.deliver(&self.store, self.shape.window, kind)?;
+        let length = self.store.log_len();
+        let events = &mut self.history.events;
+        let reply = keep(events, &mut self.lanes, &self.script, event, reply, length);
+        Ok(reply)
+    }
+
+    // A controller forgets all that it has.
+    //
+    // `Want` where there is no memory for it; the machine is then as before.
+    pub(crate) fn restart(&mut self, event: Event, controller: u32) -> Result<Reply, Want>
+        requires admits { Admits self.old event }
+        requires act { act_seen self.old event ≡ does.Restart controller }
+        requires room { length self.old.pasts < self.old.shape.events }
+        ensures ok { OnOk result (self.new ≡ happened self.old event) }
+        ensures reply { IfOk result (λ r. r ≡ reply_seen self.old event) }
+        ensures kept { OnErr result (self.new ≡ self.old) }
+    {
+        self.history.events.reserve(1)?;
+        let fresh = Member::new(self.alloc, self.shape.workers as usize)?;
+        let member = &mut self.members[controller as usize];
+        member.become_other(fresh);
+        let reply = Reply::Done;
+        let length = self.store.log_len();
+        let events = &mut self.history.events;
+        let reply = keep(events, &mut self.lanes, &self.script, event, reply, length);
+        Ok(reply)
+    }
+}

@@ -1,0 +1,10 @@
+use Rattle.std.proofs.Common.{◌<◌, ℕ}
+use Rattle.jc_types.specs.declared.runs.Event.{Event}
+use Rattle.jc_play.specs.Actors.{CanCome, IsOfActor}
+use Rattle.jc_play.specs.declared.actors.Actor.TheVariants as actor
+use Rattle.jc_shared.specs.SeatTurns.{IsLaneOf}
+use Rattle.jc_shared.proofs.kept.Kept.next_of_lanes.Given as goal
+
+-- No command of a lane before this one may come, of those that are the seat's.
+abbrev pub invariant-loop-number : goal.invariant-loop-number
+invariant-loop-number g l = (lane : ℕ) → lane < l.number → IsLaneOf l.seat lane → (event : Event) → IsOfActor (actor.Lane lane) event → CanCome l.self.seen event → ⊥

@@ -1,0 +1,36 @@
+-- What the seats of a threaded run share: the script and the shape that a name has, and what is kept besides.
+--     no_script      no command, where no run has picked another script
+--     no_shape       nothing, where none has picked another shape
+--     IsOfName       a cluster is of this script and this shape
+--     AreLanes commands    their lanes are bytes
+--     KeepsRun seen      what the type of what is shared keeps of its cluster
+use Rattle.std.specs.Prelude.{◌≡◌, ◌<◌, List, []}
+use Rattle.std.specs.List.{AllByRecursion as Each}
+use Rattle.jc_types.specs.declared.actions.Command.{Command}
+use Rattle.jc_types.specs.declared.actions.Script.{Script}
+use Rattle.jc_types.specs.declared.runs.Shape.{Shape}
+use Rattle.jc_history.specs.Available.{IsOrderly}
+use Rattle.jc_runs.specs.Seen.{Seen, deeds_seen}
+use Rattle.jc_core.specs.Places.{most_lanes}
+
+-- No command.
+abbrev pub no_script : Script
+no_script = record { commands = [] }
+
+-- Nothing.
+abbrev pub no_shape : Shape
+no_shape = record { controllers = 0; workers = 0; window = 0; events = 0; start = 0 }
+
+-- The cluster is of this script and this shape.
+pub record IsOfName (script : Script) (shape : Shape) (seen : Seen) : Type 0 where
+  pub script_is : seen.script ≡ script
+  pub shape_is : seen.shape ≡ shape
+
+-- Each command is of a lane that there can be.
+abbrev pub AreLanes : List Command → Type 0
+AreLanes commands = Each (λ (command : Command). command.lane < most_lanes) commands
+
+-- What the type keeps: the history is orderly, and a lane is a byte.
+pub record KeepsRun (seen : Seen) : Type 0 where
+  pub orderly : IsOrderly seen.shape (deeds_seen seen)
+  pub lanes : AreLanes seen.script.commands

@@ -1,0 +1,24 @@
+//! The lanes of commands.
+
+ghost use Rattle.std.specs.Prelude.{◌<◌};
+ghost use Rattle.jc_core.specs.Places.{most_lanes};
+ghost use Rattle.jc_shared.specs.Names.{AreLanes};
+
+use jc_types::Command;
+
+// The lane of the command is a byte.
+fn lane_is_byte(command: &Command)
+    ensures { command.now.lane < most_lanes }
+{
+    let _lane = command.lane;
+}
+
+// The lanes of the commands are bytes. Each is read, since the range of a number behind a reference
+// is known only once it was read.
+pub(crate) fn lanes_are_bytes(commands: &[Command])
+    ensures { AreLanes commands.now }
+{
+    for command in commands {
+        lane_is_byte(command);
+    }
+}

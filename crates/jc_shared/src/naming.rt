@@ -1,0 +1,21 @@
+//! The script and the shape of a run, as the types of what its seats share name them.
+
+use std::marker::Brand;
+
+/// Whose cluster it is: a script and a shape, which contracts alone see. Each run picks its own.
+pub trait Naming {
+    ghost use Rattle.jc_types.specs.declared.actions.Script.{Script};
+    ghost use Rattle.jc_types.specs.declared.runs.Shape.{Shape};
+
+    ghost script: { Script };
+
+    ghost shape: { Shape };
+}
+
+impl Naming for Brand {
+    ghost use Rattle.jc_shared.specs.Names.{no_script, no_shape};
+
+    ghost script = { no_script };
+
+    ghost shape = { no_shape };
+}
