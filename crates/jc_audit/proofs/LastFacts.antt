@@ -1,22 +1,17 @@
--- The newest event: its deed, and the command at the end of a script.
-use Rattle.std.proofs.Common.{◌≡◌, ℕ, zero, suc, ◌+◌, ◌==◌, Bool, true, false, cond, List, [], ◌∷◌, ◌++◌, length, slice_get, Option, Some, is_some, refl, sym, ap, ap₂, subst, arith, eqb-true, true≢false}
+-- The newest event: its deed, and begins in the place of syncs.
+use Rattle.std.proofs.Common.{◌≡◌, ℕ, List, [], ◌∷◌, ◌++◌, Option, refl, ap₂}
 use Rattle.std.specs.List.{AllByRecursion as Each}
-use Rattle.std.specs.Option.{unwrap_or}
 use Rattle.jc_types.specs.declared.actions.Action1.{Action1}
 use Rattle.jc_types.specs.declared.actions.Action1.TheVariants as act
-use Rattle.jc_types.specs.declared.actions.Command.{Command}
 use Rattle.jc_types.specs.declared.replies.Reply.{Reply}
 use Rattle.jc_types.specs.declared.runs.Event.{Event}
 use Rattle.jc_types.specs.declared.runs.Shape.{Shape}
-use Rattle.jc_types.specs.declared.runs.Sys.{Sys}
-use Rattle.jc_types.specs.declared.runs.Sys.TheVariants as sys
 use Rattle.jc_log.specs.Acts.{Act}
-use Rattle.jc_log.specs.Deeds.{Deed, act_of_action, act_of_system, lane_of}
-use Rattle.jc_history.specs.Legal.{IsLegal, IsLegalNext, lane_places, places_from}
+use Rattle.jc_log.specs.Deeds.{Deed, act_of_action, lane_of}
+use Rattle.jc_history.specs.Legal.{IsLegal, IsLegalNext}
 use Rattle.jc_history.specs.Replies.{log_given, next_deed}
 use Rattle.jc_reading.specs.Proper.{IsProperAction, as_begin}
-use Rattle.jc_log.proofs.LogFacts.{slice_get-after as get_last}
-use Rattle.jc_runs.specs.Seen.{Admits, IsDoable, Seen, act_seen, deeds_seen, happened}
+use Rattle.jc_runs.specs.Seen.{Admits, Seen, act_seen, deeds_seen, happened}
 
 -- ---- deeds
 
@@ -36,8 +31,6 @@ legal_is_next shape past d legal = ap₂ (λ r n. deed_of d.lane d.act r n) lega
 pub happened_is_legal : (seen : Seen) (e : Event) → Admits seen e → IsLegal seen.shape (deeds_seen seen) → IsLegal seen.shape (deeds_seen (happened seen e))
 unfolding log_given
 happened_is_legal seen e admits legal = (record { within = admits.within; settled = admits.settled; reply = refl; length = refl }, legal)
-
--- ---- the command at the end
 
 -- ---- begins in the place of syncs
 
@@ -81,36 +74,7 @@ begun_proper (act.Restart controller) p = p
 begun_proper (act.PutFault controller worker fault) p = p
 begun_proper act.Settle p = p
 
--- ---- places of lanes
-
--- A command of the script at that place, and its lane.
-pub record IsAt (commands : List Command) (lane n : ℕ) : Type 0 where
-  pub command : Command
-  pub found : slice_get commands n ≡ Some command
-  pub of_lane : command.lane ≡ lane
-
--- The place of a lane is that of a command of the lane.
-module _ (lane : ℕ) where
-  -- The places from one on, of the commands from there on.
-  at_place : (p : ℕ) (cs : List Command) (k n : ℕ) → slice_get (places_from lane p cs) k ≡ Some n → (m : ℕ) × (n ≡ p + m) × IsAt cs lane m
-  at_place p [] k n e = absurd (true≢false (sym (ap is_some e)))
-  at_place p (c ∷ cs) k n e = by (λ k e. at_place (p + 1) cs k n e) (c.lane == lane) refl k e
-    where
-      next : (m : ℕ) × (n ≡ p + 1 + m) × IsAt cs lane m → (m : ℕ) × (n ≡ p + m) × IsAt (c ∷ cs) lane m
-      next t = let far = t.1 in (suc t.0, omega (arith, far), record { command = t.2.command; found = t.2.found; of_lane = t.2.of_lane })
-
-      by : ((k : ℕ) → slice_get (places_from lane (p + 1) cs) k ≡ Some n → (m : ℕ) × (n ≡ p + 1 + m) × IsAt cs lane m) → (b : Bool) → (c.lane == lane) ≡ b → (k : ℕ)
-          → slice_get (cond b (p ∷ places_from lane (p + 1) cs) (places_from lane (p + 1) cs)) k ≡ Some n → (m : ℕ) × (n ≡ p + m) × IsAt (c ∷ cs) lane m
-      by ih true same zero e = let f = ap (λ o. unwrap_or o n) e in (0, omega (arith, f), record { command = c; found = refl; of_lane = eqb-true c.lane lane same })
-      by ih true same (suc k) e = next (ih k e)
-      by ih false same k e = next (ih k e)
-
-pub lane_at : (lane : ℕ) (cs : List Command) (k n : ℕ) → slice_get (lane_places lane cs) k ≡ Some n → IsAt cs lane n
-lane_at lane cs k n e =
-    let t = at_place lane 0 cs k n e in
-    let far = t.1 in
-    let same : t.0 ≡ n = omega (arith, far) in
-    subst (IsAt cs lane) same t.2
+-- ---- lists
 
 pub each_more : {A : Type 0} (P : A → Type 0) (xs : List A) (x : A) → Each P xs → P x → Each P (xs ++ x ∷ [])
 each_more P [] x all one = (one, tt)

@@ -1,22 +1,14 @@
 -- The newest event of a history: where it stands, its place in the script, and its line.
-use Rattle.std.proofs.Common.{◌≡◌, ℕ, zero, suc, ◌+◌, ◌-◌, ◌<◌, List, [], ◌∷◌, ◌++◌, length, map, reverse, get_or, slice_get, Some, is_some, refl, sym, ap, ◌∙◌, subst, arith, true≢false}
+use Rattle.std.proofs.Common.{◌≡◌, ℕ, ◌+◌, ◌-◌, ◌<◌, List, [], ◌∷◌, ◌++◌, length, map, reverse, get_or, refl, sym, ap, ◌∙◌, subst, arith}
 use Rattle.std.proofs.lemmas.List.{reverse-append, length-reverse, reverse-reverse as turned}
 use Rattle.jc_types.specs.declared.actions.Script.{Script}
-use Rattle.jc_types.specs.declared.runs.Event.{Event}
-use Rattle.jc_types.specs.declared.runs.Event.TheVariants as event
 use Rattle.jc_types.specs.declared.runs.Past.{Past}
 use Rattle.jc_log.specs.Deeds.{deed}
-use Rattle.jc_history.specs.Legal.{ComesNext, InLanes, lane_count}
+use Rattle.jc_history.specs.Legal.{InLanes}
 use Rattle.jc_lines.specs.Events.{HasPlace, event_line}
+use Rattle.jc_lines.proofs.PlaceFacts.{has_place}
 use Rattle.jc_runs.specs.Seen.{Seen}
 use Rattle.jc_audit.specs.Walks.{last_line, line_of_last}
-use Rattle.jc_audit.proofs.LastFacts.{lane_at}
-use Rattle.std.proofs.lemmas.Option.{slice_get_within as within}
-
-pub has_place : (script : Script) (before : List Past) (e : Event) → ComesNext script.commands before e → HasPlace script e
-has_place script before (event.Command lane number) next =
-    let at = lane_at lane script.commands (lane_count lane before) number next in within script.commands number at.command at.found
-has_place script before (event.System s) next = tt
 
 -- The last of a list is the first of the list turned round.
 last_get : {A : Type 0} (xs : List A) (y d : A) → get_or (xs ++ y ∷ []) (length (xs ++ y ∷ []) - 1) d ≡ y

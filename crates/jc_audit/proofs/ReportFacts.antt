@@ -16,14 +16,14 @@ use Rattle.jc_reading.specs.Proper.{IsProperCommand}
 use Rattle.jc_lines.specs.Summaries.{full_line}
 use Rattle.jc_runs.specs.Ledger.{ledger_of, verdicts_of}
 use Rattle.jc_log.specs.Log.{jobs_in}
-use Rattle.jc_report.specs.Reports.{in_order, jobs_text, report_text, verdicts_in}
+use Rattle.jc_lines.specs.Reports.{in_order, jobs_text, report_text, verdicts_in}
 use Rattle.jc_runs.specs.Seen.{Seen, deeds_seen, log_seen}
 use Rattle.jc_audit.specs.Audits.{IsRecognised}
 use Rattle.jc_audit.specs.Reported.{IsReported}
 use Rattle.jc_audit.specs.Tails.{tail_text}
 use Rattle.jc_audit.proofs.BackFacts.{Comes, comes_back}
 use Rattle.jc_audit.proofs.WalkFacts.{IsWalked, walked}
-use Rattle.jc_core.proofs.Starts.{map-reverse}
+use Rattle.jc_machine.proofs.Starts.{map-reverse}
 
 -- The text of a report, by its deeds, newest first.
 text_is : (script : Script) (shape : Shape) (items : List Past) (full : Bool)
@@ -32,7 +32,7 @@ text_is : (script : Script) (shape : Shape) (items : List Past) (full : Bool)
 text_is script shape items full =
     ap (λ (ds : List Deed). event_lines 1 ds ++ (tail_text shape (reverse (map (deed script) items)) ++ full_line full)) (sym (twice (map (deed script) items)))
 
--- The lines of the Jobs of a cluster, by its deeds.
+-- The lines of the Jobs of a machine, by its deeds.
 pub tail_is : (seen : Seen) (script : Script) (items : List Past) (log : List Entry) → script ≡ seen.script → reverse items ≡ seen.pasts → reverse log ≡ log_seen seen
     → jobs_text (verdicts_in script items (reverse log)) (in_order (jobs_in (reverse log))) ≡ tail_text seen.shape (deeds_seen seen)
 tail_is seen script items log same back entries =

@@ -2,50 +2,20 @@
 use Rattle.std.proofs.Common.{◌≡◌, ℕ, suc, ◌+◌, ◌-◌, ◌<◌, ◌≤◌, ◌==◌, ◌^◌, Bool, true, false, cond, List, [], ◌∷◌, ◌++◌, length, take, drop, reverse, bytes_eq, codes, nat_eq, refl, sym, ap, ap₂, ◌∙◌, subst, arith, true≢false, eqb-true, ◌&&◌}
 use Rattle.std.specs.Cmp.Lexicographic.{bytes_decides}
 use Rattle.std.proofs.Math.ListN.{drop_of_length-le}
-use Rattle.std.specs.List.{AllByRecursion as Each}
-use Rattle.std.specs.List.Sorted.{IsPermutation}
 use Rattle.std.proofs.lemmas.List.{drop-drop, length-drop, length-map, length-reverse, length-take-le}
-use Rattle.std.proofs.lemmas.List.Elements.{All-from_recursion}
-use Rattle.std.proofs.lemmas.List.Sorted.{All-permutation, IsPermutation-reverse, IsPermutation-sym}
-use Rattle.jc_types.specs.declared.actions.Script.{Script}
 use Rattle.jc_types.specs.declared.objects.Entry.{Entry}
-use Rattle.jc_types.specs.declared.runs.Event.{Event}
-use Rattle.jc_types.specs.declared.runs.Event.TheVariants as event
-use Rattle.jc_types.specs.declared.runs.History.{History}
-use Rattle.jc_types.specs.declared.runs.Past.{Past}
 use Rattle.jc_types.specs.declared.runs.Shape.{Shape}
 use Rattle.jc_log.specs.Deeds.{Deed, deed}
-use Rattle.jc_history.specs.Legal.{InLanes}
-use Rattle.jc_lines.specs.Events.{HasPlace}
 use Rattle.jc_lines.specs.Summaries.{full_line}
 use Rattle.jc_runs.specs.Seen.{Seen, deeds_seen, log_seen}
 use Rattle.jc_runs.proofs.BackoffFacts.{log_short}
-use Rattle.jc_verdicts.specs.Verdicts.{IsNumbered, IsPlace}
 use Rattle.jc_audit.specs.declared.verdicts.Verdict.{Verdict}
 use Rattle.jc_audit.specs.declared.verdicts.Verdict.TheVariants.{Yes, No}
 use Rattle.jc_audit.specs.Tails.{at_end, lines_compared, byte_in_front, line_len, whole_lines, tail_text, tail_verdict}
-use Rattle.jc_audit.proofs.LastPlace.{has_place}
 
 -- ---- what the tail needs of a history
 
-is_place : (script : Script) (e : Event) → HasPlace script e → IsPlace script.commands e
-is_place script (event.Command lane number) h = h
-is_place script (event.System s) h = h
-
-are_places : (script : Script) (pasts : List Past) → InLanes script.commands pasts → Each (λ (past : Past). IsPlace script.commands past.event) pasts
-are_places script [] h = tt
-are_places script (past ∷ before) h = (is_place script past.event (has_place script before past.event h.0), are_places script before h.1)
-
--- The commands of a history whose lanes are in order are numbered as the script numbers them.
-pub numbered : (script : Script) (history : History) (pasts : List Past) → InLanes script.commands pasts → reverse history.events.items ≡ pasts → IsNumbered script history
-numbered script history pasts lanes e =
-    let items = history.events.items in
-    let P = λ (past : Past). IsPlace script.commands past.event in
-    All-permutation P pasts items
-    (subst (λ l. IsPermutation l items) e (IsPermutation-sym items (reverse items) (IsPermutation-reverse items)))
-    (All-from_recursion P pasts (are_places script pasts lanes))
-
--- The log that a cluster keeps has fewer than 2^32 entries.
+-- The log that a machine keeps has fewer than 2^32 entries.
 pub log_fits : (seen : Seen) (log : List Entry) → reverse log ≡ log_seen seen → length seen.pasts ≤ seen.shape.events → seen.shape.events ≤ 200000 → length log < 2 ^ 32
 log_fits seen log e few bound =
     let short = log_short seen.shape (deeds_seen seen) in

@@ -24,7 +24,7 @@ use Rattle.jc_reading.specs.declared.reads.LineRead.{LineRead}
 use Rattle.jc_history.specs.Replies.{log_given}
 use Rattle.jc_runs.specs.Ledger.{ledger_of, verdicts_of}
 use Rattle.jc_log.specs.Log.{jobs_in}
-use Rattle.jc_report.specs.Reports.{in_order, job_lines, jobs_text}
+use Rattle.jc_lines.specs.Reports.{in_order, job_lines, jobs_text}
 use Rattle.jc_runs.specs.Seen.{Seen, deeds_seen, happened, log_seen}
 use Rattle.jc_play.specs.Actors.{CanCome}
 use Rattle.jc_play.proofs.TellFacts.{Tells, all-tell, known}

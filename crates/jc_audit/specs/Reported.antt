@@ -10,7 +10,7 @@ use Rattle.jc_history.specs.Available.{IsOrderly}
 use Rattle.jc_history.specs.Legal.{IsHistory}
 use Rattle.jc_history.specs.Replies.{log_given}
 use Rattle.jc_reading.specs.Proper.{IsProperCommand}
-use Rattle.jc_report.specs.Reports.{report_text}
+use Rattle.jc_lines.specs.Reports.{report_text}
 
 pub record IsReported (shape : Shape) (bytes : List ℕ) : Type 0 where
   pub script : Script

@@ -10,7 +10,7 @@ use Rattle.jc_log.specs.Deeds.{Deed}
 use Rattle.jc_log.specs.Log.{jobs_in}
 use Rattle.jc_runs.specs.Ledger.{ledger_of, verdicts_of}
 use Rattle.jc_history.specs.Replies.{log_given}
-use Rattle.jc_report.specs.Reports.{in_order, jobs_text}
+use Rattle.jc_lines.specs.Reports.{in_order, jobs_text}
 use Rattle.jc_audit.specs.declared.verdicts.Verdict.{Verdict}
 use Rattle.jc_audit.specs.declared.verdicts.Verdict.TheVariants.{Yes, No}
 

@@ -7,7 +7,7 @@ ghost use Rattle.jc_audit.specs.Walks.{at_first};
 use crate::tails::{rest_at, tail_verdict};
 use crate::verdicts::Verdict;
 use crate::walking::take;
-use jc_core::Cluster;
+use jc_machine::Machine;
 use jc_types::{Commands, Script, Shape, Want};
 use std::alloc::Global;
 
@@ -21,15 +21,15 @@ fn begins_event(rest: &[u8]) -> bool
     }
 }
 
-// A cluster in which nothing has happened, whose script has no command.
-fn first_cluster(alloc: Global, shape: Shape) -> Result<Cluster, Want>
+// A machine in which nothing has happened, whose script has no command.
+fn first_machine(alloc: Global, shape: Shape) -> Result<Machine, Want>
     requires { shape.events ≤ 200000 }
     ensures { IfOk result (λ c. c ≡ at_first shape) }
 {
     let script = Script {
         commands: Commands::new(alloc),
     };
-    Cluster::new(alloc, script, shape)
+    Machine::new(alloc, script, shape)
 }
 
 /// What is to be said of the bytes. They are a report where lines of events stand first, each of
@@ -49,16 +49,16 @@ pub fn audit(alloc: Global, bytes: &[u8], shape: Shape) -> Result<Verdict, Want>
     requires few_events { shape.events ≤ 200000 }
     ensures { IfOk result (λ v. VerdictHolds shape bytes.now v) }
 {
-    let mut cluster = first_cluster(alloc, shape)?;
+    let mut machine = first_machine(alloc, shape)?;
     let mut at = 0;
     'walking: while begins_event(rest_at(bytes, at)) {
-        let line = cluster.history().events.len() as u32 + 1;
-        let taken = take(alloc, &mut cluster, rest_at(bytes, at))?;
+        let line = machine.history().events.len() as u32 + 1;
+        let taken = take(alloc, &mut machine, rest_at(bytes, at))?;
         let Some(len) = taken else {
             return Ok(Verdict::No { line });
         };
         at += len;
     }
-    let verdict = tail_verdict(alloc, &cluster, rest_at(bytes, at))?;
+    let verdict = tail_verdict(alloc, &machine, rest_at(bytes, at))?;
     Ok(verdict)
 }

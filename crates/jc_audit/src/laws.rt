@@ -7,7 +7,7 @@ ghost use Rattle.jc_history.specs.Legal.{IsHistory};
 ghost use Rattle.jc_history.specs.Replies.{log_given};
 ghost use Rattle.jc_reading.specs.Proper.{IsProperCommand};
 ghost use Rattle.jc_log.specs.Deeds.{deeds};
-ghost use Rattle.jc_report.specs.Reports.{report_text};
+ghost use Rattle.jc_lines.specs.Reports.{report_text};
 ghost use Rattle.jc_types.specs.declared.actions.Script.{Script};
 ghost use Rattle.jc_types.specs.declared.runs.History.{History};
 ghost use Rattle.jc_types.specs.declared.runs.Shape.{Shape};

@@ -5,8 +5,8 @@ ghost use Rattle.jc_runs.specs.Seen.{deeds_seen};
 ghost use Rattle.jc_audit.specs.Tails.{at_end, lines_compared, line_len, whole_lines, tail_text, tail_verdict};
 
 use crate::verdicts::Verdict;
-use jc_core::Cluster;
-use jc_report::tail;
+use jc_lines::tail;
+use jc_machine::Machine;
 use jc_types::Want;
 use std::alloc::Global;
 
@@ -93,18 +93,18 @@ fn compared(first: u32, rest: &[u8], wanted: &[u8], full: bool) -> Verdict
     at_end(line, rest_at(rest, at), full)
 }
 
-// The lines of the Jobs of the cluster.
-#[tactic(auto, using(crate::proofs::TailFacts::log_fits, crate::proofs::TailFacts::numbered))]
-fn tail_of(alloc: Global, cluster: &Cluster) -> Result<String, Want>
-    requires { cluster.now.shape.events ≤ 200000 }
+// The lines of the Jobs of the machine.
+#[tactic(auto, using(crate::proofs::TailFacts::log_fits, jc_lines::proofs::PlaceFacts::numbered))]
+fn tail_of(alloc: Global, machine: &Machine) -> Result<String, Want>
+    requires { machine.now.shape.events ≤ 200000 }
     ensures { IfOk result (λ text. string_bytes text
-        ≡ tail_text cluster.now.shape (deeds_seen cluster.now)) }
+        ≡ tail_text machine.now.shape (deeds_seen machine.now)) }
 {
-    let store = cluster.store();
+    let store = machine.store();
     let text = tail(
         alloc,
-        cluster.script(),
-        cluster.history(),
+        machine.script(),
+        machine.history(),
         store.log(),
         store.jobs(),
     )?;
@@ -117,14 +117,14 @@ fn tail_of(alloc: Global, cluster: &Cluster) -> Result<String, Want>
 ///
 /// Want of memory.
 #[tactic(auto, unfolding(crate::specs::Tails::tail_verdict))]
-pub fn tail_verdict(alloc: Global, cluster: &Cluster, rest: &[u8]) -> Result<Verdict, Want>
-    requires shape { cluster.now.shape.events ≤ 200000 }
+pub fn tail_verdict(alloc: Global, machine: &Machine, rest: &[u8]) -> Result<Verdict, Want>
+    requires shape { machine.now.shape.events ≤ 200000 }
     requires short { length rest.now ≤ 67108864 }
     ensures { IfOk result (λ v. v
-        ≡ tail_verdict cluster.now.shape (deeds_seen cluster.now) rest.now) }
+        ≡ tail_verdict machine.now.shape (deeds_seen machine.now) rest.now) }
 {
-    let count = cluster.history().events.len();
-    let wanted = tail_of(alloc, cluster)?;
-    let full = count == cluster.shape().events as usize;
+    let count = machine.history().events.len();
+    let wanted = tail_of(alloc, machine)?;
+    let full = count == machine.shape().events as usize;
     Ok(compared(count as u32 + 1, rest, wanted.as_bytes(), full))
 }

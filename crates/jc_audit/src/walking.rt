@@ -7,59 +7,59 @@ ghost use Rattle.jc_audit.specs.Limits.{IsSmallShape};
 ghost use Rattle.jc_audit.specs.Walks.{HasTaken, IsLineLen, IsOnlyTaken, IsRead, NoneIsTaken, TakesLine};
 
 use crate::taking::{clock_fits, last_text, take_command, take_system};
-use jc_core::Cluster;
+use jc_machine::Machine;
 use jc_reading::{LineAct, LineRead, proper_actions_are_valid, read_event};
 use jc_types::{Action1, Command, Sys, Want};
 use std::alloc::Global;
 
 // The command that was read happens where it may. Whether it did.
 fn command_happens(
-    cluster: &mut Cluster,
+    machine: &mut Machine,
     lane: u8,
     action: Action1,
     rest: &[u8],
 ) -> Result<bool, Want>
     requires read { IsRead rest.now (record { lane = Some lane; act = read.Command action }) }
-    requires room { length cluster.old.pasts < cluster.old.shape.events }
-    requires shape { IsSmallShape cluster.old.shape }
-    requires fits { length cluster.old.script.commands ≤ length cluster.old.pasts }
-    ensures took { IfOk result (λ yes. IsTrue yes → TakesLine cluster.old cluster.new) }
-    ensures only { IfOk result (λ yes. IsOnlyTaken cluster.old cluster.new rest.now (IsTrue yes)) }
+    requires room { length machine.old.pasts < machine.old.shape.events }
+    requires shape { IsSmallShape machine.old.shape }
+    requires fits { length machine.old.script.commands ≤ length machine.old.pasts }
+    ensures took { IfOk result (λ yes. IsTrue yes → TakesLine machine.old machine.new) }
+    ensures only { IfOk result (λ yes. IsOnlyTaken machine.old machine.new rest.now (IsTrue yes)) }
 {
     proper_actions_are_valid();
-    let has_happened = take_command(cluster, Command { lane, action })?;
+    let has_happened = take_command(machine, Command { lane, action })?;
     Ok(has_happened)
 }
 
 // The event of the system that was read happens where it may. Whether it did.
-fn system_happens(cluster: &mut Cluster, system: Sys, rest: &[u8]) -> Result<bool, Want>
+fn system_happens(machine: &mut Machine, system: Sys, rest: &[u8]) -> Result<bool, Want>
     requires read { IsRead rest.now (record { lane = None; act = read.System system }) }
-    requires shape { IsSmallShape cluster.old.shape }
-    requires room { length cluster.old.pasts < cluster.old.shape.events }
-    ensures took { IfOk result (λ yes. IsTrue yes → TakesLine cluster.old cluster.new) }
-    ensures only { IfOk result (λ yes. IsOnlyTaken cluster.old cluster.new rest.now (IsTrue yes)) }
+    requires shape { IsSmallShape machine.old.shape }
+    requires room { length machine.old.pasts < machine.old.shape.events }
+    ensures took { IfOk result (λ yes. IsTrue yes → TakesLine machine.old machine.new) }
+    ensures only { IfOk result (λ yes. IsOnlyTaken machine.old machine.new rest.now (IsTrue yes)) }
 {
-    let has_happened = take_system(cluster, system)?;
+    let has_happened = take_system(machine, system)?;
     Ok(has_happened)
 }
 
 // What was read happens where it may. Whether it did.
-fn happens(cluster: &mut Cluster, read: LineRead, rest: &[u8]) -> Result<bool, Want>
+fn happens(machine: &mut Machine, read: LineRead, rest: &[u8]) -> Result<bool, Want>
     requires read { IsRead rest.now read }
-    requires shape { IsSmallShape cluster.old.shape }
-    requires room { length cluster.old.pasts < cluster.old.shape.events }
-    requires fits { length cluster.old.script.commands ≤ length cluster.old.pasts }
-    ensures took { IfOk result (λ yes. IsTrue yes → TakesLine cluster.old cluster.new) }
-    ensures only { IfOk result (λ yes. IsOnlyTaken cluster.old cluster.new rest.now (IsTrue yes)) }
+    requires shape { IsSmallShape machine.old.shape }
+    requires room { length machine.old.pasts < machine.old.shape.events }
+    requires fits { length machine.old.script.commands ≤ length machine.old.pasts }
+    ensures took { IfOk result (λ yes. IsTrue yes → TakesLine machine.old machine.new) }
+    ensures only { IfOk result (λ yes. IsOnlyTaken machine.old machine.new rest.now (IsTrue yes)) }
 {
     let lane = read.lane;
     match read.act {
         LineAct::Command(action) => match lane {
-            Some(lane) => command_happens(cluster, lane, action, rest),
+            Some(lane) => command_happens(machine, lane, action, rest),
             None => Ok(false),
         },
         LineAct::System(system) => match lane {
-            None => system_happens(cluster, system, rest),
+            None => system_happens(machine, system, rest),
             Some(_) => Ok(false),
         },
     }
@@ -73,11 +73,11 @@ fn begins_with(rest: &[u8], line: &[u8]) -> bool
 }
 
 // How long the line of the newest event is, where the rest begins with it.
-fn line_len(alloc: Global, cluster: &Cluster, rest: &[u8]) -> Result<Option<usize>, Want>
-    requires { 0 < length cluster.now.pasts }
-    ensures { IfOk result (λ o. IsLineLen cluster.now rest.now o) }
+fn line_len(alloc: Global, machine: &Machine, rest: &[u8]) -> Result<Option<usize>, Want>
+    requires { 0 < length machine.now.pasts }
+    ensures { IfOk result (λ o. IsLineLen machine.now rest.now o) }
 {
-    let text = last_text(alloc, cluster)?;
+    let text = last_text(alloc, machine)?;
     let line = text.as_bytes();
     let len = line.len();
     if begins_with(rest, line) {
@@ -87,29 +87,29 @@ fn line_len(alloc: Global, cluster: &Cluster, rest: &[u8]) -> Result<Option<usiz
 }
 
 /// The event of the first line happens where it may, and the rest begins with its line: how long that
-/// line is. Where the answer is `None`, the cluster is given up.
+/// line is. Where the answer is `None`, the machine is given up.
 ///
 /// # Errors
 ///
 /// Want of memory.
-pub fn take(alloc: Global, cluster: &mut Cluster, rest: &[u8]) -> Result<Option<usize>, Want>
-    requires shape { IsSmallShape cluster.old.shape }
-    requires fits { length cluster.old.script.commands ≤ length cluster.old.pasts }
-    ensures taken { IfOk result (λ o. IfSome o (HasTaken cluster.old cluster.new rest.now)) }
-    ensures none { IfOk result (λ o. o ≡ None → NoneIsTaken cluster.old rest.now) }
+pub fn take(alloc: Global, machine: &mut Machine, rest: &[u8]) -> Result<Option<usize>, Want>
+    requires shape { IsSmallShape machine.old.shape }
+    requires fits { length machine.old.script.commands ≤ length machine.old.pasts }
+    ensures taken { IfOk result (λ o. IfSome o (HasTaken machine.old machine.new rest.now)) }
+    ensures none { IfOk result (λ o. o ≡ None → NoneIsTaken machine.old rest.now) }
 {
-    if cluster.history().events.len() >= cluster.shape().events as usize {
+    if machine.history().events.len() >= machine.shape().events as usize {
         return Ok(None);
     }
     let Some(read) = read_event(alloc, rest)? else {
         // (so it is no line of the clock either)
-        clock_fits(cluster);
+        clock_fits(machine);
         return Ok(None);
     };
-    let has_happened = happens(cluster, read, rest)?;
+    let has_happened = happens(machine, read, rest)?;
     if !has_happened {
         return Ok(None);
     }
-    let len = line_len(alloc, cluster, rest)?;
+    let len = line_len(alloc, machine, rest)?;
     Ok(len)
 }

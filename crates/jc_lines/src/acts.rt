@@ -7,9 +7,9 @@ ghost use Rattle.jc_lines.specs.Acts.{act_text, wanted_text, worker_text};
 ghost use Rattle.jc_lines.specs.Words.{key_text, objects_word};
 
 use crate::changes::{print_ends, print_phase_change};
-use crate::keys::print_key;
+use crate::keys::{print_key, print_pod, print_version};
 use crate::words::{fault_word, kind_word};
-use jc_print::{print_change, print_spec};
+use jc_print::{print_change, print_spec, put_decimal};
 use jc_types::{
     Action1, Ends, Fault, JobSpec, Key, Kind, PhaseChange, SpecChange, Sys, Uid, Version, Want,
 };
@@ -35,8 +35,9 @@ fn print_wanted(out: &mut String, version: Option<Version>) -> Result<(), Want>
     match version {
         None => out.push_str(" any "),
         Some(version) => {
-            let at = version.0;
-            write!(out, " v{at} ")
+            out.push_str(" ")?;
+            print_version(out, version)?;
+            out.push_str(" ")
         }
     }
 }
@@ -68,29 +69,21 @@ fn print_delete(out: &mut String, key: &Key) -> Result<(), Want>
     Ok(())
 }
 
-// What befalls a pod, in a word.
-fn print_pod(out: &mut String, word: &str, pod: Uid) -> Result<(), Want>
-    ensures { OnOk result (string_bytes out.new
-        ≡ string_bytes out.old ++ (word.now ++ (codes " " ++ decimal pod.0))) }
-{
-    let uid = pod.0;
-    write!(out, "{word} {uid}")
-}
-
 fn print_finish(out: &mut String, pod: Uid, exit: i32) -> Result<(), Want>
     ensures { OnOk result (string_bytes out.new
         ≡ string_bytes out.old ++ act_text (does.Finish pod exit)) }
 {
-    let uid = pod.0;
-    write!(out, "finish {uid} {exit}")
+    print_pod(out, "finish", pod)?;
+    out.push_str(" ")?;
+    put_decimal(out, exit)
 }
 
 fn print_report(out: &mut String, alloc: Global, pod: Uid, change: &PhaseChange) -> Result<(), Want>
     ensures { OnOk result (string_bytes out.new
         ≡ string_bytes out.old ++ act_text (does.Report pod change.now)) }
 {
-    let uid = pod.0;
-    write!(out, "report {uid} ")?;
+    print_pod(out, "report", pod)?;
+    out.push_str(" ")?;
     print_phase_change(out, alloc, change)?;
     Ok(())
 }
@@ -110,7 +103,8 @@ fn print_clock(out: &mut String, add: u64) -> Result<(), Want>
     ensures { OnOk result (string_bytes out.new
         ≡ string_bytes out.old ++ act_text (does.Clock add)) }
 {
-    write!(out, "clock {add}")
+    out.push_str("clock ")?;
+    put_decimal(out, add)
 }
 
 // What befalls a controller's cache of a kind, in a word.
@@ -118,8 +112,11 @@ fn print_cache(out: &mut String, word: &str, controller: u32, kind: Kind) -> Res
     ensures { OnOk result (string_bytes out.new ≡ string_bytes out.old
         ++ (word.now ++ (codes " " ++ (decimal controller ++ (codes " " ++ objects_word kind))))) }
 {
-    let kind = kind_word(kind);
-    write!(out, "{word} {controller} {kind}")
+    out.push_str(word)?;
+    out.push_str(" ")?;
+    put_decimal(out, controller)?;
+    out.push_str(" ")?;
+    out.push_str(kind_word(kind))
 }
 
 // What a controller's worker does, in a word.
@@ -127,22 +124,28 @@ fn print_worker(out: &mut String, word: &str, controller: u32, worker: u32) -> R
     ensures { OnOk result (string_bytes out.new ≡ string_bytes out.old
         ++ (word.now ++ (codes " " ++ worker_text controller worker))) }
 {
-    write!(out, "{word} {controller} {worker}")
+    out.push_str(word)?;
+    out.push_str(" ")?;
+    put_decimal(out, controller)?;
+    out.push_str(" ")?;
+    put_decimal(out, worker)
 }
 
 fn print_restart(out: &mut String, controller: u32) -> Result<(), Want>
     ensures { OnOk result (string_bytes out.new
         ≡ string_bytes out.old ++ act_text (does.Restart controller)) }
 {
-    write!(out, "restart {controller}")
+    out.push_str("restart ")?;
+    put_decimal(out, controller)
 }
 
 fn print_fault(out: &mut String, controller: u32, worker: u32, fault: Fault) -> Result<(), Want>
     ensures { OnOk result (string_bytes out.new
         ≡ string_bytes out.old ++ act_text (does.PutFault controller worker fault)) }
 {
-    let fault = fault_word(fault);
-    write!(out, "fault {controller} {worker} {fault}")
+    print_worker(out, "fault", controller, worker)?;
+    out.push_str(" ")?;
+    out.push_str(fault_word(fault))
 }
 
 /// Puts what a command does behind the text. A sync is printed as the begin that is its own event.

@@ -7,6 +7,7 @@ ghost use Rattle.jc_lines.specs.Events.{HasPlace, event_line, tag_text};
 
 use crate::acts::{print_action, print_system};
 use crate::replies::print_reply;
+use jc_print::put_decimal;
 use jc_types::{Command, Event, Past, Script, Want};
 use std::alloc::Global;
 
@@ -31,7 +32,9 @@ fn print_command(
         ++ (codes " " ++ act_text (act_of_command (slice_get script.now.commands number))))) }
 {
     let command = command_at(script, number);
-    write!(out, "@{lane} ")?;
+    out.push_str("@")?;
+    put_decimal(out, lane)?;
+    out.push_str(" ")?;
     print_action(out, alloc, &command.action)?;
     Ok(())
 }
@@ -69,7 +72,8 @@ pub fn put_event(
     ensures { OnOk result (string_bytes out.new
         ≡ string_bytes out.old ++ event_line number (deed script.now past.now)) }
 {
-    write!(out, "{number} ")?;
+    put_decimal(out, number)?;
+    out.push_str(" ")?;
     print_deed(out, alloc, script, &past.event)?;
     out.push_str(" -> ")?;
     print_reply(out, alloc, &past.reply)?;

@@ -6,7 +6,7 @@ ghost use Rattle.jc_print.specs.PrintedStatuses.{status_data};
 ghost use Rattle.jc_lines.specs.Jobs.{job_line, uid_words};
 ghost use Rattle.jc_lines.specs.Words.{version_text};
 
-use crate::keys::print_key;
+use crate::keys::{print_key, print_version};
 use jc_print::print_status;
 use jc_types::{Job, Want, uid_text};
 use std::alloc::Global;
@@ -17,9 +17,11 @@ fn print_identity(out: &mut String, alloc: Global, job: &Job) -> Result<(), Want
         ++ (uid_words job.now.uid ++ (codes " " ++ (version_text job.now.version ++ codes " "))))) }
 {
     let uid = uid_text(alloc, job.uid)?;
-    let uid = uid.as_str();
-    let at = job.version.0;
-    write!(out, " {uid} v{at} ")
+    out.push_str(" ")?;
+    out.push_str(uid.as_str())?;
+    out.push_str(" ")?;
+    print_version(out, job.version)?;
+    out.push_str(" ")
 }
 
 // The whole line.

@@ -1,10 +1,13 @@
-//! Laws on the lines of events. Each function is empty: what it ensures holds of every line, and its
-//! callers may cite it.
+//! Laws on the lines of events and on reports. What each function ensures holds of every line and of every
+//! report, and its callers may cite it.
 
 ghost use Rattle.std.specs.Prelude.{◌≡◌, ◌+◌, ◌++◌, ◌<◌, ◌^◌, [], List, ℕ, length, map};
+ghost use Rattle.jc_history.specs.Legal.{IsHistory};
 ghost use Rattle.jc_log.specs.Deeds.{deed};
 ghost use Rattle.jc_types.specs.declared.actions.Script.{Script};
+ghost use Rattle.jc_types.specs.declared.runs.History.{History};
 ghost use Rattle.jc_types.specs.declared.runs.Past.{Past};
+ghost use Rattle.jc_types.specs.declared.runs.Shape.{Shape};
 ghost use Rattle.jc_lines.specs.Events.{event_line, event_lines};
 ghost use Rattle.jc_lines.specs.Told.{AreEvents, Follow, Glimpse, IsEvent, glimpse};
 
@@ -26,3 +29,18 @@ pub fn lines_tell_histories()
         → event_lines 1 (map (deed script) events) ≡ event_lines 1 (map (deed script) others)
         → events ≡ others }
 {}
+
+/// Two legal histories of a script and a shape with equal lines have equal events, with equal replies
+/// and equal lengths of the log: so a report tells its history. A lane names its next command, and the
+/// events before give what an event is answered.
+pub fn lines_determine_histories()
+    ensures { (script : Script) (shape : Shape) (h k : History)
+        → IsHistory script shape h → IsHistory script shape k
+        → AreEvents h.events.items → AreEvents k.events.items
+        → 1 + length h.events.items < 2 ^ 64
+        → event_lines 1 (map (deed script) h.events.items)
+        ≡ event_lines 1 (map (deed script) k.events.items)
+        → h.events.items ≡ k.events.items }
+{
+    lines_tell_histories();
+}

@@ -1,20 +1,24 @@
 //! The lines of a report: what each event did and was answered, what each Job has come to, and a
-//! summary. Each function puts a text behind what stands already.
+//! summary; the whole report and the whole summary of their parts; and what the lines determine. Each
+//! function `print_..` or `put_..` puts a text behind what stands already.
 #![tactic(auto)]
 
 mod acts;
 mod changes;
 mod events;
+mod job_lists;
 mod jobs;
 mod keys;
 mod laws;
 mod members;
 mod replies;
+mod reports;
 mod summaries;
 mod words;
 
 pub use acts::{print_action, print_system};
 pub use events::{print_event, put_event};
 pub use jobs::print_job;
-pub use laws::{lines_tell_events, lines_tell_histories};
+pub use laws::{lines_determine_histories, lines_tell_events, lines_tell_histories};
+pub use reports::{report_of_parts, summary_of_parts, tail};
 pub use summaries::{print_full, print_summary, print_verdicts};

@@ -1,15 +1,16 @@
 //! The texts of requests, of answers and of replies.
 
-ghost use Rattle.std.specs.Prelude.{◌≡◌, ◌++◌, OnOk, codes, decimal, string_bytes};
+ghost use Rattle.std.specs.Prelude.{◌≡◌, ◌++◌, OnOk, codes, string_bytes};
 ghost use Rattle.jc_types.specs.declared.replies.Answer.TheVariants as answer;
 ghost use Rattle.jc_types.specs.declared.replies.Reply.TheVariants as reply;
 ghost use Rattle.jc_types.specs.declared.replies.Request.TheVariants as request;
-ghost use Rattle.jc_lines.specs.Replies.{TellsThree, answer_text, reply_text, request_text};
+ghost use Rattle.jc_lines.specs.Replies.{TellsThree, answer_text, index_text, reply_text, request_text};
 ghost use Rattle.jc_lines.specs.Words.{version_text};
 
-use crate::keys::print_key;
+use crate::keys::{print_key, print_pod, print_version};
 use crate::words::{field_word, kind_word, phase_word};
 use jc_moment::Moment;
+use jc_print::put_decimal;
 use jc_types::{Answer, Key, Kind, Name, Phase, Reply, Request, Uid, Version, Want};
 use std::alloc::Global;
 
@@ -21,12 +22,13 @@ fn print_word(out: &mut String, word: &str) -> Result<(), Want>
 }
 
 // A word and a version.
-fn print_version(out: &mut String, word: &str, version: Version) -> Result<(), Want>
+fn print_at(out: &mut String, word: &str, version: Version) -> Result<(), Want>
     ensures { OnOk result (string_bytes out.new
         ≡ string_bytes out.old ++ (word.now ++ (codes " " ++ version_text version))) }
 {
-    let at = version.0;
-    write!(out, "{word} v{at}")
+    out.push_str(word)?;
+    out.push_str(" ")?;
+    print_version(out, version)
 }
 
 // A word and what it is said of.
@@ -34,34 +36,27 @@ fn print_pair(out: &mut String, word: &str, of: &str) -> Result<(), Want>
     ensures { OnOk result (string_bytes out.new
         ≡ string_bytes out.old ++ (word.now ++ (codes " " ++ of.now))) }
 {
-    write!(out, "{word} {of}")
-}
-
-// A word and the pod that it is said of.
-fn print_pod(out: &mut String, word: &str, pod: Uid) -> Result<(), Want>
-    ensures { OnOk result (string_bytes out.new
-        ≡ string_bytes out.old ++ (word.now ++ (codes " " ++ decimal pod.0))) }
-{
-    let uid = pod.0;
-    write!(out, "{word} {uid}")
+    out.push_str(word)?;
+    out.push_str(" ")?;
+    out.push_str(of)
 }
 
 fn print_created(out: &mut String, uid: Uid, version: Version) -> Result<(), Want>
     ensures { OnOk result (string_bytes out.new
         ≡ string_bytes out.old ++ answer_text (answer.Created uid version)) }
 {
-    let uid = uid.0;
-    let at = version.0;
-    write!(out, "created {uid} v{at}")
+    print_pod(out, "created", uid)?;
+    out.push_str(" ")?;
+    print_version(out, version)
 }
 
 fn print_bad_step(out: &mut String, from: Phase, to: Phase) -> Result<(), Want>
     ensures { OnOk result (string_bytes out.new
         ≡ string_bytes out.old ++ answer_text (answer.BadStep from to)) }
 {
-    let from = phase_word(from);
-    let to = phase_word(to);
-    write!(out, "bad-step {from} {to}")
+    print_pair(out, "bad-step", phase_word(from))?;
+    out.push_str(" ")?;
+    out.push_str(phase_word(to))
 }
 
 fn print_no_container(out: &mut String, name: &Name) -> Result<(), Want>
@@ -85,31 +80,34 @@ fn print_begun(out: &mut String, key: &Key, jobs_at: Version, pods_at: Version) 
     ensures { OnOk result (string_bytes out.new
         ≡ string_bytes out.old ++ reply_text (reply.Begun key.now jobs_at pods_at)) }
 {
-    let jobs_at = jobs_at.0;
-    let pods_at = pods_at.0;
     out.push_str("begun ")?;
     print_key(out, key)?;
-    write!(out, " jobs v{jobs_at} pods v{pods_at}")
+    out.push_str(" jobs ")?;
+    print_version(out, jobs_at)?;
+    out.push_str(" pods ")?;
+    print_version(out, pods_at)
 }
 
 fn print_behind(out: &mut String, kind: Kind, need: Version, have: Version) -> Result<(), Want>
     ensures { OnOk result (string_bytes out.new
         ≡ string_bytes out.old ++ reply_text (reply.Behind kind need have)) }
 {
-    let kind = kind_word(kind);
-    let need = need.0;
-    let have = have.0;
-    write!(out, "behind {kind} need v{need} have v{have}")
+    print_pair(out, "behind", kind_word(kind))?;
+    out.push_str(" need ")?;
+    print_version(out, need)?;
+    out.push_str(" have ")?;
+    print_version(out, have)
 }
 
 fn print_node(out: &mut String, pod: Uid, phase: Phase, version: Version) -> Result<(), Want>
     ensures { OnOk result (string_bytes out.new
         ≡ string_bytes out.old ++ reply_text (reply.NodeDone pod phase version)) }
 {
-    let pod = pod.0;
-    let phase = phase_word(phase);
-    let at = version.0;
-    write!(out, "pod {pod} {phase} written v{at}")
+    print_pod(out, "pod", pod)?;
+    out.push_str(" ")?;
+    out.push_str(phase_word(phase))?;
+    out.push_str(" written ")?;
+    print_version(out, version)
 }
 
 // A reply that tells of three things.
@@ -134,14 +132,30 @@ fn print_three(out: &mut String, reply: &Reply) -> Result<(), Want>
     }
 }
 
+// The index of a pod, or a dash where it has none.
+fn print_index(out: &mut String, index: Option<u32>) -> Result<(), Want>
+    ensures { OnOk result (string_bytes out.new ≡ string_bytes out.old ++ index_text index) }
+{
+    match index {
+        None => out.push_str("-"),
+        Some(index) => put_decimal(out, index),
+    }
+}
+
+// Words and the index that they are said of.
+fn print_indexed(out: &mut String, words: &str, index: Option<u32>) -> Result<(), Want>
+    ensures { OnOk result (string_bytes out.new
+        ≡ string_bytes out.old ++ (words.now ++ index_text index)) }
+{
+    out.push_str(words)?;
+    print_index(out, index)
+}
+
 fn print_creation(out: &mut String, index: Option<u32>) -> Result<(), Want>
     ensures { OnOk result (string_bytes out.new
         ≡ string_bytes out.old ++ request_text (request.CreatePod index)) }
 {
-    match index {
-        None => out.push_str("create-pod -"),
-        Some(index) => write!(out, "create-pod {index}"),
-    }
+    print_indexed(out, "create-pod ", index)
 }
 
 /// Puts a request of a sync behind the text.
@@ -173,11 +187,11 @@ pub fn print_answer(out: &mut String, answer: &Answer) -> Result<(), Want>
 {
     match answer {
         Answer::Created { uid, version } => print_created(out, *uid, *version),
-        Answer::Written { version } => print_version(out, "written", *version),
-        Answer::Unchanged { version } => print_version(out, "unchanged", *version),
-        Answer::Released { version } => print_version(out, "released", *version),
-        Answer::Removed { version } => print_version(out, "removed", *version),
-        Answer::Conflict { current } => print_version(out, "conflict", *current),
+        Answer::Written { version } => print_at(out, "written", *version),
+        Answer::Unchanged { version } => print_at(out, "unchanged", *version),
+        Answer::Released { version } => print_at(out, "released", *version),
+        Answer::Removed { version } => print_at(out, "removed", *version),
+        Answer::Conflict { current } => print_at(out, "conflict", *current),
         Answer::NotFound => print_word(out, "not-found"),
         Answer::AlreadyExists => print_word(out, "exists"),
         Answer::Immutable { field } => print_pair(out, "immutable", field_word(*field)),
@@ -212,11 +226,11 @@ pub fn print_reply(out: &mut String, alloc: Global, reply: &Reply) -> Result<(),
 {
     match reply {
         Reply::Created { uid, version } => print_created(out, *uid, *version),
-        Reply::Written { version } => print_version(out, "written", *version),
-        Reply::Unchanged { version } => print_version(out, "unchanged", *version),
-        Reply::Released { version } => print_version(out, "released", *version),
-        Reply::Removed { version } => print_version(out, "removed", *version),
-        Reply::Conflict { current } => print_version(out, "conflict", *current),
+        Reply::Written { version } => print_at(out, "written", *version),
+        Reply::Unchanged { version } => print_at(out, "unchanged", *version),
+        Reply::Released { version } => print_at(out, "released", *version),
+        Reply::Removed { version } => print_at(out, "removed", *version),
+        Reply::Conflict { current } => print_at(out, "conflict", *current),
         Reply::NotFound => print_word(out, "not-found"),
         Reply::AlreadyExists => print_word(out, "exists"),
         Reply::Immutable { field } => print_pair(out, "immutable", field_word(*field)),
@@ -227,10 +241,10 @@ pub fn print_reply(out: &mut String, alloc: Global, reply: &Reply) -> Result<(),
         Reply::NotTracked => print_word(out, "not-tracked"),
         Reply::Now { moment } => print_moment(out, alloc, *moment),
         Reply::ClockEnd => print_word(out, "clock-end"),
-        Reply::Listed { at } => print_version(out, "listed", *at),
-        Reply::Delivered { version } => print_version(out, "entry", *version),
+        Reply::Listed { at } => print_at(out, "listed", *at),
+        Reply::Delivered { version } => print_at(out, "entry", *version),
         Reply::UpToDate => print_word(out, "up-to-date"),
-        Reply::Expired { floor } => print_version(out, "expired", *floor),
+        Reply::Expired { floor } => print_at(out, "expired", *floor),
         Reply::NotSynced => print_word(out, "not-synced"),
         Reply::Begun { .. } => print_three(out, reply),
         Reply::NoKey => print_word(out, "no-key"),

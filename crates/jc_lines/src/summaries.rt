@@ -6,9 +6,19 @@ ghost use Rattle.jc_lines.specs.Summaries.{full_line, indexes_text, summary_text
 ghost use Rattle.jc_lines.specs.Summaries.{with_condition};
 
 use crate::keys::print_key;
+use jc_print::put_decimal;
 use jc_states::stands;
 use jc_types::{CondKind, Job, Mode, Want};
 use std::alloc::Global;
+
+// A number behind its words.
+fn print_count(out: &mut String, words: &str, count: u128) -> Result<(), Want>
+    ensures { OnOk result (string_bytes out.new
+        ≡ string_bytes out.old ++ (words.now ++ decimal count)) }
+{
+    out.push_str(words)?;
+    put_decimal(out, count)
+}
 
 // How many indexes are completed, where the Job is Indexed.
 fn print_indexes(out: &mut String, mode: Mode, indexes: u32) -> Result<(), Want>
@@ -17,8 +27,17 @@ fn print_indexes(out: &mut String, mode: Mode, indexes: u32) -> Result<(), Want>
 {
     match mode {
         Mode::NonIndexed => Ok(()),
-        Mode::Indexed => write!(out, " indexes {indexes}"),
+        Mode::Indexed => print_count(out, " indexes ", u128::from(indexes)),
     }
+}
+
+// How many pods were judged to have succeeded and to have failed.
+fn print_judged(out: &mut String, succeeded: u32, failed: u32) -> Result<(), Want>
+    ensures { OnOk result (string_bytes out.new ≡ string_bytes out.old ++ (codes " succeeded "
+        ++ (decimal succeeded ++ (codes " failed " ++ decimal failed)))) }
+{
+    print_count(out, " succeeded ", u128::from(succeeded))?;
+    print_count(out, " failed ", u128::from(failed))
 }
 
 // The whole line on a Job's verdicts.
@@ -34,7 +53,7 @@ fn put_verdicts(
 {
     out.push_str("verdicts ")?;
     print_key(out, &job.key)?;
-    write!(out, " succeeded {succeeded} failed {failed}")?;
+    print_judged(out, succeeded, failed)?;
     print_indexes(out, job.spec.mode, indexes)?;
     out.push_str("\n")?;
     Ok(())
@@ -112,10 +131,28 @@ fn all_failed(jobs: &[Job]) -> u128
 fn print_jobs_summary(out: &mut String, jobs: &[Job]) -> Result<(), Want>
     ensures { OnOk result (string_bytes out.new ≡ string_bytes out.old ++ jobs_summary jobs.now) }
 {
-    let count = jobs.len();
     let complete = with_condition(CondKind::Complete, jobs);
     let failed = with_condition(CondKind::Failed, jobs);
-    write!(out, "jobs {count}\ncomplete {complete}\nfailed {failed}\n")
+    print_count(out, "jobs ", jobs.len() as u128)?;
+    print_count(out, "\ncomplete ", complete as u128)?;
+    print_count(out, "\nfailed ", failed as u128)?;
+    out.push_str("\n")
+}
+
+// A number behind its words, and another behind others, at the end of a line.
+fn print_counts(
+    out: &mut String,
+    words: &str,
+    count: u128,
+    more_words: &str,
+    more: u128,
+) -> Result<(), Want>
+    ensures { OnOk result (string_bytes out.new ≡ string_bytes out.old ++ (words.now
+        ++ (decimal count ++ (more_words.now ++ (decimal more ++ codes "\n"))))) }
+{
+    print_count(out, words, count)?;
+    print_count(out, more_words, more)?;
+    out.push_str("\n")
 }
 
 fn print_pods_summary(out: &mut String, jobs: &[Job]) -> Result<(), Want>
@@ -123,7 +160,7 @@ fn print_pods_summary(out: &mut String, jobs: &[Job]) -> Result<(), Want>
 {
     let succeeded = all_succeeded(jobs);
     let failed = all_failed(jobs);
-    write!(out, "pods succeeded {succeeded}\npods failed {failed}\n")
+    print_counts(out, "pods succeeded ", succeeded, "\npods failed ", failed)
 }
 
 // All lines of the summary.

@@ -1,5 +1,5 @@
 -- What is among the events that are available, and that all of them are of the shape.
-use Rattle.std.proofs.Common.{◌≡◌, ℕ, zero, suc, ◌+◌, ◌<◌, ◌≤◌, ◌==◌, nat_lt, Bool, true, false, cond, List, [], ◌∷◌, ◌++◌, length, find, Option, Some, None, is_none, is_some, refl, sym, ap, subst, arith, ltb-false, eqb-true, true≢false, slice_index_or}
+use Rattle.std.proofs.Common.{◌≡◌, ℕ, zero, suc, ◌+◌, ◌-◌, ◌<◌, ◌≤◌, ◌==◌, nat_lt, Bool, true, false, cond, List, [], ◌∷◌, ◌++◌, length, find, Option, Some, None, is_none, is_some, refl, sym, ap, subst, arith, ltb-false, eqb-true, true≢false, slice_index_or}
 use Rattle.std.proofs.lemmas.Bool.{eqb-false}
 use Rattle.std.specs.List.{AllByRecursion as Each, Any, flat_map, range_with_len}
 use Rattle.std.specs.Option.{option_map, option_to_list, unwrap_or}
@@ -126,7 +126,7 @@ module _ (shape : Shape) (past : List Deed) (log : List Entry) where
         in-all (does.Step c w) (right (does.Step c w) all-lists _ (right (does.Step c w) all-deliveries _ (left (does.Step c w) (flat_map (λ c. step_events (of c) shape.workers c) (below shape.controllers)) _
         (flat (does.Step c w) (λ c. step_events (of c) shape.workers c) shape.controllers c lt (flat (does.Step c w) (step_event (of c) c) shape.workers w less (subst (λ b. Is (does.Step c w) (cond b (sys.Step c w ∷ []) [])) (sym e) (one (does.Step c w) (sys.Step c w) refl)))))))
 
--- ---- all of them are of the shape
+-- ---- all of them
 
 abbrev pub IsOf : Shape → Sys → Type 0
 IsOf shape event = IsOfShape shape (act_of_system event)
@@ -139,65 +139,76 @@ found-below test a (suc n) w e = by (test a) e (λ e. found-below test (a + 1) n
     by true e more = let same : a ≡ w = ap (λ o. unwrap_or o a) e in omega (arith, same)
     by false e more = let lt = more e in omega (arith, lt)
 
-module _ (shape : Shape) (past : List Deed) (log : List Entry) where
-  list-of : (c : ℕ) (kind : Kind) (o : Option Version) → c < shape.controllers → Each (IsOf shape) (list_event c kind o)
-  list-of c kind None lt = (lt, tt)
+-- What holds of each kind of event holds of all that are available.
+module _ (shape : Shape) (past : List Deed) (log : List Entry) (P : Sys → Type 0)
+    (list : (c : ℕ) (kind : Kind) → c < shape.controllers → P (sys.List c kind))
+    (deliver : (c : ℕ) (kind : Kind) → c < shape.controllers → P (sys.Deliver c kind))
+    (begins : (c w : ℕ) → c < shape.controllers → w < shape.workers → P (sys.Begin c w))
+    (steps : (c w : ℕ) → c < shape.controllers → w < shape.workers → P (sys.Step c w)) (node : P sys.Node)
+    (clock : (due : ℕ) → least_of_all shape past log ≡ Some due → P (sys.Clock (due - moment shape past))) where
+  list-of : (c : ℕ) (kind : Kind) (o : Option Version) → c < shape.controllers → Each P (list_event c kind o)
+  list-of c kind None lt = (list c kind lt, tt)
   list-of c kind (Some version) lt = tt
 
-  delivery-of : (c : ℕ) (kind : Kind) (o : Option Version) → c < shape.controllers → Each (IsOf shape) (delivery_event log c kind o)
+  delivery-of : (c : ℕ) (kind : Kind) (o : Option Version) → c < shape.controllers → Each P (delivery_event log c kind o)
   delivery-of c kind None lt = tt
   delivery-of c kind (Some version) lt = by (nat_lt version.0 (length log))
     where
-      by : (b : Bool) → Each (IsOf shape) (cond b (sys.Deliver c kind ∷ []) [])
-      by true = (lt, tt)
+      by : (b : Bool) → Each P (cond b (sys.Deliver c kind ∷ []) [])
+      by true = (deliver c kind lt, tt)
       by false = tt
 
-  step-of : (c w : ℕ) (b : Bool) → c < shape.controllers → w < shape.workers → Each (IsOf shape) (cond b (sys.Step c w ∷ []) [])
-  step-of c w true lt less = ((lt, less), tt)
+  step-of : (c w : ℕ) (b : Bool) → c < shape.controllers → w < shape.workers → Each P (cond b (sys.Step c w ∷ []) [])
+  step-of c w true lt less = (steps c w lt less, tt)
   step-of c w false lt less = tt
 
-  begin-of : (c : ℕ) (b : Bool) (o : Option ℕ) → ((w : ℕ) → o ≡ Some w → w < shape.workers) → c < shape.controllers → Each (IsOf shape) (cond b (option_to_list (option_map (λ w. sys.Begin c w) o)) [])
+  begin-of : (c : ℕ) (b : Bool) (o : Option ℕ) → ((w : ℕ) → o ≡ Some w → w < shape.workers) → c < shape.controllers → Each P (cond b (option_to_list (option_map (λ w. sys.Begin c w) o)) [])
   begin-of c true None f lt = tt
-  begin-of c true (Some w) f lt = ((lt, f w refl), tt)
+  begin-of c true (Some w) f lt = (begins c w lt (f w refl), tt)
   begin-of c false o f lt = tt
 
-  node-of : (b : Bool) → Each (IsOf shape) (node_events b)
-  node-of true = (tt, tt)
+  node-of : (b : Bool) → Each P (node_events b)
+  node-of true = (node, tt)
   node-of false = tt
 
-  pub all-within : Each (IsOf shape) (available shape past log)
-  unfolding available
-  all-within = by (but_clock shape past log) all (clock (least_of_all shape past log))
-    where
-      clock : (o : Option ℕ) → Each (IsOf shape) (clock_events (moment shape past) o)
-      clock None = tt
-      clock (Some due) = (tt, tt)
+  clock-of : (o : Option ℕ) → least_of_all shape past log ≡ o → Each P (clock_events (moment shape past) o)
+  clock-of None e = tt
+  clock-of (Some due) e = (clock due e, tt)
 
-      by : (xs : List Sys) → Each (IsOf shape) xs → Each (IsOf shape) (clock_events (moment shape past) (least_of_all shape past log)) → Each (IsOf shape) (or_clock xs (clock_events (moment shape past) (least_of_all shape past log)))
+  pub each-available : Each P (available shape past log)
+  unfolding available
+  each-available = by (but_clock shape past log) all (clock-of (least_of_all shape past log) refl)
+    where
+      by : (xs : List Sys) → Each P xs → Each P (clock_events (moment shape past) (least_of_all shape past log)) → Each P (or_clock xs (clock_events (moment shape past) (least_of_all shape past log)))
       by [] h g = g
       by (x ∷ xs) h g = h
 
-      lists-of : (c : ℕ) → 0 ≤ c → c < 0 + shape.controllers → Each (IsOf shape) (list_events (notes shape c past log) c)
+      lists-of : (c : ℕ) → 0 ≤ c → c < 0 + shape.controllers → Each P (list_events (notes shape c past log) c)
       lists-of c le lt =
-          Each-append (IsOf shape) (list_event c Jobs (number Jobs (notes shape c past log))) (list_event c Pods (number Pods (notes shape c past log)))
+          Each-append P (list_event c Jobs (number Jobs (notes shape c past log))) (list_event c Pods (number Pods (notes shape c past log)))
           (list-of c Jobs (number Jobs (notes shape c past log)) (omega (arith, lt))) (list-of c Pods (number Pods (notes shape c past log)) (omega (arith, lt)))
 
-      deliveries-of : (c : ℕ) → 0 ≤ c → c < 0 + shape.controllers → Each (IsOf shape) (delivery_events (notes shape c past log) log c)
+      deliveries-of : (c : ℕ) → 0 ≤ c → c < 0 + shape.controllers → Each P (delivery_events (notes shape c past log) log c)
       deliveries-of c le lt =
-          Each-append (IsOf shape) (delivery_event log c Jobs (number Jobs (notes shape c past log))) (delivery_event log c Pods (number Pods (notes shape c past log)))
+          Each-append P (delivery_event log c Jobs (number Jobs (notes shape c past log))) (delivery_event log c Pods (number Pods (notes shape c past log)))
           (delivery-of c Jobs (number Jobs (notes shape c past log)) (omega (arith, lt))) (delivery-of c Pods (number Pods (notes shape c past log)) (omega (arith, lt)))
 
-      steps-of : (c : ℕ) → 0 ≤ c → c < 0 + shape.controllers → Each (IsOf shape) (step_events (notes shape c past log) shape.workers c)
-      steps-of c le lt = each-flat (IsOf shape) (step_event (notes shape c past log) c) 0 shape.workers (λ w from less. step-of c w (is_some (register w (notes shape c past log))) (omega (arith, lt)) (omega (arith, less)))
+      steps-of : (c : ℕ) → 0 ≤ c → c < 0 + shape.controllers → Each P (step_events (notes shape c past log) shape.workers c)
+      steps-of c le lt = each-flat P (step_event (notes shape c past log) c) 0 shape.workers (λ w from less. step-of c w (is_some (register w (notes shape c past log))) (omega (arith, lt)) (omega (arith, less)))
 
-      begins-of : (c : ℕ) → 0 ≤ c → c < 0 + shape.controllers → Each (IsOf shape) (begin_events (notes shape c past log) log shape.workers c)
+      begins-of : (c : ℕ) → 0 ≤ c → c < 0 + shape.controllers → Each P (begin_events (notes shape c past log) log shape.workers c)
       begins-of c le lt =
           begin-of c (may_begin (notes shape c past log) log) (free_worker (notes shape c past log) shape.workers) (λ w e. let less = found-below (λ w. is_none (register w (notes shape c past log))) 0 shape.workers w e in omega (arith, less)) (omega (arith, lt))
 
-      all : Each (IsOf shape) (but_clock shape past log)
+      all : Each P (but_clock shape past log)
       all =
-          Each-append (IsOf shape) (flat_map (λ c. list_events (notes shape c past log) c) (below shape.controllers)) _ (each-flat (IsOf shape) (λ c. list_events (notes shape c past log) c) 0 shape.controllers lists-of)
-          (Each-append (IsOf shape) (flat_map (λ c. delivery_events (notes shape c past log) log c) (below shape.controllers)) _ (each-flat (IsOf shape) (λ c. delivery_events (notes shape c past log) log c) 0 shape.controllers deliveries-of)
-          (Each-append (IsOf shape) (flat_map (λ c. step_events (notes shape c past log) shape.workers c) (below shape.controllers)) _ (each-flat (IsOf shape) (λ c. step_events (notes shape c past log) shape.workers c) 0 shape.controllers steps-of)
-          (Each-append (IsOf shape) (flat_map (λ c. begin_events (notes shape c past log) log shape.workers c) (below shape.controllers)) _ (each-flat (IsOf shape) (λ c. begin_events (notes shape c past log) log shape.workers c) 0 shape.controllers begins-of)
+          Each-append P (flat_map (λ c. list_events (notes shape c past log) c) (below shape.controllers)) _ (each-flat P (λ c. list_events (notes shape c past log) c) 0 shape.controllers lists-of)
+          (Each-append P (flat_map (λ c. delivery_events (notes shape c past log) log c) (below shape.controllers)) _ (each-flat P (λ c. delivery_events (notes shape c past log) log c) 0 shape.controllers deliveries-of)
+          (Each-append P (flat_map (λ c. step_events (notes shape c past log) shape.workers c) (below shape.controllers)) _ (each-flat P (λ c. step_events (notes shape c past log) shape.workers c) 0 shape.controllers steps-of)
+          (Each-append P (flat_map (λ c. begin_events (notes shape c past log) log shape.workers c) (below shape.controllers)) _ (each-flat P (λ c. begin_events (notes shape c past log) log shape.workers c) 0 shape.controllers begins-of)
           (node-of (is_some (node_step log (fate past)))))))
+
+-- All of them are of the shape.
+pub all-within : (shape : Shape) (past : List Deed) (log : List Entry) → Each (IsOf shape) (available shape past log)
+all-within shape past log =
+    each-available shape past log (IsOf shape) (λ c kind lt. lt) (λ c kind lt. lt) (λ c w lt less. (lt, less)) (λ c w lt less. (lt, less)) tt (λ due e. tt)

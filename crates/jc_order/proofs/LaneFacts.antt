@@ -25,7 +25,8 @@ pub record IsPlace (lane from : ℕ) (commands : List Command) (n : ℕ) : Type 
 abbrev pub rank-is : ℕ → ℕ → List Command → ℕ → ℕ → Type 0
 rank-is lane from commands r n = slice_get (places_from lane from commands) r ≡ Some n
 
-place-of : (lane from : ℕ) (commands : List Command) (r n : ℕ) → rank-is lane from commands r n → IsPlace lane from commands n
+-- Where a rank has a place, a command of the lane stands there.
+pub place-of : (lane from : ℕ) (commands : List Command) (r n : ℕ) → rank-is lane from commands r n → IsPlace lane from commands n
 place-of lane from [] zero n e = absurd (none-some n e)
 place-of lane from [] (suc r) n e = absurd (none-some n e)
 place-of lane from (command ∷ commands) r n e = by (command.lane == lane) refl r e (λ r e. later (place-of lane (from + 1) commands r n e))

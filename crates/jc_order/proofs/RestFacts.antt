@@ -3,10 +3,10 @@ use Rattle.std.proofs.Common.{◌≡◌, ℕ, zero, suc, ◌+◌, ◌<◌, nat_l
 use Rattle.std.specs.List.{cons_option, filter_map, flat_map, range_with_len}
 use Rattle.std.specs.Option.{option_map, option_to_list}
 use Rattle.jc_queue.specs.Delayed.{first_of}
-use Rattle.jc_table.proofs.RowFacts.{none_from as none-is}
 use Rattle.jc_types.specs.declared.numbers.Version.{Version}
 use Rattle.jc_types.specs.declared.objects.Entry.{Entry}
 use Rattle.jc_types.specs.declared.objects.Key.{Key}
+use Rattle.jc_types.specs.declared.objects.Pod.{Pod}
 use Rattle.jc_types.specs.declared.objects.Kind.{Kind}
 use Rattle.jc_types.specs.declared.objects.Kind.TheVariants.{Jobs, Pods}
 use Rattle.jc_types.specs.declared.runs.Shape.{Shape}
@@ -24,7 +24,7 @@ use Rattle.jc_control.specs.ControllerCalls.{is_begun}
 use Rattle.jc_history.specs.Keys.{once}
 use Rattle.jc_history.specs.Legal.{IsLegal}
 use Rattle.jc_history.specs.Lines.{line}
-use Rattle.jc_history.specs.Nodes.{fate, node_step}
+use Rattle.jc_history.specs.Nodes.{NodeAct, fate, node_step}
 use Rattle.jc_history.specs.Notes.{Note}
 use Rattle.jc_history.specs.Numbers.{number}
 use Rattle.jc_history.specs.Registers.{register}
@@ -114,11 +114,11 @@ module _ (shape : Shape) (past : List Deed) (legal : IsLegal shape past) (some :
       by (Some due) e = absurd (no-cons _ _ e)
 
   no-node : node_step log (fate past) ≡ None
-  no-node = none-is (node_step log (fate past)) (by (is_some (node_step log (fate past))) (nil-rest (flat_map (λ c. begin_events (of c) log shape.workers c) (below shape.controllers)) _ (nil-rest (flat_map (λ c. step_events (of c) shape.workers c) (below shape.controllers)) _ (nil-rest (flat_map (λ c. delivery_events (of c) log c) (below shape.controllers)) _ (nil-rest (flat_map (λ c. list_events (of c) c) (below shape.controllers)) _ all-but)))))
+  no-node = by (node_step log (fate past)) (nil-rest (flat_map (λ c. begin_events (of c) log shape.workers c) (below shape.controllers)) _ (nil-rest (flat_map (λ c. step_events (of c) shape.workers c) (below shape.controllers)) _ (nil-rest (flat_map (λ c. delivery_events (of c) log c) (below shape.controllers)) _ (nil-rest (flat_map (λ c. list_events (of c) c) (below shape.controllers)) _ all-but))))
     where
-      by : (b : Bool) → node_events b ≡ [] → b ≡ false
-      by true e = absurd (no-cons _ _ e)
-      by false e = refl
+      by : (o : Option (Pod × NodeAct)) → node_events (is_some o) ≡ [] → o ≡ None
+      by None e = refl
+      by (Some step) e = absurd (no-cons _ _ e)
 
   module _ (c : ℕ) (lt : c < shape.controllers) where
     of-lists : list_events (of c) c ≡ []

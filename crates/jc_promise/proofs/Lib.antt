@@ -1,4 +1,5 @@
 pub mod DeedFacts
+mod NumberFacts
 mod SampleFacts
 mod WrongFacts
 mod WrongSyncFacts

@@ -34,7 +34,7 @@ use Rattle.jc_runs.specs.Conflicts.{AreToldLater}
 use Rattle.jc_bounds.specs.Fitting.{IsMade}
 use Rattle.jc_bounds.specs.Histories.{HoldsBounds}
 use Rattle.jc_bounds.specs.Kept.{IsShut}
-use Rattle.jc_report.specs.Events.{event_lines}
+use Rattle.jc_lines.specs.Events.{event_lines}
 use Rattle.jc_rest.specs.LetGo.{IsLetGoOnceEnded}
 use Rattle.jc_rest.specs.Stuck.{HasEnded, HasPod, IsHeldBack, IsSuspended, IsWaiting, MayRunNone, is_sure}
 use Rattle.jc_promise.specs.Promises.{IsToldAlone, RestsWell, WaitsWell}

@@ -21,8 +21,8 @@ use Rattle.jc_bounds.specs.Histories.{HoldsBounds}
 use Rattle.jc_rest.specs.LetGo.{EndedAreLetGo}
 use Rattle.jc_rest.specs.Lost.{AreLostWell}
 use Rattle.jc_rest.specs.Stuck.{IsWaiting, is_sure}
-use Rattle.jc_report.specs.Events.{event_lines}
-use Rattle.jc_report.specs.Told.{AreEvents}
+use Rattle.jc_lines.specs.Events.{event_lines}
+use Rattle.jc_lines.specs.Told.{AreEvents}
 
 -- The lines of its events tell the history: no other one of the script has the same.
 abbrev pub IsToldAlone : Script → Shape → History → Type 0

@@ -1,7 +1,7 @@
 //! Laws on the histories of a script. What each function ensures holds of every history, and its callers
 //! may cite it.
 
-ghost use Rattle.std.specs.Prelude.{◌≡◌, ◌<◌, ◌≤◌, Some, false, true};
+ghost use Rattle.std.specs.Prelude.{◌≡◌, ◌<◌, ◌≤◌, ◌^◌, Some, false, true};
 ghost use Rattle.std.specs.Option.{option_map};
 ghost use Rattle.std.specs.List.{AllByRecursion as Each};
 ghost use Rattle.jc_types.specs.declared.actions.Command.{Command};
@@ -11,8 +11,9 @@ ghost use Rattle.jc_types.specs.declared.runs.History.{History};
 ghost use Rattle.jc_types.specs.declared.runs.Shape.{Shape};
 ghost use Rattle.jc_states.specs.Conditions.{has_end};
 ghost use Rattle.jc_states.specs.ValidActions.{IsValidAction};
+ghost use Rattle.jc_log.specs.Deeds.{deeds};
 ghost use Rattle.jc_log.specs.Log.{job_in};
-ghost use Rattle.jc_history.specs.Available.{is_quiescent};
+ghost use Rattle.jc_history.specs.Available.{IsOrderly, is_quiescent};
 ghost use Rattle.jc_history.specs.Legal.{IsHistory, IsLegal};
 ghost use Rattle.jc_history.specs.Replies.{diary, log_given};
 ghost use Rattle.jc_history.specs.Samples.{pi_key, usual_shape};
@@ -23,6 +24,7 @@ ghost use Rattle.jc_bounds.specs.Histories.{HoldsBounds};
 ghost use Rattle.jc_bounds.specs.Kept.{IsShut};
 ghost use Rattle.jc_rest.specs.Lost.{AreLostWell};
 ghost use Rattle.jc_rest.specs.Stuck.{is_sure};
+ghost use Rattle.jc_lines.specs.Told.{AreEvents};
 ghost use Rattle.jc_promise.specs.Promises.{IsToldAlone, KeepsPromises, RestsWell, WaitsWell};
 ghost use Rattle.jc_promise.specs.SomeDeeds.{FindsEnd, MakesPod, SomeDeed, one_pod_deeds, waiting_deeds};
 ghost use Rattle.jc_promise.specs.Wrong.{pi_job};
@@ -32,7 +34,7 @@ ghost use Rattle.jc_promise.specs.WrongOutcomes.{early_fail_job, finalizer_vanis
 ghost use Rattle.jc_promise.specs.WrongSyncs.{false_conflict, forgotten_pod, old_caches, stuck_job, two_syncs, two_workers};
 
 use jc_bounds::one_controller_holds_the_bounds;
-use jc_report::lines_determine_histories;
+use jc_lines::lines_determine_histories;
 use jc_rest::{
     finalizers_are_lost_with_a_cause, no_ended_pod_is_forgotten_at_rest, no_job_is_stuck_at_rest,
 };
@@ -57,6 +59,17 @@ pub fn legal_histories_keep_the_promises()
     one_controller_holds_the_bounds();
     lines_determine_histories();
 }
+
+/// Of an orderly history of a script the numbers of all events are such as the code's types hold, where those of the
+/// script and the shape are: the seconds by which the clock passes of itself are those to a moment. So what is said of
+/// lines that tell such events holds of the lines of each orderly history.
+#[tactic(auto, using(crate::proofs::NumberFacts::events_fit))]
+pub fn orderly_histories_have_small_numbers()
+    ensures { (script : Script) (shape : Shape) (history : History)
+        → Each (λ (command : Command). command.lane < 2 ^ 8) script.commands
+        → shape.controllers ≤ 2 ^ 32 → shape.workers ≤ 2 ^ 32 → IsHistory script shape history
+        → IsOrderly shape (deeds script history) → AreEvents history.events.items }
+{}
 
 /// What is said of legal histories of one controller is said of something: in this one a pod is
 /// made, and its Job has ended before the last of its events.

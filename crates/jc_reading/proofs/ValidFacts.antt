@@ -4,7 +4,7 @@ use Rattle.std.specs.Result.{is_ok}
 use Rattle.jc_manifest.proofs.AcceptedFacts.{accepted_is_valid}
 use Rattle.jc_print.specs.PrintedSpecs.{spec_data}
 use Rattle.jc_states.specs.ValidActions.{IsValidAction}
-use Rattle.jc_states.specs.ValidSpecs.{IsValidSpec}
+use Rattle.jc_types.specs.ValidSpecs.{IsValidSpec}
 use Rattle.jc_script.specs.Ends.{ends_said, rightly_many}
 use Rattle.jc_types.specs.declared.actions.Action1.{Action1}
 use Rattle.jc_types.specs.declared.actions.Action1.TheVariants as act

@@ -2,7 +2,6 @@
 use Rattle.std.proofs.Common.{ℕ, ◌-◌, List, [], ◌∷◌, ◌++◌, nat_lt, true, false, Option}
 use Rattle.std.specs.Prelude.{if◌then◌else◌}
 use Rattle.std.specs.List.{AllByRecursion as Each}
-use Rattle.jc_types.specs.declared.actions.Action1.{Action1}
 use Rattle.jc_types.specs.declared.actions.Action1.TheVariants as act
 use Rattle.jc_types.specs.declared.actions.Command.{Command}
 use Rattle.jc_types.specs.declared.numbers.Uid.{Uid}
@@ -18,10 +17,10 @@ use Rattle.jc_reap.specs.Reaping.{clock_to, command, later_moment, mark_commands
 
 -- What holds of a mark, a clock and a delete holds of each command of a reaper but the settle at the end; what holds of
 -- a settle too holds of each.
-module _ (P : Action1 → Type 0) (mark : (u : Uid) → P (act.Mark u)) (clock : (n : ℕ) → P (act.Clock n))
-    (delete : (k : Key) → P (act.Delete k)) where
+module _ (P : Command → Type 0) (mark : (u : Uid) → P (command (act.Mark u))) (clock : (n : ℕ) → P (command (act.Clock n)))
+    (delete : (k : Key) → P (command (act.Delete k))) where
   abbrev pub Hold : List Command → Type 0
-  Hold commands = Each (λ (c : Command). P c.action) commands
+  Hold commands = Each P commands
 
   joined : (xs ys : List Command) → Hold xs → Hold ys → Hold (xs ++ ys)
   joined [] ys a b = b
@@ -55,7 +54,7 @@ module _ (P : Action1 → Type 0) (mark : (u : Uid) → P (act.Mark u)) (clock :
       let now = moment seen.shape (deeds_seen seen) in
       joined (mark_commands (ownerless log)) (removals log now rows) (of-marks (ownerless log)) (of-removals log now rows)
 
-  module _ (settle : P act.Settle) where
+  module _ (settle : P (command act.Settle)) where
     of-settled : (commands : List Command) → Hold commands → Hold (then_settle commands)
     of-settled [] all = tt
     of-settled (c ∷ commands) all = joined (c ∷ commands) (command act.Settle ∷ []) all (settle, tt)

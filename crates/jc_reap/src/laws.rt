@@ -16,7 +16,7 @@ ghost use Rattle.jc_log.specs.Log.{jobs_in};
 ghost use Rattle.jc_runs.specs.ValidActions.{IsValidAction};
 ghost use Rattle.jc_runs.specs.Legal.{IsLegal, IsOfShape};
 ghost use Rattle.jc_runs.specs.Play.{Playing, deeds_played, is_command, rest_played, whole_play};
-ghost use Rattle.jc_core.specs.Plays.{IsProper};
+ghost use Rattle.jc_machine.specs.Plays.{IsProper};
 ghost use Rattle.jc_runs.specs.Runs.{AllAskValid};
 ghost use Rattle.jc_runs.specs.Seen.{Seen, deeds_seen, log_seen};
 ghost use Rattle.jc_script.specs.Scripts.{BadLine, script_of};
@@ -29,13 +29,15 @@ ghost use Rattle.jc_reap.specs.TtlLines.{RefusesTtl, ttls_of};
 use jc_runs::{allowed_updates_stay_valid, valid_scripts_ask_valid};
 
 /// The commands that a reaper gives are valid, and name no controller and no worker that a shape does not have: so a
-/// script that can be played can be played with them behind it.
+/// script that can be played can be played with them behind it. They stand on lane 0.
 pub fn reaped_commands_fit()
     ensures valid { (seen : Seen) (ttls : List (Option ℕ))
         → Each (λ (command : Command). IsValidAction command.action) (reap_list seen ttls) }
     ensures within { (shape : Shape) (seen : Seen) (ttls : List (Option ℕ))
         → Each (λ (command : Command). IsOfShape shape (act_of_action command.action))
         (reap_list seen ttls) }
+    ensures lane { (seen : Seen) (ttls : List (Option ℕ))
+        → Each (λ (command : Command). command.lane ≡ 0) (reap_list seen ttls) }
 {}
 
 /// The list of the Jobs that may go is in order, by the moment and then by the key, and has exactly

@@ -16,7 +16,7 @@ use std::alloc::Global;
 
 // All commands but the settle at the end.
 fn unsettled(alloc: Global, cluster: &Cluster, ttls: &Ttls) -> Result<Commands, Want>
-    ensures { IfOk result (λ commands. commands ≡ unsettled cluster.now ttls.now) }
+    ensures { IfOk result (λ commands. commands ≡ unsettled cluster.now.seen ttls.now) }
 {
     let store = cluster.store();
     let script = cluster.script();
@@ -51,10 +51,10 @@ fn settle(commands: &mut Commands) -> Result<(), Want>
 /// # Errors
 /// `Want` where there is no memory.
 pub fn reap(alloc: Global, cluster: &Cluster, ttls: &Ttls) -> Result<Commands, Want>
-    requires rest { is_quiescent cluster.now.shape (deeds_seen cluster.now) (log_seen cluster.now)
-        ≡ true }
-    requires few { length ttls.now ≤ length cluster.now.script.commands }
-    ensures { IfOk result (λ commands. commands ≡ reap_list cluster.now ttls.now) }
+    requires rest { is_quiescent cluster.now.seen.shape (deeds_seen cluster.now.seen)
+        (log_seen cluster.now.seen) ≡ true }
+    requires few { length ttls.now ≤ length cluster.now.seen.script.commands }
+    ensures { IfOk result (λ commands. commands ≡ reap_list cluster.now.seen ttls.now) }
 {
     let mut commands = unsettled(alloc, cluster, ttls)?;
     settle(&mut commands)?;

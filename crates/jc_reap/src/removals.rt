@@ -5,8 +5,8 @@ ghost use Rattle.jc_reap.specs.Reaping.{clock_to, later_moment, removal, removal
 
 use crate::expiries::Expiry;
 use crate::marking::{give, mark_all};
+use jc_machine::Store;
 use jc_moment::Moment;
-use jc_store::Store;
 use jc_types::{Action1, Commands, Uid, Want};
 use std::collections::BTreeMap;
 

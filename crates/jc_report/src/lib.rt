@@ -1,10 +1,6 @@
-//! The report of a history: a line for each of its events, and what became of each Job. And what its
-//! lines determine.
+//! The report of a cluster, and its summary, as bytes that go out.
 #![tactic(auto)]
 
-mod jobs;
-mod laws;
 mod reports;
 
-pub use laws::lines_determine_histories;
-pub use reports::{report, summary, tail};
+pub use reports::{report, summary};

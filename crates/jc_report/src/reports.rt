@@ -1,123 +1,54 @@
-//! The report of a history, and its summary.
+//! The report of a cluster, and its summary, as bytes that go out.
 
-ghost use Rattle.std.specs.Prelude.{◌≡◌, ◌++◌, ◌<◌, ◌^◌, All, IfOk, OnOk};
-ghost use Rattle.std.specs.Prelude.{length, map, reverse, string_bytes};
-ghost use Rattle.jc_verdicts.specs.Verdicts.{IsNumbered, IsPlace};
-ghost use Rattle.jc_lines.specs.Events.{event_line, event_lines};
-ghost use Rattle.jc_log.specs.Deeds.{deed};
-ghost use Rattle.jc_log.specs.Log.{jobs_in};
-ghost use Rattle.jc_types.specs.declared.runs.Past.{Past};
-ghost use Rattle.jc_report.specs.Reports.{in_order, jobs_text as jobs_said, report_text, summary_of, verdicts_in};
+ghost use Rattle.std.specs.Prelude.{◌≡◌, IfOk, reverse};
+ghost use Rattle.jc_lines.specs.Reports.{report_text, summary_of};
+ghost use Rattle.jc_runs.specs.Seen.{log_seen};
 
-use crate::jobs::{in_order, jobs_text};
-use jc_lines::{print_full, print_summary, put_event};
-use jc_table::Table;
-use jc_types::{Entries, History, Job, Key, Past, Script, Want};
-use jc_verdicts::all_verdicts;
+use jc_core::Cluster;
+use jc_io::{Bytes, Want};
+use jc_lines::{report_of_parts, summary_of_parts};
 use std::alloc::Global;
 
-// The line of an event.
-fn print_past(
-    out: &mut String,
-    alloc: Global,
-    script: &Script,
-    number: u64,
-    past: &Past,
-) -> Result<(), Want>
-    requires { IsPlace script.now.commands past.now.event }
-    ensures { OnOk result (string_bytes out.new
-        ≡ string_bytes out.old ++ event_line number (deed script.now past.now)) }
-{
-    put_event(out, alloc, script, number, past)
-}
-
-// The lines of all events.
-fn events_text(alloc: Global, script: &Script, events: &[Past]) -> Result<String, Want>
-    requires { All (λ (past : Past). IsPlace script.now.commands past.event) events.now }
-    ensures { IfOk result (λ text. string_bytes text
-        ≡ event_lines 1 (map (deed script.now) events.now)) }
-{
-    let mut text = String::new(alloc);
-    for place in 0..events.len() {
-        print_past(&mut text, alloc, script, place as u64 + 1, &events[place])?;
-    }
-    Ok(text)
-}
-
-/// The two lines of each Job that is there after a history of the script, whose log and whose Jobs these
-/// are, in ascending key: what it has come to, and how many of its pods were judged. The log stands
-/// oldest first.
+/// The report of what happened to the cluster, in UTF-8. It has a line for each event, numbered from 1:
+/// its lane, what it did, and what it was answered. Then two lines for each Job that is there, in
+/// ascending key: its version and status, and on how many of its pods the writes of its status have
+/// given a verdict (KEP-2307). Where the history is `full`, as the caller knows, a line says so at last.
+/// Each line ends with a line feed.
 ///
 /// # Errors
 ///
 /// Want of memory.
-pub fn tail(
-    alloc: Global,
-    script: &Script,
-    history: &History,
-    log: &Entries,
-    jobs: &Table<Key, Job>,
-) -> Result<String, Want>
-    requires few { length log.now < 2 ^ 32 }
-    requires places { IsNumbered script.now history.now }
-    requires jobs { jobs.now ≡ jobs_in (reverse log.now) }
-    ensures { IfOk result (λ text. string_bytes text
-        ≡ jobs_said (verdicts_in script.now history.now.events.items (reverse log.now))
-        (in_order (jobs_in (reverse log.now)))) }
+#[tactic(auto, using(jc_lines::proofs::PlaceFacts::numbered))]
+pub fn report(alloc: Global, cluster: &Cluster, full: bool) -> Result<Bytes, Want>
+    ensures { IfOk result (λ bytes. bytes.items ≡ report_text cluster.now.seen.script
+        (reverse cluster.now.seen.pasts) (log_seen cluster.now.seen) full) }
 {
-    let rows = all_verdicts(alloc, script, history, log)?;
-    let list = in_order(alloc, jobs)?;
-    let text = jobs_text(alloc, &rows, list.as_slice())?;
-    Ok(text)
+    // (what the type keeps: the history is short, so its log is)
+    let _shape = cluster.shape();
+    let store = cluster.store();
+    let text = report_of_parts(
+        alloc,
+        cluster.script(),
+        cluster.history(),
+        store.log(),
+        store.jobs(),
+        full,
+    )?;
+    Ok(text.into_bytes())
 }
 
-/// The report of a history of the script, whose log and whose Jobs these are: a line for each event,
-/// then two for each Job in ascending key, what it has come to and how many of its pods were judged,
-/// and `full` at last where the history was full. The log stands oldest first. It takes one pass over
-/// the history for the lines, and one for all verdicts.
+/// The summary of what became of the cluster's Jobs, in UTF-8: how many there are, are complete and have
+/// failed (conditions of batch/v1), and how many pods their statuses have counted as succeeded and as
+/// failed. Where the history is `full`, as the caller knows, a line says so at last. Each line ends with
+/// a line feed.
 ///
 /// # Errors
 ///
 /// Want of memory.
-pub fn report(
-    alloc: Global,
-    script: &Script,
-    history: &History,
-    log: &Entries,
-    jobs: &Table<Key, Job>,
-    full: bool,
-) -> Result<String, Want>
-    requires few { length log.now < 2 ^ 32 }
-    requires places { IsNumbered script.now history.now }
-    requires jobs { jobs.now ≡ jobs_in (reverse log.now) }
-    ensures { IfOk result (λ text. string_bytes text
-        ≡ report_text script.now history.now.events.items (reverse log.now) full) }
+pub fn summary(alloc: Global, cluster: &Cluster, full: bool) -> Result<Bytes, Want>
+    ensures { IfOk result (λ bytes. bytes.items ≡ summary_of (log_seen cluster.now.seen) full) }
 {
-    let last = tail(alloc, script, history, log, jobs)?;
-    let mut text = events_text(alloc, script, history.events.as_slice())?;
-    text.push_str(last.as_str())?;
-    print_full(&mut text, full)?;
-    Ok(text)
-}
-
-/// The summary of a run whose log and whose Jobs these are: how many Jobs there are, are complete and
-/// have failed, how many pods they have counted, and `full` at last where the history was full. The log
-/// stands oldest first.
-///
-/// # Errors
-///
-/// Want of memory.
-pub fn summary(
-    alloc: Global,
-    log: &Entries,
-    jobs: &Table<Key, Job>,
-    full: bool,
-) -> Result<String, Want>
-    requires jobs { jobs.now ≡ jobs_in (reverse log.now) }
-    ensures { IfOk result (λ text. string_bytes text ≡ summary_of (reverse log.now) full) }
-{
-    let list = in_order(alloc, jobs)?;
-    let mut text = String::new(alloc);
-    print_summary(&mut text, alloc, list.as_slice(), full)?;
-    Ok(text)
+    let store = cluster.store();
+    let text = summary_of_parts(alloc, store.log(), store.jobs(), full)?;
+    Ok(text.into_bytes())
 }

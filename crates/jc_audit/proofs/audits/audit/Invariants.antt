@@ -4,7 +4,7 @@ use Rattle.jc_audit.proofs.audits.audit.Given as goal
 
 -- The lines in front of this place were taken.
 abbrev pub invariant-walking : goal.invariant-walking
-invariant-walking l = IsUnderWay l.fn.shape l.bytes l.at l.cluster
+invariant-walking l = IsUnderWay l.fn.shape l.bytes l.at l.machine
 
 -- How many bytes are left.
 abbrev pub decreases-walking : goal.decreases-walking

@@ -7,5 +7,5 @@ use Rattle.jc_audit.proofs.taking.last_text.Goals as goal
 pub put_event-requires : goal.put_event-requires
 put_event-requires c =
     subst (λ (s : Script). HasPlace s c.index-events-count.result.event) (sym c.script.ensures)
-    (newest_has_place c.args.cluster.now.script c.as_slice-events.result.now c.args.cluster.now.pasts c.index-events-count.result
+    (newest_has_place c.args.machine.now.script c.as_slice-events.result.now c.args.machine.now.pasts c.index-events-count.result
     (ap reverse c.as_slice-events.ensures ∙ c.history.ensures.events) c.index-events-count.is c.requires c.history.ensures.lanes)

@@ -1,11 +1,12 @@
 use Rattle.std.proofs.Common.{List, [], ◌∷◌, ◌++◌, ap, length, subst, sym, ◌∙◌}
 use Rattle.jc_log.specs.Acts as does
+use Rattle.jc_types.specs.declared.actions.Command.{Command}
 use Rattle.jc_log.specs.Deeds.{Deed}
 use Rattle.jc_log.specs.Writes.{Stored}
 use Rattle.jc_log.proofs.WriteFacts.{Stored-from_legal}
 use Rattle.jc_runs.specs.Play.{Playing, deeds_played, whole_play}
 use Rattle.jc_runs.specs.Replies.{log_given}
-use Rattle.jc_core.proofs.PlayFacts.{plays-whole}
+use Rattle.jc_machine.proofs.PlayFacts.{plays-whole}
 use Rattle.jc_runs.specs.Seen.{deeds_seen}
 use Rattle.jc_runs.proofs.LegalRuns.{legal_run}
 use Rattle.jc_reap.specs.Finds.{IsCollected, seen_at_end}
@@ -31,6 +32,6 @@ returns c = λ front shape ttls proper valid.
     let good = whole-good ttl shape start stored (does.Settle ∷ []) (λ past d is next. (tt, tt)) in
     subst (λ (q : Playing). IsCollected ttl shape start (deeds_played (of (front ++ more)) q)) (sym (whole-is front more shape))
     (plays-all ttl shape start (of (front ++ more)) (unsettled seen ttls) (length front) p
-    (of-unsettled IsPlain (λ u. tt) (λ n. tt) (λ k. tt) seen ttls) (get-behind front more) both.fresh (h.log_is ∙ ap (log_given shape) both.deeds)
+    (of-unsettled (λ (command : Command). IsPlain command.action) (λ u. tt) (λ n. tt) (λ k. tt) seen ttls) (get-behind front more) both.fresh (h.log_is ∙ ap (log_given shape) both.deeds)
     (subst (λ (deeds : List Deed). Good ttl shape deeds (acts_of (unsettled seen ttls) ++ does.Settle ∷ [])) both.deeds good)
     (subst (IsCollected ttl shape start) both.deeds (goes-nowhere ttl shape start)))

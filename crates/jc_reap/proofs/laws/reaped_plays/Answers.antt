@@ -1,5 +1,6 @@
 use Rattle.std.proofs.Common.{List, [], ◌∷◌, ◌++◌, ap, subst, ◌∙◌}
 use Rattle.jc_log.specs.Acts as does
+use Rattle.jc_types.specs.declared.actions.Command.{Command}
 use Rattle.jc_log.specs.Writes.{Stored}
 use Rattle.jc_log.proofs.WriteFacts.{Stored-from_legal}
 use Rattle.jc_runs.specs.Replies.{log_given}
@@ -21,6 +22,6 @@ returns c = λ script seen ttls place p same log_is valid legal stands fresh.
     let stored = subst Stored m.run.log_is (Stored-from_legal m.log m.run.syncs.tied.legal) in
     let good = whole-good ttl seen.shape start stored (does.Settle ∷ []) (λ past d is next. (tt, tt)) in
     plays-all ttl seen.shape start script (unsettled seen ttls) place p
-    (of-unsettled IsPlain (λ u. tt) (λ n. tt) (λ k. tt) seen ttls) stands fresh (log_is ∙ ap (log_given seen.shape) same)
+    (of-unsettled (λ (command : Command). IsPlain command.action) (λ u. tt) (λ n. tt) (λ k. tt) seen ttls) stands fresh (log_is ∙ ap (log_given seen.shape) same)
     (subst (λ (deeds : List Deed). Good ttl seen.shape deeds (acts_of (unsettled seen ttls) ++ does.Settle ∷ [])) same good)
     (subst (IsCollected ttl seen.shape start) same (goes-nowhere ttl seen.shape start))

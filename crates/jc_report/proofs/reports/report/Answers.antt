@@ -1,21 +1,18 @@
-use Rattle.std.proofs.Common.{◌≡◌, ◌∙◌, ap, List, ℕ, ◌++◌, map, string_bytes}
-use Rattle.jc_lines.specs.Events.{event_lines}
-use Rattle.jc_lines.specs.Summaries.{full_line}
+use Rattle.std.proofs.Common.{arith, ap, ◌∙◌, length}
+use Rattle.std.proofs.lemmas.List.{length-map, length-reverse}
 use Rattle.jc_log.specs.Deeds.{deed}
-use Rattle.jc_types.specs.declared.runs.Past.{Past}
-use Rattle.jc_report.proofs.Texts.{parts}
+use Rattle.jc_runs.specs.Seen.{deeds_seen}
+use Rattle.jc_runs.proofs.BackoffFacts.{log_short}
 use Rattle.jc_report.proofs.reports.report.Goals as goal
 
--- The lines of the events, those of the Jobs, and the last line.
-pub returns : goal.returns
-returns c =
-    let script = c.args.script.now in
-    let events : string_bytes c.in_ok-text.text ≡ event_lines 1 (map (deed script) c.args.history.now.events.items) =
-    c.in_ok-text.ensures ∙ ap (λ (l : List Past). event_lines 1 (map (deed script) l)) c.as_slice.ensures in
-    parts _ (string_bytes c.in_ok-last.last) _ _ _
-    (c.in_ok-print_full.ensures.line
-    ∙ ap (λ (l : List ℕ). l ++ full_line c.args.full)
-    (c.in_ok-push_str.ensures.bytes
-    ∙ ap (λ (l : List ℕ). string_bytes c.in_ok-text.text ++ l) c.as_str.ensures.value
-    ∙ ap (λ (l : List ℕ). l ++ string_bytes c.in_ok-last.last) events))
-    c.in_ok-last.ensures
+-- The log has at most one entry for each event, and the history is short.
+pub report_of_parts-requires-clause-few : goal.report_of_parts-requires-clause-few
+report_of_parts-requires-clause-few c =
+    let seen = c.args.cluster.now.seen in
+    let few = c.history.ensures.few in
+    let bound = c.shape-shape.ensures.bound in
+    let short = log_short seen.shape (deeds_seen seen) in
+    let deeds = length-map seen.pasts (deed seen.script) in
+    let same = ap length (c.log.ensures.entries ∙ c.store-store.ensures) in
+    let back = length-reverse c.log.result.now in
+    omega (arith, few, bound, short, deeds, same, back)

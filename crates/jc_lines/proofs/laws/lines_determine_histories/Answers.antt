@@ -1,5 +1,5 @@
-use Rattle.jc_report.proofs.Given.{given, histories_follow}
-use Rattle.jc_report.proofs.laws.lines_determine_histories.Goals as goal
+use Rattle.jc_lines.proofs.Given.{given, histories_follow}
+use Rattle.jc_lines.proofs.laws.lines_determine_histories.Goals as goal
 
 pub returns : goal.returns
 returns c = λ script shape h k legal other events others few same.

@@ -1,7 +1,7 @@
 use Rattle.std.proofs.Common.{rules, arith, ◌≡◌, ◌+◌, ◌++◌, ◌∷◌, [], take}
 use Rattle.std.proofs.lemmas.List.{take_more}
-use Rattle.jc_report.proofs.Texts.{events-more}
-use Rattle.jc_report.proofs.reports.events_text.Goals as goal
+use Rattle.jc_lines.proofs.Texts.{events-more}
+use Rattle.jc_lines.proofs.reports.events_text.Goals as goal
 
 -- The line of one more event.
 pub loop-place-preserved : goal.loop-place-preserved

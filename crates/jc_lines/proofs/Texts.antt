@@ -15,7 +15,7 @@ use Rattle.jc_types.specs.declared.objects.Key.{Key}
 use Rattle.jc_types.specs.declared.runs.Event.{Event}
 use Rattle.jc_types.specs.declared.runs.Event.TheVariants as event
 use Rattle.jc_types.specs.declared.runs.Past.{Past}
-use Rattle.jc_report.specs.Reports.{by_key, job_lines, jobs_text, lines_with}
+use Rattle.jc_lines.specs.Reports.{by_key, job_lines, jobs_text, lines_with}
 
 -- ---- events
 

@@ -1,8 +1,8 @@
 use Rattle.std.proofs.Common.{arith, ◌+◌, ◌++◌, ◌∷◌, [], take, ap, sym, ◌∙◌}
 use Rattle.std.proofs.lemmas.List.{take_more}
 use Rattle.jc_verdicts.specs.Books.{verdicts_at}
-use Rattle.jc_report.proofs.Texts.{jobs-more}
-use Rattle.jc_report.proofs.jobs.jobs_text.Goals as goal
+use Rattle.jc_lines.proofs.Texts.{jobs-more}
+use Rattle.jc_lines.proofs.job_lists.jobs_text.Goals as goal
 
 -- The two lines of one more Job.
 pub loop-job-preserved : goal.loop-job-preserved

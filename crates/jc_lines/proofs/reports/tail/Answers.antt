@@ -3,9 +3,9 @@ use Rattle.jc_verdicts.specs.Books.{verdicts_at}
 use Rattle.jc_ledger.specs.declared.counts.Verdicts.{Verdicts}
 use Rattle.jc_log.specs.Log.{jobs_in}
 use Rattle.jc_types.specs.declared.numbers.Uid.{Uid}
-use Rattle.jc_report.specs.Reports.{in_order, jobs_text, verdicts_in}
-use Rattle.jc_report.proofs.Texts.{jobs_text-same}
-use Rattle.jc_report.proofs.reports.tail.Goals as goal
+use Rattle.jc_lines.specs.Reports.{in_order, jobs_text, verdicts_in}
+use Rattle.jc_lines.proofs.Texts.{jobs_text-same}
+use Rattle.jc_lines.proofs.reports.tail.Goals as goal
 
 -- The lines of the Jobs by their verdicts.
 pub returns : goal.returns

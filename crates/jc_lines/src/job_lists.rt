@@ -4,10 +4,11 @@ ghost use Rattle.std.specs.Prelude.{◌≡◌, ◌++◌, IfOk, OnOk, string_byte
 ghost use Rattle.std.specs.BTreeMap.{insert_entry};
 ghost use Rattle.jc_verdicts.specs.Books.{verdicts_at};
 ghost use Rattle.jc_queue.specs.Delayed.{key_order};
-ghost use Rattle.jc_report.specs.Reports.{by_key, in_order, job_lines, jobs_text};
+ghost use Rattle.jc_lines.specs.Reports.{by_key, in_order, job_lines, jobs_text};
 
+use crate::jobs::print_job;
+use crate::summaries::print_verdicts;
 use jc_ledger::Verdicts;
-use jc_lines::{print_job, print_verdicts};
 use jc_table::Table;
 use jc_types::{Copied, Job, Jobs, Key, Uid, Want};
 use std::alloc::Global;

@@ -1,2 +1,0 @@
-mod Given
-pub mod Texts
