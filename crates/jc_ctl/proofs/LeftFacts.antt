@@ -1,6 +1,6 @@
 -- What is printed of a cluster that a run on threads has left.
 use Rattle.std.proofs.Common.{◌≡◌, ℕ, ◌≤◌, Bool, true, false, List, length, reverse, Result, Ok, Err, ap, subst, sym, ◌∙◌, arith}
-use Rattle.std.specs.Prelude.{IfOk, string_bytes}
+use Rattle.std.specs.Prelude.{IfOk}
 use Rattle.std.proofs.lemmas.List.{length-reverse, reverse-reverse}
 use Rattle.jc_types.specs.declared.actions.Script.{Script}
 use Rattle.jc_types.specs.declared.runs.History.{History}
@@ -14,9 +14,10 @@ use Rattle.jc_promise.specs.Seen.{Seen, deeds_in, deeds_seen, log_seen}
 use Rattle.jc_promise.specs.Promises.{KeepsPromises}
 use Rattle.jc_promise.proofs.DeedFacts.{deeds-are}
 use Rattle.jc_report.specs.Reports.{report_text}
+use Rattle.jc_report.specs.Told.{AreEvents}
 use Rattle.jc_shared.specs.Runs.{IsLeft, IsWhole}
-use Rattle.jc_ctl.specs.declared.orders.Output.{Output}
-use Rattle.jc_ctl.specs.Told.{IsReport}
+use Rattle.jc_single.specs.declared.orders.Output.{Output}
+use Rattle.jc_single.specs.Told.{IsReport}
 
 module _ (seen : Seen) (h : History) (events : reverse h.events.items ≡ seen.pasts) where
   -- The deeds are those of the history.
@@ -27,17 +28,18 @@ module _ (seen : Seen) (h : History) (events : reverse h.events.items ≡ seen.p
   items-are = ap (λ (l : List Past). reverse l) (sym events) ∙ reverse-reverse h.events.items
 
   pub is_report : (threads : ℕ) (full : Bool) (text : List ℕ) → IsHistory seen.script seen.shape h
-      → KeepsPromises seen.script seen.shape h → text ≡ report_text seen.script (reverse seen.pasts) (log_seen seen) full
+      → KeepsPromises seen.script seen.shape h → (IsOrderly seen.shape (deeds seen.script h) → AreEvents h.events.items) → text ≡ report_text seen.script (reverse seen.pasts) (log_seen seen) full
       → IsOrderly seen.shape (deeds_seen seen) → (full ≡ false → IsWhole seen)
       → (full ≡ true → length seen.pasts ≡ seen.shape.events) → (full ≡ true → ¬ IsWhole seen)
       → IsReport threads seen.script seen.shape full text
-  is_report threads full text legal keeps is orderly whole filled to_come = record {
+  is_report threads full text legal keeps numbers is orderly whole filled to_come = record {
     history = h;
     text_is = is ∙ ap (λ l. report_text seen.script l (log_seen seen) full) items-are
         ∙ ap (λ ds. report_text seen.script h.events.items (log_given seen.shape ds) full) same-deeds;
     legal = legal;
     orderly = subst (λ ds. IsOrderly seen.shape ds) same-deeds orderly;
     keeps = keeps;
+    events = numbers (subst (λ ds. IsOrderly seen.shape ds) same-deeds orderly);
     used = λ e. subst (λ l. AreUsed seen.script.commands l) (sym events) (whole e).used;
     rests = λ e ends. subst (λ ds. is_quiescent seen.shape ds (log_given seen.shape ds) ≡ true) same-deeds (whole e).rests;
     filled = λ e. let count = filled e in let same = ap (λ (l : List Past). length l) events in let back = length-reverse h.events.items in omega (arith, count, same, back);
@@ -50,10 +52,10 @@ module _ (seen : Seen) (h : History) (events : reverse h.events.items ≡ seen.p
 -- The report of a cluster that was left is one of the script and the shape that were given.
 pub report_of : {E : Type 0} (r : Result Output E) (threads : ℕ) (script : Script) (shape : Shape) (seen : Seen) (full : Bool)
     → IsLeft script shape seen → 1 ≤ threads → IfOk r (λ output. output.full ≡ full)
-    → IfOk r (λ output. (n : ℕ) → 1 ≤ n → IsReport n seen.script seen.shape full (string_bytes output.text))
-    → IfOk r (λ output. IsReport threads script shape output.full (string_bytes output.text))
+    → IfOk r (λ output. (n : ℕ) → 1 ≤ n → IsReport n seen.script seen.shape full output.text.items)
+    → IfOk r (λ output. IsReport threads script shape output.full output.text.items)
 report_of (Err e) threads script shape seen full left some same report = tt
 report_of (Ok output) threads script shape seen full left some same report =
-    subst (λ s. IsReport threads s shape output.full (string_bytes output.text)) left.script_is
-    (subst (λ s. IsReport threads seen.script s output.full (string_bytes output.text)) left.shape_is
-    (subst (λ f. IsReport threads seen.script seen.shape f (string_bytes output.text)) (sym same) (report threads some)))
+    subst (λ s. IsReport threads s shape output.full output.text.items) left.script_is
+    (subst (λ s. IsReport threads seen.script s output.full output.text.items) left.shape_is
+    (subst (λ f. IsReport threads seen.script seen.shape f output.text.items) (sym same) (report threads some)))

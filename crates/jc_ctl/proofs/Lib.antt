@@ -1,7 +1,2 @@
-mod PrintFacts
-mod ShapeFacts
-mod WholeFacts
-mod RunFacts
-mod LeftFacts
 mod AskedFacts
-mod ReapFacts
+mod LeftFacts

@@ -15,10 +15,11 @@ use Rattle.jc_audit.specs.Reported.{IsReported}
 use Rattle.jc_audit.specs.declared.verdicts.Verdict.{Verdict}
 use Rattle.jc_audit.specs.declared.verdicts.Verdict.TheVariants.{Yes, No}
 use Rattle.jc_promise.specs.Promises.{KeepsPromises}
+use Rattle.jc_report.specs.Told.{AreEvents}
 use Rattle.jc_words.specs.declared.words.Order.{Order}
 use Rattle.jc_words.specs.declared.words.Order.TheVariants as order
-use Rattle.jc_ctl.specs.declared.status.Status.{Status}
-use Rattle.jc_ctl.specs.declared.status.Status.TheVariants as status
+use Rattle.jc_single.specs.declared.status.Status.{Status}
+use Rattle.jc_single.specs.declared.status.Status.TheVariants as status
 
 -- What is written of a verdict.
 abbrev pub verdict_text : Verdict → List ℕ
@@ -52,7 +53,9 @@ pub record TellsVerdictFront (shape : Shape) (input : List ℕ) (old new : Optio
   pub says : VerdictHolds shape input verdict
   pub front : AppendsFront old new (verdict_text verdict)
 
--- The input is the report of a legal and orderly history, of which all promises hold.
+-- The input is the report of a legal and orderly history, of which all promises hold. The numbers of its events are such
+-- as the code's types hold.
 pub record IsPromised (shape : Shape) (input : List ℕ) : Type 0 where
   pub reported : IsReported shape input
   pub keeps : KeepsPromises reported.script shape reported.history
+  pub events : AreEvents reported.history.events.items

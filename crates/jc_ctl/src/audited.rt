@@ -10,10 +10,9 @@ ghost use Rattle.jc_audit.specs.declared.verdicts.Verdict.TheVariants.{No, Yes};
 ghost use Rattle.jc_words.specs.Fits.{IsFitShape};
 ghost use Rattle.jc_ctl.specs.Audited.{IsAudited, TellsVerdict, TellsVerdictFront, verdict_status, verdict_text};
 
-use crate::run::MOST_BYTES;
-use crate::status::Status;
 use jc_audit::{Verdict, audit};
 use jc_io::{ReadEnd, Sink, Source, WriteFault, read_all, write_all};
+use jc_single::{MOST_BYTES, Status};
 use jc_types::{Shape, Want};
 use std::alloc::Global;
 

@@ -3,19 +3,14 @@
 
 mod audited;
 mod laws;
-mod orders;
-mod plays;
-mod reaps;
 mod run;
-mod status;
-mod texts;
 mod threaded;
 
 pub use audited::run_audit;
 pub use jc_shared::{FreeGate, Gate};
-pub use laws::{
-    audited_reports_keep_the_promises, plays_tell_their_history, reapers_collect_what_is_due,
+pub use jc_single::{
+    Status, plays_tell_their_history, reapers_collect_what_is_due, run_single,
     runs_tell_their_history,
 };
-pub use run::{is_single, run_program, run_single};
-pub use status::Status;
+pub use laws::audited_reports_keep_the_promises;
+pub use run::{is_single, run_program};

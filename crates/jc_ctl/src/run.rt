@@ -1,13 +1,13 @@
-//! The top calls: they read, play and write.
+//! The top call: it reads, plays and writes, on one thread or on several.
 
-ghost use Rattle.std.specs.Prelude.{◌≡◌, ◌≢◌, ◌<◌, ◌≤◌, ◌+◌, ◌↔◌, ◌⊎◌, Err, IfOk, IfSome, IsErrOf, IsOkAnd, IsTrue, List, None, Ok, OnErr, Option, Some, false, if◌then◌else◌, length, map, string_bytes, true, vec_len, ℕ};
+ghost use Rattle.std.specs.Prelude.{◌≡◌, ◌≢◌, ◌<◌, ◌≤◌, ◌+◌, ◌↔◌, ◌⊎◌, Err, IfSome, IsOkAnd, IsTrue, List, [], None, Ok, Option, Some, false, length, map, string_bytes, true, ℕ};
 ghost use Rattle.std.specs.Io.KnownBytes.{Appends, Keeps};
 ghost use Rattle.jc_io.specs.Faults.{Rose};
 ghost use Rattle.jc_io.specs.Moved.{AppendsFront, TakesAtMost, TakesCount};
 ghost use Rattle.jc_types.specs.declared.runs.Shape.{Shape};
 ghost use Rattle.jc_types.specs.declared.actions.Command.{Command};
 ghost use Rattle.jc_reap.specs.TtlLines.{ttls_of};
-ghost use Rattle.jc_script.specs.Scripts.{most_bytes, script_of};
+ghost use Rattle.jc_script.specs.Scripts.{BadLine, most_bytes, script_of};
 ghost use Rattle.jc_script.specs.Cause.{Cause};
 ghost use Rattle.jc_words.specs.Words.{order_of};
 ghost use Rattle.jc_words.specs.declared.words.LockKind.{LockKind};
@@ -15,158 +15,22 @@ ghost use Rattle.jc_words.specs.declared.words.Order.{Order};
 ghost use Rattle.jc_words.specs.declared.words.Order.TheVariants.{Audit, Generate, Reap, Run};
 ghost use Rattle.jc_audit.specs.declared.verdicts.Verdict.TheVariants.{No, Yes};
 ghost use Rattle.jc_ctl.specs.Audited.{IsAudited, IsPromised, OfAudit, TellsVerdict, TellsVerdictFront};
-ghost use Rattle.jc_ctl.specs.Played.{CollectsDue, at_rest, script_played, staging_of};
-ghost use Rattle.jc_ctl.specs.Runs.{HasThreads, IsSingle, MayEnd, OfInput, answer_of, order_asked, status_of};
-ghost use Rattle.jc_ctl.specs.Told.{TellsFront, TellsHistory, ends_full};
+ghost use Rattle.jc_single.specs.Played.{CollectsDue, at_rest, script_played, staging_of};
+ghost use Rattle.jc_ctl.specs.Asked.{HasThreads, order_asked};
+ghost use Rattle.jc_single.specs.Runs.{EndsUnread, IsSingle, MayEnd, OfInput, answer_of, status_of};
+ghost use Rattle.jc_single.specs.Told.{TellsFront, TellsHistory, ends_full};
 
 use crate::audited::run_audit;
-use crate::laws::{
-    audited_reports_keep_the_promises, reapers_collect_what_is_due, runs_tell_their_history,
-};
-use crate::orders::answer;
-use crate::status::Status;
+use crate::laws::audited_reports_keep_the_promises;
 use crate::threaded::run_threaded;
-use jc_io::{Bytes, ReadEnd, Sink, Source, WriteFault, read_all, write_all};
-use jc_script::ScriptFault;
+use jc_io::{Sink, Source};
 use jc_shared::Gate;
+use jc_single::{Status, reapers_collect_what_is_due, run_single};
 use jc_types::Shape;
 use jc_words::{LockKind, Order, orders_fit, read_words};
 use std::alloc::Global;
 use std::sync::Wait;
 use std::thread::Threads;
-
-// A script has at most this many bytes.
-pub(crate) const MOST_BYTES: u64 = 67_108_864;
-
-// Reads all that the order needs: the whole source for a script or a report, and nothing for a generated one.
-fn read_input<S: Source>(alloc: Global, order: &Order, source: &mut S) -> Result<Bytes, ReadEnd>
-    ensures all { IfOk result
-        (λ bytes. OfInput order.now (S.left source.old) (λ input. input ≡ bytes.items)) }
-    ensures within { IfOk result (λ bytes. vec_len bytes ≤ most_bytes) }
-    ensures generates { (number jobs pods : ℕ) → order.now ≡ Generate number jobs pods
-        → Keeps (S.left source.old) (S.left source.new) }
-    ensures never_fails { (number jobs pods : ℕ) → order.now ≡ Generate number jobs pods
-        → OnErr result ⊥ }
-    ensures fault { IsErrOf result ReadEnd.ReadFault
-        → Rose (S.faults source.old) (S.faults source.new) }
-    ensures too_long { IsErrOf result ReadEnd.TooLong
-        → TakesCount (S.left source.old) (S.left source.new) (most_bytes + 1) }
-    ensures not_too_long { result ≢ Err ReadEnd.TooLong
-        → TakesAtMost (S.left source.old) (S.left source.new) most_bytes }
-{
-    match order {
-        Order::Run { .. } | Order::Reap { .. } | Order::Audit { .. } => {
-            read_all(alloc, source, MOST_BYTES)
-        }
-        Order::Generate { .. } => Ok(Vec::new(alloc)),
-    }
-}
-
-// The status of a run that has written all.
-pub(crate) fn ended(full: bool) -> Status
-    ensures { result ≡ (if full then Status.HistoryFull else Status.Ok) }
-{
-    if full {
-        return Status::HistoryFull;
-    }
-    Status::Ok
-}
-
-/// Does what the words ask for, where they ask for no threads and no audit: it waits for nobody. `words` are those after
-/// the program's name. It is `run_program` for such words, which says more of it.
-pub fn run_single<S: Source, K: Sink>(
-    alloc: Global,
-    words: &[String],
-    source: &mut S,
-    sink: &mut K,
-) -> Status
-    requires { (order : Order) → order_of (map string_bytes words.now) ≡ Some order → IsSingle order }
-    // With Ok the whole text was written: what the words ask for, of what the source had.
-    ensures ok { result ≡ Status.Ok → IfSome (order_of (map string_bytes words.now)) (λ order.
-        OfInput order (S.left source.old) (λ input. IsOkAnd (answer_of order input)
-        (λ printed. (printed.full ≡ false) × Appends (K.held sink.old) (K.held sink.new) printed.text))) }
-    ensures history_full { result ≡ Status.HistoryFull → IfSome (order_of (map string_bytes words.now))
-        (λ order. OfInput order (S.left source.old) (λ input. IsOkAnd (answer_of order input)
-        (λ printed. (printed.full ≡ true) × Appends (K.held sink.old) (K.held sink.new) printed.text))) }
-    // The headline.
-    ensures headline { (result ≡ Status.Ok) ⊎ (result ≡ Status.HistoryFull)
-        → (order : Order) → order_of (map string_bytes words.now) ≡ Some order
-        → IfSome (staging_of order) (λ staging. IfSome (S.left source.old) (λ input.
-        IsOkAnd (script_played order input) (λ script.
-        TellsHistory staging.threads script staging.shape (ends_full result)
-        (K.held sink.old) (K.held sink.new)))) }
-    // The same where the sink failed: what went out is the front of such a report.
-    ensures headline_front { result ≡ Status.WriteFault
-        → (order : Order) → order_of (map string_bytes words.now) ≡ Some order
-        → IfSome (staging_of order) (λ staging. IfSome (S.left source.old) (λ input.
-        IsOkAnd (script_played order input) (λ script.
-        TellsFront staging.threads script staging.shape (K.held sink.old) (K.held sink.new)))) }
-    // What a reaper's commands have found: Jobs whose time was over, and pods whose Job was gone.
-    ensures collected { (shape : Shape) (input : List ℕ) (commands : List Command)
-        (ttls : List (Option ℕ)) → order_of (map string_bytes words.now) ≡ Some (Reap shape)
-        → S.left source.old ≡ Some input → script_of shape input ≡ Ok commands
-        → ttls_of shape input ≡ Ok ttls → CollectsDue (at_rest commands) shape ttls }
-    ensures bad_words { (result ≡ Status.BadWords) ↔ (order_of (map string_bytes words.now) ≡ None) }
-    ensures nothing_read { result ≡ Status.BadWords → Keeps (S.left source.old) (S.left source.new) }
-    // A generated script needs no source.
-    ensures generates { (number jobs pods : ℕ)
-        → order_of (map string_bytes words.now) ≡ Some (Generate number jobs pods)
-        → Keeps (S.left source.old) (S.left source.new) }
-    ensures read_fault { result ≡ Status.ReadFault → Rose (S.faults source.old) (S.faults source.new) }
-    ensures write_fault { result ≡ Status.WriteFault → Rose (K.faults sink.old) (K.faults sink.new) }
-    ensures bad_script { (line : ℕ) (cause : Cause) → result ≡ Status.BadScript line cause
-        → IfSome (order_of (map string_bytes words.now)) (λ order. OfInput order (S.left source.old)
-        (λ input. answer_of order input ≡ Err (record { number = line; cause = cause }))) }
-    ensures too_long { result ≡ Status.TooLong
-        → TakesCount (S.left source.old) (S.left source.new) (most_bytes + 1) }
-    // TooLong takes one byte more than a script may have, and no other end takes so many.
-    ensures not_too_long { result ≢ Status.TooLong
-        → TakesAtMost (S.left source.old) (S.left source.new) most_bytes }
-    ensures no_audit { (line : ℕ) → result ≢ Status.AuditNo line }
-    ensures nothing_written { result ≢ Status.Ok → result ≢ Status.HistoryFull → result ≢ Status.WriteFault
-        → Keeps (K.held sink.old) (K.held sink.new) }
-    ensures front { result ≡ Status.WriteFault → IfSome (order_of (map string_bytes words.now)) (λ order.
-        OfInput order (S.left source.old) (λ input. IsOkAnd (answer_of order input)
-        (λ printed. AppendsFront (K.held sink.old) (K.held sink.new) printed.text))) }
-    // Words in the grammar, an input that is not too long and no fault give what was asked for, or want of memory.
-    ensures complete { (order : Order) → order_of (map string_bytes words.now) ≡ Some order
-        → ¬ Rose (S.faults source.old) (S.faults source.new) → ¬ Rose (K.faults sink.old) (K.faults sink.new)
-        → OfInput order (S.left source.old) (λ input. length input ≤ most_bytes
-        → (result ≡ status_of (answer_of order input)) ⊎ (result ≡ Status.Want)) }
-    // The same of a longer input.
-    ensures complete_too_long { (order : Order) → order_of (map string_bytes words.now) ≡ Some order
-        → ¬ Rose (S.faults source.old) (S.faults source.new)
-        → OfInput order (S.left source.old) (λ input. most_bytes < length input
-        → (result ≡ Status.TooLong) ⊎ (result ≡ Status.Want)) }
-{
-    orders_fit();
-    reapers_collect_what_is_due();
-    runs_tell_their_history();
-    let order = match read_words(words) {
-        Some(order) => order,
-        None => return Status::BadWords,
-    };
-    let input = match read_input(alloc, &order, source) {
-        Ok(bytes) => bytes,
-        Err(ReadEnd::ReadFault) => return Status::ReadFault,
-        Err(ReadEnd::TooLong) => return Status::TooLong,
-        Err(ReadEnd::Want) => return Status::Want,
-    };
-    let output = match answer(alloc, &order, &input) {
-        Ok(output) => output,
-        Err(ScriptFault::BadLine { number, cause }) => {
-            return Status::BadScript {
-                line: number,
-                cause,
-            };
-        }
-        Err(ScriptFault::Want) => return Status::Want,
-    };
-    match write_all(sink, output.text.as_bytes()) {
-        Ok(()) => ended(output.full),
-        Err(WriteFault) => Status::WriteFault,
-    }
-}
 
 // What is asked for that `run_single` does not do.
 #[derive(Clone, Copy)]
@@ -277,6 +141,9 @@ pub fn run_program<R: Threads + Wait + Sync, S: Source, K: Sink, G: Gate + Sync>
     ensures generates { (number jobs pods : ℕ)
         → order_of (map string_bytes words.now) ≡ Some (Generate number jobs pods)
         → Keeps (S.left source.old) (S.left source.new) }
+    // So no read of it fails, nothing is too long and no script is bad, whatever the source is.
+    ensures generates_only { (number jobs pods : ℕ)
+        → order_of (map string_bytes words.now) ≡ Some (Generate number jobs pods) → EndsUnread result }
     ensures read_fault { result ≡ Status.ReadFault → Rose (S.faults source.old) (S.faults source.new) }
     ensures write_fault { result ≡ Status.WriteFault → Rose (K.faults sink.old) (K.faults sink.new) }
     ensures bad_script { (line : ℕ) (cause : Cause) → result ≡ Status.BadScript line cause
@@ -326,7 +193,18 @@ pub fn run_program<R: Threads + Wait + Sync, S: Source, K: Sink, G: Gate + Sync>
         → ¬ Rose (S.faults source.old) (S.faults source.new) → ¬ Rose (K.faults sink.old) (K.faults sink.new)
         → IfSome (S.left source.old) (λ input. length input ≤ most_bytes
         → MayEnd (script_of shape input) result ⊎ (result ≡ Status.Want)) }
-    // The same of a longer input.
+    // Of a generated script nothing is asked of the source.
+    ensures complete_generated { (number jobs pods : ℕ)
+        → order_of (map string_bytes words.now) ≡ Some (Generate number jobs pods)
+        → ¬ Rose (K.faults sink.old) (K.faults sink.new)
+        → (result ≡ status_of (answer_of (Generate number jobs pods) [])) ⊎ (result ≡ Status.Want) }
+    // Of a bad script nothing is asked of the sink.
+    ensures complete_bad_script { (order : Order) → order_of (map string_bytes words.now) ≡ Some order
+        → ¬ Rose (S.faults source.old) (S.faults source.new)
+        → OfInput order (S.left source.old) (λ input. length input ≤ most_bytes
+        → (bad : BadLine) → answer_of order input ≡ Err bad
+        → (result ≡ Status.BadScript bad.number bad.cause) ⊎ (result ≡ Status.Want)) }
+    // A longer input is too long, or there is want of memory.
     ensures complete_too_long { (order : Order) → order_of (map string_bytes words.now) ≡ Some order
         → ¬ Rose (S.faults source.old) (S.faults source.new)
         → OfInput order (S.left source.old) (λ input. most_bytes < length input

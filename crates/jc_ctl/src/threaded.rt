@@ -1,6 +1,6 @@
 //! A run on threads: its script is read, played by the seats, and written.
 
-ghost use Rattle.std.specs.Prelude.{◌≡◌, ◌≢◌, ◌<◌, ◌≤◌, ◌+◌, ◌^◌, ◌⊎◌, Err, IfOk, IfSome, IsErrOf, IsOkAnd, false, length, string_bytes, true, ℕ};
+ghost use Rattle.std.specs.Prelude.{◌≡◌, ◌≢◌, ◌<◌, ◌≤◌, ◌+◌, ◌^◌, ◌⊎◌, Err, IfOk, IfSome, IsErrOf, IsOkAnd, false, length, true, ℕ};
 ghost use Rattle.std.specs.List.{AllByRecursion as Each};
 ghost use Rattle.std.specs.Io.KnownBytes.{Keeps};
 ghost use Rattle.jc_io.specs.Faults.{Rose};
@@ -9,23 +9,22 @@ ghost use Rattle.jc_types.specs.declared.actions.Command.{Command};
 ghost use Rattle.jc_promise.specs.ValidActions.{IsValidAction};
 ghost use Rattle.jc_promise.specs.Available.{IsOrderly};
 ghost use Rattle.jc_promise.specs.Plays.{IsProper};
-ghost use Rattle.jc_promise.specs.Seen.{Seen, deeds_seen};
+ghost use Rattle.jc_promise.specs.Seen.{deeds_seen};
 ghost use Rattle.jc_shared.specs.Runs.{IsLeft, IsWhole};
+ghost use Rattle.jc_shared.specs.Shared.{Shared};
 ghost use Rattle.jc_shared.specs.declared.threads.ThreadsFault.{ThreadsFault};
-ghost use Rattle.jc_script.specs.Scripts.{most_bytes, script_of};
+ghost use Rattle.jc_script.specs.Scripts.{BadLine, most_bytes, script_of};
 ghost use Rattle.jc_script.specs.Cause.{Cause};
 ghost use Rattle.jc_words.specs.Fits.{IsFitShape};
-ghost use Rattle.jc_ctl.specs.Runs.{MayEnd};
-ghost use Rattle.jc_ctl.specs.Told.{IsReport, TellsFront, TellsHistory, ends_full};
+ghost use Rattle.jc_single.specs.Runs.{MayEnd};
+ghost use Rattle.jc_single.specs.Told.{IsReport, TellsFront, TellsHistory, ends_full};
 
-use crate::orders::Output;
-use crate::run::{MOST_BYTES, ended};
-use crate::status::Status;
-use crate::texts::report_text;
 use jc_io::{ReadEnd, Sink, Source, WriteFault, read_all, write_all};
-use jc_promise::legal_histories_keep_the_promises;
+use jc_promise::{legal_histories_keep_the_promises, orderly_histories_have_small_numbers};
+use jc_report::report;
 use jc_script::{ScriptFault, read_script, scripts_fit_their_shape};
 use jc_shared::{Cluster, Gate, ThreadsFault, run_threads, run_turn};
+use jc_single::{MOST_BYTES, Output, Status, ended};
 use jc_types::{Script, Shape, Want};
 use jc_words::LockKind;
 use std::alloc::{AllocError, Global};
@@ -35,21 +34,28 @@ use std::thread::Threads;
 // What is printed of a cluster that a run on threads has left.
 fn told(alloc: Global, cluster: &Cluster, full: bool) -> Result<Output, Want>
     requires fine { Each (λ (command : Command). IsValidAction command.action)
-        cluster.now.script.commands }
-    requires some_controllers { 0 < cluster.now.shape.controllers }
-    requires some_workers { 0 < cluster.now.shape.workers }
-    requires bound { cluster.now.shape.events ≤ 200000 }
-    requires orderly { IsOrderly cluster.now.shape (deeds_seen cluster.now) }
-    requires whole { full ≡ false → IsWhole cluster.now }
-    requires filled { full ≡ true → length cluster.now.pasts ≡ cluster.now.shape.events }
-    requires to_come { full ≡ true → ¬ IsWhole cluster.now }
+        cluster.now.seen.script.commands }
+    requires some_controllers { 0 < cluster.now.seen.shape.controllers }
+    requires some_workers { 0 < cluster.now.seen.shape.workers }
+    requires bound { cluster.now.seen.shape.events ≤ 200000 }
+    requires lanes { Each (λ (command : Command). command.lane < 2 ^ 8)
+        cluster.now.seen.script.commands }
+    requires few_controllers { cluster.now.seen.shape.controllers ≤ 4 }
+    requires few_workers { cluster.now.seen.shape.workers ≤ 16 }
+    requires orderly { IsOrderly cluster.now.seen.shape (deeds_seen cluster.now.seen) }
+    requires whole { full ≡ false → IsWhole cluster.now.seen }
+    requires filled { full ≡ true
+        → length cluster.now.seen.pasts ≡ cluster.now.seen.shape.events }
+    requires to_come { full ≡ true → ¬ IsWhole cluster.now.seen }
     ensures full { IfOk result (λ output. output.full ≡ full) }
     ensures report { IfOk result (λ output. (threads : ℕ) → 1 ≤ threads
-        → IsReport threads cluster.now.script cluster.now.shape full (string_bytes output.text)) }
+        → IsReport threads cluster.now.seen.script cluster.now.seen.shape full
+        output.text.items) }
 {
     legal_histories_keep_the_promises();
+    orderly_histories_have_small_numbers();
     let _history = cluster.history();
-    let text = report_text(alloc, cluster, full)?;
+    let text = report(alloc, cluster, full)?;
     Ok(Output { text, full })
 }
 
@@ -71,13 +77,14 @@ fn run_by<R: Threads + Wait + Sync, G: Gate + Sync>(
     requires proper { IsProper script.now shape.now }
     requires fits { length script.now.commands < 2 ^ 32 }
     requires bound { shape.now.events ≤ 200000 }
-    ensures left { IfOk result (λ cluster. IsLeft script.now shape.now cluster) }
-    ensures whole { IfOk result (λ cluster. IsWhole cluster) }
-    ensures full { (seen : Seen) → IsErrOf result (ThreadsFault.Full seen)
-        → IsLeft script.now shape.now seen }
-    ensures filled { (seen : Seen) → IsErrOf result (ThreadsFault.Full seen)
-        → length seen.pasts ≡ shape.now.events }
-    ensures to_come { (seen : Seen) → IsErrOf result (ThreadsFault.Full seen) → ¬ IsWhole seen }
+    ensures left { IfOk result (λ cluster. IsLeft script.now shape.now cluster.seen) }
+    ensures whole { IfOk result (λ cluster. IsWhole cluster.seen) }
+    ensures full { (left : Shared) → IsErrOf result (ThreadsFault.Full left)
+        → IsLeft script.now shape.now left.seen }
+    ensures filled { (left : Shared) → IsErrOf result (ThreadsFault.Full left)
+        → length left.seen.pasts ≡ shape.now.events }
+    ensures to_come { (left : Shared) → IsErrOf result (ThreadsFault.Full left)
+        → ¬ IsWhole left.seen }
 {
     match lock {
         LockKind::Mutex => run_threads(rt, alloc, script, shape, threads, gate),
@@ -100,9 +107,10 @@ fn threaded_report<R: Threads + Wait + Sync, G: Gate + Sync>(
     requires fine { Each (λ (command : Command). IsValidAction command.action) script.now.commands }
     requires proper { IsProper script.now shape.now }
     requires fits { length script.now.commands < 2 ^ 32 }
+    requires lanes { Each (λ (command : Command). command.lane < 2 ^ 8) script.now.commands }
     requires fit_shape { IsFitShape shape.now }
     ensures { IfOk result (λ output.
-        IsReport threads script.now shape.now output.full (string_bytes output.text)) }
+        IsReport threads script.now shape.now output.full output.text.items) }
 {
     match run_by(rt, alloc, lock, script, shape, threads, gate) {
         Ok(cluster) => told(alloc, &cluster, false),
@@ -127,7 +135,7 @@ fn threaded_answer<R: Threads + Wait + Sync, G: Gate + Sync>(
     requires short { length input.now ≤ most_bytes }
     ensures report { IfOk result (λ output. IsOkAnd (script_of shape.now input.now) (λ commands.
         IsReport threads (record { commands = commands }) shape.now output.full
-        (string_bytes output.text))) }
+        output.text.items)) }
     ensures bad_line { (number : ℕ) (cause : Cause)
         → IsErrOf result (ScriptFault.BadLine number cause)
         → script_of shape.now input.now ≡ Err (record { number = number; cause = cause }) }
@@ -176,6 +184,10 @@ pub(crate) fn run_threaded<R: Threads + Wait + Sync, S: Source, K: Sink, G: Gate
         → ¬ Rose (K.faults sink.old) (K.faults sink.new)
         → IfSome (S.left source.old) (λ input. length input ≤ most_bytes
         → MayEnd (script_of shape.now input) result ⊎ (result ≡ Status.Want)) }
+    ensures complete_bad_script { ¬ Rose (S.faults source.old) (S.faults source.new)
+        → IfSome (S.left source.old) (λ input. length input ≤ most_bytes
+        → (bad : BadLine) → script_of shape.now input ≡ Err bad
+        → (result ≡ Status.BadScript bad.number bad.cause) ⊎ (result ≡ Status.Want)) }
     ensures complete_too_long { ¬ Rose (S.faults source.old) (S.faults source.new)
         → IfSome (S.left source.old) (λ input. most_bytes < length input
         → (result ≡ Status.TooLong) ⊎ (result ≡ Status.Want)) }
@@ -196,7 +208,7 @@ pub(crate) fn run_threaded<R: Threads + Wait + Sync, S: Source, K: Sink, G: Gate
         }
         Err(ScriptFault::Want) => return Status::Want,
     };
-    match write_all(sink, output.text.as_bytes()) {
+    match write_all(sink, output.text.as_slice()) {
         Ok(()) => ended(output.full),
         Err(WriteFault) => Status::WriteFault,
     }

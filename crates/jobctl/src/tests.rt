@@ -105,6 +105,7 @@ fn see_jobs_end(rt: &impl Abort, alloc: Global, report: &str) -> Result<(), Fail
     }
     let complete = "\"reason\":\"CompletionsReached\",\"status\":\"True\",\"type\":\"Complete\"";
     assert_eq!(rt; times(report, complete), 20);
+    assert_eq!(rt; times(report, "\"succeeded\":3}\n"), 20);
     Ok(())
 }
 

@@ -5,11 +5,11 @@ use Rattle.jc_types.specs.declared.runs.Shape.{Shape}
 use Rattle.jc_audit.specs.declared.verdicts.Verdict.TheVariants.{No, Yes}
 use Rattle.jc_script.specs.Scripts.{most_bytes}
 use Rattle.jc_words.specs.declared.words.Order.TheVariants.{Audit, Run}
-use Rattle.jc_ctl.proofs.AskedFacts.{bad-of, of-audit, promised-too, same-shape}
+use Rattle.jc_ctl.proofs.AskedFacts.{bad-ends-of, bad-of, none-bad, of-audit, promised-too, same-shape}
 use Rattle.jc_ctl.specs.Audited.{IsAudited, TellsVerdict}
 use Rattle.jc_ctl.specs.declared.run.Asked.{Asked}
-use Rattle.jc_ctl.specs.declared.status.Status.TheVariants as status
-use Rattle.jc_ctl.specs.Runs.{order_asked}
+use Rattle.jc_single.specs.declared.status.Status.TheVariants as status
+use Rattle.jc_ctl.specs.Asked.{order_asked}
 use Rattle.jc_ctl.proofs.run.run_program.Goals as goal
 
 pub run_threaded-requires-clause-few : goal.run_threaded-requires-clause-few
@@ -52,8 +52,19 @@ returns-in-Some-Threads-clause-bad_script g c = λ line cause e.
     bad-of _ c.in-Some-Threads.threads c.in-Some-Threads.lock c.in-Some-Threads.shape (g.S.Source.left c.args.source.now)
     (record { number = line; cause = cause }) is (c.run_threaded.ensures.bad_script line cause e)
 
+pub returns-in-Some-Threads-clause-complete_bad_script : goal.returns-in-Some-Threads-clause-complete_bad_script
+returns-in-Some-Threads-clause-complete_bad_script g c = λ order asks quiet.
+    let is = c.in-Some-Threads.ensures.some ∙ ap (λ (a : Asked). Some (order_asked a)) c.in-Some-Threads.field-0-is in
+    bad-ends-of _ c.in-Some-Threads.threads c.in-Some-Threads.lock c.in-Some-Threads.shape (g.S.Source.left c.args.source.now)
+    c.run_threaded.result is (c.run_threaded.ensures.complete_bad_script quiet) order asks
+
 pub returns-in-Some-Threads-clause-no : goal.returns-in-Some-Threads-clause-no
 returns-in-Some-Threads-clause-no g c = λ line e. absurd (c.run_threaded.ensures.no_audit line e)
+
+pub returns-in-Some-Audit-clause-complete_bad_script : goal.returns-in-Some-Audit-clause-complete_bad_script
+returns-in-Some-Audit-clause-complete_bad_script g c = λ order asks quiet.
+    let is = c.in-Some-Audit.ensures.some ∙ ap (λ (a : Asked). Some (order_asked a)) c.in-Some-Audit.field-0-is in
+    none-bad _ c.in-Some-Audit.shape (g.S.Source.left c.args.source.now) c.run_audit.result is order asks
 
 pub returns-in-Some-Audit-clause-yes : goal.returns-in-Some-Audit-clause-yes
 returns-in-Some-Audit-clause-yes g c = λ ends shape asks.

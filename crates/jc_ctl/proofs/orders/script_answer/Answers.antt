@@ -1,8 +1,0 @@
--- The report is that of the whole play.
-use Rattle.jc_ctl.proofs.WholeFacts.{report_is}
-use Rattle.jc_ctl.proofs.orders.script_answer.Goals as goal
-
-pub returns : goal.returns
-returns c =
-    report_is c.args.script c.args.shape c.in_ok-played.played _ c.in_ok-played.ensures.script
-    c.in_ok-played.ensures.play c.in_ok-text.ensures

@@ -1,0 +1,4 @@
+pub mod ShapeFacts
+pub mod WholeFacts
+pub mod RunFacts
+pub mod ReapFacts

@@ -1,0 +1,28 @@
+-- A generated script is valid and names neither controllers nor workers.
+use Rattle.jc_single.proofs.ShapeFacts.{generated_is_few, generated_is_fine, generated_is_proper}
+use Rattle.jc_single.proofs.WholeFacts.{few_events, summary_is}
+use Rattle.jc_single.proofs.orders.generate_answer.Goals as goal
+
+pub play_whole-requires-clause-fine : goal.play_whole-requires-clause-fine
+play_whole-requires-clause-fine c =
+    generated_is_fine c.args.number c.args.jobs c.args.pods _ c.in_ok-script.ensures
+    (c.generated_commands_are_valid.ensures.valid c.args.number c.args.jobs c.args.pods c.requires.some_pods
+    c.requires.few_pods)
+
+pub play_whole-requires-clause-proper : goal.play_whole-requires-clause-proper
+play_whole-requires-clause-proper c =
+    generated_is_proper c.default_shape.result c.args.number c.args.jobs c.args.pods _ c.in_ok-script.ensures
+    (c.generated_commands_are_valid.ensures.each c.args.number c.args.jobs c.args.pods)
+
+pub play_whole-requires-clause-fits : goal.play_whole-requires-clause-fits
+play_whole-requires-clause-fits c =
+    generated_is_few c.args.number c.args.jobs c.args.pods _ c.in_ok-script.ensures
+    (c.generated_scripts_are_fit.ensures.length c.args.number c.args.jobs c.args.pods) c.requires.few_jobs
+
+pub play_whole-requires-clause-bound : goal.play_whole-requires-clause-bound
+play_whole-requires-clause-bound c = few_events _ _ c.default_shape.ensures c.orders_fit.ensures.default
+
+pub returns : goal.returns
+returns c =
+    summary_is _ _ _ _ c.in_ok-played.played _ c.in_ok-script.ensures c.default_shape.ensures
+    c.in_ok-played.ensures.play c.in_ok-text.ensures

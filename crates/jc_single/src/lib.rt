@@ -1,0 +1,15 @@
+//! What the words ask for on one thread: it is read, played and written, and what is printed tells a history of which all
+//! promises hold.
+#![tactic(auto)]
+
+mod laws;
+mod orders;
+mod plays;
+mod reaps;
+mod single;
+mod status;
+
+pub use laws::{plays_tell_their_history, reapers_collect_what_is_due, runs_tell_their_history};
+pub use orders::Output;
+pub use single::{MOST_BYTES, ended, run_single};
+pub use status::Status;

@@ -1,0 +1,109 @@
+//! What is asked for, made of what was read.
+
+ghost use Rattle.std.specs.Prelude.{◌≡◌, ◌<◌, ◌≤◌, ◌^◌, Err, IfOk, IsErrOf, Ok, length, ℕ};
+ghost use Rattle.std.specs.List.{AllByRecursion as Each};
+ghost use Rattle.jc_types.specs.declared.actions.Command.{Command};
+ghost use Rattle.jc_promise.specs.ValidActions.{IsValidAction};
+ghost use Rattle.jc_promise.specs.Plays.{IsProper};
+ghost use Rattle.jc_gen.specs.Generated.{generated};
+ghost use Rattle.jc_script.specs.Scripts.{most_bytes, script_of};
+ghost use Rattle.jc_script.specs.Cause.{Cause};
+ghost use Rattle.jc_words.specs.Fits.{IsFitOrder, IsFitShape};
+ghost use Rattle.jc_words.specs.Words.{default_shape};
+ghost use Rattle.jc_single.specs.Played.{as_script};
+ghost use Rattle.jc_single.specs.Runs.{IsSingle, answer_of, printed_by, report_printed, reported, summary_printed};
+
+use crate::plays::play_whole;
+use crate::reaps::reap_answer;
+use jc_gen::{generate, generated_commands_are_valid, generated_scripts_are_fit};
+use jc_io::Bytes;
+use jc_report::{report, summary};
+use jc_script::{Cause, ScriptFault, read_script, scripts_fit_their_shape};
+use jc_types::{Script, Shape, Want};
+use jc_words::{Order, default_shape, orders_fit};
+use std::alloc::Global;
+
+/// What a run writes.
+#[derive(Drop)]
+pub struct Output {
+    /// The text, in UTF-8.
+    pub text: Bytes,
+    /// Whether the history is full.
+    pub full: bool,
+}
+
+/// The report of the play of a script.
+#[tactic(auto, using(crate::proofs::WholeFacts::report_is))]
+pub(crate) fn script_answer(alloc: Global, script: Script, shape: Shape) -> Result<Output, Want>
+    requires fine { Each (λ (command : Command). IsValidAction command.action) script.commands }
+    requires proper { IsProper script shape }
+    requires fits { length script.commands < 2 ^ 32 }
+    requires bound { shape.events ≤ 200000 }
+    ensures { IfOk result (λ output. printed_by output ≡ report_printed script shape) }
+{
+    let played = play_whole(alloc, script, shape)?;
+    let text = report(alloc, &played.cluster, played.full)?;
+    Ok(Output {
+        text,
+        full: played.full,
+    })
+}
+
+// The report of the play of the script in the input.
+#[tactic(auto, using(crate::proofs::WholeFacts::reported_is))]
+fn run_answer(alloc: Global, shape: Shape, input: &[u8]) -> Result<Output, ScriptFault>
+    requires few { length input.now ≤ most_bytes }
+    requires fits { IsFitShape shape }
+    ensures text { IfOk result
+        (λ output. reported shape (as_script (script_of shape input.now)) ≡ Ok (printed_by output)) }
+    ensures bad_line { (number : ℕ) (cause : Cause)
+        → IsErrOf result (ScriptFault.BadLine number cause)
+        → script_of shape input.now ≡ Err (record { number = number; cause = cause }) }
+{
+    scripts_fit_their_shape();
+    let script = read_script(alloc, input, &shape)?;
+    Ok(script_answer(alloc, script, shape)?)
+}
+
+// The summary of the play of a generated script.
+#[tactic(auto, using(crate::proofs::WholeFacts::summary_is))]
+fn generate_answer(alloc: Global, number: u32, jobs: u32, pods: u32) -> Result<Output, Want>
+    requires some_jobs { 1 ≤ jobs }
+    requires few_jobs { jobs ≤ 100 }
+    requires some_pods { 1 ≤ pods }
+    requires few_pods { pods ≤ 20 }
+    ensures { IfOk result (λ output.
+        printed_by output ≡ summary_printed (generated number jobs pods) default_shape) }
+{
+    generated_scripts_are_fit();
+    generated_commands_are_valid();
+    orders_fit();
+    let script = generate(alloc, number, jobs, pods)?;
+    let played = play_whole(alloc, script, default_shape())?;
+    let text = summary(alloc, &played.cluster, played.full)?;
+    Ok(Output {
+        text,
+        full: played.full,
+    })
+}
+
+/// What the order asks for, of what was read.
+#[tactic(auto, unfolding(crate::specs::Runs::answer_of))]
+pub(crate) fn answer(alloc: Global, order: &Order, input: &[u8]) -> Result<Output, ScriptFault>
+    requires few { length input.now ≤ most_bytes }
+    requires fits { IsFitOrder order.now }
+    requires single { IsSingle order.now }
+    ensures text { IfOk result (λ output. answer_of order.now input.now ≡ Ok (printed_by output)) }
+    ensures bad_line { (number : ℕ) (cause : Cause)
+        → IsErrOf result (ScriptFault.BadLine number cause)
+        → answer_of order.now input.now ≡ Err (record { number = number; cause = cause }) }
+{
+    match order {
+        Order::Run { shape, .. } => run_answer(alloc, *shape, input),
+        Order::Reap { shape } => reap_answer(alloc, *shape, input),
+        Order::Audit { .. } => unreachable!(),
+        Order::Generate { number, jobs, pods } => Ok(generate_answer(
+            alloc, *number, *jobs, *pods,
+        )?),
+    }
+}

@@ -1,0 +1,48 @@
+//! The play of a whole script on one thread.
+
+ghost use Rattle.std.specs.Prelude.{◌≡◌, ◌<◌, ◌≤◌, ◌^◌, IfOk, length};
+ghost use Rattle.std.specs.List.{AllByRecursion as Each};
+ghost use Rattle.jc_types.specs.declared.actions.Command.{Command};
+ghost use Rattle.jc_promise.specs.ValidActions.{IsValidAction};
+ghost use Rattle.jc_promise.specs.Play.{whole_play};
+ghost use Rattle.jc_promise.specs.Plays.{IsProper};
+ghost use Rattle.jc_core.specs.Turns.{playing_of};
+
+use jc_core::{ApplyFault, Cluster, new_machines_play_the_whole_script};
+use jc_types::{Script, Shape, Want};
+use std::alloc::{AllocError, Global};
+
+/// What has become of a script.
+#[derive(Drop)]
+pub(crate) struct Played {
+    /// The cluster, as it was left.
+    pub(crate) cluster: Cluster,
+    /// Whether its history had no room for an event that was to come.
+    pub(crate) full: bool,
+}
+
+/// Plays the whole script in a new cluster.
+pub(crate) fn play_whole(alloc: Global, script: Script, shape: Shape) -> Result<Played, Want>
+    requires fine { Each (λ (command : Command). IsValidAction command.action) script.commands }
+    requires proper { IsProper script shape }
+    requires fits { length script.commands < 2 ^ 32 }
+    requires bound { shape.events ≤ 200000 }
+    ensures script { IfOk result (λ played. played.cluster.seen.script ≡ script) }
+    ensures shape { IfOk result (λ played. played.cluster.seen.shape ≡ shape) }
+    ensures play { IfOk result
+        (λ played. whole_play script shape ≡ playing_of played.full played.cluster.seen) }
+{
+    new_machines_play_the_whole_script();
+    let mut cluster = Cluster::new(alloc, script, shape)?;
+    match cluster.play() {
+        Ok(()) => Ok(Played {
+            cluster,
+            full: false,
+        }),
+        Err(ApplyFault::HistoryFull) => Ok(Played {
+            cluster,
+            full: true,
+        }),
+        Err(ApplyFault::Want) => Err(AllocError),
+    }
+}
