@@ -1,13 +1,16 @@
 //! Scripts of a text, and the shape for which they are read.
 
-ghost use Rattle.std.specs.Prelude.{IfOk};
+ghost use Rattle.std.specs.Prelude.{IfOk, IsTrue};
 ghost use Rattle.std.specs.List.{AllByRecursion as Each};
 ghost use Rattle.jc_types.specs.declared.actions.Command.{Command};
+ghost use Rattle.jc_log.specs.Deeds.{act_of_action};
+ghost use Rattle.jc_history.specs.Legal.{IsOfShape};
 ghost use Rattle.jc_runs.specs.ValidActions.{IsValidAction};
+ghost use Rattle.jc_core.specs.Plays.{IsProper};
 
 use jc_moment::Moment;
 use jc_script::{read_script, scripts_fit_their_shape};
-use jc_types::{Script, Shape};
+use jc_types::{Action1, Script, Shape};
 use std::alloc::Global;
 use std::process::Abort;
 use std::test::Fail;
@@ -26,18 +29,45 @@ pub fn shape() -> Result<Shape, Fail> {
     })
 }
 
-/// The script of the text.
+// Whether the action creates, or lists for a controller of the shape.
+fn is_within(action: &Action1, shape: &Shape) -> bool
+    ensures { IsTrue result → IsOfShape shape.now (act_of_action action.now) }
+{
+    match action {
+        Action1::Create { .. } => true,
+        Action1::List { controller, .. } => *controller < shape.controllers,
+        _ => false,
+    }
+}
+
+// Whether all commands do, so that the script can be played on the shape.
+fn is_proper(script: &Script, shape: &Shape) -> bool
+    ensures { IsTrue result → IsProper script.now shape.now }
+{
+    for command in script.commands.as_slice() {
+        if !is_within(&command.action, shape) {
+            return false;
+        }
+    }
+    true
+}
+
+/// The script of the text. Its commands create and list, and no more.
 ///
 /// # Errors
 /// `Fail` where it is none.
 pub fn script_of(rt: &impl Abort, alloc: Global, text: &str, shape: &Shape) -> Result<Script, Fail>
-    ensures { IfOk result (λ script.
+    ensures fine { IfOk result (λ script.
         Each (λ (command : Command). IsValidAction command.action) script.commands) }
+    ensures proper { IfOk result (λ script. IsProper script shape.now) }
 {
     assert!(rt; text.len() < 1_000_000, "the script is short");
     scripts_fit_their_shape();
     match read_script(alloc, text.as_bytes(), shape) {
-        Ok(script) => Ok(script),
+        Ok(script) => {
+            assert!(rt; is_proper(&script, shape), "the commands are of the shape");
+            Ok(script)
+        }
         Err(_) => Err(Fail::new("the script")),
     }
 }

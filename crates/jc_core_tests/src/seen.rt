@@ -2,13 +2,12 @@
 
 ghost use Rattle.std.specs.Prelude.{◌≡◌, ◌≤◌, ◌<◌, ◌^◌, false, length};
 ghost use Rattle.jc_history.specs.Available.{IsOrderly};
-ghost use Rattle.jc_kept.specs.Names.{IsOfName};
 ghost use Rattle.jc_runs.specs.Seen.{deeds_seen};
+ghost use Rattle.jc_shared.specs.Names.{IsOfName};
 ghost use Rattle.jc_turn.specs.Seats.{IsSameSeat};
 
 use crate::scripts::{script_of, shape};
-use jc_core::{ApplyFault, Cluster};
-use jc_shared::{Kept, Naming, SeenReply, apply_seen, keep};
+use jc_shared::{ApplyFault, Cluster, Kept, Naming, SeenReply, apply_seen, keep};
 use jc_turn::{Booked, Seat, Taken, Turn, make};
 use jc_types::{Event, Kind, Reply, Sys, Uid, Version};
 use std::alloc::Global;
@@ -109,8 +108,8 @@ fn play_seen<J: Naming>(
 
 // What two seats see of the one history of the cluster, which has two events in the end.
 fn see_one_history<J: Naming>(rt: &impl Abort, alloc: Global, cluster: Cluster) -> Result<(), Fail>
-    requires named { IsOfName J.script J.shape cluster }
-    requires orderly { IsOrderly cluster.shape (deeds_seen cluster) }
+    requires named { IsOfName J.script J.shape cluster.seen }
+    requires orderly { IsOrderly cluster.seen.shape (deeds_seen cluster.seen) }
 {
     let Ok((turn, mut seats)) = make(alloc, keep::<J>(cluster), 2) else {
         return Err(Fail::new("no memory"));
@@ -124,7 +123,7 @@ fn see_one_history<J: Naming>(rt: &impl Abort, alloc: Global, cluster: Cluster) 
 
 // The same, of the script and the shape of the cluster.
 fn share(rt: &impl Abort, alloc: Global, cluster: Cluster) -> Result<(), Fail>
-    requires { IsOrderly cluster.shape (deeds_seen cluster) }
+    requires { IsOrderly cluster.seen.shape (deeds_seen cluster.seen) }
 {
     see_one_history::<Brand>(rt, alloc, cluster)
 }

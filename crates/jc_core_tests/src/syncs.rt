@@ -5,7 +5,7 @@ ghost use Rattle.std.specs.Prelude.{◌≡◌, ◌<◌, ◌^◌, IsTrue, length}
 ghost use Rattle.jc_lines.specs.Events.{HasPlace};
 
 use crate::scripts::{script_of, shape};
-use jc_core::Cluster;
+use jc_core::{Actor, Cluster};
 use jc_lines::print_event;
 use jc_types::{Event, Past, Reply, Script};
 use std::alloc::Global;
@@ -37,10 +37,10 @@ const HISTORY: &str = concat!(
 );
 
 // The lane's next command happens, whatever it is answered.
-fn command(rt: &impl Abort, cluster: &mut Cluster) -> Result<(), Fail> {
-    let number = cluster.next_command(0).ok_or("a command is left")?;
-    let event = Event::Command { lane: 0, number };
-    assert!(rt; cluster.admits(&event), "{number}");
+fn command(cluster: &mut Cluster) -> Result<(), Fail> {
+    let event = cluster
+        .available(Actor::Lane(0))
+        .ok_or("a command is left")?;
     match cluster.apply(event) {
         Ok(_) => Ok(()),
         Err(_) => Err(Fail::new("an event")),
@@ -85,7 +85,7 @@ fn check_history(rt: &impl Abort, alloc: Global, cluster: &Cluster) -> Result<()
 // All three commands happen, and then the sync.
 fn sync(rt: &impl Abort, alloc: Global, cluster: &mut Cluster) -> Result<(), Fail> {
     for _ in 0..3u32 {
-        command(rt, cluster)?;
+        command(cluster)?;
     }
     assert!(rt; cluster.lanes_done());
     assert!(rt; cluster.shape().controllers == 1 && cluster.shape().workers == 1);

@@ -1,5 +1,7 @@
 //! A failure rule that names the exit code 0, which no manifest may: a container that exits with 0 never meets it.
 
+ghost use Rattle.std.specs.Prelude.{◌≡◌, IfOk, length};
+
 use crate::samples::{POD, PodRow, key, main_container, moment, pod_of};
 use jc_failpol::action;
 use jc_types::{
@@ -9,7 +11,9 @@ use std::alloc::Global;
 use std::test::Fail;
 
 // The policy that fails the Job where a container exits with 0 or 3.
-fn policy(alloc: Global) -> Result<FailurePolicy, Fail> {
+fn policy(alloc: Global) -> Result<FailurePolicy, Fail>
+    ensures { IfOk result (λ policy. length policy.rules ≡ 1) }
+{
     let mut values = Codes::new(alloc);
     values.push(0)?;
     values.push(3)?;

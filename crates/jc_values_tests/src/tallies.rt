@@ -58,34 +58,43 @@ fn running(alloc: Global, uid: u64, restarts: u32) -> Result<Pod, Fail> {
     Ok(pod)
 }
 
-fn put_five(alloc: Global, pods: &mut Pods) -> Result<(), Fail> {
+// Puts a pod among the few that a test has.
+fn put(rt: &impl Abort, pods: &mut Pods, pod: Pod) -> Result<(), Fail> {
+    assert!(rt; pods.len() < 100);
+    pods.put(pod)?;
+    Ok(())
+}
+
+fn put_five(rt: &impl Abort, alloc: Global, pods: &mut Pods) -> Result<(), Fail> {
     for uid in [4u64, 2, 6, 3, 5] {
-        pods.put(plain(alloc, PodRow { uid, ..POD })?)?;
+        put(rt, pods, plain(alloc, PodRow { uid, ..POD })?)?;
     }
     Ok(())
 }
 
 fn take_step(rt: &impl Abort, alloc: Global, pods: &mut Pods, step: Step) -> Result<(), Fail> {
     match step {
-        Step::Five => put_five(alloc, pods)?,
+        Step::Five => put_five(rt, alloc, pods)?,
         Step::Mark(uid) => {
             let row = PodRow {
                 uid,
                 marked: true,
                 ..POD
             };
-            pods.put(plain(alloc, row)?)?;
+            put(rt, pods, plain(alloc, row)?)?;
         }
-        Step::Run(uid, restarts) => pods.put(running(alloc, uid, restarts)?)?,
+        Step::Run(uid, restarts) => put(rt, pods, running(alloc, uid, restarts)?)?,
         Step::End(uid) => {
             let row = PodRow {
                 uid,
                 phase: Phase::Failed,
                 ..POD
             };
-            pods.put(plain(alloc, row)?)?;
+            put(rt, pods, plain(alloc, row)?)?;
         }
-        Step::Give(uid, owner) => pods.put(plain(alloc, PodRow { uid, owner, ..POD })?)?,
+        Step::Give(uid, owner) => {
+            put(rt, pods, plain(alloc, PodRow { uid, owner, ..POD })?)?;
+        }
         Step::Take(uid, there) => {
             let taken = pods.take(Uid(uid)).map(|pod| pod.uid.0);
             assert_eq!(rt; taken.is_some(), there, "the pod {uid}");
