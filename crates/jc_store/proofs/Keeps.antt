@@ -1,5 +1,5 @@
 -- What each write leaves of what the store keeps, and what the tables say of the log.
-use Rattle.std.proofs.Common.{◌≡◌, ℕ, ◌+◌, ◌++◌, Bool, true, false, ◌&&◌, cond, List, [], ◌∷◌, reverse, Option, Some, None, IsSome, is_some, refl, ap, sym, ◌∙◌, subst, not, true≢false}
+use Rattle.std.proofs.Common.{◌≡◌, ℕ, ◌+◌, ◌-◌, ◌<◌, ◌^◌, ◌++◌, Bool, arith, length, true, false, ◌&&◌, cond, List, [], ◌∷◌, reverse, Option, Some, None, IsSome, is_some, refl, ap, sym, ◌∙◌, subst, not, true≢false}
 use Rattle.std.specs.Prelude.{find, unwrap_or}
 use Rattle.jc_types.specs.declared.numbers.Uid.{Uid}
 use Rattle.jc_types.specs.declared.objects.Entry.{Entry}
@@ -10,6 +10,7 @@ use Rattle.jc_types.specs.declared.objects.Pod.{Pod}
 use Rattle.jc_types.specs.Keys.{same_key, same_uid}
 use Rattle.jc_log.specs.Log.{Life, Never, Live, Gone, births, is_never, job_in, jobs_in, life, living, made_for, next_version, pod_in, pods_in}
 use Rattle.jc_states.specs.ObjectChanges.{PodStep}
+use Rattle.jc_states.proofs.PodListFacts.{length-drop_pod, length-put_pod, length-put_there}
 use Rattle.jc_states.specs.PodLists.{drop_pod, put_pod}
 use Rattle.jc_states.specs.Pods.{goes, is_final, is_open}
 use Rattle.jc_log.specs.Tables.{Sets, at, puts, takes}
@@ -17,7 +18,7 @@ use Rattle.jc_log.specs.Writes.{CanEnd, CanGo, IsNewJob, IsNewPod, StepsFrom, Wr
 use Rattle.jc_types.proofs.KeyFacts.{same_uid-eq, same_uid-itself}
 use Rattle.jc_log.proofs.LogFacts.{newest_first}
 use Rattle.jc_log.proofs.ObjectFacts.{jobs_in-at}
-use Rattle.jc_log.proofs.PodFacts.{pods_in-among}
+use Rattle.jc_log.proofs.PodFacts.{pods_in-among, pods_in-few, pods_in-rises}
 use Rattle.jc_table.specs.Open.{CanReplace}
 use Rattle.jc_store.specs.Kept.{IsKept, count_of}
 use Rattle.jc_log.proofs.AppendFacts.{end_job-writes, end_pod-writes, made_job-births, made_job-writes, made_pod-births, made_pod-writes, new_never, put_job-births, put_job-writes, step_made, write_pod-births, write_pod-writes}
@@ -74,6 +75,7 @@ counts-keep born jobs pods made counts items more k to same =
       pods_there = k.pods_there;
       made_before = λ owner. same owner ∙ k.made_before owner;
       stored = k.stored;
+      few = k.few;
     })
 
 job_put : (born next : ℕ) (jobs rows : List (Key × Job)) (pods : List Pod) (made : List (Uid × ℕ)) (log : List Entry) (job : Job) → IsKept born jobs pods made log → rows ≡ puts same_key jobs job.key job → next ≡ births (JobPut job ∷ log) → Writes log (JobPut job) → IsKept next rows pods made (JobPut job ∷ log)
@@ -83,6 +85,7 @@ job_put born next jobs rows pods made log job k put count writes = record {
   pods_there = k.pods_there;
   made_before = k.made_before;
   stored = (writes, k.stored);
+  few = k.few;
 }
 
 pub make_job-keeps : (born next : ℕ) (jobs rows : List (Key × Job)) (pods : List Pod) (made : List (Uid × ℕ)) (items more log : List Entry) (job : Job) → IsKept born jobs pods made (reverse items) → reverse items ≡ log → more ≡ items ++ JobPut job ∷ [] → rows ≡ puts same_key jobs job.key job → next ≡ births log + 1 → job.version ≡ next_version log → IsNewJob log job → job_in job.key log ≡ None → IsKept next rows pods made (reverse more)
@@ -106,12 +109,26 @@ end_job-keeps born jobs rows pods made items more log job kept is to take versio
       pods_there = k.pods_there;
       made_before = k.made_before;
       stored = (end_job-writes log job version end, k.stored);
+      few = k.few;
     })
 
 -- A pod that was there before is not counted again.
 not_again : (a b : Bool) (n : ℕ) → b ≡ false → cond (a && b) (n + 1) n ≡ n
 not_again true b n e = ap (λ x. cond x (n + 1) n) e
 not_again false b n e = refl
+
+-- A pod that is written over is one of as many as before.
+written_few : (log : List Entry) (pod : Pod) → length (pods_in log) < 2 ^ 32 → CanGo (life pod.uid log) pod
+    → length (put_pod pod (pods_in log)) < 2 ^ 32
+written_few log pod few step = by (life pod.uid log) refl step
+  where
+    by : (l : Life) → life pod.uid log ≡ l → CanGo l pod → length (put_pod pod (pods_in log)) < 2 ^ 32
+    by Never is step = absurd step
+    by (Live old) is step =
+        let there = ap is_some (pods_in-among pod.uid log ∙ ap living is) in
+        let same = length-put_there 0 pod (pods_in log) (pods_in-rises log) there in
+        omega (arith, same, few)
+    by Gone is step = absurd step
 
 pub write_pod-keeps : (born : ℕ) (jobs : List (Key × Job)) (pods rows : List Pod) (made : List (Uid × ℕ)) (items more log : List Entry) (pod : Pod) → IsKept born jobs pods made (reverse items) → reverse items ≡ log → more ≡ items ++ PodPut pod ∷ [] → rows ≡ put_pod pod pods → pod.version ≡ next_version log → CanGo (life pod.uid log) pod → goes pod ≡ false → IsKept born jobs rows made (reverse more)
 write_pod-keeps born jobs pods rows made items more log pod kept is to put version step stays =
@@ -124,6 +141,7 @@ write_pod-keeps born jobs pods rows made items more log pod kept is to put versi
           λ owner. k.made_before owner
           ∙ sym (not_again (same_uid pod.owner_uid owner) (is_never (life pod.uid log)) (made_for owner log) (step_made pod (life pod.uid log) step));
       stored = (write_pod-writes log pod version step stays, k.stored);
+      few = written_few log pod k.few step;
     })
 
 pub end_pod-keeps : (born : ℕ) (jobs : List (Key × Job)) (pods rows : List Pod) (made : List (Uid × ℕ)) (items more log : List Entry) (pod : Pod) → IsKept born jobs pods made (reverse items) → reverse items ≡ log → more ≡ items ++ PodGone pod ∷ [] → rows ≡ drop_pod pod.uid pods → pod.version ≡ next_version log → CanGo (life pod.uid log) pod → goes pod ≡ true → IsKept born jobs rows made (reverse more)
@@ -135,6 +153,7 @@ end_pod-keeps born jobs pods rows made items more log pod kept is to drop versio
       pods_there = drop ∙ ap (drop_pod pod.uid) k.pods_there;
       made_before = k.made_before;
       stored = (end_pod-writes log pod version step going, k.stored);
+      few = let less = length-drop_pod pod.uid (pods_in log) in let few = k.few in omega (arith, less, few);
     })
 
 -- The counts after one more pod of an owner.
@@ -147,8 +166,8 @@ counts_more made counts more log pod count held same is sets never owner =
     by true s = ap (λ n. n + 1) (is ∙ ap (λ u. made_for u log) (same_uid-eq pod.owner_uid owner s))
     by false s = same owner ∙ held owner
 
-pub make_pod-keeps : (born next : ℕ) (jobs : List (Key × Job)) (pods rows : List Pod) (made counts counted : List (Uid × ℕ)) (items more log : List Entry) (pod : Pod) (count : ℕ) → IsKept born jobs pods made (reverse items) → reverse items ≡ log → more ≡ items ++ PodPut pod ∷ [] → rows ≡ put_pod pod pods → ((owner : Uid) → count_of counts owner ≡ count_of made owner) → count ≡ made_for pod.owner_uid log → Sets same_uid counts counted pod.owner_uid (Some (count + 1)) → next ≡ births log + 1 → pod.version ≡ next_version log → IsNewPod log pod → IsKept next jobs rows counted (reverse more)
-make_pod-keeps born next jobs pods rows made counts counted items more log pod count kept is to put same found sets birth version new =
+pub make_pod-keeps : (born next : ℕ) (jobs : List (Key × Job)) (pods rows : List Pod) (made counts counted : List (Uid × ℕ)) (items more log : List Entry) (pod : Pod) (count : ℕ) → IsKept born jobs pods made (reverse items) → reverse items ≡ log → more ≡ items ++ PodPut pod ∷ [] → rows ≡ put_pod pod pods → ((owner : Uid) → count_of counts owner ≡ count_of made owner) → count ≡ made_for pod.owner_uid log → Sets same_uid counts counted pod.owner_uid (Some (count + 1)) → next ≡ births log + 1 → length log < 2 ^ 32 - 1 → pod.version ≡ next_version log → IsNewPod log pod → IsKept next jobs rows counted (reverse more)
+make_pod-keeps born next jobs pods rows made counts counted items more log pod count kept is to put same found sets birth room version new =
     let k = subst (IsKept born jobs pods made) is kept in
     subst (IsKept next jobs rows counted) (sym (appended items more log (PodPut pod) is to)) (record {
       counted = birth ∙ sym (made_pod-births log pod k.stored new);
@@ -156,6 +175,7 @@ make_pod-keeps born next jobs pods rows made counts counted items more log pod c
       pods_there = put ∙ ap (put_pod pod) k.pods_there;
       made_before = counts_more made counts counted log pod count k.made_before same found sets (new_never log pod k.stored new);
       stored = (made_pod-writes log pod k.stored version new, k.stored);
+      few = let all = pods_in-few log in let one = length-put_pod pod (pods_in log) in omega (arith, all, one, room);
     })
 
 -- ---- rows for counts

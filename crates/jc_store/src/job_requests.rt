@@ -160,8 +160,12 @@ fn with_spec(job: &Job, version: Version, spec: Arc<JobSpec>) -> Result<Job, Wan
 fn with_status(job: &Job, version: Version, status: &JobStatus) -> Result<Job, Want>
     ensures { IfOk result (λ r. r ≡ record job.now { version = version; status = status.now }) }
 {
-    let mut changed = job.copy()?;
-    changed.version = version;
-    changed.status = status.copy()?;
-    Ok(changed)
+    Ok(Job {
+        key: job.key.copy()?,
+        uid: job.uid,
+        version,
+        created: job.created,
+        spec: job.spec.copy()?,
+        status: status.copy()?,
+    })
 }

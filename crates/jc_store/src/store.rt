@@ -57,6 +57,15 @@ fn keep_count(made: &mut Table<Uid, u32>, owner: Uid, count: u32) -> Result<(), 
     Ok(())
 }
 
+// A Job's key, and the entry of its write.
+fn written(job: &Job) -> Result<(Key, Entry), Want>
+    ensures key { IfOk result (λ r. r.0 ≡ job.now.key) }
+    ensures entry { IfOk result (λ r. r.1 ≡ JobPut job.now) }
+{
+    let key = job.key.copy()?;
+    Ok((key, Entry::JobPut(job.copy()?)))
+}
+
 // Writes the row of a new key, and its entry. Row and entry may be of any type, so that the proof needs not
 // follow what is dropped where memory is wanted.
 fn add_row<R: Drop, E: Copied + Drop>(
@@ -102,8 +111,13 @@ fn put_row<R: Drop, E: Copied + Drop>(
     Ok(())
 }
 
-// Writes a new pod, which is open, and its entry.
-fn add_pod(pods: &mut StoredPods, log: &mut Entries, pod: Pod, entry: Entry) -> Result<(), Want>
+// Writes a new pod, which is open, and its entry, which may be of any type too.
+fn add_pod<E: Copied + Drop>(
+    pods: &mut StoredPods,
+    log: &mut ListOf<E>,
+    pod: Pod,
+    entry: E,
+) -> Result<(), Want>
     requires absent { find (λ p. same_uid p.uid pod.uid) pods.old ≡ None }
     requires begins_open { is_open pod ≡ true }
     ensures row { OnOk result (pods.new ≡ put_pod pod pods.old) }
@@ -201,9 +215,10 @@ impl Store {
         &self.jobs
     }
 
-    /// The pods that are there, in ascending UID.
+    /// The pods that are there, in ascending UID, fewer than 2 ^ 32.
     pub fn pods(&self) -> &PodTable
-        ensures { result.now ≡ pods_in self.now }
+        ensures pods { result.now ≡ pods_in self.now }
+        ensures few { length (pods_in self.now) < 2 ^ 32 }
     {
         self.pods.all()
     }
@@ -253,8 +268,7 @@ impl Store {
         ensures kept { OnErr result (self.new ≡ self.old) }
     {
         let born = self.born() + 1;
-        let key = job.key.copy()?;
-        let entry = Entry::JobPut(job.copy()?);
+        let (key, entry) = written(&job)?;
         add_row(&mut self.jobs, &mut self.log, key, job, entry)?;
         self.born = born;
         Ok(())
@@ -267,8 +281,7 @@ impl Store {
         ensures added { OnOk result (self.new ≡ JobPut job ∷ self.old) }
         ensures kept { OnErr result (self.new ≡ self.old) }
     {
-        let key = job.key.copy()?;
-        let entry = Entry::JobPut(job.copy()?);
+        let (key, entry) = written(&job)?;
         put_row(&mut self.jobs, &mut self.log, &key, job, entry)?;
         Ok(())
     }
@@ -295,11 +308,11 @@ impl Store {
         ensures kept { OnErr result (self.new ≡ self.old) }
     {
         let born = self.born() + 1;
-        let entry = Entry::PodPut(pod.copy()?);
         let owner = pod.owner_uid;
         let count = self.made_for(owner);
         let more = count + 1;
         keep_count(&mut self.made, owner, count)?;
+        let entry = Entry::PodPut(pod.copy()?);
         add_pod(&mut self.pods, &mut self.log, pod, entry)?;
         self.made.replace(&owner, more);
         self.born = born;

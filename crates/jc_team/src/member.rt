@@ -70,7 +70,6 @@ fn all_jobs(alloc: Global, store: &Store) -> Result<Jobs, Want>
 //
 // `Want` where there is no memory for the list.
 fn all_pods(alloc: Global, store: &Store) -> Result<Pods, Want>
-    requires few { length store.now < 2 ^ 32 }
     ensures pods { IfOk result (λ pods. pods ≡ pods_in store.now) }
     ensures rising { IfOk result (λ pods. IsRising pods) }
 {
@@ -188,7 +187,6 @@ impl Member {
     /// # Errors
     /// `Want` where there is no memory for it; all is then as before.
     pub fn list(&mut self, alloc: Global, store: &Store, kind: Kind) -> Result<Reply, Want>
-        requires few { length store.now < 2 ^ 32 }
         ensures reply { IfOk result (λ r. r ≡ reply.Listed (log_end store.now)) }
         ensures schedule { OnOk result
             (self.new.con.schedule ≡ listed self.old.con.schedule kind store.now) }

@@ -25,13 +25,11 @@ pub fn list_jobs(alloc: Global, store: &Store) -> Result<(Jobs, Version), Want>
     Ok((list, store.log_len()))
 }
 
-/// The pods that are there, in ascending UID, and the log's length. The log has fewer entries than 2 ^ 32, and
-/// so has as few pods.
+/// The pods that are there, in ascending UID, and the log's length.
 ///
 /// # Errors
 /// `Want` where there is no memory for the list.
 pub fn list_pods(alloc: Global, store: &Store) -> Result<(Pods, Version), Want>
-    requires few { length store.now < 2 ^ 32 }
     ensures pods { IfOk result (λ r. r.0 ≡ pods_in store.now) }
     ensures rising { IsRising (pods_in store.now) }
     ensures at { IfOk result (λ r. r.1.0 ≡ length store.now) }
@@ -43,7 +41,8 @@ pub fn list_pods(alloc: Global, store: &Store) -> Result<(Pods, Version), Want>
 
 // Copies of the pods that are there, in ascending UID.
 fn copies(alloc: Global, store: &Store) -> Result<ListOf<Pod>, Want>
-    ensures { IfOk result (λ list. list ≡ pods_in store.now) }
+    ensures pods { IfOk result (λ list. list ≡ pods_in store.now) }
+    ensures few { length (pods_in store.now) < 2 ^ 32 }
 {
     let mut list = ListOf::new(alloc);
     for pod in store.pods().values() {

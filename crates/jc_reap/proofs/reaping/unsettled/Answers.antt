@@ -15,4 +15,4 @@ returns c =
     (c.as_slice.ensures ∙ ap (λ (s : Script). s.commands) c.script-script.ensures.script)
     (ap reverse c.as_slice-events.ensures ∙ c.history.ensures.events)
     c.as_slice-2.ensures c.store-store.ensures c.jobs.ensures.rows c.in_ok-rows.ensures)
-    c.jobs-2.ensures.rows c.pods.ensures c.new-commands.ensures c.in_ok-mark_all_ownerless.ensures c.in_ok-remove_all.ensures
+    c.jobs-2.ensures.rows c.pods.ensures.pods c.new-commands.ensures c.in_ok-mark_all_ownerless.ensures c.in_ok-remove_all.ensures

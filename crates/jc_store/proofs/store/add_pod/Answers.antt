@@ -5,6 +5,6 @@ use Rattle.jc_states.proofs.PodListFacts.{drop-put}
 use Rattle.jc_store.proofs.store.add_pod.Goals as goal
 
 pub returns-in-Err-clause-row_kept : goal.returns-in-Err-clause-row_kept
-returns-in-Err-clause-row_kept c =
+returns-in-Err-clause-row_kept g c =
     c.take.ensures ∙ ap (drop_pod c.args.pod.uid) c.in_ok-add.ensures.puts
     ∙ drop-put c.args.pod c.args.pods.now c.requires.absent

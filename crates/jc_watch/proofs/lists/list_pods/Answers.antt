@@ -1,17 +1,16 @@
--- The pods of a log rise, and are no more than its entries.
-use Rattle.std.proofs.Common.{rules, ◌≡◌, ap, arith, length, subst, sym}
+-- The pods of a log rise.
+use Rattle.std.proofs.Common.{rules, ◌≡◌, ◌<◌, ◌^◌, length, subst, sym}
 use Rattle.jc_log.specs.Log.{pods_in}
-use Rattle.jc_log.proofs.PodFacts.{pods_in-few, pods_in-rises}
+use Rattle.jc_log.proofs.PodFacts.{pods_in-rises}
 use Rattle.jc_states.specs.PodLists.{IsRising}
 use Rattle.jc_watch.proofs.lists.list_pods.Goals as goal
 
 pub from_slice-requires : goal.from_slice-requires
 from_slice-requires c =
     let all : c.as_slice.result.now ≡ pods_in c.args.store.now = search rules in
-    let entries = pods_in-few c.args.store.now in
     record {
       rising = subst IsRising (sym all) (pods_in-rises c.args.store.now);
-      few = omega (arith, ap length all, entries, c.requires.few);
+      few = subst (λ l. length l < 2 ^ 32) (sym all) c.copies.ensures.few;
     }
 
 pub returns-clause-rising : goal.returns-clause-rising

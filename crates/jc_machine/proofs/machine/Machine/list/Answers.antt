@@ -1,14 +1,10 @@
-use Rattle.std.proofs.Common.{◌≡◌, ◌<◌, arith, List, length, set, slice_get, Some, reverse, refl, ap, sym, ◌∙◌, subst}
+use Rattle.std.proofs.Common.{◌≡◌, ◌<◌, List, length, set, slice_get, Some, reverse, refl, ap, sym, ◌∙◌, subst}
 use Rattle.jc_log.specs.Acts as does
 use Rattle.jc_runs.proofs.CacheFacts.{list_run}
 use Rattle.jc_machine.specs.Kept.{fates_in}
-use Rattle.jc_machine.proofs.Closing.{After, Before, acts, before, closes, few, member, past, within}
+use Rattle.jc_machine.proofs.Closing.{After, Before, acts, before, closes, member, past, within}
 use Rattle.jc_machine.proofs.machine.Machine.list.Goals as goal
 use Rattle.jc_machine.proofs.machine.Machine.list.Goals.{After-keep-reply}
-
--- The log is short.
-pub list-requires : goal.list-requires
-list-requires c = let b = before c.self.inside.script c.self.inside.shape c.self.inside.history.events.items c.self.inside.lanes c.self.inside.store c.self.inside.members.items c.self.inside.fates c.self.inside.clock c.args.self.now c.args.event (does.List c.args.controller c.args.kind) c.self.invariant c.self.view_is c.requires.admits c.requires.act c.requires.room in let short = few b in record { few = omega (arith, short) }
 
 -- How it is before.
 old : (c : After-keep-reply) → Before c.self.inside.script c.self.inside.shape c.self.inside.history.events.items c.self.inside.lanes c.self.inside.store c.self.inside.members.items c.self.inside.fates c.self.inside.clock c.args.self.now c.args.event (does.List c.args.controller c.args.kind)

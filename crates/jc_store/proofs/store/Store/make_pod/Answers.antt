@@ -35,4 +35,4 @@ invariant_of-self-2 c =
     c.keep_count.new.made c.replace.new.self c.self.inside.log c.add_pod.new.log c.args.self.now c.args.pod
     c.made_for-count.result c.self.invariant c.self.view_is
     (c.in_ok-add_pod.ensures.entry ∙ ap (λ p. c.self.inside.log ++ PodPut p ∷ []) c.in_ok-copy.ensures) c.in_ok-add_pod.ensures.row c.keep_count.ensures.counts c.made_for-count.ensures c.replace.ensures.sets
-    (ap (λ n. n + 1) c.born-born.ensures.value) c.requires.version c.requires.new_pod
+    (ap (λ n. n + 1) c.born-born.ensures.value) c.requires.few c.requires.version c.requires.new_pod

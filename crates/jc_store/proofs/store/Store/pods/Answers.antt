@@ -1,6 +1,9 @@
-use Rattle.std.proofs.Common.{ap, ◌∙◌}
+use Rattle.std.proofs.Common.{◌<◌, ◌^◌, ap, length, subst, ◌∙◌}
 use Rattle.jc_log.specs.Log.{pods_in}
 use Rattle.jc_store.proofs.store.Store.pods.Goals as goal
 
-pub returns : goal.returns
-returns c = c.all.ensures ∙ c.self.invariant.pods_there ∙ ap pods_in c.self.view_is
+pub returns-clause-pods : goal.returns-clause-pods
+returns-clause-pods c = c.all.ensures ∙ c.self.invariant.pods_there ∙ ap pods_in c.self.view_is
+
+pub returns-clause-few : goal.returns-clause-few
+returns-clause-few c = subst (λ log. length (pods_in log) < 2 ^ 32) c.self.view_is c.self.invariant.few
