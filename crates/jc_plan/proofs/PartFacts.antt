@@ -61,33 +61,31 @@ module _ (job : Job) (basis : Basis) (counted : CountIn) (target : Option (CondK
       ∙ ap (λ (f : JobStatus). second_after basis.now job (own_pods job basis.pods) counted (decided_in job basis) (counted_out f counted.releases)) first-is
       ∙ ap (λ (k : CountIn). second_after basis.now job (own_pods job basis.pods) k (decided_in job basis) (counted_out (first_value job basis) k.releases)) is_counted
 
-  -- All parts together are the plan.
-  pub planned-is : (deadline : Option ℕ) (f s : Option JobStatus) (r : List Uid) (next : Option ℕ)
-      → basis.job ≡ Some job
-      → deadline ≡ deadline_of_basis basis
-      → f ≡ changed job.status first
-      → s ≡ changed first second
-      → r ≡ releases_of basis
-      → next ≡ earlier_of wants.next deadline
-      → record { creates = wants.creates; marks = wants.marks; let_goes = wants.let_goes; first = f; releases = r; second = s; backoff = wants.backoff; next = next } ≡ planned_for basis (Some job)
-  planned-is deadline f s r next this at_deadline is_f is_s is_r is_next =
-      let e1 : f ≡ changed job.status (first_value job basis) = is_f ∙ ap (changed job.status) first-is in
-      let e2 : s ≡ changed (first_value job basis) (second_value job basis) =
-      is_s ∙ ap (λ (x : JobStatus). changed x second) first-is ∙ ap (changed (first_value job basis)) second-is in
-      let e3 : deadline ≡ deadline_of basis.now job.spec job.status =
-      at_deadline ∙ ap (λ (o : Option Job). option_and_then (λ (j : Job). deadline_of basis.now j.spec j.status) o) this in
-      let e4 : next ≡ earlier_of (wants_in job basis).next (deadline_of basis.now job.spec job.status) =
-      is_next ∙ ap (λ (w : Wants). earlier_of w.next deadline) is_wanted ∙ ap (earlier_of (wants_in job basis).next) e3 in
-      λ i. record {
-        creates = (is_wanted i).creates;
-        marks = (is_wanted i).marks;
-        let_goes = (is_wanted i).let_goes;
-        first = e1 i;
-        releases = is_r i;
-        second = e2 i;
-        backoff = (is_wanted i).backoff;
-        next = e4 i;
-      }
+-- All parts together are the plan.
+pub planned-is : (job : Job) (basis : Basis) (wants : Wants) → wants ≡ wants_in job basis
+    → (deadline : Option ℕ) (f s : Option JobStatus) (r : List Uid) (next : Option ℕ)
+    → basis.job ≡ Some job
+    → deadline ≡ deadline_of_basis basis
+    → f ≡ changed job.status (first_value job basis)
+    → s ≡ changed (first_value job basis) (second_value job basis)
+    → r ≡ releases_of basis
+    → next ≡ earlier_of wants.next deadline
+    → record { creates = wants.creates; marks = wants.marks; let_goes = wants.let_goes; first = f; releases = r; second = s; backoff = wants.backoff; next = next } ≡ planned_for basis (Some job)
+planned-is job basis wants is_wanted deadline f s r next this at_deadline is_f is_s is_r is_next =
+    let e3 : deadline ≡ deadline_of basis.now job.spec job.status =
+    at_deadline ∙ ap (λ (o : Option Job). option_and_then (λ (j : Job). deadline_of basis.now j.spec j.status) o) this in
+    let e4 : next ≡ earlier_of (wants_in job basis).next (deadline_of basis.now job.spec job.status) =
+    is_next ∙ ap (λ (w : Wants). earlier_of w.next deadline) is_wanted ∙ ap (earlier_of (wants_in job basis).next) e3 in
+    λ i. record {
+      creates = (is_wanted i).creates;
+      marks = (is_wanted i).marks;
+      let_goes = (is_wanted i).let_goes;
+      first = is_f i;
+      releases = is_r i;
+      second = is_s i;
+      backoff = (is_wanted i).backoff;
+      next = e4 i;
+    }
 
 -- What holds of what is counted with what is said of indexes holds of a result that is it.
 pub filled-holds : (P : CountIn → Type 0) (job : Job) (own : List Pod) (counted : CountIn) (r : Result CountIn AllocError) → IfOk r (λ k. k ≡ filled_counts job own counted) → P (filled_counts job own counted) → IfOk r P

@@ -130,6 +130,61 @@ fn wants_for(
     wants(alloc, basis, counted, is_settled(job, target))
 }
 
+// Both statuses, where they are to be written.
+fn statuses_for(
+    alloc: Global,
+    basis: &Basis,
+    job: &Job,
+    counted: &CountIn,
+    target: Option<(CondKind, Reason)>,
+    wants: &Wants,
+) -> Result<(Option<JobStatus>, Option<JobStatus>), Want>
+    requires this { basis.now.job ≡ Some job.now }
+    requires can { CanPlan basis.now }
+    requires counted { counted.now ≡ accounted job.now basis.now }
+    requires target { target ≡ decided_in job.now basis.now }
+    requires kind { IfSome target (λ pair. is_target_kind pair.0 ≡ true) }
+    requires fresh { IsSome target → has_target job.now.status.conditions ≡ false }
+    requires failed { (counts counted.now).0 < 2 ^ 64 }
+    requires succeeded { (counts counted.now).1 < 2 ^ 64 }
+    requires wants { wants.now ≡ wants_in job.now basis.now }
+    ensures first { IfOk result (λ r.
+        r.0 ≡ changed job.now.status (first_value job.now basis.entry.now)) }
+    ensures second { IfOk result (λ r. r.1
+        ≡ changed (first_value job.now basis.entry.now) (second_value job.now basis.entry.now)) }
+{
+    let first = first_status(alloc, basis, job, counted, target, wants)?;
+    let second = second_status(alloc, basis, job, counted, target, &first)?;
+    let second = changed(&first, second);
+    Ok((changed(&job.status, first), second))
+}
+
+// The plan of a basis with a Job, of what the sync counts in.
+fn planned_with(alloc: Global, basis: &Basis, job: &Job, counted: &CountIn) -> Result<Planned, Want>
+    requires this { basis.now.job ≡ Some job.now }
+    requires can { CanPlan basis.now }
+    requires counted { counted.now ≡ accounted job.now basis.now }
+    requires failed { (counts counted.now).0 < 2 ^ 64 }
+    requires succeeded { (counts counted.now).1 < 2 ^ 64 }
+    requires new_failed { counted.now.new_failed ≤ length basis.now.pods }
+    ensures { IfOk result (λ r. r ≡ planned_for basis.entry.now (Some job.now)) }
+{
+    let target = target_for(basis, job, counted);
+    let releases = released(alloc, basis, &counted.releases)?;
+    let wants = wants_for(alloc, basis, job, counted, target)?;
+    let (first, second) = statuses_for(alloc, basis, job, counted, target, &wants)?;
+    Ok(Planned {
+        creates: wants.creates,
+        marks: wants.marks,
+        let_goes: wants.let_goes,
+        first,
+        releases,
+        second,
+        backoff: wants.backoff,
+        next: earlier(wants.next, next_deadline(basis)),
+    })
+}
+
 // The plan of a basis with a Job.
 fn planned_for(alloc: Global, basis: &Basis, job: &Job) -> Result<Planned, Want>
     requires this { basis.now.job ≡ Some job.now }
@@ -137,21 +192,7 @@ fn planned_for(alloc: Global, basis: &Basis, job: &Job) -> Result<Planned, Want>
     ensures { IfOk result (λ r. r ≡ planned_for basis.entry.now (Some job.now)) }
 {
     let counted = accounted_for(alloc, basis, job)?;
-    let target = target_for(basis, job, &counted);
-    let wants = wants_for(alloc, basis, job, &counted, target)?;
-    let first = first_status(alloc, basis, job, &counted, target, &wants)?;
-    let second = second_status(alloc, basis, job, &counted, target, &first)?;
-    let second = changed(&first, second);
-    Ok(Planned {
-        creates: wants.creates,
-        marks: wants.marks,
-        let_goes: wants.let_goes,
-        first: changed(&job.status, first),
-        releases: released(alloc, basis, &counted.releases)?,
-        second,
-        backoff: wants.backoff,
-        next: earlier(wants.next, next_deadline(basis)),
-    })
+    planned_with(alloc, basis, job, &counted)
 }
 
 // The plan of a basis without a Job.
@@ -192,6 +233,6 @@ pub fn plan(alloc: Global, basis: &Arc<Basis>) -> Result<Plan, Want>
     ensures basis { IfOk result (λ plan. plan.basis ≡ basis.entry.now) }
     ensures parts { IfOk result (λ plan. plan.parts ≡ planned basis.entry.now) }
 {
-    let parts = parts_of(alloc, &**basis)?;
+    let parts = Arc::new(alloc, parts_of(alloc, &**basis)?)?;
     Ok(Plan::new(basis.copy()?, parts))
 }

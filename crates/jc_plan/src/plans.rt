@@ -30,26 +30,12 @@ pub struct Planned {
     pub next: Option<Moment>,
 }
 
-impl Copied for Planned {
-    fn copy(&self) -> Result<Self, Want> {
-        Ok(Planned {
-            creates: self.creates.copy()?,
-            marks: self.marks.copy()?,
-            let_goes: self.let_goes.copy()?,
-            first: self.first.copy()?,
-            releases: self.releases.copy()?,
-            second: self.second.copy()?,
-            backoff: self.backoff.copy()?,
-            next: self.next,
-        })
-    }
-}
-
 /// The plan of a sync: the requests that it makes, and what it leaves behind. It is that of its own basis.
+/// Copies share it.
 #[derive(Drop)]
 pub struct Plan {
     basis: Arc<Basis>,
-    parts: Planned,
+    parts: Arc<Planned>,
 }
 
 impl Model for Plan {
@@ -73,7 +59,7 @@ impl Copied for Plan {
 
 impl Plan {
     // The plan with the parts of its basis.
-    pub(crate) fn new(basis: Arc<Basis>, parts: Planned) -> Plan
+    pub(crate) fn new(basis: Arc<Basis>, parts: Arc<Planned>) -> Plan
         requires { parts ≡ planned basis }
         ensures basis { result.basis ≡ basis }
         ensures parts { result.parts ≡ parts }
