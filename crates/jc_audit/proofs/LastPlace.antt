@@ -5,7 +5,8 @@ use Rattle.jc_types.specs.declared.actions.Script.{Script}
 use Rattle.jc_types.specs.declared.runs.Past.{Past}
 use Rattle.jc_log.specs.Deeds.{deed}
 use Rattle.jc_history.specs.Legal.{InLanes}
-use Rattle.jc_lines.specs.Events.{HasPlace, event_line}
+use Rattle.jc_verdicts.specs.Verdicts.{IsPlace}
+use Rattle.jc_lines.specs.Events.{event_line}
 use Rattle.jc_lines.proofs.PlaceFacts.{has_place}
 use Rattle.jc_runs.specs.Seen.{Seen}
 use Rattle.jc_audit.specs.Walks.{last_line, line_of_last}
@@ -34,10 +35,10 @@ module _ (script : Script) (items pasts : List Past) (p : Past) (is : reverse it
       let same : items ≡ reverse before ++ first ∷ [] = back ∙ ap reverse e ∙ reverse-append (first ∷ []) before in
       found ∙ ap (λ (l : List Past). get_or l (length l - 1) p) same ∙ last_get (reverse before) first p
 
-pub newest_has_place : (script : Script) (items pasts : List Past) (p : Past) → reverse items ≡ pasts → p ≡ get_or items (length items - 1) p → 0 < length pasts → InLanes script.commands pasts → HasPlace script p.event
+pub newest_has_place : (script : Script) (items pasts : List Past) (p : Past) → reverse items ≡ pasts → p ≡ get_or items (length items - 1) p → 0 < length pasts → InLanes script.commands pasts → IsPlace script.commands p.event
 newest_has_place script items [] p is found some lanes = absurd (omega (arith, some))
 newest_has_place script items (first ∷ before) p is found some lanes =
-    subst (λ (q : Past). HasPlace script q.event) (sym (newest_is script items (first ∷ before) p is found first before refl)) (has_place script before first.event lanes.0)
+    subst (λ (q : Past). IsPlace script.commands q.event) (sym (newest_is script items (first ∷ before) p is found first before refl)) (has_place script before first.event lanes.0)
 
 pub lengths : (s : Script) (xs : List Past) → length (map (deed s) xs) ≡ length xs
 lengths s [] = refl

@@ -2,7 +2,7 @@
 //! implementation of the rules, and not from the code.
 
 ghost use Rattle.std.specs.Prelude.{◌≡◌, ◌<◌, ◌^◌, IsTrue, length};
-ghost use Rattle.jc_lines.specs.Events.{HasPlace};
+ghost use Rattle.jc_lines.specs.Verdicts.{IsPlace};
 
 use crate::scripts::{script_of, shape};
 use jc_core::{Actor, Cluster};
@@ -49,7 +49,7 @@ fn command(cluster: &mut Cluster) -> Result<(), Fail> {
 
 // Whether the event's command, if it is one, is one of the script.
 fn has_place(script: &Script, event: &Event) -> bool
-    ensures { IsTrue result → HasPlace script.now event.now }
+    ensures { IsTrue result → IsPlace script.now.commands event.now }
 {
     match event {
         Event::Command { number, .. } => (*number as usize) < script.commands.len(),

@@ -14,7 +14,6 @@ use Rattle.jc_types.specs.declared.runs.History.{History}
 use Rattle.jc_types.specs.declared.runs.Past.{Past}
 use Rattle.jc_history.specs.Legal.{ComesNext, InLanes, lane_count, lane_places, places_from}
 use Rattle.jc_verdicts.specs.Verdicts.{IsNumbered, IsPlace}
-use Rattle.jc_lines.specs.Events.{HasPlace}
 
 -- ---- places of lanes
 
@@ -49,18 +48,14 @@ lane_at lane cs k n e =
 
 -- ---- places of histories
 
-pub has_place : (script : Script) (before : List Past) (e : Event) → ComesNext script.commands before e → HasPlace script e
+pub has_place : (script : Script) (before : List Past) (e : Event) → ComesNext script.commands before e → IsPlace script.commands e
 has_place script before (event.Command lane number) next =
     let at = lane_at lane script.commands (lane_count lane before) number next in within script.commands number at.command at.found
 has_place script before (event.System s) next = tt
 
-is_place : (script : Script) (e : Event) → HasPlace script e → IsPlace script.commands e
-is_place script (event.Command lane number) h = h
-is_place script (event.System s) h = h
-
 are_places : (script : Script) (pasts : List Past) → InLanes script.commands pasts → Each (λ (past : Past). IsPlace script.commands past.event) pasts
 are_places script [] h = tt
-are_places script (past ∷ before) h = (is_place script past.event (has_place script before past.event h.0), are_places script before h.1)
+are_places script (past ∷ before) h = (has_place script before past.event h.0, are_places script before h.1)
 
 -- The commands of a history whose lanes are in order are numbered as the script numbers them.
 pub numbered : (script : Script) (history : History) (pasts : List Past) → InLanes script.commands pasts → reverse history.events.items ≡ pasts → IsNumbered script history

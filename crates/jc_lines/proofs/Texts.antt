@@ -4,16 +4,13 @@ use Rattle.std.specs.BTreeMap.{insert_entry}
 use Rattle.std.proofs.lemmas.List.{append-nil, drop_more, flat_map_more, length-map, length-take-le, map-append}
 use Rattle.std.proofs.lemmas.Option.{get_or_from_slice_get, slice_get_within}
 use Rattle.jc_ledger.specs.declared.counts.Verdicts.{Verdicts}
-use Rattle.jc_verdicts.specs.Verdicts.{IsPlace}
-use Rattle.jc_lines.specs.Events.{HasPlace, event_line, event_lines}
+use Rattle.jc_lines.specs.Events.{event_line, event_lines}
 use Rattle.jc_log.specs.Deeds.{Deed, deed}
 use Rattle.jc_queue.specs.Delayed.{key_order}
 use Rattle.jc_types.specs.declared.actions.Script.{Script}
 use Rattle.jc_types.specs.declared.numbers.Uid.{Uid}
 use Rattle.jc_types.specs.declared.objects.Job.{Job}
 use Rattle.jc_types.specs.declared.objects.Key.{Key}
-use Rattle.jc_types.specs.declared.runs.Event.{Event}
-use Rattle.jc_types.specs.declared.runs.Event.TheVariants as event
 use Rattle.jc_types.specs.declared.runs.Past.{Past}
 use Rattle.jc_lines.specs.Reports.{by_key, job_lines, jobs_text, lines_with}
 
@@ -44,11 +41,6 @@ events-more script events place past before after within more so next =
     ∙ ap (λ m. event_lines 1 first ++ event_line m last) (sym number)
     ∙ sym (event_lines-more 1 first last)
     ∙ ap (event_lines 1) (sym (ap (map (deed script)) more ∙ map-append (deed script) (take place events) (past ∷ [])))
-
--- A place of a command is one that its line can be printed of.
-pub has_place : (script : Script) (e : Event) → IsPlace script.commands e → HasPlace script e
-has_place script (event.Command lane number) within = within
-has_place script (event.System system) within = within
 
 -- ---- Jobs
 

@@ -1,13 +1,9 @@
 -- The lines of events.
 --     tag_text lane              the lane of a command, as `@0`, or `-` for an event of the system
 --     event_line number deed     the line of an event, with its number in the history, from 1
---     HasPlace script event      the event's command, if it is one, is one of the script
 --     event_lines number deeds   the lines of several, oldest first, numbered from this number on
-use Rattle.std.specs.Prelude.{ℕ, ◌+◌, ◌<◌, length, List, [], ◌∷◌, ◌++◌, Option, None, Some, codes, decimal}
+use Rattle.std.specs.Prelude.{ℕ, ◌+◌, List, [], ◌∷◌, ◌++◌, Option, None, Some, codes, decimal}
 use Rattle.jc_log.specs.Deeds.{Deed}
-use Rattle.jc_types.specs.declared.actions.Script.{Script}
-use Rattle.jc_types.specs.declared.runs.Event.{Event}
-use Rattle.jc_types.specs.declared.runs.Event.TheVariants as event
 use Rattle.jc_lines.specs.Acts.{act_text}
 use Rattle.jc_lines.specs.Replies.{reply_text}
 
@@ -23,8 +19,3 @@ event_line number deed =
 abbrev pub event_lines : ℕ → List Deed → List ℕ
 event_lines number [] = []
 event_lines number (deed ∷ deeds) = event_line number deed ++ event_lines (number + 1) deeds
-
--- A command's place is one of the script.
-abbrev pub HasPlace : Script → Event → Type 0
-HasPlace script (event.Command lane number) = number < length script.commands
-HasPlace script (event.System system) = Unit {0}

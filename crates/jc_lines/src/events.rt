@@ -3,7 +3,8 @@
 ghost use Rattle.std.specs.Prelude.{◌≡◌, ◌++◌, ◌<◌, OnErr, OnOk, Some, codes, length, slice_get, string_bytes};
 ghost use Rattle.jc_log.specs.Deeds.{act_of_command, act_of_event, deed, lane_of};
 ghost use Rattle.jc_lines.specs.Acts.{act_text};
-ghost use Rattle.jc_lines.specs.Events.{HasPlace, event_line, tag_text};
+ghost use Rattle.jc_verdicts.specs.Verdicts.{IsPlace};
+ghost use Rattle.jc_lines.specs.Events.{event_line, tag_text};
 
 use crate::acts::{print_action, print_system};
 use crate::replies::print_reply;
@@ -41,7 +42,7 @@ fn print_command(
 
 // Whose event it is, and what it does.
 fn print_deed(out: &mut String, alloc: Global, script: &Script, event: &Event) -> Result<(), Want>
-    requires { HasPlace script.now event.now }
+    requires { IsPlace script.now.commands event.now }
     ensures { OnOk result (string_bytes out.new ≡ string_bytes out.old
         ++ (tag_text (lane_of event.now)
         ++ (codes " " ++ act_text (act_of_event script.now.commands event.now)))) }
@@ -68,7 +69,7 @@ pub fn put_event(
     number: u64,
     past: &Past,
 ) -> Result<(), Want>
-    requires { HasPlace script.now past.now.event }
+    requires { IsPlace script.now.commands past.now.event }
     ensures { OnOk result (string_bytes out.new
         ≡ string_bytes out.old ++ event_line number (deed script.now past.now)) }
 {
@@ -93,7 +94,7 @@ pub fn print_event(
     number: u64,
     past: &Past,
 ) -> Result<(), Want>
-    requires { HasPlace script.now past.now.event }
+    requires { IsPlace script.now.commands past.now.event }
     ensures line { OnOk result (string_bytes out.new
         ≡ string_bytes out.old ++ event_line number (deed script.now past.now)) }
     ensures kept { OnErr result (string_bytes out.new ≡ string_bytes out.old) }

@@ -15,6 +15,7 @@ use crate::reading::{
     read_version,
 };
 use jc_lines::{print_action, print_system};
+use jc_print::put_decimal;
 use jc_types::{Action1, Arc, Sys, Want};
 use std::alloc::Global;
 
@@ -279,7 +280,10 @@ fn print_tag(out: &mut String, lane: Option<u8>) -> Result<(), Want>
     ensures { OnOk result (string_bytes out.new ≡ string_bytes out.old ++ tag_text lane) }
 {
     match lane {
-        Some(lane) => write!(out, "@{lane}"),
+        Some(lane) => {
+            out.push_str("@")?;
+            put_decimal(out, lane)
+        }
         None => out.push_str("-"),
     }
 }
@@ -300,7 +304,8 @@ fn front(alloc: Global, number: u64, read: &LineRead) -> Result<String, Want>
         ≡ front_text number read.now.lane (act_of_line read.now.act)) }
 {
     let mut out = String::new(alloc);
-    write!(out, "{number} ")?;
+    put_decimal(&mut out, number)?;
+    out.push_str(" ")?;
     print_tag(&mut out, read.lane)?;
     out.push_str(" ")?;
     print_act(&mut out, alloc, &read.act)?;
