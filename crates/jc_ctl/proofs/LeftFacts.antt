@@ -34,19 +34,21 @@ module _ (seen : Seen) (h : History) (events : reverse h.events.items ≡ seen.p
       → IsReport threads seen.script seen.shape full text
   is_report threads full text legal keeps numbers is orderly whole filled to_come = record {
     history = h;
-    text_is = is ∙ ap (λ l. report_text seen.script l (log_seen seen) full) items-are
-        ∙ ap (λ ds. report_text seen.script h.events.items (log_given seen.shape ds) full) same-deeds;
-    legal = legal;
-    orderly = subst (λ ds. IsOrderly seen.shape ds) same-deeds orderly;
-    keeps = keeps;
+    told = record {
+      text_is = is ∙ ap (λ l. report_text seen.script l (log_seen seen) full) items-are
+          ∙ ap (λ ds. report_text seen.script h.events.items (log_given seen.shape ds) full) same-deeds;
+      legal = legal;
+      orderly = subst (λ ds. IsOrderly seen.shape ds) same-deeds orderly;
+      keeps = keeps;
+      used = λ e. subst (λ l. AreUsed seen.script.commands l) (sym events) (whole e).used;
+      rests = λ e ends. subst (λ ds. is_quiescent seen.shape ds (log_given seen.shape ds) ≡ true) same-deeds (whole e).rests;
+      filled = λ e. let count = filled e in let same = ap (λ (l : List Past). length l) events in let back = length-reverse h.events.items in omega (arith, count, same, back);
+      to_come = λ e some played. to_come e (record {
+        used = subst (λ l. AreUsed seen.script.commands l) events played.used;
+        rests = subst (λ ds. is_quiescent seen.shape ds (log_given seen.shape ds) ≡ true) (sym same-deeds) played.rests;
+      });
+    };
     events = numbers (subst (λ ds. IsOrderly seen.shape ds) same-deeds orderly);
-    used = λ e. subst (λ l. AreUsed seen.script.commands l) (sym events) (whole e).used;
-    rests = λ e ends. subst (λ ds. is_quiescent seen.shape ds (log_given seen.shape ds) ≡ true) same-deeds (whole e).rests;
-    filled = λ e. let count = filled e in let same = ap (λ (l : List Past). length l) events in let back = length-reverse h.events.items in omega (arith, count, same, back);
-    to_come = λ e some played. to_come e (record {
-      used = subst (λ l. AreUsed seen.script.commands l) events played.used;
-      rests = subst (λ ds. is_quiescent seen.shape ds (log_given seen.shape ds) ≡ true) (sym same-deeds) played.rests;
-    });
   }
 
 -- The report of a cluster that was left is one of the script and the shape that were given.

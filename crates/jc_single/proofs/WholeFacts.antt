@@ -1,5 +1,6 @@
 -- The play of a script in a new cluster is that of the whole script.
-use Rattle.std.proofs.Common.{◌≡◌, ℕ, ◌≤◌, Bool, false, List, [], reverse, Ok, ap, ap₂, refl, subst, sym, ◌∙◌}
+use Rattle.std.proofs.Common.{◌≡◌, ℕ, ◌≤◌, Bool, false, List, [], reverse, Result, Ok, Err, ap, ap₂, refl, subst, sym, ◌∙◌}
+use Rattle.std.specs.Prelude.{IfOk}
 use Rattle.jc_types.specs.declared.actions.Script.{Script}
 use Rattle.jc_types.specs.declared.runs.Shape.{Shape}
 use Rattle.jc_promise.specs.Play.{Playing, nothing, rest_played, whole_play}
@@ -31,27 +32,31 @@ printed_from script p = record { text = report_text script (reverse p.pasts) p.l
 abbrev printed_of : List ℕ → Bool → Printed
 printed_of text full = record { text = text; full = full }
 
-pub report_is : (script : Script) (shape : Shape) (played : Played) (bytes : List ℕ)
+pub report_is : {E : Type 0} (script : Script) (shape : Shape) (played : Played) (r : Result Output E)
     → played.cluster.seen.script ≡ script → whole_play script shape ≡ playing_of played.full played.cluster.seen
-    → bytes ≡ report_text played.cluster.seen.script (reverse played.cluster.seen.pasts) (log_seen played.cluster.seen) played.full
-    → printed_of bytes played.full ≡ report_printed script shape
+    → IfOk r (λ output. output.text.items
+    ≡ report_text played.cluster.seen.script (reverse played.cluster.seen.pasts) (log_seen played.cluster.seen) played.full)
+    → IfOk r (λ output. output.full ≡ played.full)
+    → IfOk r (λ output. printed_by output ≡ report_printed script shape)
 unfolding report_printed
-report_is script shape played bytes is e text =
-    ap (λ b. printed_of b played.full) text ∙ ap (λ s. printed_from s (playing_of played.full played.cluster.seen)) is
+report_is script shape played (Err want) is e text full = tt
+report_is script shape played (Ok output) is e text full =
+    ap₂ printed_of text full ∙ ap (λ s. printed_from s (playing_of played.full played.cluster.seen)) is
     ∙ ap (printed_from script) (sym e)
 
 -- What is counted of a play.
 abbrev counted_from : Playing → Printed
 counted_from p = record { text = summary_of p.log p.full; full = p.full }
 
-pub summary_is : (script other : Script) (shape that : Shape) (played : Played) (bytes : List ℕ)
+pub summary_is : {E : Type 0} (script other : Script) (shape that : Shape) (played : Played) (r : Result Output E)
     → script ≡ other → shape ≡ that → whole_play script shape ≡ playing_of played.full played.cluster.seen
-    → bytes ≡ summary_of (log_seen played.cluster.seen) played.full
-    → printed_of bytes played.full ≡ summary_printed other that
+    → IfOk r (λ output. output.text.items ≡ summary_of (log_seen played.cluster.seen) played.full)
+    → IfOk r (λ output. output.full ≡ played.full)
+    → IfOk r (λ output. printed_by output ≡ summary_printed other that)
 unfolding summary_printed
-summary_is script other shape that played bytes scripts shapes e text =
-    ap (λ b. printed_of b played.full) text ∙ ap counted_from (sym e)
-    ∙ ap₂ (λ s t. counted_from (whole_play s t)) scripts shapes
+summary_is script other shape that played (Err want) scripts shapes e text full = tt
+summary_is script other shape that played (Ok output) scripts shapes e text full =
+    ap₂ printed_of text full ∙ ap counted_from (sym e) ∙ ap₂ (λ s t. counted_from (whole_play s t)) scripts shapes
 
 pub few_events : (shape that : Shape) → shape ≡ that → IsFitShape that → shape.events ≤ 200000
 few_events shape that e fits = subst (λ (s : Shape). s.events ≤ 200000) (sym e) fits.few_events

@@ -2,7 +2,8 @@
 --     ends_full status                  the run ended with its history full
 --     EndsAtRest threads script         the script is played until nothing is left to do
 --     IsPlayedOut script shape history      every lane is used up, and nothing is left to do
---     IsReport threads script shape full text     the text is the report of a history of the script
+--     IsReportOf history threads script shape full text     the text is the report of this history of the script
+--     IsReport threads script shape full text     it is that of a history whose lines tell it
 --     TellsHistory threads script shape full old new    that was written to the sink
 --     TellsFront threads script shape old new     the front of it was
 use Rattle.std.specs.Prelude.{◌≡◌, ℕ, ◌≤◌, ◌⊎◌, Bool, true, false, List, length, reverse, Option}
@@ -36,26 +37,31 @@ pub record IsPlayedOut (script : Script) (shape : Shape) (history : History) : T
   pub used : AreUsed script.commands (reverse history.events.items)
   pub rests : is_quiescent shape (deeds script history) (log_given shape (deeds script history)) ≡ true
 
--- The text is the report of a history of the script: legal, in the order of its lanes, and orderly, so
+-- The text is the report of this history of the script: legal, in the order of its lanes, and orderly, so
 -- that the clock moves of itself only where nothing else can be done. The statuses and verdicts that are
 -- printed are those of the log of that history. All promises hold of it. Where it is not full every lane
 -- is used up, and where the script is played until then nothing is left to do. Where it is full on threads,
--- a lane is not used up or something is left to do. The numbers of its events are such as the code's types
+-- a lane is not used up or something is left to do.
+pub record IsReportOf (history : History) (threads : ℕ) (script : Script) (shape : Shape) (full : Bool)
+    (text : List ℕ) : Type 0 where
+  pub text_is : text
+      ≡ report_text script history.events.items (log_given shape (deeds script history)) full
+  pub legal : IsHistory script shape history
+  pub orderly : IsOrderly shape (deeds script history)
+  pub keeps : KeepsPromises script shape history
+  pub used : full ≡ false → AreUsed script.commands (reverse history.events.items)
+  pub rests : full ≡ false → EndsAtRest threads script
+      → is_quiescent shape (deeds script history) (log_given shape (deeds script history)) ≡ true
+  pub filled : full ≡ true → length history.events.items ≡ shape.events
+  pub to_come : full ≡ true → 1 ≤ threads → ¬ IsPlayedOut script shape history
+
+-- The text is the report of a history of the script, the numbers of whose events are such as the code's types
 -- hold: so its lines tell it, and no other history of the script with such numbers.
 pub record IsReport (threads : ℕ) (script : Script) (shape : Shape) (full : Bool) (text : List ℕ) : Type 0
   where
     pub history : History
-    pub text_is : text
-        ≡ report_text script history.events.items (log_given shape (deeds script history)) full
-    pub legal : IsHistory script shape history
-    pub orderly : IsOrderly shape (deeds script history)
-    pub keeps : KeepsPromises script shape history
+    pub told : IsReportOf history threads script shape full text
     pub events : AreEvents history.events.items
-    pub used : full ≡ false → AreUsed script.commands (reverse history.events.items)
-    pub rests : full ≡ false → EndsAtRest threads script
-        → is_quiescent shape (deeds script history) (log_given shape (deeds script history)) ≡ true
-    pub filled : full ≡ true → length history.events.items ≡ shape.events
-    pub to_come : full ≡ true → 1 ≤ threads → ¬ IsPlayedOut script shape history
 
 -- The sink was given such a report.
 pub record TellsHistory (threads : ℕ) (script : Script) (shape : Shape) (full : Bool)

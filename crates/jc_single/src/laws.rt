@@ -4,9 +4,10 @@ ghost use Rattle.std.specs.Prelude.{◌≡◌, ◌<◌, ◌≤◌, ◌^◌, IfSo
 ghost use Rattle.std.specs.List.{AllByRecursion as Each};
 ghost use Rattle.jc_types.specs.declared.actions.Command.{Command};
 ghost use Rattle.jc_types.specs.declared.actions.Script.{Script};
+ghost use Rattle.jc_types.specs.declared.runs.History.{History};
 ghost use Rattle.jc_types.specs.declared.runs.Shape.{Shape};
 ghost use Rattle.jc_promise.specs.ValidActions.{IsValidAction};
-ghost use Rattle.jc_promise.specs.Play.{is_full};
+ghost use Rattle.jc_promise.specs.Play.{is_full, play_of};
 ghost use Rattle.jc_promise.specs.Plays.{IsProper};
 ghost use Rattle.jc_reap.specs.TtlLines.{ttls_of};
 ghost use Rattle.jc_script.specs.Scripts.{script_of};
@@ -16,7 +17,7 @@ ghost use Rattle.jc_words.specs.declared.words.Order.TheVariants.{Reap};
 ghost use Rattle.jc_words.specs.Fits.{IsFitOrder};
 ghost use Rattle.jc_single.specs.Played.{CollectsDue, at_rest, script_played, staging_of};
 ghost use Rattle.jc_single.specs.Runs.{Printed, answer_of, report_printed};
-ghost use Rattle.jc_single.specs.Told.{IsReport};
+ghost use Rattle.jc_single.specs.Told.{IsReport, IsReportOf};
 
 use jc_promise::{
     legal_histories_keep_the_promises, orderly_histories_have_small_numbers,
@@ -27,9 +28,16 @@ use jc_script::scripts_fit_their_shape;
 use jc_words::orders_fit;
 
 /// **The report of the play of a script on one thread is that of a legal history of it, of which all
-/// promises hold (KEP-2307).** The script and the shape are such as the code's types hold.
+/// promises hold (KEP-2307).** Where the script and the shape are such as the code's types hold, its lines tell that
+/// history and no other.
 pub fn plays_tell_their_history()
-    ensures { (script : Script) (shape : Shape)
+    ensures history { (script : Script) (shape : Shape) (history : History)
+        → history.events.items ≡ play_of script shape
+        → Each (λ (command : Command). IsValidAction command.action) script.commands
+        → IsProper script shape → 0 < shape.controllers → 0 < shape.workers → shape.events ≤ 200000
+        → IsReportOf history 0 script shape (is_full script shape)
+        (report_printed script shape).text }
+    ensures report { (script : Script) (shape : Shape)
         → Each (λ (command : Command). IsValidAction command.action) script.commands
         → Each (λ (command : Command). command.lane < 2 ^ 8) script.commands
         → IsProper script shape → 0 < shape.controllers → shape.controllers ≤ 2 ^ 32

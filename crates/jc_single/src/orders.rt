@@ -1,10 +1,12 @@
 //! What is asked for, made of what was read.
 
-ghost use Rattle.std.specs.Prelude.{◌≡◌, ◌<◌, ◌≤◌, ◌^◌, Err, IfOk, IsErrOf, Ok, length, ℕ};
+ghost use Rattle.std.specs.Prelude.{◌≡◌, ◌<◌, ◌≤◌, ◌^◌, Err, IfOk, IsErrOf, Ok, length, reverse, ℕ};
 ghost use Rattle.std.specs.List.{AllByRecursion as Each};
 ghost use Rattle.jc_types.specs.declared.actions.Command.{Command};
 ghost use Rattle.jc_promise.specs.ValidActions.{IsValidAction};
 ghost use Rattle.jc_promise.specs.Plays.{IsProper};
+ghost use Rattle.jc_promise.specs.Seen.{log_seen};
+ghost use Rattle.jc_report.specs.Reports.{report_text, summary_of};
 ghost use Rattle.jc_gen.specs.Generated.{generated};
 ghost use Rattle.jc_script.specs.Scripts.{most_bytes, script_of};
 ghost use Rattle.jc_script.specs.Cause.{Cause};
@@ -13,7 +15,7 @@ ghost use Rattle.jc_words.specs.Words.{default_shape};
 ghost use Rattle.jc_single.specs.Played.{as_script};
 ghost use Rattle.jc_single.specs.Runs.{IsSingle, answer_of, printed_by, report_printed, reported, summary_printed};
 
-use crate::plays::play_whole;
+use crate::plays::{Played, play_whole};
 use crate::reaps::reap_answer;
 use jc_gen::{generate, generated_commands_are_valid, generated_scripts_are_fit};
 use jc_io::Bytes;
@@ -32,8 +34,34 @@ pub struct Output {
     pub full: bool,
 }
 
+// The report of a play.
+fn print_report(alloc: Global, played: &Played) -> Result<Output, Want>
+    ensures text { IfOk result (λ output. output.text.items
+        ≡ report_text played.now.cluster.seen.script (reverse played.now.cluster.seen.pasts)
+        (log_seen played.now.cluster.seen) played.now.full) }
+    ensures full { IfOk result (λ output. output.full ≡ played.now.full) }
+{
+    let text = report(alloc, &played.cluster, played.full)?;
+    Ok(Output {
+        text,
+        full: played.full,
+    })
+}
+
+// The summary of a play.
+fn print_summary(alloc: Global, played: &Played) -> Result<Output, Want>
+    ensures text { IfOk result (λ output. output.text.items
+        ≡ summary_of (log_seen played.now.cluster.seen) played.now.full) }
+    ensures full { IfOk result (λ output. output.full ≡ played.now.full) }
+{
+    let text = summary(alloc, &played.cluster, played.full)?;
+    Ok(Output {
+        text,
+        full: played.full,
+    })
+}
+
 /// The report of the play of a script.
-#[tactic(auto, using(crate::proofs::WholeFacts::report_is))]
 pub(crate) fn script_answer(alloc: Global, script: Script, shape: Shape) -> Result<Output, Want>
     requires fine { Each (λ (command : Command). IsValidAction command.action) script.commands }
     requires proper { IsProper script shape }
@@ -42,11 +70,7 @@ pub(crate) fn script_answer(alloc: Global, script: Script, shape: Shape) -> Resu
     ensures { IfOk result (λ output. printed_by output ≡ report_printed script shape) }
 {
     let played = play_whole(alloc, script, shape)?;
-    let text = report(alloc, &played.cluster, played.full)?;
-    Ok(Output {
-        text,
-        full: played.full,
-    })
+    print_report(alloc, &played)
 }
 
 // The report of the play of the script in the input.
@@ -66,7 +90,6 @@ fn run_answer(alloc: Global, shape: Shape, input: &[u8]) -> Result<Output, Scrip
 }
 
 // The summary of the play of a generated script.
-#[tactic(auto, using(crate::proofs::WholeFacts::summary_is))]
 fn generate_answer(alloc: Global, number: u32, jobs: u32, pods: u32) -> Result<Output, Want>
     requires some_jobs { 1 ≤ jobs }
     requires few_jobs { jobs ≤ 100 }
@@ -80,11 +103,7 @@ fn generate_answer(alloc: Global, number: u32, jobs: u32, pods: u32) -> Result<O
     orders_fit();
     let script = generate(alloc, number, jobs, pods)?;
     let played = play_whole(alloc, script, default_shape())?;
-    let text = summary(alloc, &played.cluster, played.full)?;
-    Ok(Output {
-        text,
-        full: played.full,
-    })
+    print_summary(alloc, &played)
 }
 
 /// What the order asks for, of what was read.

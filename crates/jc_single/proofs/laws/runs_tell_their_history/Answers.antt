@@ -104,7 +104,7 @@ returns c (order.Run threads lock shape) input printed fits said =
       lanes = read_lanes commands (c.scripts_fit_their_shape.ensures.lanes shape input commands e);
       within = read_within shape commands (c.scripts_fit_their_shape.ensures.within shape input commands fits.shape_fits.some_controllers
           fits.shape_fits.some_workers e);
-    })) (of-fine shape fits.shape_fits c.plays_tell_their_history.ensures) said
+    })) (of-fine shape fits.shape_fits c.plays_tell_their_history.ensures.report) said
 returns c (order.Reap shape) input printed fits said =
     told-of shape printed (reaped_of shape (script_of shape input) (ttls_of shape input))
     (reaped-fine shape c.reaped_commands_fit.ensures.valid c.reaped_commands_fit.ensures.lane
@@ -114,4 +114,4 @@ returns c (order.Reap shape) input printed fits said =
       lanes = read_lanes commands (c.scripts_fit_their_shape.ensures.lanes shape input commands e);
       within = read_within shape commands (c.scripts_fit_their_shape.ensures.within shape input commands fits.some_controllers
           fits.some_workers e);
-    })) (of-fine shape fits c.plays_tell_their_history.ensures) said
+    })) (of-fine shape fits c.plays_tell_their_history.ensures.report) said

@@ -24,5 +24,5 @@ play_whole-requires-clause-bound c = few_events _ _ c.default_shape.ensures c.or
 
 pub returns : goal.returns
 returns c =
-    summary_is _ _ _ _ c.in_ok-played.played _ c.in_ok-script.ensures c.default_shape.ensures
-    c.in_ok-played.ensures.play c.in_ok-text.ensures
+    summary_is _ _ _ _ c.in_ok-played.played c.print_summary.result c.in_ok-script.ensures c.default_shape.ensures
+    c.in_ok-played.ensures.play c.print_summary.ensures.text c.print_summary.ensures.full

@@ -4,5 +4,5 @@ use Rattle.jc_single.proofs.orders.script_answer.Goals as goal
 
 pub returns : goal.returns
 returns c =
-    report_is c.args.script c.args.shape c.in_ok-played.played _ c.in_ok-played.ensures.script
-    c.in_ok-played.ensures.play c.in_ok-text.ensures
+    report_is c.args.script c.args.shape c.in_ok-played.played c.print_report.result c.in_ok-played.ensures.script
+    c.in_ok-played.ensures.play c.print_report.ensures.text c.print_report.ensures.full
