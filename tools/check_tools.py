@@ -13,6 +13,7 @@ sys.dont_write_bytecode = True
 sys.path.insert(0, os.path.dirname(os.path.abspath(__file__)))
 import explain
 import script_of
+import standins
 import timeline
 from checks import TOP, Checks, text_of
 
@@ -94,6 +95,13 @@ def check_script_of():
     holds("what is no Job is refused", ran.returncode == 1 and "Pod" in ran.stderr and not ran.stdout)
 
 
+def check_standins():
+    """What a function took is told by the files that were written of it."""
+    files = [(0.0, "rattle-last-used"), (1.0, "Rattle-it-specs.Words.decls.oantt"), (4.0, "Rattle-it-proofs.parts.made.Lts.oantt")]
+    files += [(9.5, "Rattle-it-proofs.parts.made.Proof.decls.oantt"), (10.0, "Rattle-it-proofs.Facts.oantt"), (12.0, "Rattle-it-proofs.end.Tie.oantt")]
+    holds("the slowest function", standins.slowest("it", files[::-1]) == [(8.5, "parts::made"), (2.0, "end")])
+
+
 def check_stored_run():
     """The program's stored run is the first example."""
     holds("crates/jobctl/stdin", text_of("crates/jobctl/stdin") == text_of("examples/first.script"))
@@ -115,7 +123,7 @@ def check_jobctl():
 
 
 def main():
-    for check in (check_sources, check_timeline, check_explain, check_script_of, check_stored_run, check_jobctl):
+    for check in (check_sources, check_timeline, check_explain, check_script_of, check_standins, check_stored_run, check_jobctl):
         check()
     checks.end(60)
 

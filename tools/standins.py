@@ -1,5 +1,5 @@
 #!/usr/bin/env python3
-"""standins.py check CRATE [FLAG..] | build [--jobs N] [CRATE..]: checks a crate before those below it are proved.
+"""standins.py check CRATE [FLAG..] | slow CRATE | build [--jobs N] [CRATE..]: checks a crate before those below it are proved.
 
 A stand-in of a crate has its true types, contracts, definitions and lemma files, and no bodies. It builds in 10 to 90 s
 where the crate is proved in minutes. What checks over stand-ins checks over the proved crates too, at the first or second
@@ -7,6 +7,7 @@ try; a stand-in itself proves nothing, and only rt ci decides.
 
   check CRATE [FLAG..]      builds the stand-ins below the crate that its text has none of yet, and checks the crate over
                             them. FLAGs go to the prover: --only a::f, --allow-holes, --jobs N. Status 0: proved
+  slow CRATE                checks the crate anew, and prints its functions that took longest, in seconds of the clock
   build [--jobs N] [CRATE..]    builds the stand-ins of these crates, or of all, and of what is below them
 
 A stand-in is kept under the sum of what it was made from, in $STANDINS (~/.cache/standins if unset), for all checkouts. A
@@ -129,6 +130,23 @@ def standin(name):
     return files
 
 
+# ---- what takes long
+
+
+def slowest(crate, files):
+    """Returns how long each function of a crate took and its name, the longest first, of the files that a check wrote.
+
+    A check writes a file of a function as soon as it has made it; so it took from the file before on. FILES are
+    moments and names."""
+    times = {}
+    ordered = sorted(files)
+    for (before, _), (at, name) in zip(ordered, ordered[1:]):
+        own = re.match(rf"Rattle-{crate}-proofs\.([a-z].*)\.[A-Z][-A-Za-z0-9]*(\.decls)?\.oantt$", name)
+        if own:
+            times[own[1]] = times.get(own[1], 0) + at - before
+    return sorted(((time, function.replace(".", "::")) for function, time in times.items()), reverse=True)
+
+
 # ---- building and checking
 
 
@@ -248,13 +266,24 @@ class Standins:
         return status
 
 
+    def slow(self, name):
+        """Checks a crate anew over stand-ins, prints its slowest functions, and returns the prover's status."""
+        folder = f"{VIEW}/kept/{name}"
+        shutil.rmtree(folder, ignore_errors=True)
+        status = self.check(name, [])
+        files = [(os.stat(f"{at}/{file}").st_mtime, file) for at, _, names in os.walk(folder) for file in names]
+        for time, function in slowest(name, files)[:15]:
+            print(f"{time:6.1f} {function}")
+        return status
+
+
 def main():
     words = sys.argv[1:]
-    if words[:1] == ["check"] and len(words) > 1:
+    if words[:1] in (["check"], ["slow"]) and len(words) > 1:
         made = Standins()
         if words[1] not in made.below:
             sys.exit(f"standins.py: crates.txt has no crate {words[1]}")
-        sys.exit(made.check(words[1], words[2:]))
+        sys.exit(made.slow(words[1]) if words[0] == "slow" else made.check(words[1], words[2:]))
     if words[:1] == ["build"]:
         made, names, jobs = Standins(), words[1:], 2
         if names[:1] == ["--jobs"]:
