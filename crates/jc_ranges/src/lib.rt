@@ -12,6 +12,7 @@ mod text;
 
 pub use bounds::GREATEST_INDEX;
 pub use parse::RangesFault;
+pub use runs::Run;
 pub use set::Ranges;
 
 /// Want of memory: an allocation was refused.

@@ -75,6 +75,13 @@ impl Ranges {
         is_at(runs, place_of_number(runs, n), n)
     }
 
+    /// The members as runs of consecutive numbers, of which no two touch, in increasing order.
+    pub fn runs(&self) -> &[Run]
+        ensures { flat_map numbers result.now ≡ self.now }
+    {
+        self.runs.as_slice()
+    }
+
     /// How many members there are.
     pub fn len(&self) -> u32
         ensures count { result ≡ length self.now }

@@ -2,5 +2,11 @@ pub mod ObjectChangeFacts
 pub mod PodListFacts
 pub mod PodPlaceFacts
 pub mod TallyFacts
+pub mod HeldFacts
+pub mod HolderFacts
 pub mod UidListFacts
 pub mod BasisFacts
+pub mod UidPlaceFacts
+pub mod OddFacts
+pub mod AtOddsFacts
+pub mod NotedFacts

@@ -1,7 +1,7 @@
 -- Facts on lists of pods in ascending UID: what a put and a drop do to their order, to what is
 -- found in them and to how many they are.
-use Rattle.std.proofs.Common.{◌≡◌, ℕ, suc, ◌+◌, ◌<◌, ◌≤◌, ◌==◌, nat_lt, Bool, true, false, cond, not, List, [], ◌∷◌, filter, find, length, Option, Some, None, is_some, refl, sym, ap, ◌∙◌, arith, lt-ltb, ltb-true, ltb-false, eqb-true, ne_eqb, true≢false}
-use Rattle.std.specs.List.{AllByRecursion as Each}
+use Rattle.std.proofs.Common.{◌≡◌, ℕ, suc, ◌+◌, ◌<◌, ◌≤◌, ◌==◌, nat_lt, Bool, true, false, cond, not, ◌||◌, List, [], ◌∷◌, filter, find, length, Option, Some, None, is_some, refl, sym, ap, ◌∙◌, arith, lt-ltb, ltb-true, ltb-false, eqb-true, ne_eqb, true≢false}
+use Rattle.std.specs.List.{AllByRecursion as Each, list_any}
 use Rattle.std.proofs.lemmas.Bool.{cond-true, cond-false, eqb-false}
 use Rattle.std.proofs.lemmas.List.Filters.{length-filter_both}
 use Rattle.jc_types.specs.declared.numbers.Uid.{Uid}
@@ -156,6 +156,17 @@ drop-put pod (q ∷ pods) absent = by (nat_lt pod.uid.0 q.uid.0) (pod.uid.0 == q
     by false false e false s rest =
         ap (λ b. cond (not b) (q ∷ drop_pod pod.uid (put_pod pod pods)) (drop_pod pod.uid (put_pod pod pods))) s
         ∙ ap (λ l. q ∷ l) (rest (ap (λ b. cond b (Some q) (pod_among pod.uid pods)) (sym s) ∙ absent))
+
+-- ---- tests
+
+-- Where none passes, each fails.
+pub each-fails : {X : Type 0} (test : X → Bool) (xs : List X) → list_any test xs ≡ false → Each (λ x. test x ≡ false) xs
+each-fails test [] h = tt
+each-fails {X} test (x ∷ xs) h = by (test x) refl h (each-fails test xs)
+  where
+    by : (b : Bool) → test x ≡ b → (b || list_any test xs) ≡ false → (list_any test xs ≡ false → Each (λ y. test y ≡ false) xs) → (test x ≡ false) × Each (λ y. test y ≡ false) xs
+    by true e h rest = absurd (true≢false h)
+    by false e h rest = (e, rest h)
 
 -- ---- how many pods there are
 

@@ -75,8 +75,8 @@ length-found = count-found length (λ pod n. suc n) (λ pod pods. refl) (λ p q 
 -- ---- the numbers of an owner
 
 -- Numbers that agree are equal.
-same_numbers : (s t : Tally) → s.owner ≡ t.owner → s.open_pods ≡ t.open_pods → s.active ≡ t.active → s.active_tracked ≡ t.active_tracked → s.open_marked ≡ t.open_marked → s.ready ≡ t.ready → s.restarts ≡ t.restarts → s ≡ t
-same_numbers s t o a b c d e f = λ i. record { owner = o i; open_pods = a i; active = b i; active_tracked = c i; open_marked = d i; ready = e i; restarts = f i }
+same_numbers : (s t : Tally) → s.owner ≡ t.owner → s.pods ≡ t.pods → s.open_pods ≡ t.open_pods → s.active ≡ t.active → s.active_tracked ≡ t.active_tracked → s.open_marked ≡ t.open_marked → s.ready ≡ t.ready → s.restarts ≡ t.restarts → s ≡ t
+same_numbers s t o p a b c d e f = λ i. record { owner = o i; pods = p i; open_pods = a i; active = b i; active_tracked = c i; open_marked = d i; ready = e i; restarts = f i }
 
 -- Some pass a test where one does.
 pub some-pass : (test : Pod → Bool) (pods : List Pod) → nat_lt 0 (length (filter test pods)) ≡ list_any test pods
@@ -88,7 +88,7 @@ some-pass test (pod ∷ pods) = by (test pod) (some-pass test pods)
     by false ih = ih
 
 -- One more element adds to a filter where it passes.
-length-filter-cons : (test : Pod → Bool) (pod : Pod) (pods : List Pod) → length (filter test (pod ∷ pods)) ≡ length (filter test pods) + cond (test pod) 1 0
+pub length-filter-cons : (test : Pod → Bool) (pod : Pod) (pods : List Pod) → length (filter test (pod ∷ pods)) ≡ length (filter test pods) + cond (test pod) 1 0
 length-filter-cons test pod pods = by (test pod)
   where
     by : (b : Bool) → length (cond b (pod ∷ filter test pods) (filter test pods)) ≡ length (filter test pods) + cond b 1 0
@@ -106,7 +106,7 @@ restarts-cons pod pods = by (is_open pod)
 -- One more pod is entered into the numbers.
 tally_as-cons : (owner : Uid) (pod : Pod) (pods : List Pod) → tally_as owner (pod ∷ pods) ≡ tally_with (tally_as owner pods) pod
 tally_as-cons owner pod pods =
-    same_numbers (tally_as owner (pod ∷ pods)) (tally_with (tally_as owner pods) pod) refl (length-filter-cons is_open pod pods) (length-filter-cons is_active pod pods) (length-filter-cons is_tracked_active pod pods) (length-filter-cons is_ending pod pods) (length-filter-cons is_ready pod pods)
+    same_numbers (tally_as owner (pod ∷ pods)) (tally_with (tally_as owner pods) pod) refl (omega arith) (length-filter-cons is_open pod pods) (length-filter-cons is_active pod pods) (length-filter-cons is_tracked_active pod pods) (length-filter-cons is_ending pod pods) (length-filter-cons is_ready pod pods)
     (restarts-cons pod pods)
 
 -- One more pod counts among those of its owner.
@@ -124,7 +124,7 @@ add_swap n a b = omega arith
 -- Two pods may be entered in either order.
 entered-swap : (p q : Pod) (t : Tally) → tally_with (tally_with t q) p ≡ tally_with (tally_with t p) q
 entered-swap p q t =
-    same_numbers (tally_with (tally_with t q) p) (tally_with (tally_with t p) q) refl (add_swap t.open_pods _ _) (add_swap t.active _ _) (add_swap t.active_tracked _ _) (add_swap t.open_marked _ _) (add_swap t.ready _ _) (add_swap t.restarts _ _)
+    same_numbers (tally_with (tally_with t q) p) (tally_with (tally_with t p) q) refl refl (add_swap t.open_pods _ _) (add_swap t.active _ _) (add_swap t.active_tracked _ _) (add_swap t.open_marked _ _) (add_swap t.ready _ _) (add_swap t.restarts _ _)
 
 with-swap : (owner : Uid) (p q : Pod) (t : Tally) → with_pod owner p (with_pod owner q t) ≡ with_pod owner q (with_pod owner p t)
 with-swap owner p q t = by (same_uid p.owner_uid owner) (same_uid q.owner_uid owner)
@@ -142,7 +142,7 @@ add_take n a = omega arith
 -- A pod that is entered and leaves again leaves the numbers as they were.
 left-entered : (t : Tally) (pod : Pod) → tally_without (tally_with t pod) pod ≡ t
 left-entered t pod =
-    same_numbers (tally_without (tally_with t pod) pod) t refl (add_take t.open_pods _) (add_take t.active _) (add_take t.active_tracked _) (add_take t.open_marked _) (add_take t.ready _) (add_take t.restarts _)
+    same_numbers (tally_without (tally_with t pod) pod) t refl (add_take t.pods 1) (add_take t.open_pods _) (add_take t.active _) (add_take t.active_tracked _) (add_take t.open_marked _) (add_take t.ready _) (add_take t.restarts _)
 
 without-with : (owner : Uid) (pod : Pod) (t : Tally) → without_pod owner pod (with_pod owner pod t) ≡ t
 without-with owner pod t = by (same_uid pod.owner_uid owner)
@@ -153,7 +153,7 @@ without-with owner pod t = by (same_uid pod.owner_uid owner)
 
 -- Numbers count the pod that was entered last.
 counts-entered : (t : Tally) (pod : Pod) → CountsPod (tally_with t pod) pod
-counts-entered t pod = record { open_pods = omega arith; active = omega arith; active_tracked = omega arith; open_marked = omega arith; ready = omega arith; restarts = omega arith }
+counts-entered t pod = record { pods = omega arith; open_pods = omega arith; active = omega arith; active_tracked = omega arith; open_marked = omega arith; ready = omega arith; restarts = omega arith }
 
 -- ---- how large the numbers are
 
@@ -176,6 +176,7 @@ has_room owner pods few small =
     let less = length-filter-le (λ pod. same_uid pod.owner_uid owner) pods in
     let restarts = restarts-few own (Each-filter HasFewRestarts (λ pod. same_uid pod.owner_uid owner) pods small) in
     record {
+      pods = omega (arith, few, less);
       open_pods = let most = length-filter-le is_open own in omega (arith, few, less, most);
       active = let most = length-filter-le is_active own in omega (arith, few, less, most);
       active_tracked = let most = length-filter-le is_tracked_active own in omega (arith, few, less, most);

@@ -9,3 +9,6 @@ pub mod ValidActions
 pub mod Bases
 pub mod Owners
 pub mod Tallies
+pub mod Noted
+pub mod Held
+pub mod Holders

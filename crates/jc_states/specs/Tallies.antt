@@ -46,6 +46,7 @@ abbrev pub tally_as : Uid → List Pod → Tally
 tally_as owner pods =
     record {
       owner = owner;
+      pods = length pods;
       open_pods = length (filter is_open pods);
       active = length (active_pods pods);
       active_tracked = length (tracked_active_pods pods);
@@ -67,6 +68,7 @@ abbrev pub tally_with : Tally → Pod → Tally
 tally_with t pod =
     record {
       owner = t.owner;
+      pods = t.pods + 1;
       open_pods = t.open_pods + (if is_open pod then 1 else 0);
       active = t.active + (if is_active pod then 1 else 0);
       active_tracked = t.active_tracked + (if is_tracked_active pod then 1 else 0);
@@ -80,6 +82,7 @@ abbrev pub tally_without : Tally → Pod → Tally
 tally_without t pod =
     record {
       owner = t.owner;
+      pods = t.pods - 1;
       open_pods = t.open_pods - (if is_open pod then 1 else 0);
       active = t.active - (if is_active pod then 1 else 0);
       active_tracked = t.active_tracked - (if is_tracked_active pod then 1 else 0);
@@ -110,6 +113,7 @@ HasFewRestarts pod = open_restarts pod < 2 ^ 96
 
 -- One more pod can be entered: the numbers fit their types with it.
 pub record HasRoom (t : Tally) : Type 0 where
+  pub pods : t.pods + 1 < 2 ^ 32
   pub open_pods : t.open_pods + 1 < 2 ^ 32
   pub active : t.active + 1 < 2 ^ 32
   pub active_tracked : t.active_tracked + 1 < 2 ^ 32
@@ -119,6 +123,7 @@ pub record HasRoom (t : Tally) : Type 0 where
 
 -- The numbers count the pod: each is at least what the pod adds to it.
 pub record CountsPod (t : Tally) (pod : Pod) : Type 0 where
+  pub pods : 1 ≤ t.pods
   pub open_pods : (if is_open pod then 1 else 0) ≤ t.open_pods
   pub active : (if is_active pod then 1 else 0) ≤ t.active
   pub active_tracked : (if is_tracked_active pod then 1 else 0) ≤ t.active_tracked

@@ -2,11 +2,12 @@
 --     is_in u uids            the UID is in the list
 --     with_uid u uids         with the UID before the first greater one, or as it was where it
 --                             is there
+--     without_uid u uids      without the UID
 --     merge uids more         with each of the others
 --     AscendsFrom, Ascends    the UIDs are in ascending order, none twice
 --     uids_of pods            the UIDs of the pods
 --     join indexes more       the set of indexes with each of the others
-use Rattle.std.specs.Prelude.{ℕ, ◌+◌, ◌≤◌, ◌==◌, nat_lt, Bool, List, [], ◌∷◌, map, if◌then◌else◌}
+use Rattle.std.specs.Prelude.{ℕ, ◌+◌, ◌≤◌, ◌==◌, nat_lt, not, Bool, List, [], ◌∷◌, filter, map, if◌then◌else◌}
 use Rattle.std.specs.List.{list_any}
 use Rattle.jc_ranges.specs.Sets.{with_member}
 use Rattle.jc_types.specs.declared.numbers.Uid.{Uid}
@@ -24,6 +25,10 @@ with_uid u (v ∷ uids) =
     if nat_lt u.0 v.0 then u ∷ v ∷ uids
     else if u.0 == v.0 then v ∷ uids
     else v ∷ with_uid u uids
+
+-- Without the UID.
+abbrev pub without_uid : Uid → List Uid → List Uid
+without_uid u uids = filter (λ v. not (same_uid v u)) uids
 
 -- With each of the others.
 abbrev pub merge : List Uid → List Uid → List Uid

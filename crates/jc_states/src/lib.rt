@@ -1,14 +1,19 @@
 //! What state a pod or a Job is in (batch/v1, core/v1): whether a pod is open, active, ending or ready,
 //! which index it has, how many pods of a Job are in a state, whether a UID is listed as uncounted, and
 //! which conditions of a Job stand. `Pods` has pods in ascending UID, and beside them the numbers of each
-//! owner, so that these are read without a look at the pods. A `Basis` is what one sync sees.
+//! owner, the indexes that its active pods hold, and the UIDs of the pods whose finalizer and state are at
+//! odds, so that these are known without a look at the pods. A `Basis` is what one sync sees.
 #![tactic(auto)]
 
 mod bases;
 mod conditions;
 mod counts;
+mod held;
+mod holders;
 mod indexes;
 mod laws;
+mod noted;
+mod odds;
 mod owners;
 mod phases;
 mod pod_lists;
@@ -28,7 +33,7 @@ pub use owners::is_foreign;
 pub use phases::{is_final, is_pending, is_same_phase};
 pub use pod_lists::Pods;
 pub use pods::{
-    goes, is_active, is_ending, is_marked, is_open, is_own, is_ready, is_tracked_active,
+    goes, is_active, is_at_odds, is_ending, is_marked, is_open, is_own, is_ready, is_tracked_active,
 };
 pub use tallies::Tally;
 pub use uids::{is_among, is_listed};

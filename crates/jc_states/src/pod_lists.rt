@@ -1,10 +1,22 @@
-//! Pods in ascending order of their UIDs, with the numbers of each owner.
+//! Pods in ascending order of their UIDs, with the numbers of each owner, the UIDs of those at odds and the
+//! indexes that are held.
 
-ghost use Rattle.std.specs.Prelude.{◌≡◌, ◌∷◌, ◌++◌, ◌-◌, ◌<◌, ◌^◌, ◌↔◌, [], All, IfOk, IsSome, IsTrue, None, OnErr, OnOk, find, is_some, length};
+ghost use Rattle.std.specs.Prelude.{◌≡◌, ◌∷◌, ◌++◌, ◌+◌, ◌-◌, ◌<◌, ◌≤◌, ◌==◌, ◌^◌, ◌↔◌, [], All, IfOk, IsSome, IsTrue, None, OnErr, OnOk, false, filter, find, is_some, length, if◌then◌else◌, nat_le, ℕ};
+ghost use Rattle.std.specs.List.{list_any};
+ghost use Rattle.std.specs.Option.{option_copied, option_map_or};
+ghost use Rattle.jc_types.specs.declared.numbers.Uid.{Uid};
 ghost use Rattle.jc_types.specs.Keys.{same_uid};
 ghost use Rattle.jc_states.specs.PodLists.{IsRising, drop_pod, place_from, put_pod};
-ghost use Rattle.jc_states.specs.Tallies.{tally_of};
+ghost use Rattle.jc_states.specs.Holders.{has_index_in, held_in, holders_of, holds_index};
+ghost use Rattle.jc_states.specs.Noted.{is_at_odds, is_calm, is_noted, with_note};
+ghost use Rattle.jc_states.specs.Pods.{tracked_active_pods};
+ghost use Rattle.jc_states.specs.Tallies.{pods_for, tally_of};
+ghost use Rattle.jc_states.specs.UidLists.{Ascends};
 
+use crate::holders::Holders;
+use crate::noted::noted_among;
+use crate::odds::{forget, note};
+use crate::pods::is_at_odds;
 use crate::tallies::{Tally, enter, leave, tally_in};
 use indexmap::IndexMap;
 use jc_types::{Copied, Pod, Same, Uid, Want};
@@ -12,25 +24,32 @@ use std::alloc::Global;
 use std::marker::Model;
 
 /// Pods in ascending order of their UIDs, none twice, and fewer than 2 ^ 32. A contract sees the list of the
-/// pods. Beside them stand the numbers of each owner, so that nobody counts the pods.
+/// pods. Beside them stand the numbers of each owner, so that nobody counts the pods, the UIDs of the pods
+/// whose finalizer and state are at odds, so that nobody looks for them, and the indexes that the active pods
+/// of each owner hold.
 #[derive(Drop)]
 pub struct Pods {
     alloc: Global,
     pods: Vec<Pod>,
     // The numbers of each owner. A row whose pods have gone may stay, with 0 in each number.
     tallies: IndexMap<Uid, Tally>,
+    // The UIDs of the pods that are at odds, in their order.
+    odd: Vec<Uid>,
+    // Which indexes the active pods of each owner with the finalizer hold.
+    holders: Holders,
 }
 
 impl Model for Pods {
     ghost use Rattle.std.specs.Prelude.{List};
     ghost use Rattle.jc_types.specs.declared.objects.Pod.{Pod};
-    ghost use Rattle.jc_states.specs.Tallies.{KeepsTallies};
+    ghost use Rattle.jc_states.specs.Noted.{KeepsNotes};
 
     ghost Value = { List Pod };
 
     ghost view = { λ p. p.pods.items };
 
-    ghost invariant = { λ p. KeepsTallies p.pods.items p.tallies.entries };
+    ghost invariant = { λ p. KeepsNotes p.pods.items p.tallies.entries p.odd.items
+        p.holders };
 }
 
 // The place of the first pod whose UID is at least this one, found by halving.
@@ -50,6 +69,26 @@ fn is_there(pods: &[Pod], uid: Uid, place: usize) -> bool
     place < pods.len() && pods[place].uid == uid
 }
 
+// Notes the pod among those at odds, or that it is not, and the index that it holds, if it holds one.
+//
+// `Want` where there is no memory for it; the UIDs and who holds which index are then as before.
+fn note_and_enter(odd: &mut Vec<Uid>, holders: &mut Holders, pod: &Pod) -> Result<(), Want>
+    requires { Ascends odd.old.items }
+    ensures noted { OnOk result (odd.new.items ≡ with_note pod.now odd.old.items) }
+    ensures entered { OnOk result ((owner : Uid) → (n : ℕ) → held_in owner n holders.new
+        ≡ held_in owner n holders.old + (if holds_index owner n pod.now then 1 else 0)) }
+    ensures kept { OnErr result (odd.new.items ≡ odd.old.items) }
+    ensures held { OnErr result ((owner : Uid) → (n : ℕ)
+        → held_in owner n holders.new ≡ held_in owner n holders.old) }
+{
+    holders.enter(pod)?;
+    if let Err(want) = note(odd, pod) {
+        holders.leave(pod);
+        return Err(want);
+    }
+    Ok(())
+}
+
 impl Pods {
     /// No pods. It takes no memory.
     pub fn new(alloc: Global) -> Self
@@ -59,6 +98,8 @@ impl Pods {
             alloc,
             pods: Vec::new(alloc),
             tallies: IndexMap::new(alloc),
+            odd: Vec::new(alloc),
+            holders: Holders::new(alloc),
         }
     }
 
@@ -111,6 +152,102 @@ impl Pods {
         tally_in(&self.tallies, owner)
     }
 
+    /// The pod of the UID; `None` exactly where none has it. It takes no memory.
+    pub fn get(&self, uid: Uid) -> Option<&Pod>
+        ensures { option_copied result ≡ find (λ pod. same_uid pod.uid uid) self.now }
+    {
+        let pods = self.pods.as_slice();
+        let place = place_from(pods, uid);
+        if !is_there(pods, uid, place) {
+            return None;
+        }
+        Some(&pods[place])
+    }
+
+    /// The pods at which a sync of the owner has to look, in ascending UID: those that have the finalizer
+    /// though they are not active or are active without it, those of another owner, and those whose UID is
+    /// in one of the lists. Where all pods are the owner's, and each listed one is of the first kind or not
+    /// there, it goes over no other pod.
+    ///
+    /// # Errors
+    /// `Want` where there is no memory for them.
+    pub fn noted(&self, owner: Uid, uids: &[Uid], more: &[Uid]) -> Result<Vec<Pod>, Want>
+        ensures { IfOk result (λ pods. pods.items
+            ≡ filter (is_noted owner uids.now more.now) self.now) }
+    {
+        if self.are_all_of(owner) && !self.has_calm(uids) && !self.has_calm(more) {
+            return self.odd_pods();
+        }
+        noted_among(self.alloc, self.as_slice(), owner, uids, more)
+    }
+
+    // Whether all pods were made for the owner. It goes over no pod.
+    fn are_all_of(&self, owner: Uid) -> bool
+        ensures { result ≡ (length (pods_for owner self.now) == length self.now) }
+    {
+        self.tally(owner).pods as usize == self.len()
+    }
+
+    // Whether there is a pod of the UID that is not at odds.
+    fn is_calm(&self, uid: Uid) -> bool
+        ensures { result ≡ is_calm self.now uid }
+    {
+        match self.get(uid) {
+            None => false,
+            Some(pod) => !is_at_odds(pod),
+        }
+    }
+
+    // Whether a pod of one of the UIDs is not at odds.
+    fn has_calm(&self, uids: &[Uid]) -> bool
+        ensures { result ≡ list_any (is_calm self.now) uids.now }
+    {
+        uids.iter().any(|uid| self.is_calm(*uid))
+    }
+
+    // Copies of the pods at odds. It goes over no other pod.
+    //
+    // `Want` where there is no memory for them.
+    fn odd_pods(&self) -> Result<Vec<Pod>, Want>
+        ensures pods { IfOk result (λ pods. pods.items ≡ filter is_at_odds self.now) }
+        ensures rising { IsRising self.now }
+    {
+        let mut copies = Vec::with_capacity(self.alloc, self.odd.len())?;
+        for uid in self.odd.as_slice() {
+            let Some(pod) = self.get(*uid) else {
+                unreachable!()
+            };
+            copies.push(pod.copy()?)?;
+        }
+        Ok(copies)
+    }
+
+    /// Whether two active pods with the finalizer of the owner have the same index. It goes over no pod.
+    pub fn shares_index(&self, owner: Uid) -> bool
+        ensures { result ≡ false → (n : ℕ) → length (holders_of owner n self.now) ≤ 1 }
+    {
+        self.holders.shares(owner)
+    }
+
+    /// Whether an active pod with the finalizer of the owner has an index from the first up to the last. It
+    /// goes over no pod.
+    pub fn holds_between(&self, owner: Uid, first: u32, last: u32) -> bool
+        ensures { result
+            ≡ list_any (has_index_in first last) (tracked_active_pods (pods_for owner self.now)) }
+    {
+        self.holders.holds_between(owner, first, last)
+    }
+
+    /// Whether an active pod with the finalizer of the owner has this index or a greater one. It goes over
+    /// no pod.
+    pub fn holds_from(&self, owner: Uid, first: u32) -> bool
+        ensures { result
+            ≡ list_any (λ pod. option_map_or (λ index. nat_le first index) pod.index false)
+            (tracked_active_pods (pods_for owner self.now)) }
+    {
+        self.holders.holds_from(owner, first)
+    }
+
     /// Adds a pod whose UID is above all others.
     ///
     /// # Errors
@@ -143,7 +280,7 @@ impl Pods {
 
     // Writes a pod in the place of the one of its UID.
     //
-    // `Want` where there is no memory for the numbers of its owner; the pods are then as before.
+    // `Want` where there is no memory for what is kept beside it; the pods are then as before.
     fn replace_at(&mut self, place: usize, pod: Pod) -> Result<(), Want>
         requires place { place ≡ place_from pod.uid self.old }
         requires there { IsSome (find (λ other. same_uid other.uid pod.uid) self.old) }
@@ -151,6 +288,8 @@ impl Pods {
         ensures kept { OnErr result (self.new ≡ self.old) }
     {
         self.tallies.reserve(1)?;
+        note_and_enter(&mut self.odd, &mut self.holders, &pod)?;
+        self.holders.leave(&self.pods[place]);
         leave(&mut self.tallies, &self.pods[place]);
         enter(&mut self.tallies, &pod);
         self.pods[place] = pod;
@@ -169,6 +308,7 @@ impl Pods {
     {
         self.pods.reserve(1)?;
         self.tallies.reserve(1)?;
+        note_and_enter(&mut self.odd, &mut self.holders, &pod)?;
         enter(&mut self.tallies, &pod);
         let Ok(()) = self.pods.insert(place, pod) else {
             unreachable!()
@@ -186,7 +326,9 @@ impl Pods {
         if !is_there(pods, uid, place) {
             return None;
         }
+        self.holders.leave(&self.pods[place]);
         leave(&mut self.tallies, &self.pods[place]);
+        forget(&mut self.odd, uid);
         Some(self.pods.remove(place))
     }
 }

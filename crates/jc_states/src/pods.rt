@@ -3,6 +3,7 @@
 ghost use Rattle.std.specs.Prelude.{◌≡◌};
 ghost use Rattle.std.specs.List.{list_any};
 ghost use Rattle.jc_states.specs.Bases.{is_own};
+ghost use Rattle.jc_states.specs.Noted.{is_at_odds};
 ghost use Rattle.jc_states.specs.Pods.{goes, is_active, is_ending, is_marked, is_open, is_ready, is_tracked_active, is_true, says_ready};
 
 use crate::phases::is_final;
@@ -51,6 +52,14 @@ pub fn is_tracked_active(pod: &Pod) -> bool
     ensures { result ≡ is_tracked_active pod.now }
 {
     is_active(pod) && pod.tracked
+}
+
+/// Whether the pod has the finalizer though it is not active, or is active without it: such a pod is to
+/// be counted, released or marked (KEP-2307).
+pub fn is_at_odds(pod: &Pod) -> bool
+    ensures { result ≡ is_at_odds pod.now }
+{
+    pod.tracked != is_active(pod)
 }
 
 /// Whether the pod is marked, has ended and has no finalizer: a write that makes it so takes it away.

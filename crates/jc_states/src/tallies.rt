@@ -14,9 +14,11 @@ use jc_types::{Pod, Uid};
 pub struct Tally {
     /// The UID of the owner.
     pub owner: Uid,
-    /// How many of its pods are pending or running.
+    /// How many pods were made for it.
+    pub pods: u32,
+    /// How many of them are pending or running.
     pub open_pods: u32,
-    /// How many of them are not marked for deletion (`active` of batch/v1).
+    /// How many of these are not marked for deletion (`active` of batch/v1).
     pub active: u32,
     /// How many of these have the finalizer (KEP-2307).
     pub active_tracked: u32,
@@ -34,6 +36,7 @@ fn no_pods(owner: Uid) -> Tally
 {
     Tally {
         owner,
+        pods: 0,
         open_pods: 0,
         active: 0,
         active_tracked: 0,
@@ -71,6 +74,7 @@ fn tally_with(tally: Tally, pod: &Pod) -> Tally
 {
     Tally {
         owner: tally.owner,
+        pods: tally.pods + 1,
         open_pods: tally.open_pods + u32::from(is_open(pod)),
         active: tally.active + u32::from(is_active(pod)),
         active_tracked: tally.active_tracked + u32::from(is_tracked_active(pod)),
@@ -87,6 +91,7 @@ fn tally_without(tally: Tally, pod: &Pod) -> Tally
 {
     Tally {
         owner: tally.owner,
+        pods: tally.pods - 1,
         open_pods: tally.open_pods - u32::from(is_open(pod)),
         active: tally.active - u32::from(is_active(pod)),
         active_tracked: tally.active_tracked - u32::from(is_tracked_active(pod)),

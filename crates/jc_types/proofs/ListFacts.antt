@@ -3,6 +3,14 @@
 use Rattle.std.proofs.Common.{◌≡◌, ℕ, zero, suc, Bool, true, false, cond, ◌&&◌, ◌||◌, List, [], ◌∷◌, ◌++◌, map, filter, find, take, Option, Some, None, refl, sym, ap, ◌∙◌, subst, true≢false}
 use Rattle.std.specs.List.{AllByRecursion as Each, list_any}
 use Rattle.std.proofs.lemmas.Bool.{or_left, or_right}
+use Rattle.std.proofs.lemmas.List.Elements.{filter_agree}
+use Rattle.std.proofs.Math.Bool.{and_comm}
+
+-- Beside what is weaker a test says all.
+and_weaker : (weaker test : Bool) → (test ≡ true → weaker ≡ true) → (weaker && test) ≡ test
+and_weaker true test h = refl
+and_weaker false true h = h refl
+and_weaker false false h = refl
 
 module _ {X : Type 0} where
   -- What is weaker holds of each, too.
@@ -63,6 +71,18 @@ module _ {X : Type 0} where
       by : (b : Bool) → filter test (filter other xs) ≡ filter (λ y. other y && test y) xs → filter test (cond b (x ∷ filter other xs) (filter other xs)) ≡ cond (b && test x) (x ∷ filter (λ y. other y && test y) xs) (filter (λ y. other y && test y) xs)
       by true rest = ap (λ ys. cond (test x) (x ∷ ys) ys) rest
       by false rest = rest
+
+  -- It does not matter which filter comes first.
+  pub filter_swap : (test other : X → Bool) (xs : List X) → filter test (filter other xs) ≡ filter other (filter test xs)
+  filter_swap test other xs =
+      filter_filter test other xs
+      ∙ filter_agree (λ x. other x && test x) (λ x. test x && other x) (λ x. and_comm (other x) (test x)) xs
+      ∙ sym (filter_filter other test xs)
+
+  -- A filter keeps the same of those that pass a weaker test as of all.
+  pub filter_within : (test weaker : X → Bool) → ((x : X) → test x ≡ true → weaker x ≡ true) → (xs : List X) → filter test (filter weaker xs) ≡ filter test xs
+  filter_within test weaker h xs =
+      filter_filter test weaker xs ∙ filter_agree (λ x. weaker x && test x) test (λ x. and_weaker (weaker x) (test x) (h x)) xs
 
   -- A filter of images is the image of a filter.
   pub filter-map : {Y : Type 0} (f : Y → X) (test : X → Bool) (ys : List Y) → filter test (map f ys) ≡ map f (filter (λ y. test (f y)) ys)
@@ -127,6 +147,11 @@ module _ {X : Type 0} where
       by : (b : Bool) → list_any test (filter other xs) ≡ list_any (λ y. other y && test y) xs → list_any test (cond b (x ∷ filter other xs) (filter other xs)) ≡ ((b && test x) || list_any (λ y. other y && test y) xs)
       by true rest = ap (λ t. test x || t) rest
       by false rest = rest
+
+  -- One of those that pass a weaker test passes where one of all does.
+  pub any_within : (test weaker : X → Bool) → ((x : X) → test x ≡ true → weaker x ≡ true) → (xs : List X) → list_any test (filter weaker xs) ≡ list_any test xs
+  any_within test weaker h xs =
+      any_filter test weaker xs ∙ (λ i. list_any (λ x. and_weaker (weaker x) (test x) (h x) i) xs)
 
   -- One of the images passes where one of the elements does whose image passes.
   pub any_map : {Y : Type 0} (f : Y → X) (test : X → Bool) (ys : List Y) → list_any test (map f ys) ≡ list_any (λ y. test (f y)) ys

@@ -7,6 +7,8 @@ mod ends;
 #[cfg(test)]
 mod lines;
 #[cfg(test)]
+mod looks;
+#[cfg(test)]
 mod policies;
 #[cfg(test)]
 mod samples;

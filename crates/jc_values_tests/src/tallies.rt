@@ -24,22 +24,22 @@ enum Step {
     Take(u64, bool),
 }
 
-// Open, active, active and tracked, open and marked, ready, restarts.
-type Numbers = (u32, u32, u32, u32, u32, u128);
+// Pods, open, active, active and tracked, open and marked, ready, restarts.
+type Numbers = (u32, u32, u32, u32, u32, u32, u128);
 
 // A change, and the numbers of the Job of UID 1 after it.
 const STEPS: &[(Step, Numbers)] = &[
-    (Step::Take(2, false), (0, 0, 0, 0, 0, 0)),
-    (Step::Five, (5, 5, 5, 0, 0, 0)),
-    (Step::Mark(3), (5, 4, 4, 1, 0, 0)),
-    (Step::Take(3, true), (4, 4, 4, 0, 0, 0)),
-    (Step::Take(3, false), (4, 4, 4, 0, 0, 0)),
-    (Step::Run(4, 2), (4, 4, 4, 0, 1, 2)),
-    (Step::Run(5, 3), (4, 4, 4, 0, 2, 5)),
-    (Step::Run(4, 7), (4, 4, 4, 0, 2, 10)),
-    (Step::End(5), (3, 3, 3, 0, 1, 7)),
-    (Step::Give(6, 9), (2, 2, 2, 0, 1, 7)),
-    (Step::Take(4, true), (1, 1, 1, 0, 0, 0)),
+    (Step::Take(2, false), (0, 0, 0, 0, 0, 0, 0)),
+    (Step::Five, (5, 5, 5, 5, 0, 0, 0)),
+    (Step::Mark(3), (5, 5, 4, 4, 1, 0, 0)),
+    (Step::Take(3, true), (4, 4, 4, 4, 0, 0, 0)),
+    (Step::Take(3, false), (4, 4, 4, 4, 0, 0, 0)),
+    (Step::Run(4, 2), (4, 4, 4, 4, 0, 1, 2)),
+    (Step::Run(5, 3), (4, 4, 4, 4, 0, 2, 5)),
+    (Step::Run(4, 7), (4, 4, 4, 4, 0, 2, 10)),
+    (Step::End(5), (4, 3, 3, 3, 0, 1, 7)),
+    (Step::Give(6, 9), (3, 2, 2, 2, 0, 1, 7)),
+    (Step::Take(4, true), (2, 1, 1, 1, 0, 0, 0)),
 ];
 
 fn plain(alloc: Global, row: PodRow) -> Result<Pod, Fail> {
@@ -105,6 +105,7 @@ fn take_step(rt: &impl Abort, alloc: Global, pods: &mut Pods, step: Step) -> Res
 
 fn numbers(tally: &Tally) -> Numbers {
     (
+        tally.pods,
         tally.open_pods,
         tally.active,
         tally.active_tracked,
@@ -121,8 +122,8 @@ fn take_all(rt: &impl Abort, alloc: Global, pods: &mut Pods) -> Result<(), Fail>
         assert_eq!(rt; tally.owner, Uid(1));
         assert_eq!(rt; numbers(&tally), *wanted);
     }
-    assert_eq!(rt; numbers(&pods.tally(Uid(9))), (1, 1, 1, 0, 0, 0));
-    assert_eq!(rt; numbers(&pods.tally(Uid(8))), (0, 0, 0, 0, 0, 0));
+    assert_eq!(rt; numbers(&pods.tally(Uid(9))), (1, 1, 1, 1, 0, 0, 0));
+    assert_eq!(rt; numbers(&pods.tally(Uid(8))), (0, 0, 0, 0, 0, 0, 0));
     Ok(())
 }
 

@@ -1,27 +1,40 @@
-use Rattle.std.proofs.Common.{ap, arith, subst, sym, ◌≡◌, ◌∙◌}
+use Rattle.std.proofs.Common.{ap, arith, filter, subst, sym, ◌≡◌, ◌∙◌}
 use Rattle.jc_types.specs.declared.numbers.Uid.{Uid}
+use Rattle.jc_states.specs.Holders.{AreHeld}
+use Rattle.jc_states.specs.Noted.{is_at_odds}
 use Rattle.jc_states.specs.PodLists.{put_pod}
 use Rattle.jc_states.specs.Tallies.{CountsPod, KeepsTallies, tally_in, without_pod}
+use Rattle.jc_states.specs.UidLists.{uids_of}
+use Rattle.jc_states.proofs.HolderFacts.{held-replaced}
+use Rattle.jc_states.proofs.OddFacts.{odd-ascends, odd-put}
 use Rattle.jc_states.proofs.PodPlaceFacts.{found-seen, replaced-seen, within-seen}
 use Rattle.jc_states.proofs.TallyFacts.{kept-counts, kept-replaced, kept-room_left}
 use Rattle.jc_states.proofs.pod_lists.Pods.replace_at.Goals as goal
+
+pub note_and_enter-requires : goal.note_and_enter-requires
+note_and_enter-requires c = odd-ascends c.self.inside.pods.items c.self.inside.odd.items c.self.invariant.tallies.rising c.self.invariant.odd
 
 pub index-requires : goal.index-requires
 index-requires c =
     let within = within-seen c.args.pod c.self.inside.pods.items c.args.self.now c.args.place c.self.view_is c.requires.place c.requires.there in
     omega (arith, within, c.self.inside.pods.ok)
 
-pub leave-requires : goal.leave-requires
-leave-requires c =
-    let found = found-seen c.args.pod c.self.inside.pods.items c.args.self.now c.args.place c.self.view_is c.requires.place c.requires.there c.index.result.now c.self.invariant.rising c.index.ensures in
-    subst (λ rows. CountsPod (tally_in c.index.result.now.owner_uid rows) c.index.result.now) (sym c.in_ok-reserve.ensures.entries)
-    (kept-counts c.args.pod.uid c.index.result.now c.self.inside.pods.items c.self.inside.tallies.entries c.self.invariant found)
+pub index-requires-2 : goal.index-requires-2
+index-requires-2 c =
+    let within = within-seen c.args.pod c.self.inside.pods.items c.args.self.now c.args.place c.self.view_is c.requires.place c.requires.there in
+    omega (arith, within, c.self.inside.pods.ok)
+
+pub leave-requires-2 : goal.leave-requires-2
+leave-requires-2 c =
+    let found = found-seen c.args.pod c.self.inside.pods.items c.args.self.now c.args.place c.self.view_is c.requires.place c.requires.there c.index-2.result.now c.self.invariant.tallies.rising c.index-2.ensures in
+    subst (λ rows. CountsPod (tally_in c.index-2.result.now.owner_uid rows) c.index-2.result.now) (sym c.in_ok-reserve.ensures.entries)
+    (kept-counts c.args.pod.uid c.index-2.result.now c.self.inside.pods.items c.self.inside.tallies.entries c.self.invariant.tallies found)
 
 pub enter-requires-clause-few : goal.enter-requires-clause-few
 enter-requires-clause-few c =
-    let found = found-seen c.args.pod c.self.inside.pods.items c.args.self.now c.args.place c.self.view_is c.requires.place c.requires.there c.index.result.now c.self.invariant.rising c.index.ensures in
-    let lack = subst (λ rows. (owner : Uid) → tally_in owner c.leave.new.rows.entries ≡ without_pod owner c.index.result.now (tally_in owner rows)) c.in_ok-reserve.ensures.entries c.leave.ensures.numbers in
-    kept-room_left c.args.pod.owner_uid c.args.pod.uid c.index.result.now c.self.inside.pods.items c.self.inside.tallies.entries c.leave.new.rows.entries c.self.invariant found lack
+    let found = found-seen c.args.pod c.self.inside.pods.items c.args.self.now c.args.place c.self.view_is c.requires.place c.requires.there c.index-2.result.now c.self.invariant.tallies.rising c.index-2.ensures in
+    let lack = subst (λ rows. (owner : Uid) → tally_in owner c.leave-2.new.rows.entries ≡ without_pod owner c.index-2.result.now (tally_in owner rows)) c.in_ok-reserve.ensures.entries c.leave-2.ensures.numbers in
+    kept-room_left c.args.pod.owner_uid c.args.pod.uid c.index-2.result.now c.self.inside.pods.items c.self.inside.tallies.entries c.leave-2.new.rows.entries c.self.invariant.tallies found lack
 
 pub index_mut-requires : goal.index_mut-requires
 index_mut-requires c =
@@ -31,14 +44,23 @@ index_mut-requires c =
 pub invariant_of-self-2 : goal.invariant_of-self-2
 invariant_of-self-2 c =
     let items = c.self.inside.pods.items in
-    let found = found-seen c.args.pod items c.args.self.now c.args.place c.self.view_is c.requires.place c.requires.there c.index.result.now c.self.invariant.rising c.index.ensures in
-    let lack = subst (λ rows. (owner : Uid) → tally_in owner c.leave.new.rows.entries ≡ without_pod owner c.index.result.now (tally_in owner rows)) c.in_ok-reserve.ensures.entries c.leave.ensures.numbers in
-    let put = replaced-seen c.args.pod items c.args.self.now c.args.place c.self.view_is c.requires.place c.requires.there c.self.invariant.rising in
-    subst (λ pods. KeepsTallies pods c.enter.new.rows.entries) (sym put)
-    (kept-replaced c.args.pod c.index.result.now items c.self.inside.tallies.entries c.leave.new.rows.entries c.enter.new.rows.entries c.self.invariant found lack c.enter.ensures.few
-    c.enter.ensures.numbers)
+    let found = found-seen c.args.pod items c.args.self.now c.args.place c.self.view_is c.requires.place c.requires.there c.index-2.result.now c.self.invariant.tallies.rising c.index-2.ensures in
+    let lack = subst (λ rows. (owner : Uid) → tally_in owner c.leave-2.new.rows.entries ≡ without_pod owner c.index-2.result.now (tally_in owner rows)) c.in_ok-reserve.ensures.entries c.leave-2.ensures.numbers in
+    let before = found-seen c.args.pod items c.args.self.now c.args.place c.self.view_is c.requires.place c.requires.there c.index.result.now c.self.invariant.tallies.rising c.index.ensures in
+    let put = replaced-seen c.args.pod items c.args.self.now c.args.place c.self.view_is c.requires.place c.requires.there c.self.invariant.tallies.rising in
+    record {
+      tallies =
+          subst (λ pods. KeepsTallies pods c.enter.new.rows.entries) (sym put)
+          (kept-replaced c.args.pod c.index-2.result.now items c.self.inside.tallies.entries c.leave-2.new.rows.entries c.enter.new.rows.entries c.self.invariant.tallies found lack c.enter.ensures.few
+          c.enter.ensures.numbers);
+      odd = subst (λ pods. c.note_and_enter.new.odd.items ≡ uids_of (filter is_at_odds pods)) (sym put) (odd-put c.self.inside.pods.items c.self.inside.odd.items c.self.invariant.tallies.rising c.self.invariant.odd c.args.pod c.note_and_enter.new.odd.items c.in_ok-note_and_enter.ensures.noted);
+      held =
+          subst (λ pods. AreHeld pods c.leave.new.self) (sym put)
+          (held-replaced c.args.pod c.index.result.now items c.self.inside.holders c.note_and_enter.new.holders c.leave.new.self c.self.invariant.tallies.rising c.self.invariant.held before
+          c.in_ok-note_and_enter.ensures.entered c.leave.ensures);
+    }
 
 pub returns-clause-puts : goal.returns-clause-puts
 returns-clause-puts c =
-    replaced-seen c.args.pod c.self.inside.pods.items c.args.self.now c.args.place c.self.view_is c.requires.place c.requires.there c.self.invariant.rising
+    replaced-seen c.args.pod c.self.inside.pods.items c.args.self.now c.args.place c.self.view_is c.requires.place c.requires.there c.self.invariant.tallies.rising
     ∙ ap (put_pod c.args.pod) c.self.view_is

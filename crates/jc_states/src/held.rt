@@ -1,0 +1,114 @@
+//! The indexes that the pods of one owner hold.
+
+ghost use Rattle.std.specs.Prelude.{◌≡◌, ◌+◌, ◌-◌, ◌==◌, ℕ, [], OnErr, OnOk, if◌then◌else◌, nat_le, nat_lt};
+ghost use Rattle.std.specs.List.{list_any};
+ghost use Rattle.jc_states.specs.Held.{IsAscending, is_between, place_for, repeats, times};
+
+use jc_types::Want;
+use std::alloc::Global;
+use std::marker::Model;
+
+/// The indexes that the pods of one owner hold, in ascending order and each as often as a pod holds it. A
+/// contract sees this list.
+#[derive(Drop)]
+pub(crate) struct Held {
+    indexes: Vec<u32>,
+    // How many of them are there once more.
+    repeated: usize,
+}
+
+impl Model for Held {
+    ghost use Rattle.std.specs.Prelude.{◌≡◌, ℕ, List};
+    ghost use Rattle.jc_states.specs.Held.{IsAscending, repeats};
+
+    ghost Value = { List ℕ };
+
+    ghost view = { λ held. held.indexes.items };
+
+    ghost invariant = { λ held. IsAscending held.indexes.items
+        × (held.repeated ≡ repeats held.indexes.items) };
+}
+
+// The place of the first index that is at least this one, found by halving.
+fn place_for(indexes: &[u32], n: u32) -> usize
+    requires { IsAscending indexes.now }
+    ensures { result ≡ place_for n indexes.now }
+{
+    indexes.partition_point(|index| *index < n)
+}
+
+// Whether the index is there, whose place this is.
+fn is_there(indexes: &[u32], n: u32, place: usize) -> bool
+    requires ascending { IsAscending indexes.now }
+    requires place { place ≡ place_for n indexes.now }
+    ensures { result ≡ nat_lt 0 (times n indexes.now) }
+{
+    place < indexes.len() && indexes[place] == n
+}
+
+impl Held {
+    /// No indexes. It takes no memory.
+    pub(crate) fn new(alloc: Global) -> Self
+        ensures { result ≡ [] }
+    {
+        Held {
+            indexes: Vec::new(alloc),
+            repeated: 0,
+        }
+    }
+
+    /// Adds an index, once more if it is there.
+    ///
+    /// # Errors
+    /// `Want` where there is no memory for it; the indexes are then as before.
+    pub(crate) fn add(&mut self, n: u32) -> Result<(), Want>
+        ensures adds { OnOk result ((m : ℕ) → times m self.new
+            ≡ times m self.old + (if n == m then 1 else 0)) }
+        ensures kept { OnErr result (self.new ≡ self.old) }
+    {
+        let indexes = self.indexes.as_slice();
+        let place = place_for(indexes, n);
+        let again = is_there(indexes, n, place);
+        self.indexes.insert(place, n)?;
+        self.repeated += usize::from(again);
+        Ok(())
+    }
+
+    /// Takes an index out once, if it is there. It takes no memory.
+    pub(crate) fn remove(&mut self, n: u32)
+        ensures { (m : ℕ) → times m self.new ≡ times m self.old - (if n == m then 1 else 0) }
+    {
+        let indexes = self.indexes.as_slice();
+        let place = place_for(indexes, n);
+        if !is_there(indexes, n, place) {
+            return;
+        }
+        self.indexes.remove(place);
+        let still = is_there(self.indexes.as_slice(), n, place);
+        self.repeated -= usize::from(still);
+    }
+
+    /// Whether an index is there more than once.
+    pub(crate) fn has_repeats(&self) -> bool
+        ensures { result ≡ nat_lt 0 (repeats self.now) }
+    {
+        self.repeated > 0
+    }
+
+    /// Whether an index from the first up to the last is there.
+    pub(crate) fn has_between(&self, first: u32, last: u32) -> bool
+        ensures { result ≡ list_any (is_between first last) self.now }
+    {
+        let indexes = self.indexes.as_slice();
+        let place = place_for(indexes, first);
+        place < indexes.len() && indexes[place] <= last
+    }
+
+    /// Whether an index from this one on is there.
+    pub(crate) fn has_from(&self, first: u32) -> bool
+        ensures { result ≡ list_any (λ n. nat_le first n) self.now }
+    {
+        let indexes = self.indexes.as_slice();
+        place_for(indexes, first) < indexes.len()
+    }
+}

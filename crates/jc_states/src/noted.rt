@@ -1,0 +1,41 @@
+//! At which pods a sync of an owner's Job has to look.
+
+ghost use Rattle.std.specs.Prelude.{◌≡◌, IfOk, filter};
+ghost use Rattle.jc_states.specs.Noted.{is_noted};
+
+use crate::pods::is_at_odds;
+use crate::uids::is_among;
+use jc_types::{Copied, Pod, Uid, Want};
+use std::alloc::Global;
+
+// Whether a sync of the owner has to look at the pod.
+fn is_noted(pod: &Pod, owner: Uid, uids: &[Uid], more: &[Uid]) -> bool
+    ensures { result ≡ is_noted owner uids.now more.now pod.now }
+{
+    is_at_odds(pod)
+        || pod.owner_uid.0 != owner.0
+        || is_among(pod.uid, uids)
+        || is_among(pod.uid, more)
+}
+
+// Copies of the pods at which a sync of the owner has to look. It goes over all pods.
+//
+// `Want` where there is no memory for them.
+pub(crate) fn noted_among(
+    alloc: Global,
+    pods: &[Pod],
+    owner: Uid,
+    uids: &[Uid],
+    more: &[Uid],
+) -> Result<Vec<Pod>, Want>
+    ensures { IfOk result (λ noted. noted.items
+        ≡ filter (is_noted owner uids.now more.now) pods.now) }
+{
+    let mut noted = Vec::new(alloc);
+    for pod in pods {
+        if is_noted(pod, owner, uids, more) {
+            noted.push(pod.copy()?)?;
+        }
+    }
+    Ok(noted)
+}
