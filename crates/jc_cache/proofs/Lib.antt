@@ -1,3 +1,4 @@
 pub mod CacheFacts
+mod ChangeFacts
 pub mod CopyFacts
 mod ListedFacts

@@ -28,7 +28,8 @@ pub record CachedJobs : Type 0 where
   pub number : Option Version
   pub jobs : List (Key × Job)
 
--- A cache of pods: its number, and for each owner key that has pods these pods, in ascending UID.
+-- A cache of pods: its number, and for each owner key that has a row its pods, in ascending UID. An owner
+-- without pods may have a row.
 pub record CachedPods : Type 0 where
   pub number : Option Version
   pub rows : List (Key × List Pod)

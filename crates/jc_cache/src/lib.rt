@@ -7,6 +7,7 @@
 //! filled with the objects of the first entries, and told of those after them, has those of its number.
 #![tactic(auto)]
 
+mod changes;
 mod jobs;
 mod laws;
 mod pods;

@@ -40,7 +40,7 @@ fn put_pod(alloc: Global, rows: &mut IndexMap<Key, SharedPods>, pod: &Pod) -> Re
 {
     let again = pod.copy()?;
     if let Some(pods) = rows.get_mut(&pod.owner) {
-        pods.put(alloc, again)?;
+        pods.put(again)?;
         return Ok(());
     }
     let owner = pod.owner.copy()?;
@@ -50,17 +50,17 @@ fn put_pod(alloc: Global, rows: &mut IndexMap<Key, SharedPods>, pod: &Pod) -> Re
     Ok(())
 }
 
-// Drops a pod from those of its owner; an owner without pods has no row.
+// Drops a pod from those of its owner; the row of an owner that is seen to have none goes.
 //
 // `Want` where there is no memory for it; the rows are then as before.
-fn drop_pod(alloc: Global, rows: &mut IndexMap<Key, SharedPods>, pod: &Pod) -> Result<(), Want>
+fn drop_pod(rows: &mut IndexMap<Key, SharedPods>, pod: &Pod) -> Result<(), Want>
     ensures drops { OnOk result (TakesIn (PodGone pod.now) rows.old.entries rows.new.entries) }
     ensures kept { OnErr result (rows.new.entries ≡ rows.old.entries) }
 {
     let Some(pods) = rows.get_mut(&pod.owner) else {
         return Ok(());
     };
-    pods.drop_pod(alloc, pod.uid)?;
+    pods.drop_pod(pod.uid)?;
     if pods.is_empty() {
         rows.swap_remove(&pod.owner);
     }
@@ -77,9 +77,19 @@ fn take_in(alloc: Global, rows: &mut IndexMap<Key, SharedPods>, entry: &Entry) -
 {
     match entry {
         Entry::PodPut(pod) => put_pod(alloc, rows, pod),
-        Entry::PodGone(pod) => drop_pod(alloc, rows, pod),
+        Entry::PodGone(pod) => drop_pod(rows, pod),
         Entry::JobPut(_) | Entry::JobGone(_) => Ok(()),
     }
+}
+
+// Makes the changes that wait in the row of the key, if there is one.
+fn settle_row(rows: &mut IndexMap<Key, SharedPods>, key: &Key)
+    ensures { rows.new.entries ≡ rows.old.entries }
+{
+    let Some(pods) = rows.get_mut(key) else {
+        return;
+    };
+    pods.settle();
 }
 
 // The pods apart by owner, each in ascending UID as all of them are.
@@ -129,8 +139,9 @@ impl PodCache {
         self.number
     }
 
-    /// The pods whose owner has the key, in ascending UID, whatever their owner's UID. No pod is copied: they
-    /// are shared with the cache until it is told of a change of them.
+    /// The pods whose owner has the key, in ascending UID, whatever their owner's UID. They are shared with
+    /// the cache, and a change of them waits until nobody sees them; no pod is copied, unless changes wait
+    /// already.
     ///
     /// # Errors
     /// `Want` where there is no memory for it.
@@ -174,6 +185,14 @@ impl PodCache {
         take_in(self.alloc, &mut self.rows, entry)?;
         self.number = Some(version);
         Ok(())
+    }
+
+    /// Makes the changes of the pods under the key that wait, where nobody sees the pods any more and there is
+    /// memory. It changes nothing that a contract sees: what is seen next is then shared, and not copied.
+    pub fn settle(&mut self, key: &Key)
+        ensures { self.new ≡ self.old }
+    {
+        settle_row(&mut self.rows, key);
     }
 
     /// Forgets all pods and the number. It takes no memory.

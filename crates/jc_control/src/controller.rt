@@ -216,6 +216,17 @@ impl Controller {
         self.queue.first()
     }
 
+    /// Makes the changes that wait of the pods of the line's first key, where no sync sees these pods any more
+    /// and there is memory. It changes nothing that a contract sees: a member calls it before it begins a
+    /// sync, so that the sync shares the pods and copies none.
+    pub fn settle(&mut self)
+        ensures { self.new ≡ self.old }
+    {
+        if let Some(key) = self.queue.first() {
+            self.pods.settle(key);
+        }
+    }
+
     /// What a begin answers now: `NotSynced` exactly where a cache has no number, else `NoKey` exactly where
     /// the line is empty, else `Behind` exactly where a cache has not seen the log up to the key's floor, or
     /// the pod cache not up to the version of the cached Job, Jobs before Pods.

@@ -3,6 +3,7 @@
 ghost use Rattle.std.specs.Prelude.{◌≡◌, ◌<◌, IfOk, IsSome, None, length, set, if◌then◌else◌};
 ghost use Rattle.jc_states.specs.declared.bases.Basis.{Basis};
 ghost use Rattle.jc_states.specs.Bases.{CanPlan};
+ghost use Rattle.jc_control.specs.ControllerCalls.{begun};
 ghost use Rattle.jc_control.specs.declared.begins.Begin.TheVariants.{Begun};
 ghost use Rattle.jc_runs.specs.Replies.{reply_of_begin};
 ghost use Rattle.jc_runs.specs.Teams.{begun_sync, with_sync};
@@ -10,13 +11,34 @@ ghost use Rattle.jc_runs.specs.Teams.{begun_sync, with_sync};
 use crate::places::{put_at, put_given_at};
 use crate::started::Started;
 use crate::twice::Twice;
-use jc_control::Begin;
+use jc_control::{Begin, Controller};
+use jc_moment::Moment;
 use jc_types::{Copied, Reply, Want};
 
-// What a begin will leave: the reply, and the sync where one begins. Nothing changes yet.
+// What the controller's next begin will leave: the reply, and the sync where one begins. Nothing
+// changes yet; but changes of pods that waited for a sync to end are made, so that this one copies none.
 //
 // `Want` where there is no memory for it.
-pub(crate) fn prepared(answer: &Begin) -> Result<(Twice, Option<Started>), Want>
+pub(crate) fn foreseen(
+    controller: &mut Controller,
+    now: Moment,
+) -> Result<(Twice, Option<Started>), Want>
+    requires { (basis : Basis) → (begun now controller.old).answer ≡ Begun basis
+        → IsSome basis.job → CanPlan basis }
+    ensures same { controller.new ≡ controller.old }
+    ensures reply { IfOk result (λ r. r.0 ≡ reply_of_begin (begun now controller.old).answer) }
+    ensures sync { IfOk result (λ r. r.1 ≡ begun_sync (begun now controller.old).answer) }
+{
+    controller.settle();
+    let answer = controller.peek(now)?;
+    let left = prepared(&answer)?;
+    Ok(left)
+}
+
+// What a begin of that answer leaves: the reply, and the sync where one begins.
+//
+// `Want` where there is no memory for it.
+fn prepared(answer: &Begin) -> Result<(Twice, Option<Started>), Want>
     requires { (basis : Basis) → answer.now ≡ Begun basis → IsSome basis.job → CanPlan basis }
     ensures reply { IfOk result (λ r. r.0 ≡ reply_of_begin answer.now) }
     ensures sync { IfOk result (λ r. r.1 ≡ begun_sync answer.now) }
