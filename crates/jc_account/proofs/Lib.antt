@@ -2,6 +2,7 @@ pub mod AccountFacts
 pub mod IndexFacts
 pub mod JudgementFacts
 pub mod ListedFacts
+pub mod NotedFacts
 pub mod Owned
 pub mod Placed
 pub mod RoomFacts

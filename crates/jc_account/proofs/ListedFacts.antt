@@ -12,6 +12,7 @@ use Rattle.jc_states.specs.UidLists.{is_in, uids_of, AscendsFrom}
 use Rattle.jc_types.proofs.KeyFacts.{same_uid-itself, same_uid-eq}
 use Rattle.jc_types.proofs.ListFacts.{any_filter, any_map}
 use Rattle.jc_states.proofs.UidListFacts.{Apart}
+use Rattle.jc_states.proofs.UidPlaceFacts.{absent-below}
 use Rattle.jc_states.specs.Indexes.{has_index}
 use Rattle.jc_account.specs.Modes.{indexes_of}
 
@@ -57,18 +58,11 @@ among_apart u test other (pod ∷ pods) = by (test pod) (same_uid pod.uid u) ref
         no false = refl
     by false s e h = h
 
--- A UID below all of ascending ones is not among them.
-pub below_none : (low : ℕ) (u : Uid) (uids : List Uid) → u.0 < low → AscendsFrom low uids → is_in u uids ≡ false
-below_none low u [] h r = refl
-below_none low u (v ∷ uids) h r =
-    let first : low ≤ v.0 = r.0 in
-    ap (λ b. b || is_in u uids) (ne_eqb v.0 u.0 (λ e. omega (arith, e, h, first))) ∙ below_none (v.0 + 1) u uids (omega (arith, h, first)) r.1
-
 -- Ascending UIDs of which none is in a list are apart from it.
 pub apart_from : (low : ℕ) (uids more : List Uid) → AscendsFrom low more → Each (λ u. is_in u uids ≡ false) more → Apart uids more
 apart_from low uids [] r h = tt
 apart_from low uids (u ∷ more) r h =
-    (h.0, below_none (u.0 + 1) u more (omega arith) r.1, apart_from (u.0 + 1) uids more r.1 h.1)
+    (h.0, absent-below (u.0 + 1) u more (omega arith) r.1, apart_from (u.0 + 1) uids more r.1 h.1)
 
 -- An index is among those of the pods exactly where a pod has it.
 pub has-indexes : (n : ℕ) (pods : List Pod) → has n (indexes_of pods) ≡ list_any (has_index n) pods

@@ -12,8 +12,9 @@ use Rattle.jc_states.specs.UidLists.{Ascends, AscendsFrom, is_in}
 use Rattle.jc_types.proofs.KeyFacts.{same_uid-either_way}
 use Rattle.jc_types.proofs.ListFacts.{filter_none, filter_same}
 use Rattle.jc_states.proofs.PodListFacts.{rises_filter}
+use Rattle.jc_states.proofs.UidPlaceFacts.{absent-below}
 use Rattle.jc_account.specs.Judged.{has_tracked, is_staying, stayed, staying}
-use Rattle.jc_account.proofs.ListedFacts.{below_none, each, none_below}
+use Rattle.jc_account.proofs.ListedFacts.{each, none_below}
 
 -- Where no element passes both tests, those that pass one are as many as pass each, together.
 either_length : {X : Type 0} (a b : X → Bool) → ((x : X) → (a x && b x) ≡ false) → (xs : List X) → length (filter (λ x. a x || b x) xs) ≡ length (filter a xs) + length (filter b xs)
@@ -48,7 +49,7 @@ one_same low u (v ∷ uids) r =
         → length (cond s (v ∷ filter (λ w. same_uid u w) uids) (filter (λ w. same_uid u w) uids)) ≡ cond (s || is_in u uids) 1 0
     by true e ih =
         let is = eqb-true v.0 u.0 e in
-        let rest = none_same u uids (below_none (v.0 + 1) u uids (omega (arith, is)) r.1) in
+        let rest = none_same u uids (absent-below (v.0 + 1) u uids (omega (arith, is)) r.1) in
         omega (arith, ap length rest)
     by false e ih = ih
 

@@ -19,7 +19,7 @@ use crate::releases::releases;
 use crate::rooms::{count_staying, room_beside};
 use crate::uids::{merged, unreleased};
 use jc_ranges::Ranges;
-use jc_states::Basis;
+use jc_states::{Basis, Pods};
 use jc_types::{Copied, CountIn, IndexCounts, Job, JobStatus, Mode, Pod, Uids, Want};
 use std::alloc::Global;
 
@@ -112,6 +112,29 @@ fn count_job(alloc: Global, job: &Job, pods: &[Pod]) -> Result<CountIn, Want>
     })
 }
 
+// What is counted in of a Job, where the sync sees these pods: it goes over those alone at which it has to
+// look.
+//
+// # Errors
+// `Want` where there is no memory for the lists.
+fn count_noted(alloc: Global, job: &Job, pods: &Pods) -> Result<CountIn, Want>
+    requires tidy { IsTidy job.now pods.now }
+    requires totals { TotalsFit job.now pods.now }
+    requires indexes { All HasSmallIndex pods.now }
+    requires few { length pods.now < 2 ^ 31 }
+    ensures counted { IfOk result (λ r. r ≡ counted_in job.now pods.now) }
+    ensures failed_fits { IfOk result (λ r. (counts r).0 < 2 ^ 64) }
+    ensures succeeded_fits { IfOk result (λ r. (counts r).1 < 2 ^ 64) }
+    ensures few_failed { IfOk result (λ r. r.new_failed ≤ length pods.now) }
+{
+    // That all pods ascend, which is said of their slice, holds of the noted ones too.
+    let _all = pods.as_slice();
+    let succeeded = job.status.uncounted_succeeded.as_slice();
+    let failed = job.status.uncounted_failed.as_slice();
+    let noted = pods.noted(job.uid, succeeded, failed)?;
+    count_job(alloc, job, noted.as_slice())
+}
+
 /// What a sync counts in (KEP-2307), and the pods whose finalizer is to go.
 ///
 /// A UID of the Job's two lists of uncounted pods whose pod is no longer tracked, or no longer there,
@@ -138,7 +161,7 @@ pub fn count_in(alloc: Global, basis: &Basis) -> Result<CountIn, Want>
     ensures few_failed { IfOk result (λ r. r.new_failed ≤ length basis.entry.now.pods) }
 {
     match &basis.job {
-        Some(job) => count_job(alloc, job, basis.pods.as_slice()),
+        Some(job) => count_noted(alloc, job, &*basis.pods),
         None => unreachable!(),
     }
 }

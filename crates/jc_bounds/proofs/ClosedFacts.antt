@@ -42,16 +42,9 @@ use Rattle.jc_plan.proofs.PlanBounds.{none-length as any-none}
 use Rattle.jc_bounds.proofs.FitFacts.{open-lasts, own-since, plan-creates, tracked-lasts}
 use Rattle.std.proofs.lemmas.Bool.{and_parts}
 use Rattle.jc_plan.proofs.PlanFacts.{plan-releases as planned-releases}
+use Rattle.jc_states.proofs.PodListFacts.{each-fails}
 
 module _ {X : Type 0} where
-  any-each : (f : X → Bool) (xs : List X) → list_any f xs ≡ false → Each (λ x. f x ≡ false) xs
-  any-each f [] h = tt
-  any-each f (x ∷ xs) h = by (f x) refl (any-each f xs) h
-    where
-      by : (b : Bool) → f x ≡ b → (list_any f xs ≡ false → Each (λ x. f x ≡ false) xs) → (b || list_any f xs) ≡ false → (f x ≡ false) × Each (λ x. f x ≡ false) xs
-      by true e ih h = absurd (true≢false h)
-      by false e ih h = (e, ih h)
-
   each-any : (f : X → Bool) (xs : List X) → Each (λ x. f x ≡ false) xs → list_any f xs ≡ false
   each-any f [] h = refl
   each-any f (x ∷ xs) h = ap (λ b. b || list_any f xs) h.0 ∙ each-any f xs h.1
@@ -152,14 +145,14 @@ IsDone job own p = (is_open p ≡ false) × (is_left_over job own p ≡ false)
 
 each-done : (job : Job) (pods : List Pod) → list_any is_open (own_pods job pods) ≡ false → leaves_none (counted_in job pods) ≡ true → Each (IsDone job (own_pods job pods)) (own_pods job pods)
 each-done job pods closed left =
-    each-two (λ p. is_open p ≡ false) (λ p. is_left_over job (own_pods job pods) p ≡ false) (IsDone job (own_pods job pods)) (λ p c l. (c, l)) (own_pods job pods) (any-each is_open (own_pods job pods) closed) (left-none job pods left)
+    each-two (λ p. is_open p ≡ false) (λ p. is_left_over job (own_pods job pods) p ≡ false) (IsDone job (own_pods job pods)) (λ p c l. (c, l)) (own_pods job pods) (each-fails is_open (own_pods job pods) closed) (left-none job pods left)
 
 -- With none to release, none is tracked.
 none-tracked_y : (job : Job) (pods : List Pod) → list_any is_open (own_pods job pods) ≡ false → leaves_none (counted_in job pods) ≡ true → (counted_in job pods).releases ≡ [] → list_any is_tracked (own_pods job pods) ≡ false
 none-tracked_y job pods closed left none =
     each-any is_tracked (own_pods job pods)
     (each-two (λ p. IsDone job (own_pods job pods) p) (λ p. is_to_release job (own_pods job pods) p ≡ false) (λ p. is_tracked p ≡ false) (λ p c n. by p c n (is_tracked p) refl) (own_pods job pods)
-    (each-done job pods closed left) (any-each (is_to_release job (own_pods job pods)) (own_pods job pods) (empty-any (is_to_release job (own_pods job pods)) (own_pods job pods) (releases-empty job pods none))))
+    (each-done job pods closed left) (each-fails (is_to_release job (own_pods job pods)) (own_pods job pods) (empty-any (is_to_release job (own_pods job pods)) (own_pods job pods) (releases-empty job pods none))))
   where
     by : (p : Pod) → IsDone job (own_pods job pods) p → is_to_release job (own_pods job pods) p ≡ false → (b : Bool) → is_tracked p ≡ b → b ≡ false
     by p c n true t = absurd (true≢false (sym (ended-due job (own_pods job pods) p c.0 c.1 t) ∙ n))
@@ -213,7 +206,7 @@ module _ (log : List Entry) (stored : Stored log) (notes : List Note) (w : ℕ) 
     tracks =
         each-any is_tracked (own_pods job (pods_under b.key log))
         (each-two (λ p. unreleased (planned b).releases p ≡ false) (λ p. life p.uid log ≡ Live p) (λ p. is_tracked p ≡ false) (λ p n l. by p n l (is_tracked p) refl) (own_pods job (pods_under b.key log))
-        (any-each (unreleased (planned b).releases) (own_pods job (pods_under b.key log)) (still-none (unreleased (planned b).releases) unreleased-lasts (none-unreleased_y job b there wound.closed wound.left)))
+        (each-fails (unreleased (planned b).releases) (own_pods job (pods_under b.key log)) (still-none (unreleased (planned b).releases) unreleased-lasts (none-unreleased_y job b there wound.closed wound.left)))
         (Each-filter (λ p. life p.uid log ≡ Live p) (is_own job) (pods_under b.key log) (Each-filter (λ p. life p.uid log ≡ Live p) (λ p. same_key p.owner b.key) (pods_in log) (pods_in-live log))));
   }
     where

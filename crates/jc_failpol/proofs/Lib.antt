@@ -1,2 +1,4 @@
+pub mod EndedFacts
 pub mod OutcomeFacts
 pub mod Settled
+pub mod RuleFacts

@@ -73,6 +73,10 @@ fn shows_condition(pod: &Pod, pattern: &Pattern) -> bool
 fn shows_one_of(pod: &Pod, patterns: &Patterns) -> bool
     ensures { result ≡ shows_one_of patterns.now pod.now.conditions }
 {
+    // Most pods have no condition, and a policy may have many patterns.
+    if pod.conditions.is_empty() {
+        return false;
+    }
     patterns
         .as_slice()
         .iter()

@@ -1,5 +1,5 @@
 -- What a decision says of the Job and of its pods.
-use Rattle.std.proofs.Common.{◌≡◌, ◌⊎◌, inl, inr, ℕ, Bool, true, false, cond, ◌&&◌, List, Option, Some, None, refl, ap, ◌∙◌}
+use Rattle.std.proofs.Common.{◌≡◌, ◌⊎◌, inl, inr, ℕ, Bool, true, false, cond, ◌&&◌, ◌||◌, List, [], ◌∷◌, Option, Some, None, is_some, refl, ap, ◌∙◌, true≢false}
 use Rattle.std.specs.List.{Contains}
 use Rattle.std.proofs.lemmas.Bool.{and_from}
 use Rattle.std.proofs.lemmas.List.Folds.{list_any-from_Any}
@@ -22,6 +22,18 @@ use Rattle.jc_failpol.specs.Rules.{action_of}
 use Rattle.jc_failpol.specs.FailJob.{is_failure, is_fail_job, policy_fails_job, fails_job}
 use Rattle.jc_finish.specs.Decisions.{is_failed_by_indexes, is_failed_by_pod, is_past_limit, is_past_most, is_overdue, is_policy_met, is_complete, first_line, decided}
 use Rattle.jc_finish.specs.Settled.{is_target_kind}
+
+-- Without a failure policy no pod fails the Job.
+pub none-failing : (spec : JobSpec) (own : List Pod) → is_some spec.failure ≡ false → is_failed_by_pod spec own ≡ false
+none-failing spec [] h = refl
+none-failing spec (pod ∷ own) h =
+    ap (λ b. b || is_failed_by_pod spec own) (by (is_tracked pod) (is_failure (outcome_of spec pod)) spec.failure h) ∙ none-failing spec own h
+  where
+    by : (tracked failed : Bool) (policy : Option FailurePolicy) → is_some policy ≡ false → (tracked && (failed && policy_fails_job policy pod)) ≡ false
+    by true true None h = refl
+    by true false policy h = refl
+    by false failed policy h = refl
+    by true true (Some policy) h = absurd (true≢false h)
 
 -- The first of seven reasons that holds.
 abbrev chosen : Bool → Bool → Bool → Bool → Bool → Bool → Bool → Option (CondKind × Reason)

@@ -21,6 +21,7 @@ use Rattle.jc_states.specs.PodLists.{IsRising, RisesFrom}
 use Rattle.jc_states.specs.UidLists.{is_in, join, uids_of}
 use Rattle.jc_states.proofs.PodListFacts.{rises-each, rises_filter}
 use Rattle.jc_states.proofs.UidListFacts.{has-join, uids_of-ascends}
+use Rattle.jc_states.proofs.UidPlaceFacts.{absent-below}
 use Rattle.jc_failpol.specs.declared.outcomes.Outcome.TheVariants.{Failed}
 use Rattle.jc_failpol.specs.Outcomes.{same_outcome}
 use Rattle.jc_account.specs.Accounts.{counted_in}
@@ -28,7 +29,7 @@ use Rattle.jc_account.specs.Judged.{newly}
 use Rattle.jc_account.specs.Modes.{indexes_of}
 use Rattle.jc_account.proofs.AccountFacts.{judged-failed}
 use Rattle.jc_account.proofs.JudgementFacts.{newly-is}
-use Rattle.jc_account.proofs.ListedFacts.{below_none, each, has-indexes}
+use Rattle.jc_account.proofs.ListedFacts.{each, has-indexes}
 use Rattle.jc_account.proofs.Owned.{filter-least}
 use Rattle.jc_perindex.specs.Failures.{count_at, failing_by, failing_in, failures_by, failures_in, failures_of, fails_at, newly_failed, policy_fails_index, raised, raised_at}
 use Rattle.jc_ledger.specs.Ledger.{Ledger, Record, failed_pods, judged_as}
@@ -194,7 +195,7 @@ picked_uids test low (pod ∷ pods) r = (
 )
   where
     none : is_in pod.uid (uids_of (filter test pods)) ≡ false
-    none = below_none (pod.uid.0 + 1) pod.uid (uids_of (filter test pods)) (omega arith) (uids_of-ascends (pod.uid.0 + 1) (filter test pods) (rises_filter (pod.uid.0 + 1) test pods r.1))
+    none = absent-below (pod.uid.0 + 1) pod.uid (uids_of (filter test pods)) (omega arith) (uids_of-ascends (pod.uid.0 + 1) (filter test pods) (rises_filter (pod.uid.0 + 1) test pods r.1))
 
     here : (b : Bool) → test pod ≡ b → is_in pod.uid (uids_of (cond b (pod ∷ filter test pods) (filter test pods))) ≡ b
     here true e = or_left (same_uid pod.uid pod.uid) (is_in pod.uid (uids_of (filter test pods))) (same_uid-itself pod.uid)

@@ -1,10 +1,13 @@
 pub mod Bounds
 pub mod Failures
+pub mod NotedFacts
 pub mod Numbered
 pub mod OneWay
 pub mod Ordered
 pub mod Ranked
 pub mod Sequences
 pub mod Sorting
+pub mod SpareFacts
 pub mod Surplus
+pub mod UnheldFacts
 pub mod Waits

@@ -7,6 +7,7 @@ ghost use Rattle.jc_states.specs.Bases.{is_own, own_pods};
 ghost use Rattle.jc_types.specs.Counts.{counts as counts_of};
 ghost use Rattle.jc_manage.specs.Creations.{creatable, free, holds, is_settled_index, job_lacks, job_wants, keepers, keeps, keeps_own, lacking, wanted};
 
+use crate::unheld::{are_kept_as_held, unheld_indexes};
 use jc_states::{Pods, count_ending, count_tracked_active, is_active, is_ending, is_own};
 use jc_types::{CountIn, Indexes, Job, JobSpec, Mode, Pod, Replacement, Want, counts};
 use std::alloc::Global;
@@ -211,6 +212,26 @@ fn least_free(
     free_indexes(alloc, completions, counted, kept.as_slice(), most)
 }
 
+// The least free indexes of the Job, and at most so many. It goes over the pods only where active ones are
+// not tracked, or ending ones keep their indexes.
+fn first_free(
+    alloc: Global,
+    job: &Job,
+    pods: &Pods,
+    counted: &CountIn,
+    most: u64,
+) -> Result<Indexes, Want>
+    ensures { IfOk result (λ indexes. indexes ≡ map (λ n. Some n) (take most
+        (free (unwrap_or job.now.spec.completions 0) counted.now
+        (keepers job.now.spec.replacement (own_pods job.now pods.now))))) }
+{
+    if are_kept_as_held(job, pods) {
+        let completions = job.spec.completions.unwrap_or(0);
+        return unheld_indexes(alloc, completions, job.uid, pods, counted, most);
+    }
+    least_free(alloc, job, pods.as_slice(), counted, most)
+}
+
 // What the Job would make at once, if nothing held it back.
 //
 // # Errors
@@ -233,6 +254,6 @@ pub(crate) fn creatable(
     let lacking = job_lacks(job, pods, counted);
     match job.spec.mode {
         Mode::NonIndexed => without_index(alloc, lacking),
-        Mode::Indexed => least_free(alloc, job, pods.as_slice(), counted, lacking),
+        Mode::Indexed => first_free(alloc, job, pods, counted, lacking),
     }
 }

@@ -14,6 +14,7 @@ ghost use Rattle.jc_manage.specs.Ranks.{AreOldest, goes_by, gone_by, has_older, 
 use crate::creations::{is_settled_index, job_wants};
 use crate::lists::list_of;
 use crate::ranks::{Rank, is_below, least_to_go, rank_of};
+use crate::spares::may_go;
 use jc_states::{Pods, is_active, is_own, is_tracked_active};
 use jc_types::{CountIn, Job, JobSpec, Mode, Pod, PodVersions, Uid, Uids, Version, Want};
 use std::alloc::Global;
@@ -42,10 +43,16 @@ fn marked(alloc: Global, target: bool, job: &Job, pods: &[Pod]) -> Result<Vec<Ui
 //
 // # Errors
 // `Want` where there is no memory for them.
-pub(crate) fn marks(alloc: Global, target: bool, job: &Job, pods: &[Pod]) -> Result<Uids, Want>
+pub(crate) fn marks(alloc: Global, target: bool, job: &Job, pods: &Pods) -> Result<Uids, Want>
     ensures { IfOk result (λ uids. uids ≡ marks target (own_pods job.now pods.now)) }
 {
-    let uids = marked(alloc, target, job, pods)?;
+    if target {
+        let uids = marked(alloc, target, job, pods.as_slice())?;
+        return list_of(alloc, uids.as_slice());
+    }
+    // An active pod without the finalizer is noted.
+    let noted = pods.noted(job.uid, &[], &[])?;
+    let uids = marked(alloc, target, job, noted.as_slice())?;
     list_of(alloc, uids.as_slice())
 }
 
@@ -235,6 +242,9 @@ fn surplus(
         (job_wants job.now (own_pods job.now pods.now) counted.now)
         (own_tracked job.now pods.now))) }
 {
+    if !may_go(job, pods, counted) {
+        return Ok(Vec::new(alloc));
+    }
     let listed = pods.as_slice();
     let holders = holders_of(alloc, job, listed)?;
     let ranks = ranks_of(alloc, job, listed, counted, &holders)?;

@@ -9,6 +9,8 @@ mod lists;
 mod needs;
 mod ranks;
 mod results;
+mod spares;
+mod unheld;
 
 pub use laws::{
     creations_are_numbered, creations_stay_within_bounds, failures_are_bounded,

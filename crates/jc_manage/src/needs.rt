@@ -60,7 +60,7 @@ fn wants_of(
     let backoff = backoff_after(&basis.backoff, counted, basis.now);
     let opening = opening(&backoff);
     let creatable = creatable(alloc, target, job, pods, counted)?;
-    let marks = marks(alloc, target, job, pods.as_slice())?;
+    let marks = marks(alloc, target, job, pods)?;
     let let_goes = let_goes(alloc, target, job, pods, counted)?;
     let next = next(opening, basis.now, &creatable);
     let creates = creates(alloc, opening, basis.now, creatable);

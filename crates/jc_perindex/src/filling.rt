@@ -6,12 +6,13 @@ ghost use Rattle.jc_types.specs.declared.limits.TheConstants.{GREATEST_COMPLETIO
 ghost use Rattle.jc_types.specs.declared.statuses.IndexCount.{IndexCount};
 ghost use Rattle.jc_states.specs.Bases.{FailuresFit, own_pods};
 ghost use Rattle.jc_types.specs.ValidSpecs.{IsValidSpec};
-ghost use Rattle.jc_perindex.specs.Failures.{failed_set, filled_counts, has_failed};
+ghost use Rattle.jc_perindex.specs.Failures.{failed_set, filled_counts, has_failed, newly_failed};
+ghost use Rattle.jc_perindex.specs.Steps.{raise_each};
 
 use crate::counts::raise_each;
 use jc_ranges::Ranges;
-use jc_states::{Basis, has_end};
-use jc_types::{CountIn, IndexCount, IndexCounts, Job, Pod, Want};
+use jc_states::{Basis, Pods, has_end};
+use jc_types::{CountIn, IndexCount, IndexCounts, Job, Uid, Want};
 use std::alloc::Global;
 
 // Whether the index of the count has failed.
@@ -74,8 +75,24 @@ fn listed(alloc: Global, counts: &[IndexCount]) -> Result<IndexCounts, Want>
     Ok(list)
 }
 
+// The Job's counts with the failure of each of its pods of these UIDs: it goes over those pods alone at
+// which a sync has to look.
+//
+// # Errors
+// `Want` where there is no memory for them.
+fn raised(alloc: Global, job: &Job, pods: &Pods, uids: &[Uid]) -> Result<Vec<IndexCount>, Want>
+    requires few { length pods.now < 2 ^ 31 }
+    requires failures { FailuresFit job.now pods.now }
+    ensures { IfOk result (λ counts. counts.items
+        ≡ raise_each job.now.spec.failure job.now.status.index_failures
+        (newly_failed (own_pods job.now pods.now) uids.now)) }
+{
+    let noted = pods.noted(job.uid, uids, &[])?;
+    raise_each(alloc, job, uids, noted.as_slice())
+}
+
 // What is counted of a Job, with its failures of each index and its failed indexes.
-fn fill_job(alloc: Global, job: &Job, pods: &[Pod], counted: CountIn) -> Result<CountIn, Want>
+fn fill_job(alloc: Global, job: &Job, pods: &Pods, counted: CountIn) -> Result<CountIn, Want>
     requires valid { IsValidSpec job.now.spec }
     requires few { length pods.now < 2 ^ 31 }
     requires failures { FailuresFit job.now pods.now }
@@ -87,7 +104,7 @@ fn fill_job(alloc: Global, job: &Job, pods: &[Pod], counted: CountIn) -> Result<
         counted.index_failures = IndexCounts::new(alloc);
         return Ok(counted);
     };
-    let counts = raise_each(alloc, job, counted.judged_failed.as_slice(), pods)?;
+    let counts = raised(alloc, job, pods, counted.judged_failed.as_slice())?;
     let failed = failed_set(alloc, job, limit, &counted.completed, counts.as_slice())?;
     counted.failed_indexes = failed;
     counted.index_failures = listed(alloc, counts.as_slice())?;
@@ -112,7 +129,7 @@ pub fn fill(alloc: Global, basis: &Basis, counted: CountIn) -> Result<CountIn, W
         r ≡ filled_counts job (own_pods job basis.entry.now.pods) counted)) }
 {
     match &basis.job {
-        Some(job) => fill_job(alloc, job, basis.pods.as_slice(), counted),
+        Some(job) => fill_job(alloc, job, &*basis.pods, counted),
         None => unreachable!(),
     }
 }

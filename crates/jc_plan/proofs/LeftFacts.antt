@@ -10,7 +10,7 @@ use Rattle.jc_types.specs.declared.objects.Pod.{Pod}
 use Rattle.jc_types.specs.declared.specifications.Mode.{Mode}
 use Rattle.jc_types.specs.declared.specifications.Mode.TheVariants.{Indexed, NonIndexed}
 use Rattle.jc_types.specs.declared.statuses.JobStatus.{JobStatus}
-use Rattle.jc_types.proofs.ListFacts.{Each-both, Each-filter, Each-passes, Each-weaker, filter_filter, filter_none, filter_same}
+use Rattle.jc_types.proofs.ListFacts.{Each-both, Each-filter, Each-passes, Each-weaker, filter_none, filter_swap}
 use Rattle.jc_states.specs.declared.bases.Basis.{Basis}
 use Rattle.jc_states.specs.Bases.{is_own, own_pods}
 use Rattle.jc_states.specs.Listed.{is_listed}
@@ -47,19 +47,6 @@ none-passes test (pod ∷ pods) h = by (test pod) refl h (none-passes test pods)
     by : (b : Bool) → test pod ≡ b → cond b (pod ∷ filter test pods) (filter test pods) ≡ [] → (filter test pods ≡ [] → Each (λ p. test p ≡ false) pods) → (test pod ≡ false) × Each (λ p. test p ≡ false) pods
     by true e h more = absurd (omega (arith, ap length h))
     by false e h more = (e, more h)
-
--- Two filters may change places.
-swapped : (a b : Pod → Bool) (pods : List Pod) → filter a (filter b pods) ≡ filter b (filter a pods)
-swapped a b pods =
-    filter_filter a b pods
-    ∙ filter_same (λ p. b p && a p) (λ p. a p && b p) pods (each (λ p. (b p && a p) ≡ (a p && b p)) (λ p. either (b p) (a p)) pods)
-    ∙ sym (filter_filter b a pods)
-  where
-    either : (x y : Bool) → (x && y) ≡ (y && x)
-    either true true = refl
-    either true false = refl
-    either false true = refl
-    either false false = refl
 
 -- What is judged, and neither fails nor succeeds where that joins a list, joins none.
 joins-none : (mode : Mode) (o : Outcome) → is_verdict o ≡ true → same_outcome o outcome.Failed ≡ false → (mode ≡ NonIndexed → same_outcome o outcome.Succeeded ≡ false) → joins_list mode o ≡ false
@@ -145,7 +132,7 @@ module _ (job : Job) (basis : Basis) (this : basis.job ≡ Some job) (rises : Is
   none-takes : filter (takes_room job.spec) (candidates job own) ≡ []
   none-takes =
       by takers refl (rises_filter 0 (takes_room job.spec) (candidates job own) (rises_filter 0 (is_candidate job) own (rises_filter 0 (is_own job) basis.pods rises)))
-      (sym (swapped (takes_room job.spec) (fits job own) (candidates job own)) ∙ none-judged)
+      (sym (filter_swap (takes_room job.spec) (fits job own) (candidates job own)) ∙ none-judged)
     where
       by : (pods : List Pod) → takers ≡ pods → RisesFrom 0 pods → filter (fits job own) pods ≡ [] → pods ≡ []
       by [] is up h = refl

@@ -3,6 +3,7 @@ pub mod Going
 pub mod PartFacts
 pub mod ValueFacts
 pub mod NextFacts
+pub mod NotedFacts
 pub mod PlanBounds
 pub mod PlanFacts
 pub mod OrderFacts

@@ -1,6 +1,7 @@
 //! Which pods lose their finalizer.
 
-ghost use Rattle.std.specs.Prelude.{◌≡◌, IfOk};
+ghost use Rattle.std.specs.Prelude.{◌≡◌, IfOk, filter};
+ghost use Rattle.jc_states.specs.UidLists.{uids_of};
 ghost use Rattle.jc_plan.specs.Releases.{due_uids, is_owed, is_orphan, is_released, releases_of};
 
 use jc_states::{Basis, is_among, is_foreign};
@@ -29,6 +30,23 @@ fn is_released(basis: &Basis, due: &[Uid], pod: &Pod) -> bool
     is_owed(due, pod) || is_orphan(basis, pod)
 }
 
+// The UIDs of these pods that lose their finalizer, where these are the UIDs that the Job is to release.
+//
+// # Errors
+// `Want` where there is no memory for them.
+fn released_of(alloc: Global, basis: &Basis, due: &[Uid], pods: &[Pod]) -> Result<Uids, Want>
+    requires { due.now ≡ due_uids basis.now.job basis.now.pods }
+    ensures { IfOk result (λ uids. uids ≡ uids_of (filter (is_released basis.entry.now) pods.now)) }
+{
+    let mut uids = Uids::new(alloc);
+    for pod in pods {
+        if is_released(basis, due, pod) {
+            uids.push(pod.uid)?;
+        }
+    }
+    Ok(uids)
+}
+
 /// The pods that lose their finalizer, in their order (KEP-2307): those that the Job is to release, which
 /// are given, and orphans. A tracked pod of the key is an orphan where its Job is gone, and the cache of
 /// Jobs is at least as new as the pod.
@@ -39,11 +57,11 @@ pub fn released(alloc: Global, basis: &Basis, due: &Uids) -> Result<Uids, Want>
     requires { due.now ≡ due_uids basis.now.job basis.now.pods }
     ensures { IfOk result (λ uids. uids ≡ releases_of basis.entry.now) }
 {
-    let mut uids = Uids::new(alloc);
-    for pod in basis.pods.as_slice() {
-        if is_released(basis, due.as_slice(), pod) {
-            uids.push(pod.uid)?;
-        }
-    }
-    Ok(uids)
+    let due = due.as_slice();
+    let Some(job) = &basis.job else {
+        return released_of(alloc, basis, due, basis.pods.as_slice());
+    };
+    // Those that the Job is to release are noted by their UID, and orphans are another owner's.
+    let noted = basis.pods.noted(job.uid, due, &[])?;
+    released_of(alloc, basis, due, noted.as_slice())
 }

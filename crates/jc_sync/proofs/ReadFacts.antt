@@ -12,7 +12,7 @@ use Rattle.jc_types.specs.Keys.{same_uid}
 use Rattle.jc_states.specs.UidLists.{AscendsFrom, is_in}
 use Rattle.jc_types.proofs.KeyFacts.{same_uid-eq, same_uid-itself, same_uid-either_way}
 use Rattle.jc_types.proofs.ListFacts.{Each-weaker}
-use Rattle.jc_plan.proofs.ListedFacts.{below_none}
+use Rattle.jc_states.proofs.UidPlaceFacts.{absent-below}
 use Rattle.jc_plan.specs.declared.plans.Planned.{Planned}
 use Rattle.jc_asks.specs.declared.asks.Ask.{Ask}
 use Rattle.jc_asks.specs.declared.asks.Ask.TheVariants.{MakePod, MarkPod, LetPodGo, WriteFirst, ReleasePod, WriteSecond}
@@ -103,7 +103,7 @@ behind_let : (u w : Uid) (v x : Version) (gone : List Uid) (asks : List Ask) →
 behind_let u w v x gone asks rises out ih made rest e = by made e
   where
     none_later : u ≡ w → is_in u (lets_of asks) ≡ false
-    none_later is = ap (λ y. is_in y (lets_of asks)) is ∙ below_none (w.0 + 1) w (lets_of asks) (omega arith) rises
+    none_later is = ap (λ y. is_in y (lets_of asks)) is ∙ absent-below (w.0 + 1) w (lets_of asks) (omega arith) rises
 
     -- It is this one.
     here : LetPodGo u v ≡ LetPodGo w x → rest ≡ cond (is_in w gone) (MarkPod w ∷ with_marks gone asks) (with_marks gone asks)

@@ -1,16 +1,13 @@
--- One of the own pods fails the Job where one of the pods is own and does.
-use Rattle.std.proofs.Common.{◌∙◌, ◌&&◌, sym, rules, tests}
-use Rattle.std.proofs.lemmas.Iterator.{YieldsList-from_slice}
-use Rattle.std.proofs.lemmas.Iterator.Search.{any_from_yields_List}
-use Rattle.jc_states.specs.Bases.{is_own}
-use Rattle.jc_states.specs.Pods.{is_tracked}
-use Rattle.jc_types.proofs.ListFacts.{any_filter}
-use Rattle.jc_failpol.specs.FailJob.{fails_job}
+-- Without a policy no pod fails the Job.
+use Rattle.std.proofs.Common.{is_some, ap, sym, ◌∙◌}
+use Rattle.jc_types.specs.declared.specifications.JobSpec.{JobSpec}
+use Rattle.jc_states.specs.Bases.{own_pods}
+use Rattle.jc_finish.proofs.DecisionFacts.{none-failing}
 use Rattle.jc_finish.proofs.decision.is_failed_by_a_pod.Goals as goal
 
-pub returns : goal.returns
-returns c =
-    let pods = c.args.pods.now in
+pub returns-else-is_some : goal.returns-else-is_some
+returns-else-is_some c =
     let job = c.args.job.now in
-    any_from_yields_List (λ pod. is_own job pod && (is_tracked pod && fails_job job.spec pod)) _ _ _ c.any.ensures.ran (YieldsList-from_slice pods cc) (λ x b q k. search (rules, tests))
-    ∙ sym (any_filter (λ pod. is_tracked pod && fails_job job.spec pod) (is_own job) pods)
+    c.if-is_some.false
+    ∙ sym (none-failing job.spec (own_pods job c.args.pods.now)
+    (ap (λ (spec : JobSpec). is_some spec.failure) (sym c.deref.ensures) ∙ sym c.is_some.ensures ∙ c.if-is_some.false))

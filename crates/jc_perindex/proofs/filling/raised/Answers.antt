@@ -1,0 +1,22 @@
+-- Of the noted pods the same have failed as of all.
+use Rattle.std.proofs.Common.{◌≡◌, [], IfOk, ◌∙◌, subst, arith}
+use Rattle.jc_perindex.specs.Steps.{raise_each}
+use Rattle.jc_perindex.proofs.NotedFacts.{some-failed, some-few, some-fit}
+use Rattle.jc_perindex.proofs.filling.raised.Goals as goal
+
+pub raise_each-requires-clause-few : goal.raise_each-requires-clause-few
+raise_each-requires-clause-few c =
+    let few = some-few c.args.job.now c.args.pods.now _ c.args.uids.now [] (c.as_slice.ensures.value ∙ c.in_ok-noted.ensures) in
+    omega (arith, few, c.requires.few)
+
+pub raise_each-requires-clause-fit : goal.raise_each-requires-clause-fit
+raise_each-requires-clause-fit c =
+    let fit = some-fit c.args.job.now c.args.pods.now _ c.args.uids.now [] (c.as_slice.ensures.value ∙ c.in_ok-noted.ensures) c.requires.failures in
+    fit.fit
+
+pub returns : goal.returns
+returns c =
+    let job = c.args.job.now in
+    subst (λ pods. IfOk c.raise_each.result (λ counts. counts.items ≡ raise_each job.spec.failure job.status.index_failures pods))
+    (some-failed job c.args.pods.now _ c.args.uids.now [] (c.as_slice.ensures.value ∙ c.in_ok-noted.ensures))
+    c.raise_each.ensures

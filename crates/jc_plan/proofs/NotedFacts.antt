@@ -1,0 +1,29 @@
+-- The pods that lose their finalizer are among those at which a sync has to look.
+use Rattle.std.proofs.Common.{◌≡◌, inl, inr, true, nat_le, ◌&&◌, List, filter, Some, ap, sym, ◌∙◌}
+use Rattle.std.proofs.lemmas.Bool.{and_parts, or_cases}
+use Rattle.jc_types.specs.declared.numbers.Uid.{Uid}
+use Rattle.jc_types.specs.declared.objects.Job.{Job}
+use Rattle.jc_types.specs.declared.objects.Pod.{Pod}
+use Rattle.jc_types.proofs.ListFacts.{filter_within}
+use Rattle.jc_states.specs.declared.bases.Basis.{Basis}
+use Rattle.jc_states.specs.Noted.{is_noted}
+use Rattle.jc_states.specs.Owners.{is_foreign}
+use Rattle.jc_states.specs.Pods.{is_tracked}
+use Rattle.jc_states.specs.UidLists.{is_in, uids_of}
+use Rattle.jc_states.proofs.AtOddsFacts.{noted-in, noted-other}
+use Rattle.jc_plan.specs.Releases.{due_uids, is_orphan, is_owed, is_released, releases_of}
+
+module _ (basis : Basis) (job : Job) (due more : List Uid) (this : basis.job ≡ Some job) (are : due ≡ due_uids basis.job basis.pods) where
+  -- One that the Job is to release is noted by its UID, and an orphan as another owner's.
+  released-noted : (pod : Pod) → is_released basis pod ≡ true → is_noted job.uid due more pod ≡ true
+  released-noted pod h =
+      elim (or_cases (is_owed (due_uids basis.job basis.pods) pod) (is_orphan basis pod) h) [
+        | inl o ↦ noted-in job.uid due more pod (ap (is_in pod.uid) are ∙ (and_parts (is_tracked pod) (is_in pod.uid (due_uids basis.job basis.pods)) o).1)
+        | inr o ↦
+            let foreign = and_parts (is_foreign basis.job pod) (nat_le pod.version.0 basis.jobs_at.0) (and_parts (is_tracked pod) (is_foreign basis.job pod && nat_le pod.version.0 basis.jobs_at.0) o).1 in
+            noted-other job.uid due more pod (ap (λ owner. is_foreign owner pod) (sym this) ∙ foreign.0)
+      ]
+
+  -- So they are the same of the noted pods as of all.
+  pub releases-noted : uids_of (filter (is_released basis) (filter (is_noted job.uid due more) basis.pods)) ≡ releases_of basis
+  releases-noted = ap uids_of (filter_within (is_released basis) (is_noted job.uid due more) released-noted basis.pods)
