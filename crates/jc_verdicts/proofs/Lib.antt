@@ -3,6 +3,7 @@ pub mod VerdictSteps
 pub mod VerdictRows
 pub mod VerdictEvents
 pub mod VerdictFacts
+pub mod BackFacts
 pub mod BookFacts
 pub mod PlaceLists
 pub mod TouchFacts

@@ -1,5 +1,5 @@
 -- Entries that the lists of a Job don't have leave its pods, and the Job of a key, as they were.
-use Rattle.std.proofs.Common.{◌≡◌, ℕ, zero, suc, ◌+◌, ◌<◌, ◌≤◌, Bool, true, false, cond, not, ◌||◌, List, [], ◌∷◌, ◌++◌, length, get_or, reverse, take, Some, None, refl, sym, ap, ◌∙◌, subst, arith}
+use Rattle.std.proofs.Common.{◌≡◌, ℕ, zero, suc, ◌+◌, ◌-◌, ◌<◌, ◌≤◌, ◌^◌, Bool, true, false, cond, not, ◌||◌, List, [], ◌∷◌, ◌++◌, length, get_or, reverse, take, Some, None, refl, sym, ap, ◌∙◌, subst, arith}
 use Rattle.std.specs.List.{AllByRecursion as Each}
 use Rattle.std.specs.List.Sorted.{IsNonDecreasingBy}
 use Rattle.std.specs.Option.{option_map_or}
@@ -13,9 +13,10 @@ use Rattle.jc_types.specs.declared.objects.Pod.{Pod}
 use Rattle.jc_types.specs.Keys.{same_key, same_uid}
 use Rattle.jc_types.proofs.KeyFacts.{same_uid-eq, same_uid-itself}
 use Rattle.jc_states.specs.PodLists.{drop_pod}
+use Rattle.jc_states.proofs.PodListFacts.{length-filter-le}
 use Rattle.jc_log.specs.Log.{Live, job_in, life, living, pods_in, pods_of}
 use Rattle.jc_log.specs.PlainReadings.{is_about_job, job_put}
-use Rattle.jc_log.proofs.PodFacts.{pods_in-rises, pods_of-live, pods_of-owned}
+use Rattle.jc_log.proofs.PodFacts.{pods_in-few, pods_in-rises, pods_of-live, pods_of-owned}
 use Rattle.jc_verdicts.specs.Places.{IsCut, owns, places_where, job_places, touching_places, touches}
 use Rattle.jc_verdicts.specs.Verdicts.{HasSeen, before_place}
 use Rattle.jc_verdicts.proofs.PlaceLists.{Changes, changes-cut, changes-first, changes-more, changes-next, changes-place, changes-rise}
@@ -179,6 +180,17 @@ module _ (owner : Uid) (log : List Entry) (places : List ℕ) (are : places ≡ 
       seen_as new (at + 1) (omega (arith, within))
       (more (seen_by pods at seen ∙ ap (λ n. pods_of owner (reverse (take n log))) (get_or_default places at (length log) 0 within))
       ∙ sym (places-next (pods_of owner) (touches owner) (untouched owner) log places are at within))
+
+  -- Before an entry that touches them there are fewer pods than entries.
+  pub seen-few : (at : ℕ) (pods : List Pod) → at < length places → HasSeen owner log pods at → length log < 2 ^ 32 → length pods < 2 ^ 32 - 1
+  seen-few at pods within seen few =
+      let place = get_or places at 0 in
+      let low = places-within (pods_of owner) (touches owner) (untouched owner) log places are at within in
+      let is = seen_by pods at seen ∙ ap (λ n. pods_of owner (reverse (take n log))) (get_or_default places at (length log) 0 within) in
+      let owned = length-filter-le (λ pod. same_uid pod.owner_uid owner) (pods_in (reverse (take place log))) in
+      let all = pods_in-few (reverse (take place log)) in
+      let long = length-reverse (take place log) ∙ length-take-le place log (omega (arith, low)) in
+      omega (arith, ap length is, owned, all, long, low, few)
 
   -- What a sync saw: those at the places that it saw.
   pub seen-cut : (pods : List Pod) (count end seen : ℕ) → HasSeen owner log pods count → IsCut end places count → end ≤ length log → take end log ≡ take seen log → pods ≡ pods_of owner (reverse (take seen log))

@@ -160,7 +160,7 @@ success_is job records pod =
     by (Some r) = refl
 
 -- Their indexes that are below the number of completions.
-indexes_are : (job : Job) (known : Uid → Option Outcome) (pods : List Pod) → within job.spec (indexes_of (filter (is_success_by job known) pods)) ≡ success_indexes job known pods
+pub indexes_are : (job : Job) (known : Uid → Option Outcome) (pods : List Pod) → within job.spec (indexes_of (filter (is_success_by job known) pods)) ≡ success_indexes job known pods
 indexes_are job known [] = refl
 indexes_are job known (pod ∷ pods) = by (is_success_by job known pod) pod.index refl (indexes_are job known pods)
   where
@@ -190,12 +190,11 @@ done_is job records done pods =
     ∙ ap (join (kept job done)) (indexes_are job (outcome_in (map row_of records)) pods)
 
 -- The indexes of pods and of one more.
-pub one-index : {A : Type 0} (now : A → Pod) (job : Job) (known : Uid → Option Outcome) (shown : List A) (a : A) (indexes new : List ℕ) (o : Option ℕ)
-    → indexes ≡ success_indexes job known (map now shown) → o ≡ success_index job known (now a) → new ≡ indexes ++ cons_option o []
-    → new ≡ success_indexes job known (map now (shown ++ a ∷ []))
-one-index now job known shown a indexes new o are is more =
-    more ∙ ap (λ ns. ns ++ cons_option o []) are ∙ ap (λ i. success_indexes job known (map now shown) ++ cons_option i []) is
-    ∙ sym (ap (success_indexes job known) (map-append now shown (a ∷ [])) ∙ filter_map-append (success_index job known) (map now shown) (now a ∷ []))
+pub one-index : (job : Job) (known : Uid → Option Outcome) (pods : List Pod) (pod : Pod) (indexes new : List ℕ) (o : Option ℕ) → indexes ≡ success_indexes job known pods → o ≡ success_index job known pod → new ≡ indexes ++ cons_option o []
+    → new ≡ success_indexes job known (pods ++ pod ∷ [])
+one-index job known pods pod indexes new o are is more =
+    more ∙ ap (λ ns. ns ++ cons_option o []) are ∙ ap (λ i. success_indexes job known pods ++ cons_option i []) is
+    ∙ sym (filter_map-append (success_index job known) pods (pod ∷ []))
 
 -- What is kept after a write that judges.
 pub count_entered : (job : Job) (pods : List Pod) (seen at : ℕ) (ledger : Ledger) (rows rows' : List Row) (done done' : List ℕ) → IsCount rows done ledger → rows' ≡ rows ++ new_rows job.spec rows pods → done' ≡ done_by job (outcome_in rows) done pods

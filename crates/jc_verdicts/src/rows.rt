@@ -1,6 +1,6 @@
 //! What is kept of the judged pods of a Job.
 
-ghost use Rattle.std.specs.Prelude.{◌≡◌, ◌<◌, ◌^◌, ◌∷◌, [], IfOk, None, OnOk, Some, false, filter, if◌then◌else◌, is_some, length, map};
+ghost use Rattle.std.specs.Prelude.{◌≡◌, ◌<◌, ◌^◌, ◌∷◌, [], IfOk, None, OnOk, Some, false, filter, if◌then◌else◌, is_some, length, map, nat_lt, take};
 ghost use Rattle.std.specs.Option.{option_and_then, option_copied, option_map_or, option_or, unwrap_or};
 ghost use Rattle.jc_ranges.specs.Sets.{IsIncreasing, with_member};
 ghost use Rattle.jc_types.specs.declared.numbers.Uid.{Uid};
@@ -21,7 +21,6 @@ use indexmap::IndexMap;
 use jc_account::{Judgement as Row, first_beyond, joins_list, rows_within};
 use jc_failpol::{Outcome, is_verdict, outcome};
 use jc_states::has_end;
-use jc_table::PodTable;
 use jc_types::{Job, JobSpec, MOST_UNCOUNTED, Mode, Pod, Uid, Want};
 use std::alloc::Global;
 
@@ -52,11 +51,11 @@ fn is_held(spec: &JobSpec, known: &IndexMap<Uid, Outcome>, pod: &Pod) -> bool
 }
 
 /// How many UIDs may join the lists: one less for each pod that is tracked and joined one.
-fn space(spec: &JobSpec, known: &IndexMap<Uid, Outcome>, pods: &PodTable) -> usize
+fn space(spec: &JobSpec, known: &IndexMap<Uid, Outcome>, pods: &[Pod]) -> usize
     ensures { result ≡ space_by spec.now (at same_uid known.now.entries) pods.now }
 {
     let mut space = MOST_UNCOUNTED as usize;
-    for pod in pods.values() {
+    for pod in pods {
         if is_held(spec, known, pod) {
             space = space.saturating_sub(1);
         }
@@ -80,13 +79,13 @@ fn waiting_rows(
     alloc: Global,
     spec: &JobSpec,
     known: &IndexMap<Uid, Outcome>,
-    pods: &PodTable,
+    pods: &[Pod],
 ) -> Result<Vec<Row>, Want>
     ensures { IfOk result (λ new. new.items
         ≡ map (row_for spec.now) (waiting spec.now (at same_uid known.now.entries) pods.now)) }
 {
     let mut new = Vec::new(alloc);
-    for pod in pods.values() {
+    for pod in pods {
         if is_fresh(spec, known, pod) {
             new.push(row_for(spec, pod))?;
         }
@@ -100,7 +99,7 @@ pub fn new_rows(
     alloc: Global,
     spec: &JobSpec,
     known: &IndexMap<Uid, Outcome>,
-    pods: &PodTable,
+    pods: &[Pod],
 ) -> Result<Vec<Row>, Want>
     requires { IsRising pods.now }
     ensures { IfOk result (λ new. new.items
@@ -186,13 +185,13 @@ pub fn success_indexes(
     alloc: Global,
     job: &Job,
     known: &IndexMap<Uid, Outcome>,
-    pods: &PodTable,
+    pods: &[Pod],
 ) -> Result<Vec<u32>, Want>
     ensures { IfOk result (λ indexes. indexes.items
         ≡ success_indexes job.now (at same_uid known.now.entries) pods.now) }
 {
     let mut indexes = Vec::new(alloc);
-    for pod in pods.values() {
+    for pod in pods {
         if let Some(index) = success_index(job, known, pod) {
             indexes.push(index)?;
         }
@@ -200,18 +199,23 @@ pub fn success_indexes(
     Ok(indexes)
 }
 
-/// The indexes that stay: those below the number of completions, or all where an end stands.
-fn kept(alloc: Global, done: &[u32], job: &Job) -> Result<Vec<u32>, Want>
-    ensures { IfOk result (λ stay. stay.items ≡ kept_of job.now done.now) }
+/// How many of the indexes are below the number of completions: they stand in front.
+fn count_within(done: &[u32], completions: u32) -> usize
+    requires { IsIncreasing done.now }
+    ensures { filter (λ n. nat_lt n completions) done.now ≡ take result done.now }
 {
-    if has_end(&job.status.conditions) {
-        return Vec::from_slice(alloc, done);
+    done.partition_point(|index| *index < completions)
+}
+
+/// Keeps the indexes that stay: those below the number of completions, or all where an end stands.
+fn keep(done: &mut Vec<u32>, job: &Job)
+    requires { IsIncreasing done.old.items }
+    ensures { done.new.items ≡ kept_of job.now done.old.items }
+{
+    if !has_end(&job.status.conditions) {
+        let count = count_within(done.as_slice(), completions(job));
+        done.truncate(count);
     }
-    let completions = completions(job);
-    done.iter()
-        .copied()
-        .filter(|index| *index < completions)
-        .collect(alloc)
 }
 
 /// Puts an index in its place; a list that has it stays as it is.
@@ -236,20 +240,17 @@ fn put_indexes(done: &mut Vec<u32>, indexes: &[u32]) -> Result<(), Want>
     Ok(())
 }
 
-/// The indexes after a write: of the old ones those that stay, with the new ones.
-pub fn with_indexes(
-    alloc: Global,
-    done: &[u32],
-    job: &Job,
-    indexes: &[u32],
-) -> Result<Vec<u32>, Want>
-    requires { IsIncreasing done.now }
-    ensures done { IfOk result (λ all. all.items ≡ join (kept_of job.now done.now) indexes.now) }
-    ensures order { IfOk result (λ all. IsIncreasing all.items) }
+/// Makes of the indexes those after a write: the old ones that stay, with the new ones. Where all
+/// stay and none is new, it goes over none.
+pub fn take_indexes(done: &mut Vec<u32>, job: &Job, indexes: &[u32]) -> Result<(), Want>
+    requires { IsIncreasing done.old.items }
+    ensures done { OnOk result
+        (done.new.items ≡ join (kept_of job.now done.old.items) indexes.now) }
+    ensures order { OnOk result (IsIncreasing done.new.items) }
 {
-    let mut all = kept(alloc, done, job)?;
-    put_indexes(&mut all, indexes)?;
-    Ok(all)
+    keep(done, job);
+    put_indexes(done, indexes)?;
+    Ok(())
 }
 
 /// How many rows have the outcome.

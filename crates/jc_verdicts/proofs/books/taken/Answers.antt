@@ -4,6 +4,7 @@ use Rattle.jc_types.specs.Keys.{same_uid}
 use Rattle.jc_log.specs.Tables.{at}
 use Rattle.jc_verdicts.specs.Books.{IsSoundBook}
 use Rattle.jc_verdicts.specs.Verdicts.{outcome_in}
+use Rattle.jc_verdicts.proofs.BackFacts.{back-none}
 use Rattle.jc_verdicts.proofs.TouchFacts.{seen-first}
 use Rattle.jc_verdicts.proofs.books.taken.Goals as goal
 
@@ -18,7 +19,8 @@ pub returns-in-None-clause-sound : goal.returns-in-None-clause-sound
 returns-in-None-clause-sound c =
     λ log all.
     record {
-      seen = seen-first c.args.uid log c.empty.result.pods c.empty.result.at c.empty.ensures.pods c.empty.ensures.at;
+      seen = seen-first c.args.uid log c.empty.result.sight.pods c.empty.result.at c.empty.ensures.pods c.empty.ensures.at;
       order = subst IsIncreasing (sym c.empty.ensures.done) tt;
       known = λ u. ap (λ es. at same_uid es u) c.empty.ensures.known ∙ ap (λ rows. outcome_in rows u) (sym c.empty.ensures.rows);
+      back = back-none c.empty.result.known.entries c.empty.result.sight.pods c.empty.result.sight.back.items c.empty.ensures.pods;
     }

@@ -1,10 +1,10 @@
-use Rattle.std.proofs.Common.{◌≡◌, map}
+use Rattle.std.proofs.Common.{◌≡◌, map, take}
 use Rattle.jc_types.specs.Keys.{same_uid}
 use Rattle.jc_log.specs.Tables.{at}
 use Rattle.jc_verdicts.specs.Verdicts.{row_for, waiting}
 use Rattle.jc_verdicts.proofs.rows.waiting_rows.Given as goal
 
--- The rows so far are those of the pods that were shown.
+-- The rows so far are those of the pods before the index.
 abbrev pub invariant-loop-pod : goal.invariant-loop-pod
 invariant-loop-pod l =
-    l.new.items ≡ map (row_for l.spec) (waiting l.spec (at same_uid l.known.entries) (map (λ p. p.now) l.yielded))
+    l.new.items ≡ map (row_for l.spec) (waiting l.spec (at same_uid l.known.entries) (take l.pod-index l.pods))

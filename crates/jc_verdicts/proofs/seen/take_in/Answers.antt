@@ -1,18 +1,32 @@
-use Rattle.std.proofs.Common.{eq-eqb, ne_eqb}
+use Rattle.std.proofs.Common.{eq-eqb, ne_eqb, refl, subst, sym}
+use Rattle.jc_verdicts.specs.Books.{HasBack}
+use Rattle.jc_verdicts.proofs.BackFacts.{back-drop}
 use Rattle.jc_verdicts.proofs.VerdictPods.{seen_put, seen_other, seen_gone}
 use Rattle.jc_verdicts.proofs.seen.take_in.Goals as goal
 
 -- A pod of the Job is put.
-pub returns-in_ok-put-in-PodPut : goal.returns-in_ok-put-in-PodPut
-returns-in_ok-put-in-PodPut c =
-    λ older before. seen_put c.args.owner c.args.entry.now c.in-PodPut.pod c.in_ok-copy-in-PodPut.field-0 c.args.pods.now c.put.new.self older c.in-PodPut.is (eq-eqb _ _ c.if-pod-owner.true) c.in_ok-copy-in-PodPut.ensures c.in_ok-put-in-PodPut.ensures.puts before
+pub returns-in_ok-put-in-PodPut-clause-pods : goal.returns-in_ok-put-in-PodPut-clause-pods
+returns-in_ok-put-in-PodPut-clause-pods c =
+    λ older before. seen_put c.args.owner c.args.entry.now c.in-PodPut.pod c.in-PodPut.pod c.args.sight.now.pods c.put.new.sight.pods older c.in-PodPut.is (eq-eqb _ _ c.if-pod-owner.true) refl c.in_ok-put-in-PodPut.ensures.puts before
 
 -- A pod of another Job is put.
-pub returns-else-pod-owner : goal.returns-else-pod-owner
-returns-else-pod-owner c =
-    λ older before. seen_other c.args.owner c.args.entry.now c.in-PodPut.pod c.args.pods.now c.take.new.self older c.in-PodPut.is (ne_eqb _ _ c.if-pod-owner.false) c.take.ensures.drops before
+pub returns-else-pod-owner-clause-pods : goal.returns-else-pod-owner-clause-pods
+returns-else-pod-owner-clause-pods c =
+    λ older before. seen_other c.args.owner c.args.entry.now c.in-PodPut.pod c.args.sight.now.pods c.take.new.self older c.in-PodPut.is (ne_eqb _ _ c.if-pod-owner.false) c.take.ensures.drops before
+
+pub returns-else-pod-owner-clause-back : goal.returns-else-pod-owner-clause-back
+returns-else-pod-owner-clause-back c =
+    λ has.
+    subst (λ pods. HasBack c.args.known.now.entries pods c.args.sight.now.back.items) (sym c.take.ensures.drops)
+    (back-drop c.args.known.now.entries c.args.sight.now.pods c.args.sight.now.back.items c.in-PodPut.pod.uid has)
 
 -- A pod goes.
-pub returns-in-PodGone : goal.returns-in-PodGone
-returns-in-PodGone c =
-    λ older before. seen_gone c.args.owner c.args.entry.now c.in-PodGone.pod c.args.pods.now c.take-in-PodGone.new.self older c.in-PodGone.is c.take-in-PodGone.ensures.drops before
+pub returns-in-PodGone-clause-pods : goal.returns-in-PodGone-clause-pods
+returns-in-PodGone-clause-pods c =
+    λ older before. seen_gone c.args.owner c.args.entry.now c.in-PodGone.pod c.args.sight.now.pods c.take-in-PodGone.new.self older c.in-PodGone.is c.take-in-PodGone.ensures.drops before
+
+pub returns-in-PodGone-clause-back : goal.returns-in-PodGone-clause-back
+returns-in-PodGone-clause-back c =
+    λ has.
+    subst (λ pods. HasBack c.args.known.now.entries pods c.args.sight.now.back.items) (sym c.take-in-PodGone.ensures.drops)
+    (back-drop c.args.known.now.entries c.args.sight.now.pods c.args.sight.now.back.items c.in-PodGone.pod.uid has)
