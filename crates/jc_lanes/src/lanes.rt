@@ -65,9 +65,20 @@ impl Lanes {
         requires { length commands.now < 2 ^ 32 }
         ensures { IfOk result (λ lanes. HasPlaces commands.now [] lanes) }
     {
+        let mut lanes = Lanes::of_none(alloc)?;
+        for place in 0..commands.len() {
+            lanes.append(commands[place].lane, place as u32);
+        }
+        Ok(lanes)
+    }
+
+    // The lanes where there is no command.
+    fn of_none(alloc: Global) -> Result<Lanes, Want>
+        ensures { IfOk result (λ lanes. HasPlaces [] [] lanes) }
+    {
         let mut next = Vec::new(alloc);
-        for lane in 0..MOST_LANES {
-            next.push(next_from(commands, lane as u8, 0))?;
+        for _ in 0..MOST_LANES {
+            next.push(None)?;
         }
         Ok(Lanes { next })
     }

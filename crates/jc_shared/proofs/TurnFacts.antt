@@ -19,7 +19,7 @@ use Rattle.jc_play.specs.Slots.{has_holder, is_slot_of, is_unheld, unheld_seen}
 use Rattle.jc_play.specs.Turns.{has_rest}
 use Rattle.jc_play.proofs.SystemFacts.{quiet}
 use Rattle.jc_shared.specs.declared.seats.Seat.{Seat}
-use Rattle.jc_shared.specs.Names.{AreLanes}
+use Rattle.jc_shared.specs.Names.{AreLanes, AreLanesBelow}
 use Rattle.jc_core.specs.Shared.{Shared}
 use Rattle.jc_shared.specs.SeatTurns.{HasHappened, HasLeft, IsLaneOf, IsOwnEvent}
 
@@ -60,13 +60,13 @@ went-own seat between old new event e happened own = (event, subst (λ (s : Shar
 
 -- ---- lanes
 
-lane-below : (lane p : ℕ) (commands : List Command) (k n : ℕ) → AreLanes commands → slice_get (places_from lane p commands) k ≡ Some n → lane < most_lanes
-lane-below lane p [] k n all e = absurd (true≢false (sym (ap is_some e)))
-lane-below lane p (command ∷ commands) k n all e = by (command.lane == lane) refl k e (λ k e. lane-below lane (p + 1) commands k n all.1 e)
+lane-below : (bound lane p : ℕ) (commands : List Command) (k n : ℕ) → AreLanesBelow bound commands → slice_get (places_from lane p commands) k ≡ Some n → lane < bound
+lane-below bound lane p [] k n all e = absurd (true≢false (sym (ap is_some e)))
+lane-below bound lane p (command ∷ commands) k n all e = by (command.lane == lane) refl k e (λ k e. lane-below bound lane (p + 1) commands k n all.1 e)
   where
     by : (b : Bool) → (command.lane == lane) ≡ b → (k : ℕ) → slice_get (cond b (p ∷ places_from lane (p + 1) commands) (places_from lane (p + 1) commands)) k ≡ Some n
-        → ((k : ℕ) → slice_get (places_from lane (p + 1) commands) k ≡ Some n → lane < most_lanes) → lane < most_lanes
-    by true s k e more = subst (λ l. l < most_lanes) (eqb-true command.lane lane s) all.0
+        → ((k : ℕ) → slice_get (places_from lane (p + 1) commands) k ≡ Some n → lane < bound) → lane < bound
+    by true s k e more = subst (λ l. l < bound) (eqb-true command.lane lane s) all.0
     by false s k e more = more k e
 
 -- Where no lane that there can be has a command left, none has.
@@ -75,12 +75,12 @@ used-of commands pasts lanes up lane = by (next_place commands lane pasts) refl
   where
     by : (o : Option ℕ) → next_place commands lane pasts ≡ o → next_place commands lane pasts ≡ None
     by None e = e
-    by (Some n) e = up lane (lane-below lane 0 commands (lane_count lane pasts) n lanes e)
+    by (Some n) e = up lane (lane-below most_lanes lane 0 commands (lane_count lane pasts) n lanes e)
 
--- Where no command of its lanes may come, as far as there are lanes, none is left to the seat.
-pub none-left : (seat : Seat) (seen : Seen) → AreLanes seen.script.commands
-    → ((lane : ℕ) → lane < most_lanes → IsLaneOf seat lane → (event : Event) → IsOfActor (actor.Lane lane) event → CanCome seen event → ⊥) → HasLeft seat seen → ⊥
-none-left seat seen lanes none left =
+-- Where no command of its lanes may come, as far as the script has lanes, none is left to the seat.
+pub none-left : (seat : Seat) (seen : Seen) (bound : ℕ) → AreLanesBelow bound seen.script.commands
+    → ((lane : ℕ) → lane < bound → IsLaneOf seat lane → (event : Event) → IsOfActor (actor.Lane lane) event → CanCome seen event → ⊥) → HasLeft seat seen → ⊥
+none-left seat seen bound lanes none left =
     none left.lane
-    (lane-below left.lane 0 seen.script.commands (lane_count left.lane seen.pasts) left.command.0 lanes (subst (ComesNext seen.script.commands seen.pasts) left.command.1 left.can_come.admits.next))
+    (lane-below bound left.lane 0 seen.script.commands (lane_count left.lane seen.pasts) left.command.0 lanes (subst (ComesNext seen.script.commands seen.pasts) left.command.1 left.can_come.admits.next))
     left.own left.event left.command left.can_come

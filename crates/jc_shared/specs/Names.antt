@@ -2,9 +2,10 @@
 --     no_script      no command, where no run has picked another script
 --     no_shape       nothing, where none has picked another shape
 --     IsOfName       a cluster is of this script and this shape
+--     AreLanesBelow bound commands    their lanes are below the bound
 --     AreLanes commands    their lanes are bytes
---     KeepsRun seen      what the type of what is shared keeps of its cluster
-use Rattle.std.specs.Prelude.{◌≡◌, ◌<◌, List, []}
+--     KeepsRun lanes seen      what the type of what is shared keeps of its cluster
+use Rattle.std.specs.Prelude.{◌≡◌, ◌<◌, ◌≤◌, ℕ, List, []}
 use Rattle.std.specs.List.{AllByRecursion as Each}
 use Rattle.jc_types.specs.declared.actions.Command.{Command}
 use Rattle.jc_types.specs.declared.actions.Script.{Script}
@@ -26,11 +27,17 @@ pub record IsOfName (script : Script) (shape : Shape) (seen : Seen) : Type 0 whe
   pub script_is : seen.script ≡ script
   pub shape_is : seen.shape ≡ shape
 
+-- Each command is of a lane below the bound.
+abbrev pub AreLanesBelow : ℕ → List Command → Type 0
+AreLanesBelow bound commands = Each (λ (command : Command). command.lane < bound) commands
+
 -- Each command is of a lane that there can be.
 abbrev pub AreLanes : List Command → Type 0
-AreLanes commands = Each (λ (command : Command). command.lane < most_lanes) commands
+AreLanes commands = AreLanesBelow most_lanes commands
 
--- What the type keeps: the history is orderly, and a lane is a byte.
-pub record KeepsRun (seen : Seen) : Type 0 where
+-- What the type keeps: the history is orderly, and the commands are of the first lanes, so many as it
+-- keeps and no more than there can be.
+pub record KeepsRun (lanes : ℕ) (seen : Seen) : Type 0 where
   pub orderly : IsOrderly seen.shape (deeds_seen seen)
-  pub lanes : AreLanes seen.script.commands
+  pub below : AreLanesBelow lanes seen.script.commands
+  pub few : lanes ≤ most_lanes

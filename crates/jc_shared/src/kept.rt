@@ -7,9 +7,10 @@ ghost use Rattle.jc_runs.specs.Seen.{act_seen, deeds_seen, happened, reply_seen}
 ghost use Rattle.jc_play.specs.Actors.{CanCome};
 ghost use Rattle.jc_core.specs.ApplyFault.TheVariants.{HistoryFull};
 ghost use Rattle.jc_core.specs.Shared.{put_back_by, slots_after, submitted_by};
-ghost use Rattle.jc_shared.specs.Names.{AreLanes, IsOfName};
+ghost use Rattle.jc_shared.specs.Names.{AreLanesBelow, IsOfName};
+ghost use Rattle.jc_core.specs.Places.{most_lanes};
 
-use crate::lanes::lanes_are_bytes;
+use crate::lanes::lanes_of;
 use crate::naming::Naming;
 use jc_core::{ApplyFault, Cluster};
 use jc_plan::Plan;
@@ -23,6 +24,8 @@ use std::marker::{Model, PhantomData};
 #[derive(Drop)]
 pub struct Kept<J: Naming> {
     pub(crate) cluster: Cluster,
+    // How many lanes there are up to the greatest one of the script: a seat asks no others.
+    lanes: u32,
     of: PhantomData<J>,
 }
 
@@ -34,7 +37,8 @@ impl<J: Naming> Model for Kept<J> {
 
     ghost view = { λ k. k.cluster };
 
-    ghost invariant = { λ k. KeepsRun k.cluster.seen × IsOfName J.script J.shape k.cluster.seen };
+    ghost invariant = { λ k. KeepsRun k.lanes k.cluster.seen
+        × IsOfName J.script J.shape k.cluster.seen };
 }
 
 /// A cluster to be shared. It takes no memory, and changes nothing of the cluster.
@@ -43,9 +47,10 @@ pub fn keep<J: Naming>(cluster: Cluster) -> Kept<J>
     requires orderly { IsOrderly cluster.seen.shape (deeds_seen cluster.seen) }
     ensures { result ≡ cluster }
 {
-    lanes_are_bytes(cluster.script().commands.as_slice());
+    let lanes = lanes_of(cluster.script().commands.as_slice());
     Kept {
         cluster,
+        lanes,
         of: PhantomData,
     }
 }
@@ -121,10 +126,11 @@ impl<J: Naming> Kept<J> {
         self.cluster.put_back(seat, controller, worker);
     }
 
-    // The lanes of its commands are bytes: its type keeps it.
-    pub(crate) fn has_lanes(&self)
-        ensures { AreLanes self.now.seen.script.commands }
+    // How many lanes there are up to the greatest one of its commands: its type keeps it.
+    pub(crate) fn lanes(&self) -> u32
+        ensures below { AreLanesBelow result self.now.seen.script.commands }
+        ensures few { result ≤ most_lanes }
     {
-        let _ = &self.cluster;
+        self.lanes
     }
 }

@@ -1,8 +1,8 @@
 //! The lanes of commands.
 
-ghost use Rattle.std.specs.Prelude.{◌<◌};
+ghost use Rattle.std.specs.Prelude.{◌<◌, ◌≤◌};
 ghost use Rattle.jc_core.specs.Places.{most_lanes};
-ghost use Rattle.jc_shared.specs.Names.{AreLanes};
+ghost use Rattle.jc_shared.specs.Names.{AreLanes, AreLanesBelow};
 
 use jc_types::Command;
 
@@ -21,4 +21,19 @@ pub(crate) fn lanes_are_bytes(commands: &[Command])
     for command in commands {
         lane_is_byte(command);
     }
+}
+
+// How many lanes there are up to the greatest one of the commands.
+pub(crate) fn lanes_of(commands: &[Command]) -> u32
+    ensures below { AreLanesBelow result commands.now }
+    ensures few { result ≤ most_lanes }
+{
+    let mut lanes = 0;
+    for command in commands {
+        let lane = command.lane as u32;
+        if lanes <= lane {
+            lanes = lane + 1;
+        }
+    }
+    lanes
 }

@@ -5,10 +5,13 @@ ghost use Rattle.std.specs.List.{AllByRecursion as Each};
 ghost use Rattle.jc_types.specs.declared.actions.Command.{Command};
 ghost use Rattle.jc_runs.specs.Bases.{CanPlan};
 ghost use Rattle.jc_runs.specs.ValidActions.{IsValidAction};
+ghost use Rattle.jc_runs.specs.Seen.{deeds_seen};
+ghost use Rattle.jc_history.specs.Available.{IsOrderly};
 ghost use Rattle.jc_core.specs.Plays.{IsProper};
 ghost use Rattle.jc_core.specs.Shared.{Shared};
 ghost use Rattle.jc_core.specs.declared.holding.Work.{Work};
-ghost use Rattle.jc_turn.specs.Seats.{NoSeatHolds, BelongTo, IsSameSeat};
+ghost use Rattle.jc_turn.specs.Seats.{NoSeatHolds, BelongTo, IsSameSeat, fresh_seats};
+ghost use Rattle.jc_shared.specs.Names.{IsOfName};
 ghost use Rattle.jc_shared.specs.Runs.{IsLeft, IsWhole};
 
 use crate::finishing::finish;
@@ -17,11 +20,11 @@ use crate::kept::Kept;
 use crate::naming::Naming;
 use crate::players::hand_in;
 use crate::seats::Seat;
-use crate::threads::{ThreadsFault, new_kept};
+use crate::threads::{ThreadsFault, freed, new_kept};
 use crate::turns::Turn;
 use jc_core::{ApplyFault, Cluster, Work};
 use jc_plan::plan;
-use jc_turn::{Seat as Place, Taken, Turn as Lock, make};
+use jc_turn::{Seat as Place, Seats as Places, Taken, Turn as Lock, make};
 use jc_types::{Copied, Script, Shape, Want};
 use std::alloc::Global;
 use std::marker::Brand;
@@ -192,6 +195,107 @@ fn run_places<J: Naming + Send + Sync, R: Threads + Wait + Sync, G: Gate + Sync>
     );
 }
 
+// A new cluster behind a lock, and the places of its seats.
+//
+// `None` where there is no memory for them.
+fn open<J: Naming>(
+    alloc: Global,
+    script: &Script,
+    shape: &Shape,
+    threads: u32,
+) -> Option<(Lock<Kept<J>>, Places)>
+    requires script { script.now ≡ J.script }
+    requires shape { shape.now ≡ J.shape }
+    requires some { 1 ≤ threads }
+    requires few { threads ≤ 16 }
+    requires fine { Each (λ (command : Command). IsValidAction command.action) script.now.commands }
+    requires proper { IsProper script.now shape.now }
+    requires fits { length script.now.commands < 2 ^ 32 }
+    requires bound { shape.now.events ≤ 200000 }
+    ensures count { IfSome result (λ made. made.0.seats ≡ threads) }
+    ensures fresh { IfSome result (λ made. made.1 ≡ fresh_seats made.0.name 0 threads) }
+{
+    let kept = new_kept::<J>(alloc, script, shape).ok()?;
+    make(alloc, kept, threads).ok()
+}
+
+// The turns of all seats of a new lock, and what they leave behind it.
+fn run_lock<J: Naming + Send + Sync, R: Threads + Wait + Sync, G: Gate + Sync>(
+    rt: &R,
+    gate: &G,
+    alloc: Global,
+    want: &AtomicBool,
+    lock: Lock<Kept<J>>,
+    places: Places,
+    threads: u32,
+) -> Kept<J>
+    requires some { 1 ≤ threads }
+    requires count { lock.seats ≡ threads }
+    requires fresh { places ≡ fresh_seats lock.name 0 threads }
+{
+    let mut places = places;
+    run_places(rt, gate, alloc, &lock, want, places.as_mut_slice(), threads);
+    lock.close(places)
+}
+
+// A value, where memory sufficed. It is dropped here, where nothing is known of it, since what its
+// caller holds is large.
+fn unless<T: Drop>(is_in_want: bool, value: T) -> Option<T>
+    ensures { IfSome result (λ same. same ≡ value) }
+{
+    if is_in_want { None } else { Some(value) }
+}
+
+// The cluster that the seats have left, of which no register is held.
+//
+// `None` where there is no memory.
+fn left_by_lock<J: Naming + Send + Sync, R: Threads + Wait + Sync, G: Gate + Sync>(
+    rt: &R,
+    gate: &G,
+    alloc: Global,
+    lock: Lock<Kept<J>>,
+    places: Places,
+    threads: u32,
+) -> Option<Cluster>
+    requires some { 1 ≤ threads }
+    requires count { lock.seats ≡ threads }
+    requires fresh { places ≡ fresh_seats lock.name 0 threads }
+    ensures named { IfSome result (λ cluster. IsOfName J.script J.shape cluster.seen) }
+    ensures orderly { IfSome result
+        (λ cluster. IsOrderly cluster.seen.shape (deeds_seen cluster.seen)) }
+{
+    let want = AtomicBool::new(false);
+    let cluster = freed(run_lock(rt, gate, alloc, &want, lock, places, threads));
+    unless(want.load(Ordering::SeqCst), cluster)
+}
+
+// A new cluster that the seats have played.
+//
+// As `left_by_lock`.
+fn played<J: Naming + Send + Sync, R: Threads + Wait + Sync, G: Gate + Sync>(
+    rt: &R,
+    alloc: Global,
+    script: &Script,
+    shape: &Shape,
+    threads: u32,
+    gate: &G,
+) -> Option<Cluster>
+    requires script { script.now ≡ J.script }
+    requires shape { shape.now ≡ J.shape }
+    requires some { 1 ≤ threads }
+    requires few { threads ≤ 16 }
+    requires fine { Each (λ (command : Command). IsValidAction command.action) script.now.commands }
+    requires proper { IsProper script.now shape.now }
+    requires fits { length script.now.commands < 2 ^ 32 }
+    requires bound { shape.now.events ≤ 200000 }
+    ensures named { IfSome result (λ cluster. IsOfName J.script J.shape cluster.seen) }
+    ensures orderly { IfSome result
+        (λ cluster. IsOrderly cluster.seen.shape (deeds_seen cluster.seen)) }
+{
+    let (lock, places) = open::<J>(alloc, script, shape, threads)?;
+    left_by_lock(rt, gate, alloc, lock, places, threads)
+}
+
 // The run, where the script and the shape have a name.
 //
 // As `run_turn`.
@@ -220,29 +324,10 @@ fn run_named<J: Naming + Send + Sync, R: Threads + Wait + Sync, G: Gate + Sync>(
     ensures to_come { (left : Shared) → IsErrOf result (ThreadsFault.Full left)
         → ¬ IsWhole left.seen }
 {
-    let Ok(kept) = new_kept::<J>(alloc, script, shape) else {
-        return Err(ThreadsFault::Want);
-    };
-    let Ok((lock, mut places)) = make(alloc, kept, threads) else {
-        return Err(ThreadsFault::Want);
-    };
-    let want = AtomicBool::new(false);
-    run_places(
-        rt,
-        gate,
-        alloc,
-        &lock,
-        &want,
-        places.as_mut_slice(),
-        threads,
-    );
-    let kept = lock.close(places);
-    if want.load(Ordering::SeqCst) {
-        return Err(ThreadsFault::Want);
+    match played::<J, R, G>(rt, alloc, script, shape, threads, gate) {
+        Some(cluster) => finish(cluster, script, shape),
+        None => Err(ThreadsFault::Want),
     }
-    let mut cluster = kept.into_cluster();
-    cluster.free_all();
-    finish(cluster, script, shape)
 }
 
 /// Plays the script as `run_threads` does, but the seats share the cluster by a turn lock: a seat

@@ -20,9 +20,6 @@ use crate::seats::Seat;
 use jc_core::{Actor, ApplyFault, Work};
 use jc_types::Event;
 
-// How many lanes there can be.
-const MOST_LANES: u32 = 256;
-
 /// What a seat has to do next.
 #[derive(Drop)]
 pub enum Turn {
@@ -44,8 +41,8 @@ impl<J: Naming> Kept<J> {
         ensures own { IfSome result (λ event. IsOfLanes seat.now event) }
         ensures none { result ≡ None → ¬ HasLeft seat.now self.now.seen }
     {
-        self.has_lanes();
-        for number in 0..MOST_LANES {
+        let lanes = self.lanes();
+        for number in 0..lanes {
             if number % seat.threads == seat.number {
                 let found = self.cluster.available(Actor::Lane(number as u8));
                 if found.is_some() {

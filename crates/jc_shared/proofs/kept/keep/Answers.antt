@@ -1,14 +1,15 @@
 -- Its history is orderly, and its commands have lanes.
 use Rattle.std.proofs.Common.{◌∙◌, ap, subst}
 use Rattle.jc_types.specs.declared.actions.Script.{Script}
-use Rattle.jc_shared.specs.Names.{AreLanes}
+use Rattle.jc_shared.specs.Names.{AreLanesBelow}
 use Rattle.jc_shared.proofs.kept.keep.Goals as goal
 
 pub invariant_of-result : goal.invariant_of-result
 invariant_of-result g c = (
   record {
     orderly = c.requires.orderly;
-    lanes = subst AreLanes (c.as_slice.ensures ∙ ap (λ (s : Script). s.commands) c.script.ensures.script) c.lanes_are_bytes.ensures;
+    below = subst (AreLanesBelow c.lanes_of-lanes.result) (c.as_slice.ensures ∙ ap (λ (s : Script). s.commands) c.script.ensures.script) c.lanes_of-lanes.ensures.below;
+    few = c.lanes_of-lanes.ensures.few;
   },
   c.requires.named,
 )

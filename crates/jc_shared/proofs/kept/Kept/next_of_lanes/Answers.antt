@@ -16,4 +16,4 @@ loop-number-preserved g c =
     ])
 
 pub returns-clause-none : goal.returns-clause-none
-returns-clause-none g c = λ e. none-left c.args.seat.now c.args.self.now.seen c.has_lanes.ensures (λ lane lt. let test = c.loop-number-test.false in c.loop-number.invariant lane (omega (arith, lt, test)))
+returns-clause-none g c = λ e. none-left c.args.seat.now c.args.self.now.seen c.lanes-lanes.result c.lanes-lanes.ensures.below (λ lane lt. let test = c.loop-number-test.false in c.loop-number.invariant lane (omega (arith, lt, test)))
