@@ -2,6 +2,7 @@
 
 ghost use Rattle.std.specs.Prelude.{◌≡◌, ◌≤◌, IfOk, length};
 ghost use Rattle.jc_audit.specs.Audits.{VerdictHolds, begins_event};
+ghost use Rattle.jc_audit.specs.Limits.{IsSmallShape};
 ghost use Rattle.jc_audit.specs.Walks.{at_first};
 
 use crate::tails::{rest_at, tail_verdict};
@@ -32,6 +33,27 @@ fn first_machine(alloc: Global, shape: Shape) -> Result<Machine, Want>
     Machine::new(alloc, script, shape)
 }
 
+// What is to be said of the bytes, by a machine in which nothing has happened: each line of an event
+// that is taken happens in it.
+fn walk(alloc: Global, machine: &mut Machine, bytes: &[u8]) -> Result<Verdict, Want>
+    requires first { machine.old ≡ at_first machine.old.shape }
+    requires small { IsSmallShape machine.old.shape }
+    requires short { length bytes.now ≤ 67108864 }
+    ensures { IfOk result (λ v. VerdictHolds machine.old.shape bytes.now v) }
+{
+    let mut at = 0;
+    'walking: while begins_event(rest_at(bytes, at)) {
+        let line = machine.history().events.len() as u32 + 1;
+        let taken = take(alloc, machine, rest_at(bytes, at))?;
+        let Some(len) = taken else {
+            return Ok(Verdict::No { line });
+        };
+        at += len;
+    }
+    let verdict = tail_verdict(alloc, machine, rest_at(bytes, at))?;
+    Ok(verdict)
+}
+
 /// What is to be said of the bytes. They are a report where lines of events stand first, each of
 /// which is that of a command put at its lane's end or of an event of the system that was available,
 /// with the reply that the machine gives; and then the lines of the Jobs that have come of it, and
@@ -50,15 +72,5 @@ pub fn audit(alloc: Global, bytes: &[u8], shape: Shape) -> Result<Verdict, Want>
     ensures { IfOk result (λ v. VerdictHolds shape bytes.now v) }
 {
     let mut machine = first_machine(alloc, shape)?;
-    let mut at = 0;
-    'walking: while begins_event(rest_at(bytes, at)) {
-        let line = machine.history().events.len() as u32 + 1;
-        let taken = take(alloc, &mut machine, rest_at(bytes, at))?;
-        let Some(len) = taken else {
-            return Ok(Verdict::No { line });
-        };
-        at += len;
-    }
-    let verdict = tail_verdict(alloc, &machine, rest_at(bytes, at))?;
-    Ok(verdict)
+    walk(alloc, &mut machine, bytes)
 }

@@ -4,10 +4,13 @@ ghost use Rattle.std.specs.Prelude.{IfOk, IsTrue};
 ghost use Rattle.std.specs.List.{AllByRecursion as Each};
 ghost use Rattle.jc_types.specs.declared.actions.Command.{Command};
 ghost use Rattle.jc_log.specs.Deeds.{act_of_action};
+ghost use Rattle.jc_history.specs.Available.{IsOrderly};
 ghost use Rattle.jc_history.specs.Legal.{IsOfShape};
+ghost use Rattle.jc_runs.specs.Seen.{deeds_seen};
 ghost use Rattle.jc_runs.specs.ValidActions.{IsValidAction};
 ghost use Rattle.jc_core.specs.Plays.{IsProper};
 
+use jc_core::Cluster;
 use jc_moment::Moment;
 use jc_script::{read_script, scripts_fit_their_shape};
 use jc_types::{Action1, Script, Shape};
@@ -15,11 +18,10 @@ use std::alloc::Global;
 use std::process::Abort;
 use std::test::Fail;
 
-/// One controller with one worker, from 2024-01-01T00:00:00Z on.
-///
-/// # Errors
-/// `Fail` where that is no moment.
-pub fn shape() -> Result<Shape, Fail> {
+// One controller with one worker, from 2024-01-01T00:00:00Z on.
+//
+// `Fail` where that is no moment.
+fn shape() -> Result<Shape, Fail> {
     Ok(Shape {
         controllers: 1,
         workers: 1,
@@ -52,11 +54,10 @@ fn is_proper(script: &Script, shape: &Shape) -> bool
     true
 }
 
-/// The script of the text. Its commands create and list, and no more.
-///
-/// # Errors
-/// `Fail` where it is none.
-pub fn script_of(rt: &impl Abort, alloc: Global, text: &str, shape: &Shape) -> Result<Script, Fail>
+// The script of the text. Its commands create and list, and no more.
+//
+// `Fail` where it is none.
+fn script_of(rt: &impl Abort, alloc: Global, text: &str, shape: &Shape) -> Result<Script, Fail>
     ensures fine { IfOk result (λ script.
         Each (λ (command : Command). IsValidAction command.action) script.commands) }
     ensures proper { IfOk result (λ script. IsProper script shape.now) }
@@ -70,4 +71,17 @@ pub fn script_of(rt: &impl Abort, alloc: Global, text: &str, shape: &Shape) -> R
         }
         Err(_) => Err(Fail::new("the script")),
     }
+}
+
+/// A new cluster of the script of the text.
+///
+/// # Errors
+/// `Fail` where that is none, or there is no memory.
+pub fn cluster_of(rt: &impl Abort, alloc: Global, text: &str) -> Result<Cluster, Fail>
+    ensures { IfOk result (λ cluster. IsOrderly cluster.seen.shape (deeds_seen cluster.seen)) }
+{
+    let shape = shape()?;
+    let script = script_of(rt, alloc, text, &shape)?;
+    assert!(rt; script.commands.len() < 1_000 && shape.events <= 200_000);
+    Ok(Cluster::new(alloc, script, shape)?)
 }

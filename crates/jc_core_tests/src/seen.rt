@@ -6,7 +6,7 @@ ghost use Rattle.jc_runs.specs.Seen.{deeds_seen};
 ghost use Rattle.jc_shared.specs.Names.{IsOfName};
 ghost use Rattle.jc_turn.specs.Seats.{IsSameSeat};
 
-use crate::scripts::{script_of, shape};
+use crate::scripts::cluster_of;
 use jc_shared::{ApplyFault, Cluster, Kept, Naming, SeenReply, apply_seen, keep};
 use jc_turn::{Booked, Seat, Taken, Turn, make};
 use jc_types::{Event, Kind, Reply, Sys, Uid, Version};
@@ -106,6 +106,11 @@ fn play_seen<J: Naming>(
     Ok(())
 }
 
+// How many events its cluster has.
+fn events_in<J: Naming>(kept: Kept<J>) -> usize {
+    kept.history().events.len()
+}
+
 // What two seats see of the one history of the cluster, which has two events in the end.
 fn see_one_history<J: Naming>(rt: &impl Abort, alloc: Global, cluster: Cluster) -> Result<(), Fail>
     requires named { IsOfName J.script J.shape cluster.seen }
@@ -116,8 +121,7 @@ fn see_one_history<J: Naming>(rt: &impl Abort, alloc: Global, cluster: Cluster) 
     };
     let (first, second) = seats.as_mut_slice().split_at_mut(1);
     let seen = play_seen(rt, &turn, &mut first[0], &mut second[0]);
-    let cluster = turn.close(seats).into_cluster();
-    assert_eq!(rt; cluster.history().events.len(), 2);
+    assert_eq!(rt; events_in(turn.close(seats)), 2);
     seen
 }
 
@@ -131,9 +135,5 @@ fn share(rt: &impl Abort, alloc: Global, cluster: Cluster) -> Result<(), Fail>
 #[test]
 fn seats_see_one_history(rt: HostRuntime) -> Result<(), Fail> {
     let alloc = rt.alloc();
-    let shape = shape()?;
-    let script = script_of(&rt, alloc, ONE_JOB, &shape)?;
-    assert!(rt; script.commands.len() < 1_000 && shape.events <= 200_000);
-    let cluster = Cluster::new(alloc, script, shape)?;
-    share(&rt, alloc, cluster)
+    share(&rt, alloc, cluster_of(&rt, alloc, ONE_JOB)?)
 }

@@ -4,7 +4,7 @@
 ghost use Rattle.std.specs.Prelude.{◌≡◌, ◌<◌, ◌^◌, IsTrue, length};
 ghost use Rattle.jc_lines.specs.Verdicts.{IsPlace};
 
-use crate::scripts::{script_of, shape};
+use crate::scripts::cluster_of;
 use jc_core::{Actor, Cluster};
 use jc_lines::print_event;
 use jc_types::{Event, Past, Reply, Script};
@@ -96,9 +96,6 @@ fn sync(rt: &impl Abort, alloc: Global, cluster: &mut Cluster) -> Result<(), Fai
 #[test]
 fn syncs_in_one_call(rt: HostRuntime) -> Result<(), Fail> {
     let alloc = rt.alloc();
-    let shape = shape()?;
-    let script = script_of(&rt, alloc, SCRIPT, &shape)?;
-    assert!(rt; script.commands.len() < 1_000 && shape.events <= 200_000);
-    let mut cluster = Cluster::new(alloc, script, shape)?;
+    let mut cluster = cluster_of(&rt, alloc, SCRIPT)?;
     sync(&rt, alloc, &mut cluster)
 }

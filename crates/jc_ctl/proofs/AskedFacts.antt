@@ -1,19 +1,20 @@
 -- What words ask for threads.
-use Rattle.std.proofs.Common.{◌≡◌, ℕ, ◌≤◌, ◌⊎◌, Bool, true, false, List, length, Result, Ok, Err, Option, Some, None, is_some, not, refl, ap, arith, subst, sym, true≢false, ◌∙◌}
+use Rattle.std.proofs.Common.{◌≡◌, ℕ, Bool, true, false, List, Result, Ok, Err, Option, Some, None, is_some, not, refl, ap, arith, subst, sym, true≢false, ◌∙◌}
 use Rattle.std.specs.Prelude.{IfSome, IsTrue, is_ok}
 use Rattle.std.proofs.lemmas.Option.{same_Some}
 use Rattle.jc_types.specs.declared.actions.Command.{Command}
 use Rattle.jc_types.specs.declared.runs.Shape.{Shape}
 use Rattle.jc_audit.specs.Audits.{VerdictHolds}
 use Rattle.jc_audit.specs.declared.verdicts.Verdict.TheVariants.{Yes}
-use Rattle.jc_script.specs.Scripts.{BadLine, most_bytes, script_of}
+use Rattle.jc_script.specs.Scripts.{BadLine, script_of}
 use Rattle.jc_words.specs.declared.words.LockKind.{LockKind}
 use Rattle.jc_words.specs.declared.words.Order.{Order}
 use Rattle.jc_words.specs.declared.words.Order.TheVariants.{Audit, Generate, Reap, Run}
+use Rattle.jc_ctl.proofs.AuditFacts.{audit-good}
 use Rattle.jc_ctl.specs.Audited.{IsPromised, OfAudit, TellsVerdict}
 use Rattle.jc_ctl.specs.declared.run.Asked.{Asked}
 use Rattle.jc_single.specs.declared.status.Status.{Status}
-use Rattle.jc_single.specs.declared.status.Status.TheVariants as status
+use Rattle.jc_single.proofs.EndFacts.{EndsBad}
 use Rattle.jc_single.proofs.RunFacts.{order_same, same_bad}
 use Rattle.jc_ctl.specs.declared.run.Asked.TheVariants as ask
 use Rattle.jc_single.specs.Played.{as_script}
@@ -39,24 +40,13 @@ single-is words (Some asked) false is found some none =
     ((λ t. absurd (true≢false (sym t))), (λ h. absurd (not-single asked some (h (order_asked asked) found))))
 
 -- A bad line is the same on any number of threads.
-bad-same : (threads : ℕ) (lock : LockKind) (shape : Shape) (input : List ℕ) (bad : BadLine) → script_of shape input ≡ Err bad
+pub bad-same : (threads : ℕ) (lock : LockKind) (shape : Shape) (input : List ℕ) (bad : BadLine) → script_of shape input ≡ Err bad
     → answer_of (Run threads lock shape) input ≡ Err bad
 unfolding answer_of
 bad-same threads lock shape input bad e = ap (λ r. reported shape (as_script r)) e
 
-pub bad-of : (words : Option Order) (threads : ℕ) (lock : LockKind) (shape : Shape) (left : Option (List ℕ)) (bad : BadLine)
-    → words ≡ Some (Run threads lock shape) → IfSome left (λ input. script_of shape input ≡ Err bad)
-    → IfSome words (λ order. OfInput order left (λ input. answer_of order input ≡ Err bad))
-bad-of words threads lock shape left bad is h =
-    subst (λ o. IfSome o (λ order. OfInput order left (λ input. answer_of order input ≡ Err bad))) (sym is) (by left h)
-  where
-    by : (left : Option (List ℕ)) → IfSome left (λ input. script_of shape input ≡ Err bad)
-        → IfSome left (λ input. answer_of (Run threads lock shape) input ≡ Err bad)
-    by None h = tt
-    by (Some input) h = bad-same threads lock shape input bad h
-
 -- A bad line is the script's.
-said-bad : (threads : ℕ) (lock : LockKind) (shape : Shape) (input : List ℕ) (bad : BadLine) → answer_of (Run threads lock shape) input ≡ Err bad
+pub said-bad : (threads : ℕ) (lock : LockKind) (shape : Shape) (input : List ℕ) (bad : BadLine) → answer_of (Run threads lock shape) input ≡ Err bad
     → script_of shape input ≡ Err bad
 unfolding answer_of
 said-bad threads lock shape input bad e = by (script_of shape input) e
@@ -65,42 +55,15 @@ said-bad threads lock shape input bad e = by (script_of shape input) e
     by (Ok commands) e = absurd (true≢false (ap is_ok e))
     by (Err other) e = ap (λ (one : BadLine). Err one) (same_bad (reported shape (as_script (Err other))) other bad refl e)
 
--- How a run ends whose script is bad.
-abbrev pub EndsBad : Status → BadLine → Type 0
-EndsBad ended bad = (ended ≡ status.BadScript bad.number bad.cause) ⊎ (ended ≡ status.Want)
-
--- A bad script is answered on any number of threads.
-pub bad-ends-of : (words : Option Order) (threads : ℕ) (lock : LockKind) (shape : Shape) (left : Option (List ℕ)) (ended : Status)
-    → words ≡ Some (Run threads lock shape)
-    → IfSome left (λ input. length input ≤ most_bytes → (bad : BadLine) → script_of shape input ≡ Err bad → EndsBad ended bad)
-    → (order : Order) → words ≡ Some order
-    → OfInput order left (λ input. length input ≤ most_bytes → (bad : BadLine) → answer_of order input ≡ Err bad → EndsBad ended bad)
-bad-ends-of words threads lock shape left ended is h order asks =
-    subst (λ o. OfInput o left (λ (input : List ℕ). length input ≤ most_bytes → (bad : BadLine) → answer_of o input ≡ Err bad → EndsBad ended bad))
-    (order_same order (Run threads lock shape) words is asks) (by left h)
-  where
-    by : (left : Option (List ℕ))
-        → IfSome left (λ input. length input ≤ most_bytes → (bad : BadLine) → script_of shape input ≡ Err bad → EndsBad ended bad)
-        → IfSome left (λ input. length input ≤ most_bytes → (bad : BadLine) → answer_of (Run threads lock shape) input ≡ Err bad → EndsBad ended bad)
-    by None h = tt
-    by (Some input) h = λ few bad e. h few bad (said-bad threads lock shape input bad e)
-
 -- ---- audits
-
-audit-good : (shape : Shape) (input : List ℕ) (bad : BadLine) → answer_of (Audit shape) input ≡ Err bad → ⊥
-unfolding answer_of
-audit-good shape input bad e = true≢false (ap is_ok e)
 
 -- Of an audit no script is bad.
 pub none-bad : (words : Option Order) (shape : Shape) (left : Option (List ℕ)) (ended : Status) → words ≡ Some (Audit shape)
-    → (order : Order) → words ≡ Some order
-    → OfInput order left (λ input. length input ≤ most_bytes → (bad : BadLine) → answer_of order input ≡ Err bad → EndsBad ended bad)
+    → (order : Order) → words ≡ Some order → OfInput order left (EndsBad order ended)
 none-bad words shape left ended is order asks =
-    subst (λ o. OfInput o left (λ (input : List ℕ). length input ≤ most_bytes → (bad : BadLine) → answer_of o input ≡ Err bad → EndsBad ended bad))
-    (order_same order (Audit shape) words is asks) (by left)
+    subst (λ o. OfInput o left (EndsBad o ended)) (order_same order (Audit shape) words is asks) (by left)
   where
-    by : (left : Option (List ℕ))
-        → IfSome left (λ input. length input ≤ most_bytes → (bad : BadLine) → answer_of (Audit shape) input ≡ Err bad → EndsBad ended bad)
+    by : (left : Option (List ℕ)) → IfSome left (EndsBad (Audit shape) ended)
     by None = tt
     by (Some input) = λ few bad e. absurd (audit-good shape input bad e)
 

@@ -1,2 +1,4 @@
 mod AskedFacts
+mod AuditFacts
+mod DoneFacts
 mod LeftFacts

@@ -1,5 +1,6 @@
 pub mod Asked
 pub mod Audited
+pub mod Done
 -- Words of the crates below, handed on to those above.
 pub use Rattle.jc_single.specs.Played
 pub use Rattle.jc_single.specs.Runs

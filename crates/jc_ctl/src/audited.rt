@@ -9,6 +9,7 @@ ghost use Rattle.jc_script.specs.Cause.{Cause};
 ghost use Rattle.jc_audit.specs.declared.verdicts.Verdict.TheVariants.{No, Yes};
 ghost use Rattle.jc_words.specs.Fits.{IsFitShape};
 ghost use Rattle.jc_ctl.specs.Audited.{IsAudited, TellsVerdict, TellsVerdictFront, verdict_status, verdict_text};
+ghost use Rattle.jc_ctl.specs.Done.{HasAudited, HasJudged, HasSaid};
 
 use jc_audit::{Verdict, audit};
 use jc_io::{ReadEnd, Sink, Source, WriteFault, read_all, write_all};
@@ -38,14 +39,12 @@ fn verdict_status(verdict: Verdict) -> Status
 
 // Writes the verdict.
 fn write_verdict<K: Sink>(alloc: Global, verdict: Verdict, sink: &mut K) -> Status
-    ensures ended { (result ≡ verdict_status verdict) ⊎ (result ≡ Status.WriteFault)
-        ⊎ (result ≡ Status.Want) }
-    ensures written { result ≡ verdict_status verdict
-        → Appends (K.held sink.old) (K.held sink.new) (verdict_text verdict) }
-    ensures front { result ≡ Status.WriteFault
-        → AppendsFront (K.held sink.old) (K.held sink.new) (verdict_text verdict) }
-    ensures write_fault { result ≡ Status.WriteFault → Rose (K.faults sink.old) (K.faults sink.new) }
-    ensures want { result ≡ Status.Want → Keeps (K.held sink.old) (K.held sink.new) }
+    ensures { HasSaid verdict (record {
+      old = K.held sink.old;
+      new = K.held sink.new;
+      faults_old = K.faults sink.old;
+      faults_new = K.faults sink.new;
+    }) result }
 {
     let text = match verdict_text(alloc, verdict) {
         Ok(text) => text,
@@ -54,6 +53,55 @@ fn write_verdict<K: Sink>(alloc: Global, verdict: Verdict, sink: &mut K) -> Stat
     match write_all(sink, text.as_bytes()) {
         Ok(()) => verdict_status(verdict),
         Err(WriteFault) => Status::WriteFault,
+    }
+}
+
+// What is to be said of what the source has, or how the run ends that has nothing to write.
+fn judged<S: Source>(alloc: Global, shape: &Shape, source: &mut S) -> Result<Verdict, Status>
+    requires { IsFitShape shape.now }
+    ensures { HasJudged shape.now (record {
+      old = S.left source.old;
+      new = S.left source.new;
+      faults_old = S.faults source.old;
+      faults_new = S.faults source.new;
+    }) result }
+{
+    let input = match read_all(alloc, source, MOST_BYTES) {
+        Ok(bytes) => bytes,
+        Err(ReadEnd::ReadFault) => return Err(Status::ReadFault),
+        Err(ReadEnd::TooLong) => return Err(Status::TooLong),
+        Err(ReadEnd::Want) => return Err(Status::Want),
+    };
+    match audit(alloc, &input, *shape) {
+        Ok(verdict) => Ok(verdict),
+        Err(_) => Err(Status::Want),
+    }
+}
+
+/// As `run_audit`, with all that it promises in one word.
+pub(crate) fn audit_report<S: Source, K: Sink>(
+    alloc: Global,
+    shape: &Shape,
+    source: &mut S,
+    sink: &mut K,
+) -> Status
+    requires { IsFitShape shape.now }
+    ensures { HasAudited shape.now (record {
+      old = S.left source.old;
+      new = S.left source.new;
+      faults_old = S.faults source.old;
+      faults_new = S.faults source.new;
+    })
+        (record {
+          old = K.held sink.old;
+          new = K.held sink.new;
+          faults_old = K.faults sink.old;
+          faults_new = K.faults sink.new;
+        }) result }
+{
+    match judged(alloc, shape, source) {
+        Ok(verdict) => write_verdict(alloc, verdict, sink),
+        Err(status) => status,
     }
 }
 
@@ -94,14 +142,5 @@ pub fn run_audit<S: Source, K: Sink>(
         → IfSome (S.left source.old) (λ input. most_bytes < length input
         → (result ≡ Status.TooLong) ⊎ (result ≡ Status.Want)) }
 {
-    let input = match read_all(alloc, source, MOST_BYTES) {
-        Ok(bytes) => bytes,
-        Err(ReadEnd::ReadFault) => return Status::ReadFault,
-        Err(ReadEnd::TooLong) => return Status::TooLong,
-        Err(ReadEnd::Want) => return Status::Want,
-    };
-    match audit(alloc, &input, *shape) {
-        Ok(verdict) => write_verdict(alloc, verdict, sink),
-        Err(_) => Status::Want,
-    }
+    audit_report(alloc, shape, source, sink)
 }

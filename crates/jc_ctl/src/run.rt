@@ -16,16 +16,17 @@ ghost use Rattle.jc_words.specs.declared.words.Order.TheVariants.{Audit, Generat
 ghost use Rattle.jc_audit.specs.declared.verdicts.Verdict.TheVariants.{No, Yes};
 ghost use Rattle.jc_ctl.specs.Audited.{IsAudited, IsPromised, OfAudit, TellsVerdict, TellsVerdictFront};
 ghost use Rattle.jc_single.specs.Played.{CollectsDue, at_rest, script_played, staging_of};
+ghost use Rattle.jc_ctl.specs.Done.{HasDone};
 ghost use Rattle.jc_ctl.specs.Asked.{HasThreads, order_asked};
 ghost use Rattle.jc_single.specs.Runs.{EndsUnread, IsSingle, MayEnd, OfInput, answer_of, status_of};
 ghost use Rattle.jc_single.specs.Told.{TellsFront, TellsHistory, ends_full};
 
-use crate::audited::run_audit;
+use crate::audited::audit_report;
 use crate::laws::audited_reports_keep_the_promises;
 use crate::threaded::run_threaded;
 use jc_io::{Sink, Source};
 use jc_shared::Gate;
-use jc_single::{Status, reapers_collect_what_is_due, run_single};
+use jc_single::{Status, reapers_collect_what_is_due, run_words, runs_tell_their_history};
 use jc_types::Shape;
 use jc_words::{LockKind, Order, orders_fit, read_words};
 use std::alloc::Global;
@@ -78,6 +79,42 @@ pub fn is_single(words: &[String]) -> bool
         → IsSingle order) }
 {
     asked_for(words).is_none()
+}
+
+// Does what the words ask for, and says all that `run_program` promises of it in one word.
+fn run_asked<R: Threads + Wait + Sync, S: Source, K: Sink, G: Gate + Sync>(
+    rt: &R,
+    alloc: Global,
+    words: &[String],
+    source: &mut S,
+    sink: &mut K,
+    gate: &G,
+) -> Status
+    ensures { HasDone (order_of (map string_bytes words.now)) (record {
+      old = S.left source.old;
+      new = S.left source.new;
+      faults_old = S.faults source.old;
+      faults_new = S.faults source.new;
+    })
+        (record {
+          old = K.held sink.old;
+          new = K.held sink.new;
+          faults_old = K.faults sink.old;
+          faults_new = K.faults sink.new;
+        }) result }
+{
+    orders_fit();
+    match asked_for(words) {
+        Some(
+            Asked::Threads {
+                threads,
+                lock,
+                shape,
+            },
+        ) => run_threaded(rt, alloc, lock, &shape, threads, source, sink, gate),
+        Some(Asked::Audit { shape }) => audit_report(alloc, &shape, source, sink),
+        None => run_words(alloc, words, source, sink),
+    }
 }
 
 /// Does what the words ask for. `words` are those after the program's name.
@@ -213,15 +250,6 @@ pub fn run_program<R: Threads + Wait + Sync, S: Source, K: Sink, G: Gate + Sync>
     orders_fit();
     audited_reports_keep_the_promises();
     reapers_collect_what_is_due();
-    match asked_for(words) {
-        Some(
-            Asked::Threads {
-                threads,
-                lock,
-                shape,
-            },
-        ) => run_threaded(rt, alloc, lock, &shape, threads, source, sink, gate),
-        Some(Asked::Audit { shape }) => run_audit(alloc, &shape, source, sink),
-        None => run_single(alloc, words, source, sink),
-    }
+    runs_tell_their_history();
+    run_asked(rt, alloc, words, source, sink, gate)
 }

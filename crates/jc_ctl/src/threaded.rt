@@ -1,10 +1,7 @@
 //! A run on threads: its script is read, played by the seats, and written.
 
-ghost use Rattle.std.specs.Prelude.{◌≡◌, ◌≢◌, ◌<◌, ◌≤◌, ◌+◌, ◌^◌, ◌⊎◌, Err, IfOk, IfSome, IsErrOf, IsOkAnd, false, length, true, ℕ};
+ghost use Rattle.std.specs.Prelude.{◌≡◌, ◌<◌, ◌≤◌, ◌^◌, Err, IfOk, IfSome, IsErrOf, IsOkAnd, false, length, true, ℕ};
 ghost use Rattle.std.specs.List.{AllByRecursion as Each};
-ghost use Rattle.std.specs.Io.KnownBytes.{Keeps};
-ghost use Rattle.jc_io.specs.Faults.{Rose};
-ghost use Rattle.jc_io.specs.Moved.{TakesAtMost, TakesCount};
 ghost use Rattle.jc_types.specs.declared.actions.Command.{Command};
 ghost use Rattle.jc_promise.specs.ValidActions.{IsValidAction};
 ghost use Rattle.jc_promise.specs.Available.{IsOrderly};
@@ -13,18 +10,20 @@ ghost use Rattle.jc_promise.specs.Seen.{deeds_seen};
 ghost use Rattle.jc_shared.specs.Runs.{IsLeft, IsWhole};
 ghost use Rattle.jc_shared.specs.Shared.{Shared};
 ghost use Rattle.jc_shared.specs.declared.threads.ThreadsFault.{ThreadsFault};
-ghost use Rattle.jc_script.specs.Scripts.{BadLine, most_bytes, script_of};
+ghost use Rattle.jc_script.specs.Scripts.{most_bytes, script_of};
 ghost use Rattle.jc_script.specs.Cause.{Cause};
 ghost use Rattle.jc_words.specs.Fits.{IsFitShape};
-ghost use Rattle.jc_single.specs.Runs.{MayEnd};
-ghost use Rattle.jc_single.specs.Told.{IsReport, TellsFront, TellsHistory, ends_full};
+ghost use Rattle.jc_words.specs.declared.words.Order.TheVariants.{Run};
+ghost use Rattle.jc_single.specs.Ends.{RunHasEnded, HasMade};
+ghost use Rattle.jc_ctl.specs.Done.{IsPlayedBy};
+ghost use Rattle.jc_single.specs.Told.{IsReport};
 
-use jc_io::{ReadEnd, Sink, Source, WriteFault, read_all, write_all};
+use jc_io::{ReadEnd, Sink, Source, read_all};
 use jc_promise::{legal_histories_keep_the_promises, orderly_histories_have_small_numbers};
 use jc_report::report;
 use jc_script::{ScriptFault, read_script, scripts_fit_their_shape};
 use jc_shared::{Cluster, Gate, ThreadsFault, run_threads, run_turn};
-use jc_single::{MOST_BYTES, Output, Status, ended};
+use jc_single::{MOST_BYTES, Output, Status, write_output};
 use jc_types::{Script, Shape, Want};
 use jc_words::LockKind;
 use std::alloc::{AllocError, Global};
@@ -59,10 +58,17 @@ fn told(alloc: Global, cluster: &Cluster, full: bool) -> Result<Output, Want>
     Ok(Output { text, full })
 }
 
+// A cluster that a run on threads has left, and whether its history had no room for an event that was to come.
+#[derive(Drop)]
+struct Left {
+    cluster: Cluster,
+    full: bool,
+}
+
 // The run on threads that share the cluster by the lock. Both locks promise the same.
 //
 // As `run_threads`.
-fn run_by<R: Threads + Wait + Sync, G: Gate + Sync>(
+fn run_locked<R: Threads + Wait + Sync, G: Gate + Sync>(
     rt: &R,
     alloc: Global,
     lock: LockKind,
@@ -92,6 +98,41 @@ fn run_by<R: Threads + Wait + Sync, G: Gate + Sync>(
     }
 }
 
+// The same, with one cluster in its answer, so that it is dropped in one place.
+fn run_by<R: Threads + Wait + Sync, G: Gate + Sync>(
+    rt: &R,
+    alloc: Global,
+    lock: LockKind,
+    script: &Script,
+    shape: &Shape,
+    threads: u32,
+    gate: &G,
+) -> Result<Left, Want>
+    requires some { 1 ≤ threads }
+    requires few { threads ≤ 16 }
+    requires fine { Each (λ (command : Command). IsValidAction command.action) script.now.commands }
+    requires proper { IsProper script.now shape.now }
+    requires fits { length script.now.commands < 2 ^ 32 }
+    requires bound { shape.now.events ≤ 200000 }
+    ensures left { IfOk result (λ left. IsLeft script.now shape.now left.cluster.seen) }
+    ensures whole { IfOk result (λ left. left.full ≡ false → IsWhole left.cluster.seen) }
+    ensures filled { IfOk result (λ left. left.full ≡ true
+        → length left.cluster.seen.pasts ≡ shape.now.events) }
+    ensures to_come { IfOk result (λ left. left.full ≡ true → ¬ IsWhole left.cluster.seen) }
+{
+    match run_locked(rt, alloc, lock, script, shape, threads, gate) {
+        Ok(cluster) => Ok(Left {
+            cluster,
+            full: false,
+        }),
+        Err(ThreadsFault::Full(cluster)) => Ok(Left {
+            cluster,
+            full: true,
+        }),
+        Err(ThreadsFault::Want) => Err(AllocError),
+    }
+}
+
 // The report of a run of the script on threads.
 fn threaded_report<R: Threads + Wait + Sync, G: Gate + Sync>(
     rt: &R,
@@ -112,11 +153,8 @@ fn threaded_report<R: Threads + Wait + Sync, G: Gate + Sync>(
     ensures { IfOk result (λ output.
         IsReport threads script.now shape.now output.full output.text.items) }
 {
-    match run_by(rt, alloc, lock, script, shape, threads, gate) {
-        Ok(cluster) => told(alloc, &cluster, false),
-        Err(ThreadsFault::Full(cluster)) => told(alloc, &cluster, true),
-        Err(ThreadsFault::Want) => Err(AllocError),
-    }
+    let left = run_by(rt, alloc, lock, script, shape, threads, gate)?;
+    told(alloc, &left.cluster, left.full)
 }
 
 // The report of a run on threads of the script in the input.
@@ -145,6 +183,43 @@ fn threaded_answer<R: Threads + Wait + Sync, G: Gate + Sync>(
     Ok(threaded_report(rt, alloc, lock, &script, shape, threads, gate)?)
 }
 
+// The report of a run on threads of what the source has, or how the run ends that has nothing to write.
+fn threaded_made<R: Threads + Wait + Sync, S: Source, G: Gate + Sync>(
+    rt: &R,
+    alloc: Global,
+    lock: LockKind,
+    shape: &Shape,
+    threads: u32,
+    source: &mut S,
+    gate: &G,
+) -> Result<Output, Status>
+    requires some { 1 ≤ threads }
+    requires few { threads ≤ 16 }
+    requires fit_shape { IsFitShape shape.now }
+    ensures { HasMade (Run threads lock shape.now) (record {
+      old = S.left source.old;
+      new = S.left source.new;
+      faults_old = S.faults source.old;
+      faults_new = S.faults source.new;
+    })
+        (IsPlayedBy threads shape.now) result }
+{
+    let input = match read_all(alloc, source, MOST_BYTES) {
+        Ok(bytes) => bytes,
+        Err(ReadEnd::ReadFault) => return Err(Status::ReadFault),
+        Err(ReadEnd::TooLong) => return Err(Status::TooLong),
+        Err(ReadEnd::Want) => return Err(Status::Want),
+    };
+    match threaded_answer(rt, alloc, lock, shape, threads, &input, gate) {
+        Ok(output) => Ok(output),
+        Err(ScriptFault::BadLine { number, cause }) => Err(Status::BadScript {
+            line: number,
+            cause,
+        }),
+        Err(ScriptFault::Want) => Err(Status::Want),
+    }
+}
+
 /// Reads a script, plays it on threads, and writes the report.
 pub(crate) fn run_threaded<R: Threads + Wait + Sync, S: Source, K: Sink, G: Gate + Sync>(
     rt: &R,
@@ -159,57 +234,22 @@ pub(crate) fn run_threaded<R: Threads + Wait + Sync, S: Source, K: Sink, G: Gate
     requires some { 1 ≤ threads }
     requires few { threads ≤ 16 }
     requires fit_shape { IsFitShape shape.now }
-    ensures headline { (result ≡ Status.Ok) ⊎ (result ≡ Status.HistoryFull)
-        → IfSome (S.left source.old) (λ input. IsOkAnd (script_of shape.now input) (λ commands.
-        TellsHistory threads (record { commands = commands }) shape.now (ends_full result)
-        (K.held sink.old) (K.held sink.new))) }
-    ensures headline_front { result ≡ Status.WriteFault
-        → IfSome (S.left source.old) (λ input. IsOkAnd (script_of shape.now input) (λ commands.
-        TellsFront threads (record { commands = commands }) shape.now
-        (K.held sink.old) (K.held sink.new))) }
-    ensures good_words { result ≢ Status.BadWords }
-    ensures no_audit { (line : ℕ) → result ≢ Status.AuditNo line }
-    ensures read_fault { result ≡ Status.ReadFault → Rose (S.faults source.old) (S.faults source.new) }
-    ensures write_fault { result ≡ Status.WriteFault → Rose (K.faults sink.old) (K.faults sink.new) }
-    ensures bad_script { (line : ℕ) (cause : Cause) → result ≡ Status.BadScript line cause
-        → IfSome (S.left source.old) (λ input.
-        script_of shape.now input ≡ Err (record { number = line; cause = cause })) }
-    ensures too_long { result ≡ Status.TooLong
-        → TakesCount (S.left source.old) (S.left source.new) (most_bytes + 1) }
-    ensures not_too_long { result ≢ Status.TooLong
-        → TakesAtMost (S.left source.old) (S.left source.new) most_bytes }
-    ensures nothing_written { result ≢ Status.Ok → result ≢ Status.HistoryFull → result ≢ Status.WriteFault
-        → Keeps (K.held sink.old) (K.held sink.new) }
-    ensures complete { ¬ Rose (S.faults source.old) (S.faults source.new)
-        → ¬ Rose (K.faults sink.old) (K.faults sink.new)
-        → IfSome (S.left source.old) (λ input. length input ≤ most_bytes
-        → MayEnd (script_of shape.now input) result ⊎ (result ≡ Status.Want)) }
-    ensures complete_bad_script { ¬ Rose (S.faults source.old) (S.faults source.new)
-        → IfSome (S.left source.old) (λ input. length input ≤ most_bytes
-        → (bad : BadLine) → script_of shape.now input ≡ Err bad
-        → (result ≡ Status.BadScript bad.number bad.cause) ⊎ (result ≡ Status.Want)) }
-    ensures complete_too_long { ¬ Rose (S.faults source.old) (S.faults source.new)
-        → IfSome (S.left source.old) (λ input. most_bytes < length input
-        → (result ≡ Status.TooLong) ⊎ (result ≡ Status.Want)) }
+    ensures { RunHasEnded (Run threads lock shape.now) (record {
+      old = S.left source.old;
+      new = S.left source.new;
+      faults_old = S.faults source.old;
+      faults_new = S.faults source.new;
+    })
+        (record {
+          old = K.held sink.old;
+          new = K.held sink.new;
+          faults_old = K.faults sink.old;
+          faults_new = K.faults sink.new;
+        })
+        (IsPlayedBy threads shape.now) result }
 {
-    let input = match read_all(alloc, source, MOST_BYTES) {
-        Ok(bytes) => bytes,
-        Err(ReadEnd::ReadFault) => return Status::ReadFault,
-        Err(ReadEnd::TooLong) => return Status::TooLong,
-        Err(ReadEnd::Want) => return Status::Want,
-    };
-    let output = match threaded_answer(rt, alloc, lock, shape, threads, &input, gate) {
-        Ok(output) => output,
-        Err(ScriptFault::BadLine { number, cause }) => {
-            return Status::BadScript {
-                line: number,
-                cause,
-            };
-        }
-        Err(ScriptFault::Want) => return Status::Want,
-    };
-    match write_all(sink, output.text.as_slice()) {
-        Ok(()) => ended(output.full),
-        Err(WriteFault) => Status::WriteFault,
+    match threaded_made(rt, alloc, lock, shape, threads, source, gate) {
+        Ok(output) => write_output(&output, sink),
+        Err(status) => status,
     }
 }

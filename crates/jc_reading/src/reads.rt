@@ -3,8 +3,9 @@
 ghost use Rattle.std.specs.Prelude.{◌≡◌, ◌++◌, IfOk, IfSome, OnOk, Some, option_and_then, string_bytes};
 ghost use Rattle.jc_lines.specs.Events.{tag_text};
 ghost use Rattle.jc_lines.specs.Acts.{act_text};
+ghost use Rattle.jc_reading.specs.Cuts.{first_word_in};
 ghost use Rattle.jc_reading.specs.Readings.{action_by, act_said, create_said, delete_said, fate_said, plain_said, reported_said, system_said, tag_said, turn_said, update_said};
-ghost use Rattle.jc_reading.specs.Reads.{BeginsWith, IsProperRead, act_of_line, begun_read, event_said, front_text, of_words, starts, system_by};
+ghost use Rattle.jc_reading.specs.Reads.{BeginsWith, IsProperRead, act_of_line, begun_read, event_said, front_text, if_printed, of_words, starts, system_by};
 ghost use Rattle.jc_reading.specs.declared.reading.Verb.TheVariants as verb;
 ghost use Rattle.jc_reading.specs.declared.reads.LineRead.{LineRead};
 
@@ -320,6 +321,36 @@ fn begins_with(line: &[u8], front: &[u8]) -> bool
     line.starts_with(front)
 }
 
+// Whether the line begins with what is printed of that.
+fn is_printed(alloc: Global, number: u64, read: &LineRead, line: &[u8]) -> Result<bool, Want>
+    ensures { IfOk result (λ yes. yes
+        ≡ starts (front_text number read.now.lane (act_of_line read.now.act)) line.now) }
+{
+    let text = front(alloc, number, read)?;
+    Ok(begins_with(line, text.as_bytes()))
+}
+
+// What was read of the line that has this first word, where the line begins with what is printed of
+// it.
+fn if_printed(
+    alloc: Global,
+    line: &[u8],
+    number: &[u8],
+    read: LineRead,
+) -> Result<Option<LineRead>, Want>
+    requires { number.now ≡ first_word_in line.now }
+    ensures { IfOk result (λ o. o ≡ if_printed line.now read) }
+{
+    let Some(number) = read_number(number) else {
+        return Ok(None);
+    };
+    let holds = is_printed(alloc, number, &read, line)?;
+    if holds {
+        return Ok(Some(read));
+    }
+    Ok(None)
+}
+
 // What is read of the line, where it begins with what is printed of that.
 #[tactic(auto, unfolding(crate::specs::Reads::event_said))]
 fn read_front(alloc: Global, line: &[u8]) -> Result<Option<LineRead>, Want>
@@ -329,14 +360,7 @@ fn read_front(alloc: Global, line: &[u8]) -> Result<Option<LineRead>, Want>
     let Some(read) = read_words(alloc, &words)? else {
         return Ok(None);
     };
-    let Some(number) = read_number(words.number) else {
-        return Ok(None);
-    };
-    let front = front(alloc, number, &read)?;
-    if begins_with(line, front.as_bytes()) {
-        return Ok(Some(read));
-    }
-    Ok(None)
+    if_printed(alloc, line, words.number, read)
 }
 
 /// What the line of an event says before its reply: whose it is, and what it does. `line` may go on

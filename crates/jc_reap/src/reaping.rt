@@ -1,28 +1,41 @@
 //! The commands that a reaper gives to a cluster at rest.
 
 ghost use Rattle.std.specs.Prelude.{◌≡◌, ◌≤◌, IfOk, OnOk, length, true};
+ghost use Rattle.jc_log.specs.Log.{jobs_in};
 ghost use Rattle.jc_runs.specs.Available.{is_quiescent};
 ghost use Rattle.jc_runs.specs.Seen.{deeds_seen, log_seen};
-ghost use Rattle.jc_reap.specs.Reaping.{reap_list, then_settle, unsettled};
+ghost use Rattle.jc_reap.specs.Expiries.{expired};
+ghost use Rattle.jc_reap.specs.Reaping.{reap_list, then_settle, ttl_seen, unsettled};
 
-use crate::expiries::expired;
+use crate::expiries::{Expiry, expired};
 use crate::makers::makers;
 use crate::marking::{give, mark_all_ownerless};
 use crate::removals::remove_all;
 use crate::ttls::Ttls;
 use jc_core::Cluster;
-use jc_types::{Action1, Commands, Want};
+use jc_types::{Action1, Commands, Uid, Want};
 use std::alloc::Global;
+use std::collections::BTreeMap;
 
-// All commands but the settle at the end.
-fn unsettled(alloc: Global, cluster: &Cluster, ttls: &Ttls) -> Result<Commands, Want>
-    ensures { IfOk result (λ commands. commands ≡ unsettled cluster.now.seen ttls.now) }
+// The Jobs that may go, in the order in which they go.
+fn due(alloc: Global, cluster: &Cluster, ttls: &Ttls) -> Result<BTreeMap<Expiry, Uid>, Want>
+    ensures { IfOk result (λ rows. rows.entries
+        ≡ expired (ttl_seen cluster.now.seen ttls.now) (jobs_in (log_seen cluster.now.seen))) }
 {
     let store = cluster.store();
     let script = cluster.script();
     let events = cluster.history().events.as_slice();
     let makers = makers(alloc, script.commands.as_slice(), events)?;
     let rows = expired(alloc, store.jobs(), &makers, ttls.as_slice())?;
+    Ok(rows)
+}
+
+// All commands but the settle at the end.
+fn unsettled(alloc: Global, cluster: &Cluster, ttls: &Ttls) -> Result<Commands, Want>
+    ensures { IfOk result (λ commands. commands ≡ unsettled cluster.now.seen ttls.now) }
+{
+    let rows = due(alloc, cluster, ttls)?;
+    let store = cluster.store();
     let mut commands = Commands::new(alloc);
     mark_all_ownerless(alloc, &mut commands, store.jobs(), store.pods())?;
     remove_all(&mut commands, store, cluster.moment(), rows)?;

@@ -142,6 +142,19 @@ last-is script shape seen ttls last is script_is room e =
     ap script_with (e ∙ ap (λ (s : Seen). s.script.commands ++ reap_list s ttls) is)
     ∙ sym (more-last script shape ttls room)
 
+-- It is where the play that it is made of is full, and where that is not.
+pub last-by : {E : Type 0} (script : Script) (shape : Shape) (seen : Seen) (ttls : List (Option ℕ)) (full : Bool) (r : Result Script E)
+    → is_full script shape ≡ full → seen ≡ seen_at_end script shape → seen.script ≡ script
+    → (full ≡ true → IfOk r (λ last. last ≡ seen.script))
+    → (full ≡ false → IfOk r (λ last. last.commands ≡ seen.script.commands ++ reap_list seen ttls))
+    → IfOk r (λ last. last ≡ then_reaped script shape ttls)
+last-by script shape seen ttls true r e is script_is full more =
+    if-ok (λ s. s ≡ seen.script) (λ s. s ≡ then_reaped script shape ttls) r
+    (λ last same. same ∙ script_is ∙ sym (full-last script shape ttls e)) (full refl)
+last-by script shape seen ttls false r e is script_is full more =
+    if-ok (λ s. s.commands ≡ seen.script.commands ++ reap_list seen ttls) (λ s. s ≡ then_reaped script shape ttls) r
+    (λ last same. last-is script shape seen ttls last is script_is e same) (more refl)
+
 -- ---- what is printed
 
 pub reaped-is : (shape : Shape) (commands : List Command) (ttls : List (Option ℕ)) (output : Output)

@@ -1,5 +1,5 @@
 -- What a run has read, and how it has ended.
-use Rattle.std.proofs.Common.{◌≡◌, ℕ, ◌+◌, ◌<◌, ◌≤◌, Bool, true, false, List, [], length, Option, Some, None, Result, Ok, Err, arith, ap, refl, subst, sym, true≢false, ◌∙◌}
+use Rattle.std.proofs.Common.{◌≡◌, ℕ, ◌+◌, ◌<◌, ◌≤◌, Bool, true, false, List, [], length, Option, Some, None, Result, Ok, Err, arith, ap, subst, sym, true≢false, ◌∙◌}
 use Rattle.std.proofs.lemmas.List.{length-append}
 use Rattle.std.specs.Prelude.{IfSome, IsOkAnd, if◌then◌else◌, is_ok}
 use Rattle.std.specs.Io.KnownBytes.{Appends, Consumes}
@@ -13,8 +13,9 @@ use Rattle.jc_words.specs.declared.words.Order.{Order}
 use Rattle.jc_words.specs.declared.words.Order.TheVariants.{Audit, Generate, Reap, Run}
 use Rattle.jc_single.specs.declared.status.Status.{Status}
 use Rattle.jc_single.specs.declared.status.Status.TheVariants as status
+use Rattle.jc_single.specs.Ends.{IsUnread}
 use Rattle.jc_single.specs.Played.{as_script, script_played, staging_of}
-use Rattle.jc_single.specs.Runs.{EndsUnread, IsSingle, OfInput, Printed, answer_of, status_of}
+use Rattle.jc_single.specs.Runs.{EndsUnread, IsSingle, OfInput, Printed, answer_of}
 use Rattle.jc_single.specs.Told.{IsReport, TellsFront, TellsHistory, ends_full}
 
 -- The order that the words ask for is the one.
@@ -32,9 +33,9 @@ front-taken A (Some xs) (Some ys) taken count k = λ few.
 
 -- An input of which too much was taken is longer than it may be.
 pub long_input : (A : List ℕ → Type 0) (order : Order) (left new : Option (List ℕ))
-    → ((number jobs pods : ℕ) → order ≡ Generate number jobs pods → ⊥) → TakesCount left new (most_bytes + 1)
+    → ¬ IsUnread order → TakesCount left new (most_bytes + 1)
     → OfInput order left (λ input. length input ≤ most_bytes → A input)
-long_input A (Generate number jobs pods) left new reads takes = absurd (reads number jobs pods refl)
+long_input A (Generate number jobs pods) left new reads takes = absurd (reads tt)
 long_input A (Run threads lock shape) left new reads takes = front-taken A left new takes.taken takes.counted takes.consumes
 long_input A (Reap shape) left new reads takes = front-taken A left new takes.taken takes.counted takes.consumes
 long_input A (Audit shape) left new reads takes = front-taken A left new takes.taken takes.counted takes.consumes
@@ -106,15 +107,6 @@ same_bad answer one other e is = ap (λ r. bad-in r other) (sym e ∙ is)
 pub bad_ends : (answer : Result Printed BadLine) (one other : BadLine) → answer ≡ Err one → answer ≡ Err other
     → status.BadScript one.number one.cause ≡ status.BadScript other.number other.cause
 bad_ends answer one other e is = ap (λ (bad : BadLine). status.BadScript bad.number bad.cause) (same_bad answer one other e is)
-
--- A run that has written all what a generated script gives ends as that does.
-pub generated_ends : (number jobs pods : ℕ) (order : Order) (left : Option (List ℕ)) (bytes : List ℕ) (printed : Printed) (ended : Status)
-    → order ≡ Generate number jobs pods → OfInput order left (λ input. input ≡ bytes) → answer_of order bytes ≡ Ok printed
-    → ended ≡ (if printed.full then status.HistoryFull else status.Ok) → ended ≡ status_of (answer_of (Generate number jobs pods) [])
-generated_ends number jobs pods order left bytes printed ended is all said e =
-    let nothing : [] ≡ bytes = subst (λ o. OfInput o left (λ (input : List ℕ). input ≡ bytes)) is all in
-    e ∙ ap status_of (sym said) ∙ ap (λ o. status_of (answer_of o bytes)) is
-    ∙ ap (λ input. status_of (answer_of (Generate number jobs pods) input)) (sym nothing)
 
 -- What holds of the script gives more of it.
 of_script : (P Q : Script → Type 0) (r : Result Script BadLine) → ((script : Script) → P script → Q script) → IsOkAnd r P → IsOkAnd r Q

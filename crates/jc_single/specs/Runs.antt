@@ -11,7 +11,7 @@
 --     status_of answer               the status of a run that meets no fault and no want of memory
 --     printed_by output              what is written, as it is printed
 --     EndsUnread status              so a run may end that reads nothing
-use Rattle.std.specs.Prelude.{◌≡◌, ℕ, ◌≤◌, ◌⊎◌, Bool, false, List, [], Option, Result, Ok, Err, IfSome, if◌then◌else◌}
+use Rattle.std.specs.Prelude.{◌≡◌, ℕ, ◌⊎◌, Bool, false, List, [], Option, Result, Ok, Err, IfSome, if◌then◌else◌}
 use Rattle.jc_types.specs.declared.actions.Command.{Command}
 use Rattle.jc_types.specs.declared.actions.Script.{Script}
 use Rattle.jc_types.specs.declared.runs.Shape.{Shape}

@@ -11,5 +11,5 @@ mod status;
 
 pub use laws::{plays_tell_their_history, reapers_collect_what_is_due, runs_tell_their_history};
 pub use orders::Output;
-pub use single::{MOST_BYTES, ended, run_single};
+pub use single::{MOST_BYTES, ended, run_single, run_words, write_output};
 pub use status::Status;

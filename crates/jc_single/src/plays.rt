@@ -1,10 +1,10 @@
 //! The play of a whole script on one thread.
 
-ghost use Rattle.std.specs.Prelude.{◌≡◌, ◌<◌, ◌≤◌, ◌^◌, IfOk, length};
+ghost use Rattle.std.specs.Prelude.{◌≡◌, ◌<◌, ◌≤◌, ◌^◌, IfOk, false, length};
 ghost use Rattle.std.specs.List.{AllByRecursion as Each};
 ghost use Rattle.jc_types.specs.declared.actions.Command.{Command};
 ghost use Rattle.jc_promise.specs.ValidActions.{IsValidAction};
-ghost use Rattle.jc_promise.specs.Play.{whole_play};
+ghost use Rattle.jc_promise.specs.Play.{rest_played, whole_play};
 ghost use Rattle.jc_promise.specs.Plays.{IsProper};
 ghost use Rattle.jc_core.specs.Turns.{playing_of};
 
@@ -21,6 +21,21 @@ pub(crate) struct Played {
     pub(crate) full: bool,
 }
 
+// Plays what is left of the cluster's script, and answers whether its history had no room for an event that was to come.
+fn play_out(cluster: &mut Cluster) -> Result<bool, Want>
+    ensures script { cluster.new.seen.script ≡ cluster.old.seen.script }
+    ensures shape { cluster.new.seen.shape ≡ cluster.old.seen.shape }
+    ensures play { IfOk result (λ full. rest_played cluster.old.seen.script cluster.old.seen.shape 0
+        cluster.old.seen.script.commands (playing_of false cluster.old.seen)
+        ≡ playing_of full cluster.new.seen) }
+{
+    match cluster.play() {
+        Ok(()) => Ok(false),
+        Err(ApplyFault::HistoryFull) => Ok(true),
+        Err(ApplyFault::Want) => Err(AllocError),
+    }
+}
+
 /// Plays the whole script in a new cluster.
 pub(crate) fn play_whole(alloc: Global, script: Script, shape: Shape) -> Result<Played, Want>
     requires fine { Each (λ (command : Command). IsValidAction command.action) script.commands }
@@ -34,15 +49,6 @@ pub(crate) fn play_whole(alloc: Global, script: Script, shape: Shape) -> Result<
 {
     new_machines_play_the_whole_script();
     let mut cluster = Cluster::new(alloc, script, shape)?;
-    match cluster.play() {
-        Ok(()) => Ok(Played {
-            cluster,
-            full: false,
-        }),
-        Err(ApplyFault::HistoryFull) => Ok(Played {
-            cluster,
-            full: true,
-        }),
-        Err(ApplyFault::Want) => Err(AllocError),
-    }
+    let full = play_out(&mut cluster)?;
+    Ok(Played { cluster, full })
 }

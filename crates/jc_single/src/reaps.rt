@@ -1,7 +1,7 @@
 //! Collection after finish: a script is played until nothing is left to do, and then once more with the commands of a
 //! reaper behind it.
 
-ghost use Rattle.std.specs.Prelude.{◌≡◌, ◌<◌, ◌≤◌, ◌++◌, ◌^◌, Err, IfOk, IsErrOf, Ok, OnOk, length, true, ℕ};
+ghost use Rattle.std.specs.Prelude.{◌≡◌, ◌<◌, ◌≤◌, ◌++◌, ◌^◌, Err, IfOk, IsErrOf, Ok, OnOk, false, length, true, ℕ};
 ghost use Rattle.std.specs.List.{AllByRecursion as Each};
 ghost use Rattle.jc_types.specs.declared.actions.Command.{Command};
 ghost use Rattle.jc_promise.specs.ValidActions.{IsValidAction};
@@ -17,7 +17,7 @@ ghost use Rattle.jc_single.specs.Played.{at_rest, reaped_of, then_reaped};
 ghost use Rattle.jc_single.specs.Runs.{printed_by, report_printed, reported};
 
 use crate::orders::{Output, script_answer};
-use crate::plays::play_whole;
+use crate::plays::{Played, play_whole};
 use jc_core::Cluster;
 use jc_promise::settled_plays_are_at_rest;
 use jc_reap::{Ttls, as_many_ttls_as_commands, read_ttls, reap, reaped_commands_fit};
@@ -65,8 +65,27 @@ fn reaped(alloc: Global, cluster: &Cluster, ttls: &Ttls) -> Result<Script, Want>
     Ok(script)
 }
 
-// The script that is played last: the script itself where its play is full, and else the one with the commands of a
-// reaper behind it. The cluster of this play is given up at the end, so that two are never there at once.
+// The script that is played last, of the first play: the script itself where that is full, and else the one with the
+// commands of a reaper behind it.
+fn last_of(alloc: Global, played: &Played, ttls: &Ttls) -> Result<Script, Want>
+    requires rest { played.now.full ≡ false → is_quiescent played.now.cluster.seen.shape
+        (deeds_seen played.now.cluster.seen) (log_seen played.now.cluster.seen) ≡ true }
+    requires few { length ttls.now ≤ length played.now.cluster.seen.script.commands }
+    requires fits { length played.now.cluster.seen.script.commands < 2 ^ 32 }
+    ensures full { played.now.full ≡ true
+        → IfOk result (λ last. last ≡ played.now.cluster.seen.script) }
+    ensures more { played.now.full ≡ false → IfOk result (λ last. last.commands
+        ≡ played.now.cluster.seen.script.commands ++ reap_list played.now.cluster.seen ttls.now) }
+    ensures fits { IfOk result (λ last. length last.commands < 2 ^ 32) }
+{
+    if played.full {
+        return played.cluster.script().copy();
+    }
+    reaped(alloc, &played.cluster, ttls)
+}
+
+// The script that is played last. The cluster of the first play is given up at the end, so that two are never there at
+// once.
 fn last_script(alloc: Global, script: Script, ttls: &Ttls, shape: &Shape) -> Result<Script, Want>
     requires fine { Each (λ (command : Command). IsValidAction command.action) script.commands }
     requires proper { IsProper script shape.now }
@@ -79,10 +98,7 @@ fn last_script(alloc: Global, script: Script, ttls: &Ttls, shape: &Shape) -> Res
 {
     settled_plays_are_at_rest();
     let played = play_whole(alloc, script, *shape)?;
-    if played.full {
-        return played.cluster.script().copy();
-    }
-    reaped(alloc, &played.cluster, ttls)
+    last_of(alloc, &played, ttls)
 }
 
 // The report of a reaper, of the script and the TTLs that it gives.

@@ -12,12 +12,14 @@ ghost use Rattle.jc_script.specs.Cause.{Cause};
 ghost use Rattle.jc_words.specs.Words.{order_of};
 ghost use Rattle.jc_words.specs.declared.words.Order.{Order};
 ghost use Rattle.jc_words.specs.declared.words.Order.TheVariants.{Audit, Generate, Reap, Run};
+ghost use Rattle.jc_words.specs.Fits.{IsFitOrder};
+ghost use Rattle.jc_single.specs.Ends.{Answers, RunHasEnded, HasMade, HasRun, HasWritten, IsUnread};
 ghost use Rattle.jc_single.specs.Played.{CollectsDue, at_rest, script_played, staging_of};
-ghost use Rattle.jc_single.specs.Runs.{EndsUnread, IsSingle, OfInput, answer_of, status_of};
+ghost use Rattle.jc_single.specs.Runs.{EndsUnread, IsSingle, OfInput, answer_of, printed_by, status_of};
 ghost use Rattle.jc_single.specs.Told.{TellsFront, TellsHistory, ends_full};
 
 use crate::laws::{reapers_collect_what_is_due, runs_tell_their_history};
-use crate::orders::answer;
+use crate::orders::{Output, answer};
 use crate::status::Status;
 use jc_io::{Bytes, ReadEnd, Sink, Source, WriteFault, read_all, write_all};
 use jc_script::ScriptFault;
@@ -33,10 +35,8 @@ fn read_input<S: Source>(alloc: Global, order: &Order, source: &mut S) -> Result
     ensures all { IfOk result
         (λ bytes. OfInput order.now (S.left source.old) (λ input. input ≡ bytes.items)) }
     ensures within { IfOk result (λ bytes. vec_len bytes ≤ most_bytes) }
-    ensures generates { (number jobs pods : ℕ) → order.now ≡ Generate number jobs pods
-        → Keeps (S.left source.old) (S.left source.new) }
-    ensures never_fails { (number jobs pods : ℕ) → order.now ≡ Generate number jobs pods
-        → OnErr result ⊥ }
+    ensures generates { IsUnread order.now → Keeps (S.left source.old) (S.left source.new) }
+    ensures never_fails { IsUnread order.now → OnErr result ⊥ }
     ensures fault { IsErrOf result ReadEnd.ReadFault
         → Rose (S.faults source.old) (S.faults source.new) }
     ensures too_long { IsErrOf result ReadEnd.TooLong
@@ -60,6 +60,107 @@ pub fn ended(full: bool) -> Status
         return Status::HistoryFull;
     }
     Status::Ok
+}
+
+// What the order asks for, or how the run ends that has nothing to write.
+fn made<S: Source>(alloc: Global, order: &Order, source: &mut S) -> Result<Output, Status>
+    requires fits { IsFitOrder order.now }
+    requires single { IsSingle order.now }
+    ensures { HasMade order.now (record {
+      old = S.left source.old;
+      new = S.left source.new;
+      faults_old = S.faults source.old;
+      faults_new = S.faults source.new;
+    })
+        (Answers order.now) result }
+{
+    let input = match read_input(alloc, order, source) {
+        Ok(bytes) => bytes,
+        Err(ReadEnd::ReadFault) => return Err(Status::ReadFault),
+        Err(ReadEnd::TooLong) => return Err(Status::TooLong),
+        Err(ReadEnd::Want) => return Err(Status::Want),
+    };
+    match answer(alloc, order, &input) {
+        Ok(output) => Ok(output),
+        Err(ScriptFault::BadLine { number, cause }) => Err(Status::BadScript {
+            line: number,
+            cause,
+        }),
+        Err(ScriptFault::Want) => Err(Status::Want),
+    }
+}
+
+/// Writes the text, and says how the run ends.
+pub fn write_output<K: Sink>(output: &Output, sink: &mut K) -> Status
+    ensures { HasWritten (printed_by output.now) (record {
+      old = K.held sink.old;
+      new = K.held sink.new;
+      faults_old = K.faults sink.old;
+      faults_new = K.faults sink.new;
+    }) result }
+{
+    match write_all(sink, output.text.as_slice()) {
+        Ok(()) => ended(output.full),
+        Err(WriteFault) => Status::WriteFault,
+    }
+}
+
+// Does what the order asks for.
+fn run_order<S: Source, K: Sink>(
+    alloc: Global,
+    order: &Order,
+    source: &mut S,
+    sink: &mut K,
+) -> Status
+    requires fits { IsFitOrder order.now }
+    requires single { IsSingle order.now }
+    ensures { RunHasEnded order.now (record {
+      old = S.left source.old;
+      new = S.left source.new;
+      faults_old = S.faults source.old;
+      faults_new = S.faults source.new;
+    })
+        (record {
+          old = K.held sink.old;
+          new = K.held sink.new;
+          faults_old = K.faults sink.old;
+          faults_new = K.faults sink.new;
+        })
+        (Answers order.now) result }
+{
+    match made(alloc, order, source) {
+        Ok(output) => write_output(&output, sink),
+        Err(status) => status,
+    }
+}
+
+/// As `run_single`, with all that it promises in one word.
+pub fn run_words<S: Source, K: Sink>(
+    alloc: Global,
+    words: &[String],
+    source: &mut S,
+    sink: &mut K,
+) -> Status
+    requires { (order : Order) → order_of (map string_bytes words.now) ≡ Some order → IsSingle order }
+    ensures { HasRun (order_of (map string_bytes words.now))
+        (record {
+          old = S.left source.old;
+          new = S.left source.new;
+          faults_old = S.faults source.old;
+          faults_new = S.faults source.new;
+        })
+        (record {
+          old = K.held sink.old;
+          new = K.held sink.new;
+          faults_old = K.faults sink.old;
+          faults_new = K.faults sink.new;
+        }) result }
+{
+    orders_fit();
+    match read_words(words) {
+        Some(order) => run_order(alloc, &order, source, sink),
+        None => Status::BadWords,
+    }
 }
 
 /// Does what the words ask for, where they ask for no threads and no audit: it waits for nobody. `words` are those after
@@ -146,28 +247,5 @@ pub fn run_single<S: Source, K: Sink>(
     orders_fit();
     reapers_collect_what_is_due();
     runs_tell_their_history();
-    let order = match read_words(words) {
-        Some(order) => order,
-        None => return Status::BadWords,
-    };
-    let input = match read_input(alloc, &order, source) {
-        Ok(bytes) => bytes,
-        Err(ReadEnd::ReadFault) => return Status::ReadFault,
-        Err(ReadEnd::TooLong) => return Status::TooLong,
-        Err(ReadEnd::Want) => return Status::Want,
-    };
-    let output = match answer(alloc, &order, &input) {
-        Ok(output) => output,
-        Err(ScriptFault::BadLine { number, cause }) => {
-            return Status::BadScript {
-                line: number,
-                cause,
-            };
-        }
-        Err(ScriptFault::Want) => return Status::Want,
-    };
-    match write_all(sink, output.text.as_slice()) {
-        Ok(()) => ended(output.full),
-        Err(WriteFault) => Status::WriteFault,
-    }
+    run_words(alloc, words, source, sink)
 }

@@ -1,39 +1,19 @@
-use Rattle.std.proofs.Common.{◌∙◌, IfSome, subst, sym}
+use Rattle.std.proofs.Common.{◌∙◌, ap, subst, sym, IfOk}
+use Rattle.jc_audit.specs.Audits.{VerdictHolds}
 use Rattle.jc_audit.specs.Limits.{IsSmallShape}
-use Rattle.jc_audit.specs.Walks.{HasTaken}
-use Rattle.jc_audit.proofs.AuditFacts.{at_begin, goes_on, less_left, line_number, not_taken, said_at_last}
+use Rattle.jc_audit.specs.Walks.{at_first}
+use Rattle.jc_runs.specs.Seen.{Seen}
 use Rattle.jc_audit.proofs.audits.audit.Goals as goal
 
-pub walking-init : goal.walking-init
-walking-init c = at_begin c.args.shape c.args.bytes.now c.in_ok-machine.machine c.in_ok-machine.ensures
+pub walk-requires-clause-first : goal.walk-requires-clause-first
+walk-requires-clause-first c =
+    c.in_ok-machine.ensures ∙ ap (λ (s : Seen). at_first s.shape) (sym c.in_ok-machine.ensures)
 
-pub take-requires-clause-shape : goal.take-requires-clause-shape
-take-requires-clause-shape c =
-    subst IsSmallShape (sym c.walking.invariant.of_shape)
+pub walk-requires-clause-small : goal.walk-requires-clause-small
+walk-requires-clause-small c =
+    subst (λ (s : Seen). IsSmallShape s.shape) (sym c.in_ok-machine.ensures)
     (record { few_controllers = c.requires.few_controllers; few_workers = c.requires.few_workers; few_events = c.requires.few_events })
-
-pub take-requires-clause-fits : goal.take-requires-clause-fits
-take-requires-clause-fits c = c.walking.invariant.used
-
-pub walking-preserved : goal.walking-preserved
-walking-preserved c =
-    goes_on c.args.shape c.args.bytes.now c.walking.at c.in-Some.len c.walking.machine c.take.new.machine c.rest_at-in-walking.result.now c.walking.invariant
-    c.rest_at-in-walking.ensures
-    (subst (λ o. IfSome o (HasTaken c.walking.machine c.take.new.machine c.rest_at-in-walking.result.now)) c.in-Some.is c.in_ok-taken.ensures.taken)
-
-pub walking-smaller : goal.walking-smaller
-walking-smaller c =
-    less_left c.args.shape c.args.bytes.now c.walking.at c.in-Some.len c.walking.machine c.take.new.machine c.rest_at-in-walking.result.now c.walking.invariant
-    c.rest_at-in-walking.ensures
-    (subst (λ o. IfSome o (HasTaken c.walking.machine c.take.new.machine c.rest_at-in-walking.result.now)) c.in-Some.is c.in_ok-taken.ensures.taken)
-
-pub returns-in_default : goal.returns-in_default
-returns-in_default c =
-    not_taken c.args.shape c.args.bytes.now c.walking.at _ c.walking.machine c.rest_at.result.now c.rest_at-in-walking.result.now c.walking.invariant
-    c.rest_at.ensures c.rest_at-in-walking.ensures (sym c.begins_event.ensures ∙ c.walking-test.true) (c.in_ok-taken.ensures.none c.in_default.is)
-    (line_number c.history.result.now.events.items _ c.len.result c.history.ensures.events c.len.ensures)
 
 pub returns : goal.returns
 returns c =
-    said_at_last c.args.shape c.args.bytes.now c.walking.at c.walking.machine c.in_ok-verdict.verdict c.rest_at.result.now c.rest_at-2.result.now c.walking.invariant
-    c.rest_at.ensures c.rest_at-2.ensures (sym c.begins_event.ensures ∙ c.walking-test.false) c.in_ok-verdict.ensures
+    subst (λ (s : Seen). IfOk c.walk.result (λ v. VerdictHolds s.shape c.args.bytes.now v)) c.in_ok-machine.ensures c.walk.ensures

@@ -1,5 +1,5 @@
 -- The play of the script that is played last goes on from that of the first, or it is the first.
-use Rattle.std.proofs.Common.{List, [], refl}
+use Rattle.std.proofs.Common.{[], refl}
 use Rattle.jc_types.specs.declared.actions.Script.{Script}
 use Rattle.jc_promise.specs.Play.{deeds_played, whole_play}
 use Rattle.jc_promise.specs.Seen.{deeds_seen}

@@ -1,51 +1,67 @@
--- Too long an input, and the headline.
-use Rattle.std.proofs.Common.{◌≡◌, ◌∙◌, ◌⊎◌, List, ℕ, Ok, Err, ap, subst, sym}
-use Rattle.jc_io.specs.declared.all.ReadEnd.{ReadEnd}
-use Rattle.jc_script.specs.declared.scripts.ScriptFault.{ScriptFault}
-use Rattle.jc_words.specs.declared.words.Order.{Order}
-use Rattle.jc_words.specs.declared.words.Order.TheVariants.{Generate}
-use Rattle.jc_single.proofs.RunFacts.{fronted, generated_is_good, long_input, order_same, told}
-use Rattle.jc_single.specs.declared.status.Status.TheVariants as status
-use Rattle.jc_single.specs.Runs.{OfInput, answer_of, printed_by, status_of}
+-- All that is promised is told by how the run has ended.
+use Rattle.jc_single.proofs.WordFacts.{bad_script_is, bad_words_is, complete_bad_script_is, complete_generated_is, complete_is, complete_too_long_is, front_is, generates_is, generates_only_is, headline_front_is, headline_is, history_full_is, no_audit_is, not_too_long_is, nothing_read_is, nothing_written_is, ok_is, read_fault_is, too_long_is, write_fault_is}
 use Rattle.jc_single.proofs.single.run_single.Goals as goal
 
-pub returns-in-Err-TooLong-clause-complete : goal.returns-in-Err-TooLong-clause-complete
-returns-in-Err-TooLong-clause-complete g c = λ order is quiet silent.
-    let same : c.in-Some.order ≡ order = order_same order c.in-Some.order _ (sym c.read_words.ensures ∙ c.in-Some.is) is in
-    long_input (λ input. (status.TooLong ≡ status_of (answer_of order input)) ⊎ (status.TooLong ≡ status.Want)) order
-    (g.S.Source.left c.args.source.now) (g.S.Source.left c.read_input.new.source)
-    (λ number jobs pods e. c.in-Err-TooLong.ensures.never_fails number jobs pods (same ∙ e))
-    (c.in-Err-TooLong.ensures.too_long (ap (λ (end : ReadEnd). Err end) c.in-Err-TooLong.field-0-is))
+pub returns-clause-ok : goal.returns-clause-ok
+returns-clause-ok g c = ok_is c.run_words.ensures
 
-pub returns-in-Ok-write_all-clause-headline : goal.returns-in-Ok-write_all-clause-headline
-returns-in-Ok-write_all-clause-headline g c = λ ends order is.
-    let same : c.in-Some.order ≡ order = order_same order c.in-Some.order _ (sym c.read_words.ensures ∙ c.in-Some.is) is in
-    let left = g.S.Source.left c.args.source.now in
-    let bytes = c.in-Ok.bytes.items in
-    let printed = printed_by c.in-Ok-answer.output in
-    let said = subst (λ o. answer_of o bytes ≡ Ok printed) same (subst (λ input. answer_of c.in-Some.order input ≡ Ok printed) c.deref.ensures.value c.in-Ok-answer.ensures.text) in
-    let all = subst (λ o. OfInput o left (λ (input : List ℕ). input ≡ bytes)) same c.in-Ok.ensures.all in
-    told order left bytes printed.full c.ended.result printed.text _ (g.K.Sink.held c.args.sink.now) (g.K.Sink.held c.write_all.new.sink)
-    (c.requires order is) all c.ended.ensures c.as_slice.ensures.value c.in-Ok-write_all.ensures.all
-    (c.runs_tell_their_history.ensures order bytes printed (c.orders_fit.ensures.orders _ order is) said)
+pub returns-clause-history_full : goal.returns-clause-history_full
+returns-clause-history_full g c = history_full_is c.run_words.ensures
+
+pub returns-clause-headline : goal.returns-clause-headline
+returns-clause-headline g c =
+    headline_is c.run_words.ensures c.requires
+    (λ order is input printed. c.runs_tell_their_history.ensures order input printed (c.orders_fit.ensures.orders _ order is))
 
 pub returns-clause-headline_front : goal.returns-clause-headline_front
-returns-clause-headline_front g c = λ ends order is.
-    let same : c.in-Some.order ≡ order = order_same order c.in-Some.order _ (sym c.read_words.ensures ∙ c.in-Some.is) is in
-    let left = g.S.Source.left c.args.source.now in
-    let bytes = c.in-Ok.bytes.items in
-    let printed = printed_by c.in-Ok-answer.output in
-    let said = subst (λ o. answer_of o bytes ≡ Ok printed) same (subst (λ input. answer_of c.in-Some.order input ≡ Ok printed) c.deref.ensures.value c.in-Ok-answer.ensures.text) in
-    let all = subst (λ o. OfInput o left (λ (input : List ℕ). input ≡ bytes)) same c.in-Ok.ensures.all in
-    fronted order left bytes printed.full printed.text _ (g.K.Sink.held c.args.sink.now) (g.K.Sink.held c.write_all.new.sink)
-    (c.requires order is) all c.as_slice.ensures.value c.in-Err.ensures.front
-    (c.runs_tell_their_history.ensures order bytes printed (c.orders_fit.ensures.orders _ order is) said)
+returns-clause-headline_front g c =
+    headline_front_is c.run_words.ensures c.requires
+    (λ order is input printed. c.runs_tell_their_history.ensures order input printed (c.orders_fit.ensures.orders _ order is))
 
-pub returns-in-Err-BadLine-clause-generates_only : goal.returns-in-Err-BadLine-clause-generates_only
-returns-in-Err-BadLine-clause-generates_only g c = λ number jobs pods is.
-    let asked = Generate number jobs pods in
-    let same : c.in-Some.order ≡ asked = order_same asked c.in-Some.order _ (sym c.read_words.ensures ∙ c.in-Some.is) is in
-    let bad = c.in-Err-BadLine.ensures.bad_line c.in-Err-BadLine.number c.in-Err-BadLine.cause
-    (ap (λ (fault : ScriptFault). Err fault) c.in-Err-BadLine.field-0-is) in
-    generated_is_good number jobs pods c.deref.result.now (record { number = c.in-Err-BadLine.number; cause = c.in-Err-BadLine.cause })
-    (subst (λ (o : Order). answer_of o c.deref.result.now ≡ Err (record { number = c.in-Err-BadLine.number; cause = c.in-Err-BadLine.cause })) same bad)
+pub returns-clause-bad_words : goal.returns-clause-bad_words
+returns-clause-bad_words g c = bad_words_is c.run_words.ensures
+
+pub returns-clause-nothing_read : goal.returns-clause-nothing_read
+returns-clause-nothing_read g c = nothing_read_is c.run_words.ensures
+
+pub returns-clause-generates : goal.returns-clause-generates
+returns-clause-generates g c = generates_is c.run_words.ensures
+
+pub returns-clause-generates_only : goal.returns-clause-generates_only
+returns-clause-generates_only g c = generates_only_is c.run_words.ensures
+
+pub returns-clause-read_fault : goal.returns-clause-read_fault
+returns-clause-read_fault g c = read_fault_is c.run_words.ensures
+
+pub returns-clause-write_fault : goal.returns-clause-write_fault
+returns-clause-write_fault g c = write_fault_is c.run_words.ensures
+
+pub returns-clause-bad_script : goal.returns-clause-bad_script
+returns-clause-bad_script g c = bad_script_is c.run_words.ensures
+
+pub returns-clause-too_long : goal.returns-clause-too_long
+returns-clause-too_long g c = too_long_is c.run_words.ensures
+
+pub returns-clause-not_too_long : goal.returns-clause-not_too_long
+returns-clause-not_too_long g c = not_too_long_is c.run_words.ensures
+
+pub returns-clause-no_audit : goal.returns-clause-no_audit
+returns-clause-no_audit g c = no_audit_is c.run_words.ensures
+
+pub returns-clause-nothing_written : goal.returns-clause-nothing_written
+returns-clause-nothing_written g c = nothing_written_is c.run_words.ensures
+
+pub returns-clause-front : goal.returns-clause-front
+returns-clause-front g c = front_is c.run_words.ensures
+
+pub returns-clause-complete : goal.returns-clause-complete
+returns-clause-complete g c = complete_is c.run_words.ensures
+
+pub returns-clause-complete_generated : goal.returns-clause-complete_generated
+returns-clause-complete_generated g c = complete_generated_is c.run_words.ensures
+
+pub returns-clause-complete_bad_script : goal.returns-clause-complete_bad_script
+returns-clause-complete_bad_script g c = complete_bad_script_is c.run_words.ensures
+
+pub returns-clause-complete_too_long : goal.returns-clause-complete_too_long
+returns-clause-complete_too_long g c = complete_too_long_is c.run_words.ensures

@@ -1,10 +1,10 @@
 use Rattle.std.proofs.Common.{◌-◌, length}
 use Rattle.jc_audit.proofs.AuditFacts.{IsUnderWay}
-use Rattle.jc_audit.proofs.audits.audit.Given as goal
+use Rattle.jc_audit.proofs.audits.walk.Given as goal
 
 -- The lines in front of this place were taken.
 abbrev pub invariant-walking : goal.invariant-walking
-invariant-walking l = IsUnderWay l.fn.shape l.bytes l.at l.machine
+invariant-walking l = IsUnderWay l.fn.machine.shape l.bytes l.at l.machine
 
 -- How many bytes are left.
 abbrev pub decreases-walking : goal.decreases-walking
