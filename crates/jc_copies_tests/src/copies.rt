@@ -119,12 +119,19 @@ fn copies_wants(alloc: Global) -> Result<bool, Want> {
 }
 
 #[test]
-fn all_can_be_copied(rt: HostRuntime) -> Result<(), Fail> {
+fn what_a_controller_keeps_is_copied(rt: HostRuntime) -> Result<(), Fail> {
     let alloc = rt.alloc();
     let now = Moment::from_seconds(60).ok_or("a moment")?;
     assert!(rt; copies_caches(alloc)?);
     assert!(rt; copies_delays(alloc, now)?);
     assert!(rt; copies_fates(alloc)?);
+    Ok(())
+}
+
+#[test]
+fn what_a_sync_makes_is_copied(rt: HostRuntime) -> Result<(), Fail> {
+    let alloc = rt.alloc();
+    let now = Moment::from_seconds(60).ok_or("a moment")?;
     assert!(rt; copies_plan(alloc, now)?);
     assert!(rt; copies_wants(alloc)?);
     assert!(rt; is_copied(&Cause::NotJson));

@@ -443,20 +443,44 @@ fn keeps_counts(rt: &impl Abort, counted: &CountIn) -> Result<(), Want> {
     grows_alone(rt, &mut copied.releases, &counted.releases)
 }
 
-fn keeps_all(rt: &impl Abort, alloc: Global, now: Moment) -> Result<(), Want> {
-    keeps_small_ones(rt, alloc, now)?;
-    keeps_rules(rt, alloc)?;
-    keeps_objects(rt, alloc, now)?;
-    keeps_commands(rt, alloc)?;
-    keeps_replies(rt, alloc, now)?;
-    keeps_history(rt, history(alloc, created()))?;
-    keeps_counts(rt, &counted(alloc))
+// 2024-01-01T00:00:00Z, by `date -u -d`.
+fn new_year(rt: &impl Abort) -> Moment {
+    Moment::from_seconds(1_704_067_200).expect(rt, "a moment")
+}
+
+#[test]
+fn small_values(rt: HostRuntime) -> Result<(), Fail> {
+    keeps_small_ones(&rt, rt.alloc(), new_year(&rt))?;
+    Ok(())
+}
+
+#[test]
+fn rules_of_policies(rt: HostRuntime) -> Result<(), Fail> {
+    keeps_rules(&rt, rt.alloc())?;
+    Ok(())
 }
 
 #[test]
 fn the_objects_of_a_run(rt: HostRuntime) -> Result<(), Fail> {
-    // 2024-01-01T00:00:00Z, by `date -u -d`.
-    let now = Moment::from_seconds(1_704_067_200).expect(&rt, "a moment");
-    keeps_all(&rt, rt.alloc(), now)?;
+    keeps_objects(&rt, rt.alloc(), new_year(&rt))?;
+    Ok(())
+}
+
+#[test]
+fn commands_of_a_script(rt: HostRuntime) -> Result<(), Fail> {
+    keeps_commands(&rt, rt.alloc())?;
+    Ok(())
+}
+
+#[test]
+fn replies_and_histories(rt: HostRuntime) -> Result<(), Fail> {
+    keeps_replies(&rt, rt.alloc(), new_year(&rt))?;
+    keeps_history(&rt, history(rt.alloc(), created()))?;
+    Ok(())
+}
+
+#[test]
+fn counts_of_a_sync(rt: HostRuntime) -> Result<(), Fail> {
+    keeps_counts(&rt, &counted(rt.alloc()))?;
     Ok(())
 }
