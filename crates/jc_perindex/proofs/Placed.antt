@@ -1,15 +1,20 @@
 -- A count that is written at its place in a list is what `raise` says.
-use Rattle.std.proofs.Common.{◌≡◌, ◌<◌, ◌≤◌, ◌+◌, ◌++◌, ℕ, suc, Bool, true, false, not, cond, eqb, ltb, leb, List, [], ◌∷◌, length, get_or, take, drop, Option, Some, None, refl, ap, sym, ◌∙◌, subst, arith}
-use Rattle.std.specs.List.{position, position_or_len}
+use Rattle.std.proofs.Common.{◌≡◌, ◌<◌, ◌≤◌, ◌+◌, ◌++◌, ℕ, suc, Bool, true, false, not, cond, eqb, ltb, leb, List, [], ◌∷◌, length, get_or, map, take, drop, Some, None, refl, ap, sym, ◌∙◌, subst, arith}
+use Rattle.std.specs.List.{AllByRecursion as Each, position, position_or_len}
 use Rattle.std.proofs.Math.ListN.{set}
 use Rattle.std.proofs.lemmas.Bool.{ltb-true, ltb-false, leb-true, leb-false, eqb-true, eqb-false}
-use Rattle.std.proofs.lemmas.List.{take_all, drop_all}
+use Rattle.std.proofs.lemmas.List.{take_all, drop_all, get_or_default, length-append}
+use Rattle.std.proofs.lemmas.List.Concat.{get_or-flat_map}
+use Rattle.jc_ranges.specs.Sets.{IsIncreasing}
+use Rattle.jc_ranges.proofs.Order.{each_from_zero}
 use Rattle.jc_types.specs.declared.statuses.IndexCount.{IndexCount}
-use Rattle.jc_perindex.specs.Steps.{one_failure, raise, with_failure}
+use Rattle.jc_types.specs.Pieces.{items_in}
+use Rattle.jc_types.proofs.PieceFacts.{around, items_more, place_inside}
 use Rattle.jc_account.proofs.Placed.{Found, found}
+use Rattle.jc_perindex.specs.Steps.{one_failure, raise, with_failure}
 
 -- The place in the list: the first count whose index is not below.
-abbrev place : ℕ → List IndexCount → ℕ
+abbrev pub place : ℕ → List IndexCount → ℕ
 place n counts = position_or_len (λ (count : IndexCount). leb n count.index) counts
 
 -- One step down the list.
@@ -64,34 +69,117 @@ raise_between n f d (v ∷ rest) other = by (ltb n v.index) (eqb n v.index) (leb
     by false false false l e m ih other = between_step n f d v rest (place n rest) (1 + place n rest) (omega arith) ih other
 
 -- The index has a count.
-pub raise_there : (n : ℕ) (f : Bool) (there : IndexCount) (counts : List IndexCount) (k : ℕ) → Some k ≡ position (λ (count : IndexCount). leb n count.index) counts
+pub raise_there : (n : ℕ) (f : Bool) (there : IndexCount) (counts : List IndexCount) (k : ℕ) → k ≡ place n counts → k < length counts
     → there ≡ get_or counts k there → there.index ≡ n → raise n f counts ≡ set counts k (with_failure f there)
-unfolding Found
-raise_there n f there counts k at is same =
-    let found_at : Found (place n counts) (length counts) (Some k) =
-    subst (Found (place n counts) (length counts)) (sym at) (found (place n counts) (length counts))
-    in raise_at n f there counts found_at.1
-    (ap (λ i. (get_or counts i there).index) found_at.0 ∙ ap (λ (count : IndexCount). count.index) (sym is) ∙ same)
-    ∙ ap (λ i. set counts i (with_failure f (get_or counts i there))) found_at.0
+raise_there n f there counts k at within is same =
+    raise_at n f there counts (omega (arith, at, within))
+    (ap (λ i. (get_or counts i there).index) (sym at) ∙ ap (λ (count : IndexCount). count.index) (sym is) ∙ same)
+    ∙ ap (λ i. set counts i (with_failure f (get_or counts i there))) (sym at)
     ∙ ap (λ count. set counts k (with_failure f count)) (sym is)
 
 -- The index has its place before a greater one.
-pub raise_before : (n : ℕ) (f : Bool) (there : IndexCount) (counts : List IndexCount) (k : ℕ) → Some k ≡ position (λ (count : IndexCount). leb n count.index) counts
+pub raise_before : (n : ℕ) (f : Bool) (there : IndexCount) (counts : List IndexCount) (k : ℕ) → k ≡ place n counts
     → there ≡ get_or counts k there → (there.index ≡ n → ⊥) → raise n f counts ≡ take k counts ++ one_failure n f ∷ drop k counts
-unfolding Found
 raise_before n f there counts k at is other =
-    let found_at : Found (place n counts) (length counts) (Some k) =
-    subst (Found (place n counts) (length counts)) (sym at) (found (place n counts) (length counts))
-    in raise_between n f there counts
-    (λ within same. other (ap (λ (count : IndexCount). count.index) is ∙ ap (λ i. (get_or counts i there).index) (sym found_at.0) ∙ same))
-    ∙ ap (λ i. take i counts ++ one_failure n f ∷ drop i counts) found_at.0
+    raise_between n f there counts
+    (λ within same. other (ap (λ (count : IndexCount). count.index) is ∙ ap (λ i. (get_or counts i there).index) at ∙ same))
+    ∙ ap (λ i. take i counts ++ one_failure n f ∷ drop i counts) (sym at)
 
 -- The index has its place at the end.
-pub raise_last : (n : ℕ) (f : Bool) (counts : List IndexCount) → None ≡ position (λ (count : IndexCount). leb n count.index) counts → raise n f counts ≡ counts ++ one_failure n f ∷ []
-unfolding Found
-raise_last n f counts at =
-    let past : length counts ≤ place n counts =
-    subst (Found (place n counts) (length counts)) (sym at) (found (place n counts) (length counts))
-    in raise_between n f (one_failure n f) counts (λ within same. absurd (omega (arith, within, past)))
+pub raise_last : (n : ℕ) (f : Bool) (counts : List IndexCount) → length counts ≤ place n counts → raise n f counts ≡ counts ++ one_failure n f ∷ []
+raise_last n f counts past =
+    raise_between n f (one_failure n f) counts (λ within same. absurd (omega (arith, within, past)))
     ∙ ap (λ xs. xs ++ one_failure n f ∷ drop (place n counts) counts) (take_all (place n counts) counts past)
     ∙ ap (λ xs. counts ++ one_failure n f ∷ xs) (drop_all (place n counts) counts past)
+
+-- ---- the place among pieces
+
+-- Where all of the front part are below, the place is behind it.
+pub place_behind : (n : ℕ) (front back : List IndexCount) → length front ≤ place n front → place n (front ++ back) ≡ length front + place n back
+place_behind n [] back past = omega arith
+place_behind n (c ∷ front) back past = by (leb n c.index) past (place_behind n front back)
+  where
+    by : (le : Bool) → length (c ∷ front) ≤ cond (not le) (1 + place n front) 0 → (length front ≤ place n front → place n (front ++ back) ≡ length front + place n back)
+        → cond (not le) (1 + place n (front ++ back)) 0 ≡ length (c ∷ front) + place n back
+    by true past ih = absurd (omega (arith, past))
+    by false past ih = omega (arith, ih (omega (arith, past)))
+
+-- Where one of the front part is not below, the place is in it.
+pub place_within : (n : ℕ) (front back : List IndexCount) → place n front < length front → place n (front ++ back) ≡ place n front
+place_within n [] back within = absurd (omega (arith, within))
+place_within n (c ∷ front) back within = by (leb n c.index) within (place_within n front back)
+  where
+    by : (le : Bool) → cond (not le) (1 + place n front) 0 < length (c ∷ front) → (place n front < length front → place n (front ++ back) ≡ place n front)
+        → cond (not le) (1 + place n (front ++ back)) 0 ≡ cond (not le) (1 + place n front) 0
+    by true within ih = refl
+    by false within ih = ap (λ k. 1 + k) (ih (omega (arith, within)))
+
+-- The place is no greater than the index, in ascending indexes.
+place_few : (n low : ℕ) (counts : List IndexCount) → IsIncreasing (map (λ (count : IndexCount). count.index) counts) → Each (λ i. low ≤ i) (map (λ (count : IndexCount). count.index) counts) → low ≤ n → place n counts + low ≤ n
+place_few n low [] up each few = omega (arith, few)
+place_few n low (c ∷ counts) up each few = by (leb n c.index) refl (place_few n (suc c.index) counts up.1 up.0)
+  where
+    by : (le : Bool) → leb n c.index ≡ le → (suc c.index ≤ n → place n counts + suc c.index ≤ n) → cond (not le) (1 + place n counts) 0 + low ≤ n
+    by true e ih = omega (arith, few)
+    by false e ih =
+        let less = leb-false n c.index e in
+        omega (arith, each.0, ih (omega (arith, less)))
+
+pub place_small : (n : ℕ) (counts : List IndexCount) → IsIncreasing (map (λ (count : IndexCount). count.index) counts) → place n counts ≤ n
+place_small n counts up =
+    omega (arith, place_few n 0 counts up (each_from_zero (map (λ (count : IndexCount). count.index) counts)) (omega arith))
+
+-- The place that a search of a piece finds.
+pub in_piece : (n : ℕ) (piece : List IndexCount) (k : ℕ) → Some k ≡ position (λ (count : IndexCount). leb n count.index) piece → (place n piece ≡ k) × (place n piece < length piece)
+unfolding Found
+in_piece n piece k at = subst (Found (place n piece) (length piece)) (sym at) (found (place n piece) (length piece))
+
+-- Where it finds none all are below.
+pub not_in_piece : (n : ℕ) (piece : List IndexCount) → None ≡ position (λ (count : IndexCount). leb n count.index) piece → length piece ≤ place n piece
+unfolding Found
+not_in_piece n piece at = subst (Found (place n piece) (length piece)) (sym at) (found (place n piece) (length piece))
+
+module _ (n : ℕ) (pieces : List (List IndexCount)) (i passed : ℕ) (piece : List IndexCount) (within : i < length pieces) (is : piece ≡ get_or pieces i [])
+    (at : passed ≡ length (items_in (take i pieces))) (below : length (items_in (take i pieces)) ≤ place n (items_in (take i pieces))) where
+  behind : place n (items_in pieces) ≡ passed + place n (piece ++ items_in (drop (suc i) pieces))
+  behind =
+      ap (place n) (around pieces i within ∙ ap (λ p. items_in (take i pieces) ++ (p ++ items_in (drop (suc i) pieces))) (sym is))
+      ∙ place_behind n (items_in (take i pieces)) (piece ++ items_in (drop (suc i) pieces)) below
+      ∙ ap (λ m. m + place n (piece ++ items_in (drop (suc i) pieces))) (sym at)
+
+  -- The place in the piece is one among all.
+  pub place_here : (k : ℕ) → place n piece ≡ k → place n piece < length piece → passed + k ≡ place n (items_in pieces)
+  place_here k here few =
+      sym (behind ∙ ap (λ m. passed + m) (place_within n piece (items_in (drop (suc i) pieces)) few ∙ here))
+
+  pub here_inside : (k : ℕ) → k < length piece → passed + k < length (items_in pieces)
+  here_inside k few = omega (arith, at, place_inside pieces i k within (omega (arith, few, ap length is)))
+
+  pub here_is : (k : ℕ) (d : IndexCount) (counts : List IndexCount) → items_in pieces ≡ counts → k < length piece → get_or piece k d ≡ get_or counts (passed + k) (get_or piece k d)
+  here_is k d counts are few =
+      get_or_default piece k d (get_or piece k d) few
+      ∙ ap (λ p. get_or p k (get_or piece k d)) is
+      ∙ sym (get_or-flat_map (λ (p : List IndexCount). p) pieces i k [] (get_or piece k d) within (omega (arith, few, ap length is)))
+      ∙ ap (λ m. get_or (items_in pieces) (m + k) (get_or piece k d)) (sym at)
+      ∙ ap (λ (cs : List IndexCount). get_or cs (passed + k) (get_or piece k d)) are
+
+  -- With the piece all are passed and below.
+  pub passed_more : passed + length piece ≡ length (items_in (take (i + 1) pieces))
+  passed_more =
+      omega (arith, at, ap length is, ap length (items_more pieces i within), length-append (items_in (take i pieces)) (get_or pieces i []))
+
+  pub below_more : length piece ≤ place n piece → length (items_in (take (i + 1) pieces)) ≤ place n (items_in (take (i + 1) pieces))
+  below_more past =
+      omega (
+        arith,
+        past,
+        at,
+        passed_more,
+        ap (place n) (items_more pieces i within ∙ ap (λ p. items_in (take i pieces) ++ p) (sym is)),
+        place_behind n (items_in (take i pieces)) piece below,
+      )
+
+  -- No more are passed than the index says.
+  pub passed_few : length piece ≤ place n piece → IsIncreasing (map (λ (count : IndexCount). count.index) (items_in pieces)) → passed + length piece ≤ n
+  passed_few past up =
+      omega (arith, past, behind, place_behind n piece (items_in (drop (suc i) pieces)) past, place_small n (items_in pieces) up)

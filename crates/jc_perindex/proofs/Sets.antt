@@ -1,12 +1,14 @@
 -- Sets of indexes in increasing order.
-use Rattle.std.proofs.Common.{◌≡◌, ℕ, ◌<◌, ◌≤◌, ◌+◌, suc, zero, nat_lt, Bool, true, false, cond, List, [], ◌∷◌, ◌++◌, map, filter, take, length, get_or, refl, ap, sym, ◌∙◌, arith}
+use Rattle.std.proofs.Common.{◌≡◌, ℕ, ◌<◌, ◌≤◌, ◌+◌, suc, zero, nat_lt, Bool, true, false, cond, List, [], ◌∷◌, ◌++◌, map, filter, take, drop, length, get_or, subst, refl, ap, sym, ◌∙◌, append_assoc, arith}
 use Rattle.std.specs.List.{AllByRecursion as Each}
 use Rattle.std.proofs.lemmas.Bool.{lt-ltb, le-ltb, ltb-true}
-use Rattle.std.proofs.lemmas.List.{take_more}
+use Rattle.std.proofs.lemmas.List.{append-nil, take_more}
 use Rattle.std.proofs.lemmas.List.Elements.{filter-append}
 use Rattle.jc_ranges.specs.Sets.{IsIncreasing, with_member}
-use Rattle.jc_ranges.proofs.Order.{increasing_append}
+use Rattle.jc_ranges.proofs.Order.{each_weaker, increasing_append}
 use Rattle.jc_types.specs.declared.statuses.IndexCount.{IndexCount}
+use Rattle.jc_types.specs.Pieces.{items_in}
+use Rattle.jc_types.proofs.PieceFacts.{around, items_more}
 use Rattle.jc_types.proofs.ListFacts.{Each-filter, Each-map, Each-passes, Each-weaker, filter_all, filter_none}
 use Rattle.jc_states.specs.UidLists.{join}
 use Rattle.jc_account.proofs.IndexFacts.{with-last}
@@ -76,27 +78,89 @@ map-append : (xs ys : List IndexCount) → map index_of (xs ++ ys) ≡ map index
 map-append [] ys = refl
 map-append (x ∷ xs) ys = ap (λ ns. x.index ∷ ns) (map-append xs ys)
 
-module _ (test : IndexCount → Bool) (counts : List IndexCount) (i : ℕ) (count d : IndexCount) (up : IsIncreasing (map index_of counts)) (within : i < length counts) (is : count ≡ get_or counts i d) where
-  front : filter test (take (i + 1) counts) ≡ filter test (take i counts) ++ cond (test count) (count ∷ []) []
-  front = ap (filter test) (take_more counts i d within) ∙ filter-append test (take i counts) (get_or counts i d ∷ []) ∙ ap (λ c. filter test (take i counts) ++ cond (test c) (c ∷ []) []) (sym is)
+-- ---- in pieces
 
-  -- The index of a count that passes joins the set of those before it.
-  pub next-passes : test count ≡ true → with_member count.index (map index_of (filter test (take i counts))) ≡ map index_of (filter test (take (i + 1) counts))
-  next-passes e =
-      with-last count.index (map index_of (filter test (take i counts)))
-      (Each-map index_of (λ n. n < count.index) (filter test (take i counts))
-      (Each-filter (λ (c : IndexCount). c.index < count.index) test (take i counts)
-      (Each-weaker (λ (c : IndexCount). c.index < (get_or counts i d).index) (λ (c : IndexCount). c.index < count.index) (λ c l. omega (arith, l, ap index_of is)) (take i counts) (front-below counts i d up within))))
-      ∙ sym (map-append (filter test (take i counts)) (count ∷ []))
-      ∙ ap (λ b. map index_of (filter test (take i counts) ++ cond b (count ∷ []) [])) (sym e)
-      ∙ ap (map index_of) (sym front)
+-- A front part of what increases does.
+pub up-front : (xs ys : List ℕ) → IsIncreasing (xs ++ ys) → IsIncreasing xs
+up-front [] ys up = tt
+up-front (x ∷ xs) ys up = (each xs up.0, up-front xs ys up.1)
+  where
+    each : (zs : List ℕ) → Each (λ y. x < y) (zs ++ ys) → Each (λ y. x < y) zs
+    each [] h = tt
+    each (z ∷ zs) h = (h.0, each zs h.1)
 
-  pub next-fails : test count ≡ false → map index_of (filter test (take i counts)) ≡ map index_of (filter test (take (i + 1) counts))
-  next-fails e =
-      ap (map index_of) (none (filter test (take i counts)))
+-- What is kept of a front part stands before the rest.
+pub up-kept : (test : IndexCount → Bool) (front rest : List IndexCount) → IsIncreasing (map index_of (front ++ rest)) → IsIncreasing (map index_of (filter test front) ++ map index_of rest)
+up-kept test [] rest up = up
+up-kept test (c ∷ front) rest up = by (test c) (up-kept test front rest up.1)
+  where
+    each : (xs : List IndexCount) → Each (λ y. c.index < y) (map index_of (xs ++ rest)) → Each (λ y. c.index < y) (map index_of (filter test xs) ++ map index_of rest)
+    each [] h = h
+    each (x ∷ xs) h = one (test x) (each xs h.1)
+      where
+        one : (b : Bool) → Each (λ y. c.index < y) (map index_of (filter test xs) ++ map index_of rest) → Each (λ y. c.index < y) (map index_of (cond b (x ∷ filter test xs) (filter test xs)) ++ map index_of rest)
+        one true ih = (h.0, ih)
+        one false ih = ih
+
+    by : (b : Bool) → IsIncreasing (map index_of (filter test front) ++ map index_of rest) → IsIncreasing (map index_of (cond b (c ∷ filter test front) (filter test front)) ++ map index_of rest)
+    by true ih = (each front up.0, ih)
+    by false ih = ih
+
+-- What is kept of the front part of a piece is below what comes next, and so is what stood before the piece.
+below-next : (test : IndexCount → Bool) (old : List ℕ) (counts : List IndexCount) (i : ℕ) (d : IndexCount) → IsIncreasing (old ++ map index_of counts) → i < length counts
+    → Each (λ y. y < (get_or counts i d).index) (old ++ map index_of (filter test (take i counts)))
+below-next test [] counts i d up l =
+    Each-map index_of (λ n. n < (get_or counts i d).index) (filter test (take i counts))
+    (Each-filter (λ (c : IndexCount). c.index < (get_or counts i d).index) test (take i counts) (front-below counts i d up l))
+below-next test (x ∷ old) counts i d up l = (at old counts i up.0 l, below-next test old counts i d up.1 l)
+  where
+    at : (old : List ℕ) (counts : List IndexCount) (i : ℕ) → Each (λ y. x < y) (old ++ map index_of counts) → i < length counts → x < (get_or counts i d).index
+    at (y ∷ old) counts i h l = at old counts i h.1 l
+    at [] [] i h l = absurd (omega (arith, l))
+    at [] (c ∷ counts) zero h l = h.0
+    at [] (c ∷ counts) (suc i) h l = at [] counts i h.1 (omega (arith, l))
+
+module _ (test : IndexCount → Bool) (old : List ℕ) (counts : List IndexCount) (i : ℕ) (count d : IndexCount) (up : IsIncreasing (old ++ map index_of counts)) (within : i < length counts) (is : count ≡ get_or counts i d) where
+  kept : filter test (take (i + 1) counts) ≡ filter test (take i counts) ++ cond (test count) (count ∷ []) []
+  kept = ap (filter test) (take_more counts i d within) ∙ filter-append test (take i counts) (get_or counts i d ∷ []) ∙ ap (λ c. filter test (take i counts) ++ cond (test c) (c ∷ []) []) (sym is)
+
+  -- The index of the next count that passes comes behind.
+  pub joins-next : test count ≡ true → with_member count.index (old ++ map index_of (filter test (take i counts))) ≡ old ++ map index_of (filter test (take (i + 1) counts))
+  joins-next e =
+      with-last count.index (old ++ map index_of (filter test (take i counts)))
+      (each_weaker (λ y. y < (get_or counts i d).index) (λ y. y < count.index) (λ y l. omega (arith, l, ap index_of is)) (old ++ map index_of (filter test (take i counts))) (below-next test old counts i d up within))
+      ∙ append_assoc old (map index_of (filter test (take i counts))) (count.index ∷ [])
+      ∙ ap (λ ns. old ++ ns)
+      (sym (map-append (filter test (take i counts)) (count ∷ []))
       ∙ ap (λ b. map index_of (filter test (take i counts) ++ cond b (count ∷ []) [])) (sym e)
-      ∙ ap (map index_of) (sym front)
-    where
-      none : (xs : List IndexCount) → xs ≡ xs ++ []
-      none [] = refl
-      none (x ∷ xs) = ap (λ ys. x ∷ ys) (none xs)
+      ∙ ap (map index_of) (sym kept))
+
+  -- One that fails adds nothing.
+  pub skips-next : test count ≡ false → old ++ map index_of (filter test (take i counts)) ≡ old ++ map index_of (filter test (take (i + 1) counts))
+  skips-next e =
+      ap (λ ns. old ++ map index_of ns)
+      (sym (append-nil (filter test (take i counts)))
+      ∙ ap (λ b. filter test (take i counts) ++ cond b (count ∷ []) []) (sym e) ∙ sym kept)
+
+module _ (test : IndexCount → Bool) (pieces : List (List IndexCount)) (i : ℕ) (piece : List IndexCount) where
+  -- The next piece stands above what is kept of those before it.
+  pub piece-above : (old : List ℕ) → IsIncreasing (map index_of (items_in pieces)) → i < length pieces → piece ≡ get_or pieces i [] → old ≡ map index_of (filter test (items_in (take i pieces)))
+      → IsIncreasing (old ++ map index_of piece)
+  piece-above old up within is e =
+      let front = items_in (take i pieces) in
+      let back = items_in (drop (suc i) pieces) in
+      let split : items_in pieces ≡ (front ++ piece) ++ back =
+      around pieces i within ∙ ap (λ p. front ++ (p ++ back)) (sym is) ∙ sym (append_assoc front piece back) in
+      let both : IsIncreasing (map index_of (front ++ piece) ++ map index_of back) =
+      subst IsIncreasing (ap (map index_of) split ∙ map-append (front ++ piece) back) up in
+      subst (λ ns. IsIncreasing (ns ++ map index_of piece)) (sym e) (up-kept test front piece (up-front (map index_of (front ++ piece)) (map index_of back) both))
+
+  -- With what is kept of it they are what is kept of one piece more.
+  pub next-piece : (old new : List ℕ) → i < length pieces → piece ≡ get_or pieces i [] → old ≡ map index_of (filter test (items_in (take i pieces))) → new ≡ old ++ map index_of (filter test piece)
+      → new ≡ map index_of (filter test (items_in (take (i + 1) pieces)))
+  next-piece old new within is e f =
+      f ∙ ap (λ ns. ns ++ map index_of (filter test piece)) e
+      ∙ sym (map-append (filter test (items_in (take i pieces))) (filter test piece))
+      ∙ ap (map index_of) (sym (filter-append test (items_in (take i pieces)) piece))
+      ∙ ap (λ p. map index_of (filter test (items_in (take i pieces) ++ p))) is
+      ∙ ap (λ counts. map index_of (filter test counts)) (sym (items_more pieces i within))

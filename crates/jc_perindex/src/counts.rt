@@ -1,7 +1,24 @@
 //! How often pods of each index have failed.
 
-ghost use Rattle.std.specs.Prelude.{◌≡◌, ◌+◌, ◌<◌, ◌&&◌, ◌^◌, All, IfOk, OnOk, length, nat_le};
-ghost use Rattle.std.specs.List.{position};
+ghost use Rattle.std.specs.Prelude.{
+  ◌≡◌,
+  ◌+◌,
+  ◌<◌,
+  ◌≤◌,
+  ◌&&◌,
+  ◌^◌,
+  All,
+  IfOk,
+  IfSome,
+  IsNone,
+  OnOk,
+  get_or,
+  length,
+  map,
+  nat_le,
+};
+ghost use Rattle.std.specs.List.{position, position_or_len};
+ghost use Rattle.jc_ranges.specs.Sets.{IsIncreasing};
 ghost use Rattle.jc_types.specs.declared.statuses.IndexCount.{IndexCount};
 ghost use Rattle.jc_states.specs.Bases.{is_own, own_pods};
 ghost use Rattle.jc_states.specs.UidLists.{is_in};
@@ -10,8 +27,7 @@ ghost use Rattle.jc_perindex.specs.Steps.{one_failure, raise, raise_each, raise_
 
 use jc_failpol::decided_action;
 use jc_states::{is_among, is_own};
-use jc_types::{Action, FailurePolicy, IndexCount, Job, Pod, Uid, Want};
-use std::alloc::Global;
+use jc_types::{Action, Arc, Copied, FailurePolicy, IndexCount, IndexCounts, Job, Pod, Uid, Want};
 
 // Whether the action fails the index.
 fn is_fail_index(action: Action) -> bool
@@ -56,34 +72,61 @@ fn with_failure(fail: bool, count: IndexCount) -> IndexCount
     }
 }
 
-// The place of the first count whose index is not below the given one.
+// Where a count stands among the others.
+#[derive(Clone, Copy)]
+struct Found {
+    place: usize,
+    count: IndexCount,
+}
+
+// The place in a piece of the first count whose index is not below the given one.
 fn place_of(index: u32, counts: &[IndexCount]) -> Option<usize>
     ensures { result ≡ position (λ (count : IndexCount). nat_le index count.index) counts.now }
 {
     counts.iter().position(|count| index <= count.index)
 }
 
-// Adds a failure to the index.
+// The first count whose index is not below the given one.
+fn first_from(index: u32, counts: &IndexCounts) -> Option<Found>
+    requires { IsIncreasing (map (λ (count : IndexCount). count.index) counts.now) }
+    ensures past { IsNone result → length counts.now
+        ≤ position_or_len (λ (count : IndexCount). nat_le index count.index) counts.now }
+    ensures place { IfSome result (λ found. found.place
+        ≡ position_or_len (λ (count : IndexCount). nat_le index count.index) counts.now) }
+    ensures within { IfSome result (λ found. found.place < length counts.now) }
+    ensures count { IfSome result (λ found. found.count ≡ get_or counts.now found.place found.count) }
+{
+    let pieces = counts.pieces();
+    let mut passed = 0;
+    for piece in pieces {
+        let items = piece.as_slice();
+        if let Some(place) = place_of(index, items) {
+            return Some(Found {
+                place: passed + place,
+                count: items[place],
+            });
+        }
+        passed += items.len();
+    }
+    None
+}
+
+// Adds a failure to the index: one piece of the counts is copied.
 //
 // # Errors
 // `Want` where there is no memory for its count.
-fn raise(counts: &mut Vec<IndexCount>, index: u32, fail: bool) -> Result<(), Want>
-    requires { All (λ (count : IndexCount). count.failures + 1 < 2 ^ 64) counts.old.items }
-    ensures { OnOk result (counts.new.items ≡ raise index fail counts.old.items) }
+fn raise(counts: &mut IndexCounts, index: u32, fail: bool) -> Result<(), Want>
+    requires ascending { IsIncreasing (map (λ (count : IndexCount). count.index) counts.old) }
+    requires fit { All (λ (count : IndexCount). count.failures + 1 < 2 ^ 64) counts.old }
+    ensures { OnOk result (counts.new ≡ raise index fail counts.old) }
 {
-    match place_of(index, counts.as_slice()) {
-        None => {
-            counts.push(one_failure(index, fail))?;
-            Ok(())
-        }
-        Some(place) => {
-            let count = counts[place];
-            if count.index == index {
-                counts[place] = with_failure(fail, count);
-                return Ok(());
+    match first_from(index, &*counts) {
+        None => counts.push(one_failure(index, fail)),
+        Some(found) => {
+            if found.count.index == index {
+                return counts.set(found.place, with_failure(fail, found.count));
             }
-            counts.insert(place, one_failure(index, fail))?;
-            Ok(())
+            counts.insert(found.place, one_failure(index, fail))
         }
     }
 }
@@ -93,12 +136,13 @@ fn raise(counts: &mut Vec<IndexCount>, index: u32, fail: bool) -> Result<(), Wan
 // # Errors
 // `Want` where there is no memory for its count.
 fn raise_for(
-    counts: &mut Vec<IndexCount>,
+    counts: &mut IndexCounts,
     failure: &Option<FailurePolicy>,
     pod: &Pod,
 ) -> Result<(), Want>
-    requires { All (λ (count : IndexCount). count.failures + 1 < 2 ^ 64) counts.old.items }
-    ensures { OnOk result (counts.new.items ≡ raise_for failure.now pod.now counts.old.items) }
+    requires ascending { IsIncreasing (map (λ (count : IndexCount). count.index) counts.old) }
+    requires fit { All (λ (count : IndexCount). count.failures + 1 < 2 ^ 64) counts.old }
+    ensures { OnOk result (counts.new ≡ raise_for failure.now pod.now counts.old) }
 {
     match pod.index {
         None => Ok(()),
@@ -113,24 +157,22 @@ fn is_newly_failed(job: &Job, uids: &[Uid], pod: &Pod) -> bool
     is_own(job, pod) && is_among(pod.uid, uids)
 }
 
-// The Job's counts with the failure of each of its pods of these UIDs, the last of them first.
+// The Job's counts with the failure of each of its pods of these UIDs, the last of them first. They share
+// the memory of the Job's counts but for what is raised.
 //
 // # Errors
 // `Want` where there is no memory for them.
-pub(crate) fn raise_each(
-    alloc: Global,
-    job: &Job,
-    uids: &[Uid],
-    pods: &[Pod],
-) -> Result<Vec<IndexCount>, Want>
+pub(crate) fn raise_each(job: &Job, uids: &[Uid], pods: &[Arc<Pod>]) -> Result<IndexCounts, Want>
     requires few { length pods.now < 2 ^ 31 }
+    requires ascending { IsIncreasing (map (λ (count : IndexCount). count.index)
+        job.now.status.index_failures) }
     requires fit { All (λ (count : IndexCount). count.failures + length pods.now < 2 ^ 64)
         job.now.status.index_failures }
-    ensures { IfOk result (λ counts. counts.items
+    ensures { IfOk result (λ counts. counts
         ≡ raise_each job.now.spec.failure job.now.status.index_failures
         (newly_failed (own_pods job.now pods.now) uids.now)) }
 {
-    let mut counts = Vec::from_slice(alloc, job.status.index_failures.as_slice())?;
+    let mut counts = job.status.index_failures.copy()?;
     for place in (0..pods.len()).rev() {
         let pod = &pods[place];
         if is_newly_failed(job, uids, pod) {

@@ -1,6 +1,19 @@
 //! Which indexes have failed.
 
-ghost use Rattle.std.specs.Prelude.{◌≡◌, ◌<◌, ◌≤◌, ◌^◌, IfOk, IfSome, IsSome, filter, length, map};
+ghost use Rattle.std.specs.Prelude.{
+  ◌≡◌,
+  ◌<◌,
+  ◌≤◌,
+  ◌++◌,
+  ◌^◌,
+  IfOk,
+  IfSome,
+  IsSome,
+  OnOk,
+  filter,
+  length,
+  map,
+};
 ghost use Rattle.jc_ranges.specs.Sets.{IsIncreasing};
 ghost use Rattle.jc_types.specs.declared.limits.TheConstants.{GREATEST_COMPLETIONS};
 ghost use Rattle.jc_types.specs.declared.statuses.IndexCount.{IndexCount};
@@ -20,7 +33,32 @@ fn has_failed(limit: u32, completions: u32, completed: &Ranges, count: IndexCoun
     ensures { result ≡ has_failed limit completions completed.now count }
 {
     count.index < completions
-        && (!completed.contains(count.index) && (u64::from(limit) < count.failures || count.fail))
+        && (u64::from(limit) < count.failures || count.fail)
+        && !completed.contains(count.index)
+}
+
+// Adds the indexes of a piece that have failed to those of the pieces before.
+//
+// # Errors
+// `Want` where there is no memory for them.
+fn add_failed(
+    set: &mut Ranges,
+    limit: u32,
+    completions: u32,
+    completed: &Ranges,
+    counts: &[IndexCount],
+) -> Result<(), Want>
+    requires ascending { IsIncreasing (set.old ++ map (λ (count : IndexCount). count.index) counts.now) }
+    requires few { completions ≤ GREATEST_COMPLETIONS }
+    ensures { OnOk result (set.new ≡ set.old ++ map (λ (count : IndexCount). count.index)
+        (filter (has_failed limit completions completed.now) counts.now)) }
+{
+    for count in counts {
+        if has_failed(limit, completions, completed, *count) {
+            set.insert(count.index)?;
+        }
+    }
+    Ok(())
 }
 
 // The indexes that have failed, of counts in ascending index.
@@ -29,7 +67,7 @@ fn failed_of(
     limit: u32,
     completions: u32,
     completed: &Ranges,
-    counts: &[IndexCount],
+    counts: &IndexCounts,
 ) -> Result<Ranges, Want>
     requires ascending { IsIncreasing (map (λ (count : IndexCount). count.index) counts.now) }
     requires few { completions ≤ GREATEST_COMPLETIONS }
@@ -37,10 +75,9 @@ fn failed_of(
         (filter (has_failed limit completions completed.now) counts.now)) }
 {
     let mut set = Ranges::new(alloc);
-    for count in counts {
-        if has_failed(limit, completions, completed, *count) {
-            set.insert(count.index)?;
-        }
+    let pieces = counts.pieces();
+    for piece in pieces {
+        add_failed(&mut set, limit, completions, completed, piece.as_slice())?;
     }
     Ok(set)
 }
@@ -51,7 +88,7 @@ fn failed_set(
     job: &Job,
     limit: u32,
     completed: &Ranges,
-    counts: &[IndexCount],
+    counts: &IndexCounts,
 ) -> Result<Ranges, Want>
     requires ascending { IsIncreasing (map (λ (count : IndexCount). count.index) counts.now) }
     requires valid { IsValidSpec job.now.spec }
@@ -64,31 +101,20 @@ fn failed_set(
     failed_of(alloc, limit, completions, completed, counts)
 }
 
-// The counts in a list of their own.
-fn listed(alloc: Global, counts: &[IndexCount]) -> Result<IndexCounts, Want>
-    ensures { IfOk result (λ list. list ≡ counts.now) }
-{
-    let mut list = IndexCounts::new(alloc);
-    for count in counts {
-        list.push(*count)?;
-    }
-    Ok(list)
-}
-
 // The Job's counts with the failure of each of its pods of these UIDs: it goes over those pods alone at
 // which a sync has to look.
 //
 // # Errors
 // `Want` where there is no memory for them.
-fn raised(alloc: Global, job: &Job, pods: &Pods, uids: &[Uid]) -> Result<Vec<IndexCount>, Want>
+fn raised(job: &Job, pods: &Pods, uids: &[Uid]) -> Result<IndexCounts, Want>
     requires few { length pods.now < 2 ^ 31 }
     requires failures { FailuresFit job.now pods.now }
-    ensures { IfOk result (λ counts. counts.items
+    ensures { IfOk result (λ counts. counts
         ≡ raise_each job.now.spec.failure job.now.status.index_failures
         (newly_failed (own_pods job.now pods.now) uids.now)) }
 {
     let noted = pods.noted(job.uid, uids, &[])?;
-    raise_each(alloc, job, uids, noted.as_slice())
+    raise_each(job, uids, noted.as_slice())
 }
 
 // What is counted of a Job, with its failures of each index and its failed indexes.
@@ -104,10 +130,10 @@ fn fill_job(alloc: Global, job: &Job, pods: &Pods, counted: CountIn) -> Result<C
         counted.index_failures = IndexCounts::new(alloc);
         return Ok(counted);
     };
-    let counts = raised(alloc, job, pods, counted.judged_failed.as_slice())?;
-    let failed = failed_set(alloc, job, limit, &counted.completed, counts.as_slice())?;
+    let counts = raised(job, pods, counted.judged_failed.as_slice())?;
+    let failed = failed_set(alloc, job, limit, &counted.completed, &counts)?;
     counted.failed_indexes = failed;
-    counted.index_failures = listed(alloc, counts.as_slice())?;
+    counted.index_failures = counts;
     Ok(counted)
 }
 

@@ -1,6 +1,6 @@
 //! The texts of statuses: compact JSON, members in byte order.
 
-ghost use Rattle.std.specs.Prelude.{◌≡◌, IfOk, OnOk, codes, map, option_map};
+ghost use Rattle.std.specs.Prelude.{◌≡◌, ◌++◌, IfOk, OnOk, codes, map, option_map};
 ghost use Rattle.serde_json.specs.Data.{boolean, number, string, no_members};
 ghost use Rattle.serde_json.specs.View.{view, members_view};
 ghost use Rattle.serde_json.specs.Written.{compact_text};
@@ -12,7 +12,9 @@ use crate::members::{
 };
 use jc_moment::Moment;
 use jc_ranges::Ranges;
-use jc_types::{CondKind, Condition, IndexCount, JobStatus, Reason, Text, Uid, Want, uid_text};
+use jc_types::{
+    CondKind, Condition, IndexCount, IndexCounts, JobStatus, Reason, Text, Uid, Want, uid_text,
+};
 use serde_json::{Map, Value};
 use std::alloc::Global;
 
@@ -163,12 +165,28 @@ fn index_count_value(alloc: Global, count: &IndexCount) -> Result<Value, Want>
     Ok(Value::Object(members))
 }
 
-fn index_count_values(alloc: Global, counts: &[IndexCount]) -> Result<Vec<Value>, Want>
+// Adds the values of the counts of a piece.
+fn put_index_counts(
+    values: &mut Vec<Value>,
+    alloc: Global,
+    counts: &[IndexCount],
+) -> Result<(), Want>
+    ensures { OnOk result (map view values.new.items
+        ≡ map view values.old.items ++ map index_count_data counts.now) }
+{
+    for count in counts {
+        values.push(index_count_value(alloc, count)?)?;
+    }
+    Ok(())
+}
+
+fn index_count_values(alloc: Global, counts: &IndexCounts) -> Result<Vec<Value>, Want>
     ensures { IfOk result (λ values. map view values.items ≡ map index_count_data counts.now) }
 {
     let mut values = Vec::new(alloc);
-    for count in counts {
-        values.push(index_count_value(alloc, count)?)?;
+    let pieces = counts.pieces();
+    for piece in pieces {
+        put_index_counts(&mut values, alloc, piece.as_slice())?;
     }
     Ok(values)
 }
@@ -201,7 +219,7 @@ fn put_failures(members: &mut Members, alloc: Global, status: &JobStatus) -> Res
 {
     let failed = indexes_unless_none(&status.failed_indexes)?;
     put_given(members, alloc, "failedIndexes", failed)?;
-    let counts = index_count_values(alloc, status.index_failures.as_slice())?;
+    let counts = index_count_values(alloc, &status.index_failures)?;
     put_given(members, alloc, "indexFailures", list_unless_empty(counts))?;
     Ok(())
 }

@@ -3,3 +3,4 @@ pub mod ListFacts
 pub mod EqualityFacts
 pub mod ObjectEqualityFacts
 pub mod FirstPlaceFacts
+pub mod PieceFacts

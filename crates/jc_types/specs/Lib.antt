@@ -4,3 +4,4 @@ pub mod FirstPlaces
 pub mod Counts
 pub mod PastLists
 pub mod ValidSpecs
+pub mod Pieces

@@ -13,6 +13,7 @@ mod lists;
 mod numbers;
 mod objects;
 mod pasts;
+mod pieces;
 mod policies;
 mod replies;
 mod runs;
@@ -36,6 +37,7 @@ pub use lists::ListOf;
 pub use numbers::{Uid, Uids, Version};
 pub use objects::{Container, Containers, Entries, Entry, Job, Jobs, Key, Kind, Phase, Pod};
 pub use pasts::Pasts;
+pub use pieces::Pieces;
 pub use policies::{
     Action, Codes, FailurePolicy, FailureRule, FailureRules, Operator, Pattern, Patterns,
     PodCondition, PodConditions, Requirement, SuccessPolicy, SuccessRule, SuccessRules, Truth,

@@ -61,6 +61,18 @@ impl<T> ListOf<T> {
         }
     }
 
+    // The list of the items of a vector, which it takes over.
+    pub(crate) fn of_vec(alloc: Global, items: Vec<T>) -> Result<Self, Want>
+    where
+        T: Drop,
+        ensures { IfOk result (λ l. l ≡ items.items) }
+    {
+        Ok(ListOf {
+            alloc,
+            shared: Some(sync::Arc::new(alloc, items)?),
+        })
+    }
+
     /// The number of items.
     pub fn len(&self) -> usize
         ensures { result ≡ length self.now }

@@ -37,7 +37,7 @@ pub struct Job {
 }
 
 /// Jobs in an order of their own.
-pub type Jobs = ListOf<Job>;
+pub type Jobs = ListOf<Arc<Job>>;
 
 /// How far a pod has come (`PodPhase` of core/v1).
 #[derive(Clone, Copy, PartialEq, Eq, Debug)]
@@ -112,13 +112,13 @@ pub enum Kind {
 #[derive(Drop)]
 pub enum Entry {
     /// The Job was created or changed.
-    JobPut(Job),
+    JobPut(Arc<Job>),
     /// The Job was deleted.
-    JobGone(Job),
+    JobGone(Arc<Job>),
     /// The pod was created or changed.
-    PodPut(Pod),
+    PodPut(Arc<Pod>),
     /// The pod went: it was marked, had ended and lost its finalizer.
-    PodGone(Pod),
+    PodGone(Arc<Pod>),
 }
 
 /// Entries in the order of their versions.

@@ -3,6 +3,7 @@
 use crate::copies::{Copied, Same, Want};
 use crate::lists::ListOf;
 use crate::numbers::Uids;
+use crate::pieces::Pieces;
 use jc_moment::Moment;
 use jc_ranges::Ranges;
 
@@ -72,7 +73,7 @@ pub struct IndexCount {
 }
 
 /// The failures of each index that has some, in ascending index.
-pub type IndexCounts = ListOf<IndexCount>;
+pub type IndexCounts = Pieces<IndexCount>;
 
 /// The observed state of a Job.
 #[derive(Drop)]

@@ -22,7 +22,7 @@ failed_set-requires-clause-ascending c =
     let up = c.requires.failures.ascending in
     let pods = newly_failed (own_pods job c.args.pods.now) c.as_slice.result.now in
     subst (λ counts. IsIncreasing (map (λ (count : IndexCount). count.index) counts))
-    (sym (c.as_slice-2.ensures.value ∙ c.in_ok-counts.ensures ∙ each-raised job.spec.failure job.status.index_failures up pods))
+    (sym (c.in_ok-counts.ensures ∙ each-raised job.spec.failure job.status.index_failures up pods))
     (raised-ascends job.spec.failure job.status.index_failures up pods)
 
 pub returns : goal.returns
@@ -34,6 +34,6 @@ returns c =
     c.in_ok-counts.ensures
     ∙ ap (λ (uids : List Uid). raise_each job.spec.failure job.status.index_failures (newly_failed own uids)) c.as_slice.ensures
     ∙ each-raised job.spec.failure job.status.index_failures up (newly_failed own c.args.counted.judged_failed)
-    in filled-some job own c.args.counted c.in_ok-failed.failed c.in_ok-counted.field-0 c.in-Some.limit (sym (ap (λ (spec : JobSpec). spec.per_index) c.deref.ensures) ∙ c.in-Some.is)
-    (c.in_ok-failed.ensures ∙ ap (failed_set job c.in-Some.limit c.args.counted.completed) (c.as_slice-2.ensures.value ∙ now))
-    (c.in_ok-counted.ensures ∙ c.as_slice-3.ensures.value ∙ now)
+    in filled-some job own c.args.counted c.in_ok-failed.failed c.in_ok-counts.counts c.in-Some.limit (sym (ap (λ (spec : JobSpec). spec.per_index) c.deref.ensures) ∙ c.in-Some.is)
+    (c.in_ok-failed.ensures ∙ ap (failed_set job c.in-Some.limit c.args.counted.completed) now)
+    now

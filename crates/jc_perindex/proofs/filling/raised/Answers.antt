@@ -6,17 +6,17 @@ use Rattle.jc_perindex.proofs.filling.raised.Goals as goal
 
 pub raise_each-requires-clause-few : goal.raise_each-requires-clause-few
 raise_each-requires-clause-few c =
-    let few = some-few c.args.job.now c.args.pods.now _ c.args.uids.now [] (c.as_slice.ensures.value ∙ c.in_ok-noted.ensures) in
+    let few = some-few c.args.job.now c.args.pods.now _ c.args.uids.now [] (c.as_slice.ensures.value ∙ c.in_ok-noted.ensures.pods) in
     omega (arith, few, c.requires.few)
 
 pub raise_each-requires-clause-fit : goal.raise_each-requires-clause-fit
 raise_each-requires-clause-fit c =
-    let fit = some-fit c.args.job.now c.args.pods.now _ c.args.uids.now [] (c.as_slice.ensures.value ∙ c.in_ok-noted.ensures) c.requires.failures in
+    let fit = some-fit c.args.job.now c.args.pods.now _ c.args.uids.now [] (c.as_slice.ensures.value ∙ c.in_ok-noted.ensures.pods) c.requires.failures in
     fit.fit
 
 pub returns : goal.returns
 returns c =
     let job = c.args.job.now in
-    subst (λ pods. IfOk c.raise_each.result (λ counts. counts.items ≡ raise_each job.spec.failure job.status.index_failures pods))
-    (some-failed job c.args.pods.now _ c.args.uids.now [] (c.as_slice.ensures.value ∙ c.in_ok-noted.ensures))
+    subst (λ pods. IfOk c.raise_each.result (λ counts. counts ≡ raise_each job.spec.failure job.status.index_failures pods))
+    (some-failed job c.args.pods.now _ c.args.uids.now [] (c.as_slice.ensures.value ∙ c.in_ok-noted.ensures.pods))
     c.raise_each.ensures

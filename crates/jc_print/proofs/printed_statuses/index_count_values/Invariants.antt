@@ -1,7 +1,8 @@
 use Rattle.std.proofs.Common.{◌≡◌, map, take}
+use Rattle.std.specs.List.{flat_map}
 use Rattle.serde_json.specs.View.{view}
 use Rattle.jc_print.specs.PrintedStatuses.{index_count_data}
 use Rattle.jc_print.proofs.printed_statuses.index_count_values.Given as goal
 
-abbrev pub invariant-loop-count : goal.invariant-loop-count
-invariant-loop-count l = map view l.values.items ≡ map index_count_data (take l.count-index l.counts)
+abbrev pub invariant-loop-piece : goal.invariant-loop-piece
+invariant-loop-piece l = map view l.values.items ≡ map index_count_data (flat_map (λ piece. piece) (take l.piece-index l.pieces))
