@@ -1,5 +1,5 @@
 -- What an index that is added or taken out does to indexes in ascending order.
-use Rattle.std.proofs.Common.{◌≡◌, ℕ, ◌+◌, ◌-◌, ◌<◌, ◌≤◌, zero, suc, nat_lt, nat_le, ◌==◌, Bool, true, false, cond, ◌&&◌, ◌||◌, List, [], ◌∷◌, filter, length, get_or, refl, sym, ap, subst, ◌∙◌, arith, true≢false, lt-ltb, le-ltb, ltb-true, ltb-false, eqb-true, ne_eqb}
+use Rattle.std.proofs.Common.{◌≡◌, ℕ, ◌+◌, ◌-◌, ◌<◌, ◌≤◌, zero, suc, nat_lt, nat_le, ◌==◌, Bool, true, false, cond, ◌&&◌, ◌||◌, List, [], ◌∷◌, filter, length, get_or, refl, sym, ap, subst, ◌∙◌, arith, true≢false, lt-ltb, le-ltb, ltb-true, ltb-false, eq-eqb, eqb-true, ne_eqb}
 use Rattle.std.specs.List.{AllWithin, insert, list_any, remove}
 use Rattle.std.specs.List.Sorted.{IsNonDecreasingBy}
 use Rattle.std.proofs.lemmas.Bool.{cond-true, cond-false, eqb-false, le-leb, lt-leb, leb-false}
@@ -9,7 +9,7 @@ use Rattle.jc_states.specs.Held.{ClimbsFrom, is_between, place_for, repeats, tim
 -- ---- how often an index is there
 
 -- One more in front.
-times-cons : (n m : ℕ) (ms : List ℕ) → times n (m ∷ ms) ≡ times n ms + cond (m == n) 1 0
+pub times-cons : (n m : ℕ) (ms : List ℕ) → times n (m ∷ ms) ≡ times n ms + cond (m == n) 1 0
 times-cons n m ms = by (m == n)
   where
     by : (b : Bool) → length (cond b (m ∷ filter (λ k. k == n) ms) (filter (λ k. k == n) ms)) ≡ times n ms + cond b 1 0
@@ -101,6 +101,24 @@ repeats-few (n ∷ ns) = by (nat_lt 0 (times n ns)) (repeats-few ns)
     by true ih = omega (arith, ih)
     by false ih = omega (arith, ih)
 
+-- Where one is there once more, an index is there twice.
+pub repeats-some : (ns : List ℕ) → nat_lt 0 (repeats ns) ≡ true → (n : ℕ) × (2 ≤ times n ns)
+repeats-some [] h = let below = ltb-true 0 0 h in absurd (omega (arith, below))
+repeats-some (m ∷ ms) h = by (nat_lt 0 (times m ms)) refl (ltb-true 0 (repeats (m ∷ ms)) h) (repeats-some ms)
+  where
+    by : (s : Bool) → nat_lt 0 (times m ms) ≡ s → 0 < repeats ms + cond s 1 0 → (nat_lt 0 (repeats ms) ≡ true → (n : ℕ) × (2 ≤ times n ms))
+        → (n : ℕ) × (2 ≤ times n (m ∷ ms))
+    by true e g rest =
+        let one = ltb-true 0 (times m ms) e in
+        let more = times-cons m m ms in
+        let itself = ap {B = ℕ} (λ b. cond b 1 0) (eq-eqb m m refl) in
+        (m, omega (arith, one, more, itself))
+    by false e g rest =
+        let found = rest (lt-ltb 0 (repeats ms) (omega (arith, g))) in
+        let most = found.1 in
+        let more = times-cons found.0 m ms in
+        (found.0, omega (arith, most, more))
+
 -- Where none is there once more each is there at most once.
 pub repeats-none : (ns : List ℕ) → repeats ns ≡ 0 → (n : ℕ) → times n ns ≤ 1
 repeats-none [] h n = omega arith
@@ -173,7 +191,7 @@ ascends-remove low (m ∷ ms) zero r = ascends-lower low m ms r.0 r.1
 ascends-remove low (m ∷ ms) (suc i) r = (r.0, ascends-remove m ms i r.1)
 
 -- An index below all has its place in front.
-place-below : (low n : ℕ) (ns : List ℕ) → n ≤ low → ClimbsFrom low ns → place_for n ns ≡ 0
+pub place-below : (low n : ℕ) (ns : List ℕ) → n ≤ low → ClimbsFrom low ns → place_for n ns ≡ 0
 place-below low n [] h r = refl
 place-below low n (m ∷ ms) h r = let low_m = r.0 in cond-false (nat_lt m n) (suc (place_for n ms)) 0 (le-ltb m n (omega (arith, h, low_m)))
 
@@ -240,7 +258,7 @@ found-place low n ns r h = by (nat_lt (place_for n ns) (length ns)) refl
 -- ---- indexes in a range
 
 -- None is in a range below all.
-any-below : (low first last : ℕ) (ns : List ℕ) → last < low → ClimbsFrom low ns → list_any (is_between first last) ns ≡ false
+pub any-below : (low first last : ℕ) (ns : List ℕ) → last < low → ClimbsFrom low ns → list_any (is_between first last) ns ≡ false
 any-below low first last [] h r = refl
 any-below low first last (m ∷ ms) h r =
     let low_m = r.0 in

@@ -13,7 +13,7 @@ use Rattle.jc_states.specs.Indexes.{has_index}
 use Rattle.jc_states.specs.PodLists.{put_pod, drop_pod, IsRising}
 use Rattle.jc_states.specs.Pods.{is_tracked_active, tracked_active_pods}
 use Rattle.jc_states.specs.Tallies.{pods_for}
-use Rattle.jc_states.proofs.HeldFacts.{repeats-none}
+use Rattle.jc_states.proofs.HeldFacts.{repeats-none, repeats-some}
 use Rattle.jc_states.proofs.PodListFacts.{pod_among, drop-absent}
 use Rattle.jc_states.proofs.TallyFacts.{count-put, count-found, length-filter-cons}
 
@@ -192,6 +192,10 @@ module _ {X : Type 0} (range : ℕ → Bool) (test : X → Bool) (at : ℕ → X
       by : (b : Bool) → at n x ≡ b → 0 < length (cond b (x ∷ filter (at n) xs) (filter (at n) xs)) → (0 < length (filter (at n) xs) → list_any test xs ≡ true) → list_any test (x ∷ xs) ≡ true
       by true e g ih = front (test x) (passes n x r e)
       by false e g ih = rest (test x) (ih g)
+
+-- Where an index is there twice, two pods hold it.
+pub held-twice : (owner : Uid) (pods : List Pod) (rows : List (Uid × List ℕ)) → AreHeld pods rows → nat_lt 0 (repeats (held_by owner rows)) ≡ true → (n : ℕ) × (2 ≤ length (holders_of owner n pods))
+held-twice owner pods rows held more = let found = repeats-some (held_by owner rows) more in (found.0, subst (λ k. 2 ≤ k) (held owner found.0) found.1)
 
 -- Two tests are equal where each passes when the other does.
 both_or_none : (a b : Bool) → (a ≡ true → b ≡ true) → (b ≡ true → a ≡ true) → a ≡ b

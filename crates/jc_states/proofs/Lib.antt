@@ -3,6 +3,7 @@ pub mod PodListFacts
 pub mod PodPlaceFacts
 pub mod TallyFacts
 pub mod HeldFacts
+pub mod RunFacts
 pub mod HolderFacts
 pub mod UidListFacts
 pub mod BasisFacts

@@ -1,19 +1,18 @@
 -- Where all pods are the owner's, and no listed one is calm, the pods at odds are those at which a sync looks;
 -- and pods that are found by their UIDs, one after another.
-use Rattle.std.proofs.Common.{◌≡◌, ℕ, ◌+◌, ◌<◌, suc, zero, Bool, true, false, cond, not, ◌||◌, List, [], ◌∷◌, ◌++◌, filter, length, get_or, take, Option, Some, None, is_some, refl, sym, ap, subst, ◌∙◌, arith, true≢false}
+use Rattle.std.proofs.Common.{◌≡◌, ℕ, ◌+◌, ◌<◌, Bool, true, false, cond, not, ◌||◌, List, [], ◌∷◌, ◌++◌, filter, length, drop, get_or, map, Option, Some, None, is_some, refl, sym, ap, subst, ◌∙◌, arith, true≢false}
 use Rattle.std.specs.List.{AllByRecursion as Each, list_any}
 use Rattle.std.specs.Option.{option_map_or}
 use Rattle.std.proofs.lemmas.Bool.{or_parts}
-use Rattle.std.proofs.lemmas.List.{length-map}
 use Rattle.jc_types.specs.declared.numbers.Uid.{Uid}
 use Rattle.jc_types.specs.declared.objects.Pod.{Pod}
 use Rattle.jc_types.specs.Keys.{same_uid}
 use Rattle.jc_types.proofs.KeyFacts.{same_uid-eq}
 use Rattle.jc_types.proofs.ListFacts.{Each-both, Each-filter, Each-weaker, filter_same}
-use Rattle.jc_states.specs.Noted.{is_at_odds, is_calm, is_noted}
+use Rattle.jc_states.specs.Noted.{is_at_odds, is_calm, is_noted, odd_numbers}
 use Rattle.jc_states.specs.PodLists.{RisesFrom}
 use Rattle.jc_states.specs.Tallies.{pods_for}
-use Rattle.jc_states.specs.UidLists.{is_in, uids_of}
+use Rattle.jc_states.specs.UidLists.{is_in}
 use Rattle.jc_states.proofs.PodListFacts.{pod_among, length-filter-le, rises-found}
 
 -- ---- the pods at which a sync looks
@@ -81,35 +80,64 @@ module _ (pods : List Pod) where
   pub passing-found : (test : Pod → Bool) → RisesFrom 0 pods → AreFound (filter test pods)
   passing-found test rising = Each-filter (λ pod. pod_among pod.uid pods ≡ Some pod) test pods (rises-found 0 pods rising)
 
-  -- The pod of the next of their UIDs is the next of them.
-  next_found : (some : List Pod) (i : ℕ) (d u : Uid) → AreFound some → i < length some → u ≡ get_or (uids_of some) i d
-      → (pod : Pod) × (pod_among u pods ≡ Some pod) × (take (suc i) some ≡ take i some ++ pod ∷ [])
-  next_found [] i d u found within is = absurd (omega (arith, within))
-  next_found (pod ∷ some) zero d u found within is = (pod, ap (λ v. pod_among v pods) is ∙ found.0, refl)
-  next_found (pod ∷ some) (suc i) d u found within is =
-      let next = next_found some i d u found.1 (omega (arith, within)) is in
-      (next.0, next.1, ap (λ rest. pod ∷ rest) next.2)
+-- ---- the pods at odds, gone through by their numbers
 
--- The UIDs of the pods at odds are gone through, and the pod of each is looked up.
-module _ (inside seen : List Pod) (uids slice : List Uid) (i : ℕ) (d : Uid) (is : inside ≡ seen) (rising : RisesFrom 0 inside) (odd : uids ≡ uids_of (filter is_at_odds inside)) (shown : slice ≡ uids) (within : i < length slice) where
-  next : (pod : Pod) × (pod_among (get_or slice i d) seen ≡ Some pod) × (take (suc i) (filter is_at_odds seen) ≡ take i (filter is_at_odds seen) ++ pod ∷ [])
-  next =
-      let some = filter is_at_odds inside in
-      let few : i < length some = omega (arith, within, ap length (shown ∙ odd), length-map some (λ pod. pod.uid)) in
-      subst (λ all. (pod : Pod) × (pod_among (get_or slice i d) all ≡ Some pod) × (take (suc i) (filter is_at_odds all) ≡ take i (filter is_at_odds all) ++ pod ∷ [])) is
-      (next_found inside some i d (get_or slice i d) (passing-found inside is_at_odds rising) few (ap (λ us. get_or us i d) (shown ∙ odd)))
+-- Of the pods at odds some are found, and the numbers are those of the others.
+abbrev pub AreLeft : List Pod → List Pod → List ℕ → Type 0
+AreLeft pods copies numbers = (rest : List Pod) × (filter is_at_odds pods ≡ copies ++ rest) × (numbers ≡ map (λ pod. pod.uid.0) rest)
 
-  -- There is a pod of the next UID.
-  pub next-there : None ≡ pod_among (get_or slice i d) seen → ⊥
-  next-there none = true≢false (ap is_some (sym next.1 ∙ sym none))
+module _ (pods : List Pod) (rising : RisesFrom 0 pods) where
+  -- At first all are left.
+  pub all-left : (numbers : List ℕ) → numbers ≡ odd_numbers pods → AreLeft pods [] numbers
+  all-left numbers are = (filter is_at_odds pods, refl, are)
 
-  -- It is the next of the pods at odds.
-  pub next-odd : (pod : Pod) → Some pod ≡ pod_among (get_or slice i d) seen → take (i + 1) (filter is_at_odds seen) ≡ take i (filter is_at_odds seen) ++ pod ∷ []
-  next-odd pod found =
-      ap (λ n. take n (filter is_at_odds seen)) one_more ∙ next.2 ∙ ap (λ p. take i (filter is_at_odds seen) ++ p ∷ []) (sym (same_pod next.0 (found ∙ next.1)))
+  -- Each is the one that is found under its UID.
+  found_behind : (front rest : List Pod) (pod : Pod) → AreFound pods (front ++ pod ∷ rest) → pod_among pod.uid pods ≡ Some pod
+  found_behind [] rest pod found = found.0
+  found_behind (q ∷ front) rest pod found = found_behind front rest pod found.1
+
+  moved : (front rest : List Pod) (pod : Pod) → front ++ pod ∷ rest ≡ (front ++ pod ∷ []) ++ rest
+  moved [] rest pod = refl
+  moved (q ∷ front) rest pod = ap (λ all. q ∷ all) (moved front rest pod)
+
+  -- The pod of the next number is the next of them.
+  pub next-left : (copies : List Pod) (numbers more : List ℕ) (n : ℕ) → AreLeft pods copies numbers → numbers ≡ n ∷ more
+      → (pod : Pod) × (pod_among (record { 0 = n }) pods ≡ Some pod) × AreLeft pods (copies ++ pod ∷ []) more
+  next-left copies numbers more n left is = by left.0 left.1 (sym is ∙ left.2)
     where
-      one_more : i + 1 ≡ suc i
-      one_more = omega arith
+      by : (rest : List Pod) → filter is_at_odds pods ≡ copies ++ rest → n ∷ more ≡ map (λ pod. pod.uid.0) rest
+          → (pod : Pod) × (pod_among (record { 0 = n }) pods ≡ Some pod) × AreLeft pods (copies ++ pod ∷ []) more
+      by [] all are = absurd (omega (arith, ap length are))
+      by (pod ∷ rest) all are =
+          let head : n ≡ pod.uid.0 = ap (λ ns. get_or ns 0 0) are in
+          let tail : more ≡ map (λ (other : Pod). other.uid.0) rest = ap (λ ns. drop 1 ns) are in
+          let found = found_behind copies rest pod (subst (AreFound pods) all (passing-found pods is_at_odds rising)) in
+          (pod, ap (λ m. pod_among (record { 0 = m }) pods) head ∙ found, (rest, all ∙ moved copies rest pod, tail))
 
+  -- There is a pod of the next number.
+  pub next-there : (copies : List Pod) (numbers more : List ℕ) (n : ℕ) → AreLeft pods copies numbers → numbers ≡ n ∷ more → None ≡ pod_among (record { 0 = n }) pods → ⊥
+  next-there copies numbers more n left is none =
+      let next = next-left copies numbers more n left is in
+      true≢false (ap is_some (sym next.1 ∙ sym none))
+
+  -- It is copied.
+  pub copied-left : (copies new : List Pod) (numbers more : List ℕ) (n : ℕ) (pod copy : Pod) → AreLeft pods copies numbers → numbers ≡ n ∷ more → Some pod ≡ pod_among (record { 0 = n }) pods
+      → copy ≡ pod → new ≡ copies ++ copy ∷ [] → AreLeft pods new more
+  copied-left copies new numbers more n pod copy left is found same put =
+      let next = next-left copies numbers more n left is in
+      subst (λ all. AreLeft pods all more) (sym (put ∙ ap (λ p. copies ++ p ∷ []) (same ∙ same_pod next.0 (found ∙ next.1)))) next.2
+    where
       same_pod : (other : Pod) → Some pod ≡ Some other → pod ≡ other
       same_pod other e = cc
+
+  -- Where no number is left all are copied.
+  pub none-left : (copies : List Pod) (numbers : List ℕ) → AreLeft pods copies numbers → numbers ≡ [] → copies ≡ filter is_at_odds pods
+  none-left copies numbers left is = by left.0 left.1 (sym is ∙ left.2)
+    where
+      last : (front : List Pod) → front ++ [] ≡ front
+      last [] = refl
+      last (q ∷ front) = ap (λ all. q ∷ all) (last front)
+
+      by : (rest : List Pod) → filter is_at_odds pods ≡ copies ++ rest → [] ≡ map (λ pod. pod.uid.0) rest → copies ≡ filter is_at_odds pods
+      by [] all are = sym (all ∙ last copies)
+      by (pod ∷ rest) all are = absurd (omega (arith, ap length are))

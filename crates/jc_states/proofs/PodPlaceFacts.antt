@@ -1,9 +1,10 @@
 -- Where the pod of a UID stands among pods in ascending UID, and what is written, inserted and taken
 -- out there.
-use Rattle.std.proofs.Common.{◌≡◌, ℕ, ◌+◌, ◌<◌, ◌≤◌, suc, zero, nat_lt, ◌==◌, Bool, true, false, cond, not, List, [], ◌∷◌, ◌++◌, All, length, get_or, set, take, Option, Some, None, is_some, refl, sym, ap, subst, ◌∙◌, arith, true≢false, ltb-true, ltb-false, eqb-true, ne_eqb}
+use Rattle.std.proofs.Common.{◌≡◌, ℕ, ◌+◌, ◌<◌, ◌≤◌, suc, zero, nat_lt, ◌==◌, Bool, true, false, cond, not, List, [], ◌∷◌, ◌++◌, All, length, get_or, set, take, Option, Some, None, is_some, refl, sym, ap, subst, ◌∙◌, arith, true≢false, lt-ltb, ltb-true, ltb-false, eqb-true, ne_eqb}
 use Rattle.std.specs.List.{AllByRecursion as Each, AllWithin, insert, remove}
 use Rattle.std.specs.List.Sorted.{IsNonDecreasingBy}
 use Rattle.std.proofs.lemmas.Bool.{cond-true, cond-false, eqb-false}
+use Rattle.std.proofs.lemmas.List.{get_or_default}
 use Rattle.std.proofs.lemmas.List.Elements.{All-from_recursion}
 use Rattle.jc_types.specs.declared.numbers.Uid.{Uid}
 use Rattle.jc_types.specs.declared.objects.Pod.{Pod}
@@ -48,6 +49,16 @@ uids-rise low (pod ∷ pods) r zero zero d a b = omega arith
 uids-rise low (pod ∷ pods) r zero (suc j) d a b = let below = least (pod.uid.0 + 1) pods j d r.1 (omega (arith, b)) in omega (arith, below)
 uids-rise low (pod ∷ pods) r (suc i) zero d a b = absurd (omega (arith, a))
 uids-rise low (pod ∷ pods) r (suc i) (suc j) d a b = uids-rise (pod.uid.0 + 1) pods r.1 i j d (omega (arith, a)) (omega (arith, b))
+
+-- Above the last pod the place is at the end.
+pub place-last : (u : Uid) (pods : List Pod) (i : ℕ) (last : Pod) → RisesFrom 0 pods → i + 1 ≡ length pods → last ≡ get_or pods i last → last.uid.0 < u.0 → length pods ≡ place_from u pods
+place-last u pods i last r end is below =
+    place-splits u pods (length pods) (omega arith)
+    (λ k d a b.
+    let rise = uids-rise 0 pods r k i d (omega (arith, b, end)) (omega (arith, end)) in
+    let same = ap (λ (pod : Pod). pod.uid.0) (is ∙ get_or_default pods i last d (omega (arith, end))) in
+    lt-ltb (get_or pods k d).uid.0 u.0 (omega (arith, rise, same, below)))
+    (λ k d a b. absurd (omega (arith, a, b)))
 
 -- ---- the pod of a UID stands at its place
 

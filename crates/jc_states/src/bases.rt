@@ -10,7 +10,7 @@ pub struct Basis {
     /// The key that is synced.
     pub key: Key,
     /// The Job of the key, if there is one.
-    pub job: Option<Job>,
+    pub job: Option<Arc<Job>>,
     /// The pods that were made for Jobs of the key, as the cache shares them.
     pub pods: Arc<Pods>,
     /// The version of the Job cache.

@@ -1,6 +1,6 @@
 //! The indexes that the pods of one owner hold.
 
-ghost use Rattle.std.specs.Prelude.{◌≡◌, ◌+◌, ◌-◌, ◌==◌, ℕ, [], OnErr, OnOk, if◌then◌else◌, nat_le, nat_lt};
+ghost use Rattle.std.specs.Prelude.{◌≡◌, ◌+◌, ◌-◌, ◌<◌, ◌≤◌, ◌==◌, ℕ, [], OnErr, OnOk, false, if◌then◌else◌, nat_le, nat_lt, true};
 ghost use Rattle.std.specs.List.{list_any};
 ghost use Rattle.jc_states.specs.Held.{IsAscending, is_between, place_for, repeats, times};
 
@@ -44,6 +44,33 @@ fn is_there(indexes: &[u32], n: u32, place: usize) -> bool
     ensures { result ≡ nat_lt 0 (times n indexes.now) }
 {
     place < indexes.len() && indexes[place] == n
+}
+
+// The least index from this one on that is not there, of indexes none of which is there twice; the end where
+// there is none below it. It is found by halving: up to it the places grow as the indexes do.
+fn end_of_run(indexes: &[u32], from: u32, end: u32) -> u32
+    requires ascending { IsAscending indexes.now }
+    requires once { repeats indexes.now ≡ 0 }
+    requires range { from ≤ end }
+    ensures above { from ≤ result }
+    ensures within { result ≤ end }
+    ensures held { (n : ℕ) → from ≤ n → n < result
+        → list_any (is_between n n) indexes.now ≡ true }
+    ensures free { result < end → list_any (is_between result result) indexes.now ≡ false }
+{
+    let place = place_for(indexes, from);
+    let mut low = from;
+    let mut high = end;
+    'halving: while low < high {
+        let middle = low + (high - low) / 2;
+        let grown = place_for(indexes, middle + 1) - place;
+        if grown == (middle + 1 - from) as usize {
+            low = middle + 1;
+        } else {
+            high = middle;
+        }
+    }
+    low
 }
 
 impl Held {
@@ -102,6 +129,38 @@ impl Held {
         let indexes = self.indexes.as_slice();
         let place = place_for(indexes, first);
         place < indexes.len() && indexes[place] <= last
+    }
+
+    /// The least index from this one on that is not there; the end where there is none below it.
+    pub(crate) fn first_absent(&self, from: u32, end: u32) -> u32
+        requires { from ≤ end }
+        ensures above { from ≤ result }
+        ensures within { result ≤ end }
+        ensures held { (n : ℕ) → from ≤ n → n < result
+            → list_any (is_between n n) self.now ≡ true }
+        ensures free { result < end → list_any (is_between result result) self.now ≡ false }
+    {
+        if self.repeated == 0 {
+            return end_of_run(self.indexes.as_slice(), from, end);
+        }
+        self.walk(from, end)
+    }
+
+    // The same where an index may be there twice. It goes over the indexes one after another.
+    fn walk(&self, from: u32, end: u32) -> u32
+        requires { from ≤ end }
+        ensures above { from ≤ result }
+        ensures within { result ≤ end }
+        ensures held { (n : ℕ) → from ≤ n → n < result
+            → list_any (is_between n n) self.now ≡ true }
+        ensures free { result < end → list_any (is_between result result) self.now ≡ false }
+    {
+        for index in from..end {
+            if !self.has_between(index, index) {
+                return index;
+            }
+        }
+        end
     }
 
     /// Whether an index from this one on is there.

@@ -1,6 +1,6 @@
 //! Which indexes the active pods of each owner hold (KEP-2214).
 
-ghost use Rattle.std.specs.Prelude.{◌≡◌, ◌+◌, ◌-◌, ◌==◌, ◌&&◌, ℕ, [], None, OnErr, OnOk, if◌then◌else◌, nat_le, nat_lt};
+ghost use Rattle.std.specs.Prelude.{◌≡◌, ◌+◌, ◌-◌, ◌<◌, ◌≤◌, ◌==◌, ◌&&◌, ℕ, [], None, OnErr, OnOk, false, if◌then◌else◌, nat_le, nat_lt, true};
 ghost use Rattle.std.specs.List.{list_any};
 ghost use Rattle.jc_types.specs.declared.numbers.Uid.{Uid};
 ghost use Rattle.jc_types.specs.Keys.{same_uid};
@@ -82,6 +82,22 @@ impl Holders {
         match self.rows.get(&owner) {
             None => false,
             Some(held) => held.has_from(first),
+        }
+    }
+
+    // The least index from this one on that no pod of the owner holds; the end where there is none below it.
+    pub(crate) fn first_unheld(&self, owner: Uid, from: u32, end: u32) -> u32
+        requires { from ≤ end }
+        ensures above { from ≤ result }
+        ensures within { result ≤ end }
+        ensures held { (n : ℕ) → from ≤ n → n < result
+            → list_any (is_between n n) (held_by owner self.now) ≡ true }
+        ensures free { result < end
+            → list_any (is_between result result) (held_by owner self.now) ≡ false }
+    {
+        match self.rows.get(&owner) {
+            None => from,
+            Some(held) => held.first_absent(from, end),
         }
     }
 

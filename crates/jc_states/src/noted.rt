@@ -5,7 +5,7 @@ ghost use Rattle.jc_states.specs.Noted.{is_noted};
 
 use crate::pods::is_at_odds;
 use crate::uids::is_among;
-use jc_types::{Copied, Pod, Uid, Want};
+use jc_types::{Arc, Copied, Pod, Uid, Want};
 use std::alloc::Global;
 
 // Whether a sync of the owner has to look at the pod.
@@ -23,11 +23,11 @@ fn is_noted(pod: &Pod, owner: Uid, uids: &[Uid], more: &[Uid]) -> bool
 // `Want` where there is no memory for them.
 pub(crate) fn noted_among(
     alloc: Global,
-    pods: &[Pod],
+    pods: &[Arc<Pod>],
     owner: Uid,
     uids: &[Uid],
     more: &[Uid],
-) -> Result<Vec<Pod>, Want>
+) -> Result<Vec<Arc<Pod>>, Want>
     ensures { IfOk result (λ noted. noted.items
         ≡ filter (is_noted owner uids.now more.now) pods.now) }
 {

@@ -1,7 +1,7 @@
 //! Pods in ascending order of their UIDs, with the numbers of each owner, the UIDs of those at odds and the
 //! indexes that are held.
 
-ghost use Rattle.std.specs.Prelude.{◌≡◌, ◌∷◌, ◌++◌, ◌+◌, ◌-◌, ◌<◌, ◌≤◌, ◌==◌, ◌^◌, ◌↔◌, [], All, IfOk, IsSome, IsTrue, None, OnErr, OnOk, false, filter, find, is_some, length, if◌then◌else◌, nat_le, ℕ};
+ghost use Rattle.std.specs.Prelude.{◌≡◌, ◌∷◌, ◌++◌, ◌+◌, ◌-◌, ◌<◌, ◌≤◌, ◌==◌, ◌^◌, ◌↔◌, [], All, IfOk, IsSome, IsTrue, None, OnErr, OnOk, false, filter, find, is_some, length, if◌then◌else◌, nat_le, true, ℕ};
 ghost use Rattle.std.specs.List.{list_any};
 ghost use Rattle.std.specs.Option.{option_copied, option_map_or};
 ghost use Rattle.jc_types.specs.declared.numbers.Uid.{Uid};
@@ -11,16 +11,16 @@ ghost use Rattle.jc_states.specs.Holders.{has_index_in, held_in, holders_of, hol
 ghost use Rattle.jc_states.specs.Noted.{is_at_odds, is_calm, is_noted, with_note};
 ghost use Rattle.jc_states.specs.Pods.{tracked_active_pods};
 ghost use Rattle.jc_states.specs.Tallies.{pods_for, tally_of};
-ghost use Rattle.jc_states.specs.UidLists.{Ascends};
 
 use crate::holders::Holders;
 use crate::noted::noted_among;
-use crate::odds::{forget, note};
+use crate::odds::note;
 use crate::pods::is_at_odds;
 use crate::tallies::{Tally, enter, leave, tally_in};
 use indexmap::IndexMap;
-use jc_types::{Copied, Pod, Same, Uid, Want};
+use jc_types::{Arc, Copied, Pod, Same, Uid, Want};
 use std::alloc::Global;
+use std::collections::BTreeSet;
 use std::marker::Model;
 
 /// Pods in ascending order of their UIDs, none twice, and fewer than 2 ^ 32. A contract sees the list of the
@@ -30,11 +30,11 @@ use std::marker::Model;
 #[derive(Drop)]
 pub struct Pods {
     alloc: Global,
-    pods: Vec<Pod>,
+    pods: Vec<Arc<Pod>>,
     // The numbers of each owner. A row whose pods have gone may stay, with 0 in each number.
     tallies: IndexMap<Uid, Tally>,
-    // The UIDs of the pods that are at odds, in their order.
-    odd: Vec<Uid>,
+    // The numbers of the UIDs of the pods that are at odds.
+    odd: BTreeSet<u64>,
     // Which indexes the active pods of each owner with the finalizer hold.
     holders: Holders,
 }
@@ -48,20 +48,24 @@ impl Model for Pods {
 
     ghost view = { λ p. p.pods.items };
 
-    ghost invariant = { λ p. KeepsNotes p.pods.items p.tallies.entries p.odd.items
+    ghost invariant = { λ p. KeepsNotes p.pods.items p.tallies.entries p.odd.keys
         p.holders };
 }
 
-// The place of the first pod whose UID is at least this one, found by halving.
-fn place_from(pods: &[Pod], uid: Uid) -> usize
+// The place of the first pod whose UID is at least this one, found by halving, where not all are below it.
+fn place_from(pods: &[Arc<Pod>], uid: Uid) -> usize
     requires { IsRising pods.now }
     ensures { result ≡ place_from uid pods.now }
 {
+    let count = pods.len();
+    if count > 0 && pods[count - 1].uid.0 < uid.0 {
+        return count;
+    }
     pods.partition_point(|pod| pod.uid.0 < uid.0)
 }
 
 // Whether there is a pod of the UID, whose place this is.
-fn is_there(pods: &[Pod], uid: Uid, place: usize) -> bool
+fn is_there(pods: &[Arc<Pod>], uid: Uid, place: usize) -> bool
     requires rising { IsRising pods.now }
     requires place { place ≡ place_from uid pods.now }
     ensures { result ≡ is_some (find (λ pod. same_uid pod.uid uid) pods.now) }
@@ -71,13 +75,12 @@ fn is_there(pods: &[Pod], uid: Uid, place: usize) -> bool
 
 // Notes the pod among those at odds, or that it is not, and the index that it holds, if it holds one.
 //
-// `Want` where there is no memory for it; the UIDs and who holds which index are then as before.
-fn note_and_enter(odd: &mut Vec<Uid>, holders: &mut Holders, pod: &Pod) -> Result<(), Want>
-    requires { Ascends odd.old.items }
-    ensures noted { OnOk result (odd.new.items ≡ with_note pod.now odd.old.items) }
+// `Want` where there is no memory for it; the numbers and who holds which index are then as before.
+fn note_and_enter(odd: &mut BTreeSet<u64>, holders: &mut Holders, pod: &Pod) -> Result<(), Want>
+    ensures noted { OnOk result (odd.new.keys ≡ with_note pod.now odd.old.keys) }
     ensures entered { OnOk result ((owner : Uid) → (n : ℕ) → held_in owner n holders.new
         ≡ held_in owner n holders.old + (if holds_index owner n pod.now then 1 else 0)) }
-    ensures kept { OnErr result (odd.new.items ≡ odd.old.items) }
+    ensures kept { OnErr result (odd.new.keys ≡ odd.old.keys) }
     ensures held { OnErr result ((owner : Uid) → (n : ℕ)
         → held_in owner n holders.new ≡ held_in owner n holders.old) }
 {
@@ -98,7 +101,7 @@ impl Pods {
             alloc,
             pods: Vec::new(alloc),
             tallies: IndexMap::new(alloc),
-            odd: Vec::new(alloc),
+            odd: BTreeSet::new(alloc),
             holders: Holders::new(alloc),
         }
     }
@@ -107,16 +110,27 @@ impl Pods {
     ///
     /// # Errors
     /// `Want` where there is no memory for them.
-    pub fn from_slice(alloc: Global, items: &[Pod]) -> Result<Self, Want>
+    pub fn from_slice(alloc: Global, items: &[Arc<Pod>]) -> Result<Self, Want>
         requires rising { IsRising items.now }
         requires few { length items.now < 2 ^ 32 }
         ensures { IfOk result (λ pods. pods ≡ items.now) }
     {
         let mut pods = Pods::new(alloc);
+        pods.reserve(items.len())?;
         for pod in items {
             pods.push(pod.copy()?)?;
         }
         Ok(pods)
+    }
+
+    // Takes the memory for so many pods more.
+    //
+    // `Want` where there is none; the pods are as before.
+    fn reserve(&mut self, more: usize) -> Result<(), Want>
+        ensures { self.new ≡ self.old }
+    {
+        self.pods.reserve(more)?;
+        Ok(())
     }
 
     /// The number of pods.
@@ -136,7 +150,7 @@ impl Pods {
     }
 
     /// The pods, in ascending UID.
-    pub fn as_slice(&self) -> &[Pod]
+    pub fn as_slice(&self) -> &[Arc<Pod>]
         ensures pods { result.now ≡ self.now }
         ensures few { length self.now < 2 ^ 32 }
         ensures rising { IsRising self.now }
@@ -153,7 +167,7 @@ impl Pods {
     }
 
     /// The pod of the UID; `None` exactly where none has it. It takes no memory.
-    pub fn get(&self, uid: Uid) -> Option<&Pod>
+    pub fn get(&self, uid: Uid) -> Option<&Arc<Pod>>
         ensures { option_copied result ≡ find (λ pod. same_uid pod.uid uid) self.now }
     {
         let pods = self.pods.as_slice();
@@ -171,9 +185,10 @@ impl Pods {
     ///
     /// # Errors
     /// `Want` where there is no memory for them.
-    pub fn noted(&self, owner: Uid, uids: &[Uid], more: &[Uid]) -> Result<Vec<Pod>, Want>
-        ensures { IfOk result (λ pods. pods.items
+    pub fn noted(&self, owner: Uid, uids: &[Uid], more: &[Uid]) -> Result<Vec<Arc<Pod>>, Want>
+        ensures pods { IfOk result (λ pods. pods.items
             ≡ filter (is_noted owner uids.now more.now) self.now) }
+        ensures rising { IfOk result (λ pods. IsRising pods.items) }
     {
         if self.are_all_of(owner) && !self.has_calm(uids) && !self.has_calm(more) {
             return self.odd_pods();
@@ -208,13 +223,14 @@ impl Pods {
     // Copies of the pods at odds. It goes over no other pod.
     //
     // `Want` where there is no memory for them.
-    fn odd_pods(&self) -> Result<Vec<Pod>, Want>
+    fn odd_pods(&self) -> Result<Vec<Arc<Pod>>, Want>
         ensures pods { IfOk result (λ pods. pods.items ≡ filter is_at_odds self.now) }
         ensures rising { IsRising self.now }
     {
         let mut copies = Vec::with_capacity(self.alloc, self.odd.len())?;
-        for uid in self.odd.as_slice() {
-            let Some(pod) = self.get(*uid) else {
+        let mut numbers = self.odd.iter();
+        'copying: while let Some(number) = numbers.next() {
+            let Some(pod) = self.get(Uid(*number)) else {
                 unreachable!()
             };
             copies.push(pod.copy()?)?;
@@ -224,7 +240,8 @@ impl Pods {
 
     /// Whether two active pods with the finalizer of the owner have the same index. It goes over no pod.
     pub fn shares_index(&self, owner: Uid) -> bool
-        ensures { result ≡ false → (n : ℕ) → length (holders_of owner n self.now) ≤ 1 }
+        ensures apart { result ≡ false → (n : ℕ) → length (holders_of owner n self.now) ≤ 1 }
+        ensures shared { result ≡ true → (n : ℕ) × (2 ≤ length (holders_of owner n self.now)) }
     {
         self.holders.shares(owner)
     }
@@ -248,11 +265,25 @@ impl Pods {
         self.holders.holds_from(owner, first)
     }
 
+    /// The least index from the first one on that no active pod with the finalizer of the owner has; the end
+    /// where there is none below it. It goes over no pod.
+    pub fn first_unheld(&self, owner: Uid, from: u32, end: u32) -> u32
+        requires { from ≤ end }
+        ensures above { from ≤ result }
+        ensures within { result ≤ end }
+        ensures held { (n : ℕ) → from ≤ n → n < result
+            → list_any (has_index_in n n) (tracked_active_pods (pods_for owner self.now)) ≡ true }
+        ensures free { result < end → list_any (has_index_in result result)
+            (tracked_active_pods (pods_for owner self.now)) ≡ false }
+    {
+        self.holders.first_unheld(owner, from, end)
+    }
+
     /// Adds a pod whose UID is above all others.
     ///
     /// # Errors
     /// `Want` where there is no memory for it; the pods are then as before.
-    pub fn push(&mut self, pod: Pod) -> Result<(), Want>
+    pub fn push(&mut self, pod: Arc<Pod>) -> Result<(), Want>
         requires above { All (λ (other : Pod). other.uid.0 < pod.uid.0) self.old }
         requires few { length self.old < 2 ^ 32 - 1 }
         ensures added { OnOk result (self.new ≡ self.old ++ pod ∷ []) }
@@ -265,7 +296,7 @@ impl Pods {
     ///
     /// # Errors
     /// `Want` where there is no memory for one more pod; the pods are then as before.
-    pub fn put(&mut self, pod: Pod) -> Result<(), Want>
+    pub fn put(&mut self, pod: Arc<Pod>) -> Result<(), Want>
         requires few { length self.old < 2 ^ 32 - 1 }
         ensures puts { OnOk result (self.new ≡ put_pod pod self.old) }
         ensures kept { OnErr result (self.new ≡ self.old) }
@@ -281,7 +312,7 @@ impl Pods {
     // Writes a pod in the place of the one of its UID.
     //
     // `Want` where there is no memory for what is kept beside it; the pods are then as before.
-    fn replace_at(&mut self, place: usize, pod: Pod) -> Result<(), Want>
+    fn replace_at(&mut self, place: usize, pod: Arc<Pod>) -> Result<(), Want>
         requires place { place ≡ place_from pod.uid self.old }
         requires there { IsSome (find (λ other. same_uid other.uid pod.uid) self.old) }
         ensures puts { OnOk result (self.new ≡ put_pod pod self.old) }
@@ -299,7 +330,7 @@ impl Pods {
     // Writes a pod of a new UID before the first of a greater one.
     //
     // `Want` where there is no memory for it; the pods are then as before.
-    fn insert_at(&mut self, place: usize, pod: Pod) -> Result<(), Want>
+    fn insert_at(&mut self, place: usize, pod: Arc<Pod>) -> Result<(), Want>
         requires place { place ≡ place_from pod.uid self.old }
         requires absent { find (λ other. same_uid other.uid pod.uid) self.old ≡ None }
         requires few { length self.old < 2 ^ 32 - 1 }
@@ -317,7 +348,7 @@ impl Pods {
     }
 
     /// Takes the pod of the UID out; `None` exactly where none has it. It takes no memory.
-    pub fn take(&mut self, uid: Uid) -> Option<Pod>
+    pub fn take(&mut self, uid: Uid) -> Option<Arc<Pod>>
         ensures taken { result ≡ find (λ pod. same_uid pod.uid uid) self.old }
         ensures drops { self.new ≡ drop_pod uid self.old }
     {
@@ -328,7 +359,7 @@ impl Pods {
         }
         self.holders.leave(&self.pods[place]);
         leave(&mut self.tallies, &self.pods[place]);
-        forget(&mut self.odd, uid);
+        self.odd.remove(&uid.0);
         Some(self.pods.remove(place))
     }
 }
@@ -346,7 +377,7 @@ impl Same for Pods {
 }
 
 // Whether both have the same pods in the same places.
-fn are_same(left: &[Pod], right: &[Pod]) -> bool
+fn are_same(left: &[Arc<Pod>], right: &[Arc<Pod>]) -> bool
     ensures { IsTrue result ↔ (left.now ≡ right.now) }
 {
     if left.len() != right.len() {

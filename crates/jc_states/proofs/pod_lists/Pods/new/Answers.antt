@@ -7,6 +7,6 @@ use Rattle.jc_states.proofs.pod_lists.Pods.new.Goals as goal
 pub invariant_of-result : goal.invariant_of-result
 invariant_of-result c = record {
   tallies = kept-none c.new.result.items c.new-2.result.entries c.new.ensures.items c.new-2.ensures.empty;
-  odd = odd-none c.new.result.items c.new-3.result.items c.new.ensures.items c.new-3.ensures.items;
+  odd = odd-none c.new.result.items c.new-3.result.keys c.new.ensures.items c.new-3.ensures.empty;
   held = held-none c.new.result.items c.new-4.result c.new.ensures.items c.new-4.ensures;
 }

@@ -1,7 +1,11 @@
-use Rattle.std.proofs.Common.{◌≡◌, filter, take}
-use Rattle.jc_states.specs.Noted.{is_at_odds}
+use Rattle.std.proofs.Common.{length}
+use Rattle.jc_states.proofs.NotedFacts.{AreLeft}
 use Rattle.jc_states.proofs.pod_lists.Pods.odd_pods.Given as goal
 
--- The copies are those of the first pods at odds, as many as the index says.
-abbrev pub invariant-loop-uid : goal.invariant-loop-uid
-invariant-loop-uid l = l.copies.items ≡ take l.uid-index (filter is_at_odds l.self)
+-- Of the pods at odds some are copied, and the numbers are those of the others.
+abbrev pub invariant-copying : goal.invariant-copying
+invariant-copying l = AreLeft l.self l.copies.items l.numbers
+
+-- The numbers that are left.
+abbrev pub decreases-copying : goal.decreases-copying
+decreases-copying l = length l.numbers
