@@ -29,10 +29,11 @@ pub fn node_step(store: &Store, fates: &Fates) -> Option<NodeStep>
     can_count_on(store);
     let mut from = 0;
     'pods: while let Some(pod) = store.open_pod_from(Uid(from)) {
+        let uid = pod.uid;
         if let Some(act) = act_on(fates, pod) {
-            return Some(NodeStep { pod: pod.uid, act });
+            return Some(NodeStep { pod: uid, act });
         }
-        from = pod.uid.0 + 1;
+        from = uid.0 + 1;
     }
     None
 }

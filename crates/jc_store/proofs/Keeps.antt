@@ -189,6 +189,14 @@ counts_with_row made more owner count is sets other =
     by true s = is ∙ ap (count_of made) (same_uid-eq owner other s)
     by false s = refl
 
+-- An owner that was counted has a row.
+pub counted_row : (made : List (Uid × ℕ)) (owner : Uid) (count : ℕ) → count ≡ count_of made owner → 0 < count → IsSome (at same_uid made owner)
+counted_row made owner count is some = by (at same_uid made owner) is
+  where
+    by : (o : Option ℕ) → count ≡ unwrap_or o 0 → is_some o ≡ true
+    by None is = absurd (omega (arith, is, some))
+    by (Some n) is = refl
+
 -- A row that is put is there.
 pub row_put : (made more : List (Uid × ℕ)) (owner : Uid) (count : ℕ) → Sets same_uid made more owner (Some count) → IsSome (at same_uid more owner)
 row_put made more owner count sets =

@@ -5,7 +5,7 @@ ghost use Rattle.jc_types.specs.Keys.{same_uid};
 ghost use Rattle.jc_log.specs.Log.{pods_in, pods_of};
 
 use jc_table::PodTable;
-use jc_types::{Copied, Entry, Pod, Uid, Want};
+use jc_types::{Arc, Copied, Entry, Pod, Uid, Want};
 use std::alloc::Global;
 
 // Takes one more entry into the table of a log.
@@ -38,7 +38,7 @@ fn pods_in(alloc: Global, log: &[Entry]) -> Result<PodTable, Want>
 }
 
 // The pods of a table, in its order.
-fn listed(alloc: Global, table: &PodTable) -> Result<Vec<Pod>, Want>
+fn listed(alloc: Global, table: &PodTable) -> Result<Vec<Arc<Pod>>, Want>
     ensures { IfOk result (λ pods. pods.items ≡ table.now) }
 {
     let mut pods = Vec::new(alloc);
@@ -49,7 +49,7 @@ fn listed(alloc: Global, table: &PodTable) -> Result<Vec<Pod>, Want>
 }
 
 // The pods of one owner in a table, in its order.
-pub(super) fn owned(alloc: Global, table: &PodTable, owner: Uid) -> Result<Vec<Pod>, Want>
+pub(super) fn owned(alloc: Global, table: &PodTable, owner: Uid) -> Result<Vec<Arc<Pod>>, Want>
     ensures { IfOk result (λ pods.
         pods.items ≡ filter (λ pod. same_uid pod.owner_uid owner) table.now) }
 {
@@ -62,7 +62,7 @@ pub(super) fn owned(alloc: Global, table: &PodTable, owner: Uid) -> Result<Vec<P
 ///
 /// # Errors
 /// `Want` where there is no memory.
-pub fn pods_among(alloc: Global, log: &[Entry], owner: Uid) -> Result<Vec<Pod>, Want>
+pub fn pods_among(alloc: Global, log: &[Entry], owner: Uid) -> Result<Vec<Arc<Pod>>, Want>
     ensures { IfOk result (λ pods. pods.items ≡ pods_of owner (reverse log.now)) }
 {
     owned(alloc, &pods_in(alloc, log)?, owner)

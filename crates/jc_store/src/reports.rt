@@ -8,8 +8,8 @@ ghost use Rattle.jc_types.specs.Equality.{same_phase, same_container, same_patte
 
 use jc_states::is_same_phase;
 use jc_types::{
-    Container, ContainerChange, Containers, Copied, Name, Pattern, Patterns, Phase, PhaseChange,
-    Pod, Same, Text, Version, Want,
+    Container, ContainerChange, ContainerChanges, Containers, Copied, Name, Pattern, Patterns,
+    Phase, PhaseChange, Pod, Same, Text, Version, Want,
 };
 use std::alloc::Global;
 
@@ -30,16 +30,26 @@ pub(super) fn with_report(
     let mut changed = pod.copy()?;
     changed.version = version;
     changed.phase = change.phase;
-    changed.containers = changed_containers(
-        alloc,
-        pod.containers.as_slice(),
-        change.containers.as_slice(),
-    )?;
+    changed.containers = reported(alloc, &pod.containers, &change.containers)?;
     changed.conditions = with_conditions(alloc, &pod.conditions, change.conditions.as_slice())?;
     Ok(changed)
 }
 
-// The containers as the report says.
+// The containers as the report says. Most reports name none, and the pod's are then shared.
+fn reported(
+    alloc: Global,
+    containers: &Containers,
+    changes: &ContainerChanges,
+) -> Result<Containers, Want>
+    ensures { IfOk result (λ r. r ≡ map (changed_container changes.now) containers.now) }
+{
+    if changes.is_empty() {
+        return containers.copy();
+    }
+    changed_containers(alloc, containers.as_slice(), changes.as_slice())
+}
+
+// The containers with each change of their names.
 fn changed_containers(
     alloc: Global,
     containers: &[Container],

@@ -14,7 +14,7 @@ ghost use Rattle.jc_store.specs.Kept.{count_of};
 use super::pod_table::owned;
 use jc_states::goes;
 use jc_table::{PodTable, StoredPods, Table};
-use jc_types::{Copied, Entries, Entry, Job, Key, ListOf, Pod, Uid, Version, Want};
+use jc_types::{Arc, Copied, Entries, Entry, Job, Key, ListOf, Pod, Uid, Version, Want};
 use std::alloc::Global;
 use std::marker::Model;
 
@@ -28,7 +28,7 @@ pub struct Store {
     // How many Jobs and pods were made.
     born: u64,
     // The Jobs that are there.
-    jobs: Table<Key, Job>,
+    jobs: Table<Key, Arc<Job>>,
     // The pods that are there.
     pods: StoredPods,
     // How many pods were made for each owner that had one.
@@ -47,23 +47,17 @@ impl Model for Store {
     ghost invariant = { λ s. IsKept s.born s.jobs s.pods s.made (reverse s.log) };
 }
 
-// Makes a row for the owner's count, without a change of any count.
+// Makes a row for the owner's count, without a change of any count. An owner that was counted has one.
 fn keep_count(made: &mut Table<Uid, u32>, owner: Uid, count: u32) -> Result<(), Want>
     requires { count ≡ count_of made.old owner }
     ensures counts { (other : Uid) → count_of made.new other ≡ count_of made.old other }
     ensures row { OnOk result (IsSome (at same_uid made.new owner)) }
 {
+    if count > 0 {
+        return Ok(());
+    }
     made.put(owner, count)?;
     Ok(())
-}
-
-// A Job's key, and the entry of its write.
-fn written(job: &Job) -> Result<(Key, Entry), Want>
-    ensures key { IfOk result (λ r. r.0 ≡ job.now.key) }
-    ensures entry { IfOk result (λ r. r.1 ≡ JobPut job.now) }
-{
-    let key = job.key.copy()?;
-    Ok((key, Entry::JobPut(job.copy()?)))
 }
 
 // Writes the row of a new key, and its entry. Row and entry may be of any type, so that the proof needs not
@@ -71,22 +65,21 @@ fn written(job: &Job) -> Result<(Key, Entry), Want>
 fn add_row<R: Drop, E: Copied + Drop>(
     rows: &mut Table<Key, R>,
     log: &mut ListOf<E>,
-    key: Key,
+    key: &Key,
     row: R,
     entry: E,
 ) -> Result<(), Want>
-    requires { at same_key rows.old key ≡ None }
-    ensures row { OnOk result (rows.new ≡ puts same_key rows.old key row) }
+    requires { at same_key rows.old key.now ≡ None }
+    ensures row { OnOk result (rows.new ≡ puts same_key rows.old key.now row) }
     ensures entry { OnOk result (log.new ≡ log.old ++ entry ∷ []) }
     ensures row_kept { OnErr result (rows.new ≡ rows.old) }
     ensures entry_kept { OnErr result (log.new ≡ log.old) }
 {
-    let again = key.copy()?;
-    rows.put(key, row)?;
+    rows.put(key.copy()?, row)?;
     match log.push(entry) {
         Ok(()) => Ok(()),
         Err(want) => {
-            rows.take(&again);
+            rows.take(key);
             Err(want)
         }
     }
@@ -115,7 +108,7 @@ fn put_row<R: Drop, E: Copied + Drop>(
 fn add_pod<E: Copied + Drop>(
     pods: &mut StoredPods,
     log: &mut ListOf<E>,
-    pod: Pod,
+    pod: Arc<Pod>,
     entry: E,
 ) -> Result<(), Want>
     requires absent { find (λ p. same_uid p.uid pod.uid) pods.old ≡ None }
@@ -177,14 +170,14 @@ impl Store {
     }
 
     /// The Job of a key, as its last write left it.
-    pub fn job(&self, key: &Key) -> Option<&Job>
+    pub fn job(&self, key: &Key) -> Option<&Arc<Job>>
         ensures { option_copied result ≡ job_in key.now self.now }
     {
         self.jobs.get(key)
     }
 
     /// The pod of a UID, as its last write left it.
-    pub fn pod(&self, pod: Uid) -> Option<&Pod>
+    pub fn pod(&self, pod: Uid) -> Option<&Arc<Pod>>
         ensures { option_copied result ≡ pod_in pod self.now }
     {
         self.pods.all().get(pod)
@@ -192,7 +185,7 @@ impl Store {
 
     /// The pod that is there with the least UID from this one on. There is none where all are below
     /// it.
-    pub fn pod_at_or_after(&self, uid: Uid) -> Option<&Pod>
+    pub fn pod_at_or_after(&self, uid: Uid) -> Option<&Arc<Pod>>
         ensures { option_copied result ≡ find (λ pod. nat_le uid.0 pod.uid.0) (pods_in self.now) }
     {
         self.pods.all().at_or_after(uid)
@@ -200,7 +193,7 @@ impl Store {
 
     /// The open pod with the least UID from this one on. There is none where each that is there is
     /// below it or has ended.
-    pub fn open_pod_from(&self, uid: Uid) -> Option<&Pod>
+    pub fn open_pod_from(&self, uid: Uid) -> Option<&Arc<Pod>>
         ensures { option_copied result
             ≡ find (λ pod. nat_le uid.0 pod.uid.0 && is_open pod) (pods_in self.now) }
     {
@@ -208,7 +201,7 @@ impl Store {
     }
 
     /// The Jobs that are there, by key, in ascending UID.
-    pub fn jobs(&self) -> &Table<Key, Job>
+    pub fn jobs(&self) -> &Table<Key, Arc<Job>>
         ensures rows { result.now ≡ jobs_in self.now }
         ensures rising { RowsRise 0 result.now }
     {
@@ -227,7 +220,7 @@ impl Store {
     ///
     /// # Errors
     /// `Want` where there is no memory.
-    pub fn pods_of(&self, owner: Uid) -> Result<Vec<Pod>, Want>
+    pub fn pods_of(&self, owner: Uid) -> Result<Vec<Arc<Pod>>, Want>
         ensures { IfOk result (λ pods. pods.items ≡ pods_of owner self.now) }
     {
         owned(self.alloc, self.pods.all(), owner)
@@ -268,8 +261,10 @@ impl Store {
         ensures kept { OnErr result (self.new ≡ self.old) }
     {
         let born = self.born() + 1;
-        let (key, entry) = written(&job)?;
-        add_row(&mut self.jobs, &mut self.log, key, job, entry)?;
+        let job = Arc::new(self.alloc, job)?;
+        let entry = Entry::JobPut(job.copy()?);
+        let made = job.copy()?;
+        add_row(&mut self.jobs, &mut self.log, &made.key, job, entry)?;
         self.born = born;
         Ok(())
     }
@@ -281,8 +276,10 @@ impl Store {
         ensures added { OnOk result (self.new ≡ JobPut job ∷ self.old) }
         ensures kept { OnErr result (self.new ≡ self.old) }
     {
-        let (key, entry) = written(&job)?;
-        put_row(&mut self.jobs, &mut self.log, &key, job, entry)?;
+        let job = Arc::new(self.alloc, job)?;
+        let entry = Entry::JobPut(job.copy()?);
+        let written = job.copy()?;
+        put_row(&mut self.jobs, &mut self.log, &written.key, job, entry)?;
         Ok(())
     }
 
@@ -293,9 +290,10 @@ impl Store {
         ensures added { OnOk result (self.new ≡ JobGone job ∷ self.old) }
         ensures kept { OnErr result (self.new ≡ self.old) }
     {
-        let key = job.key.copy()?;
-        self.log.push(Entry::JobGone(job))?;
-        self.jobs.take(&key);
+        let gone = Arc::new(self.alloc, job)?;
+        let entry = Entry::JobGone(gone.copy()?);
+        self.log.push(entry)?;
+        self.jobs.take(&gone.key);
         Ok(())
     }
 
@@ -312,6 +310,7 @@ impl Store {
         let count = self.made_for(owner);
         let more = count + 1;
         keep_count(&mut self.made, owner, count)?;
+        let pod = Arc::new(self.alloc, pod)?;
         let entry = Entry::PodPut(pod.copy()?);
         add_pod(&mut self.pods, &mut self.log, pod, entry)?;
         self.made.replace(&owner, more);
@@ -326,6 +325,7 @@ impl Store {
         ensures added { OnOk result (self.new ≡ pod_entry pod ∷ self.old) }
         ensures kept { OnErr result (self.new ≡ self.old) }
     {
+        let pod = Arc::new(self.alloc, pod)?;
         if goes(&pod) {
             self.end_pod(pod)
         } else {
@@ -334,7 +334,7 @@ impl Store {
     }
 
     // Writes a pod that is there and stays.
-    fn write_pod(&mut self, pod: Pod) -> Result<(), Want>
+    fn write_pod(&mut self, pod: Arc<Pod>) -> Result<(), Want>
         requires version { pod.version ≡ next_version self.old }
         requires step { CanGo (life pod.uid self.old) pod }
         requires stays { goes pod ≡ false }
@@ -348,7 +348,7 @@ impl Store {
     }
 
     // Takes a pod away.
-    fn end_pod(&mut self, pod: Pod) -> Result<(), Want>
+    fn end_pod(&mut self, pod: Arc<Pod>) -> Result<(), Want>
         requires version { pod.version ≡ next_version self.old }
         requires step { CanGo (life pod.uid self.old) pod }
         requires goes { goes pod ≡ true }

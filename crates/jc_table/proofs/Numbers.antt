@@ -4,16 +4,7 @@ use Rattle.std.specs.BTreeMap.{is_at}
 use Rattle.std.specs.BTreeMap.Range.{range_contains}
 use Rattle.std.specs.declared.ops.Bound.TheVariants.{Included, Unbounded}
 use Rattle.std.proofs.lemmas.Bool.{eqb-false}
-
--- They tie where they are the same.
-compared : (a b : ℕ) → is_eq (nat_cmp a b) ≡ (a == b)
-compared a b = by (nat_lt a b) refl (a == b) refl
-  where
-    by : (lt : Bool) → nat_lt a b ≡ lt → (eq : Bool) → (a == b) ≡ eq → is_eq (cond lt Less (cond eq Equal Greater)) ≡ eq
-    by true l true e = let below = ltb-true a b l in let is = eqb-true a b e in absurd (omega (arith, below, is))
-    by true l false e = refl
-    by false l true e = refl
-    by false l false e = refl
+use Rattle.jc_states.proofs.OddFacts.{compared}
 
 -- A query by a number asks whether another is the same.
 pub asks : (u : ℕ) → is_at (nat_cmp u) ≡ (λ k. u == k)

@@ -125,11 +125,14 @@ impl<K: Eq + Hash + Copied, V: Drop> Table<K, V> {
         ensures kept { OnErr result (self.new ≡ self.old) }
         ensures new_key { OnErr result (at K.eq self.old key ≡ None) }
     {
-        if self.contains(&key) {
-            self.replace(&key, value);
-            return Ok(());
-        }
-        self.push(key, value)
+        let Some(number) = self.numbers.get(&key) else {
+            return self.push(key, value);
+        };
+        let Some(row) = self.rows.get_mut(number) else {
+            unreachable!()
+        };
+        row.1 = value;
+        Ok(())
     }
 
     // Writes the value in a new row at the end.

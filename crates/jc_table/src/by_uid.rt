@@ -7,7 +7,7 @@ ghost use Rattle.jc_types.specs.declared.objects.Pod.{Pod};
 ghost use Rattle.jc_types.specs.Keys.{same_uid};
 ghost use Rattle.jc_states.specs.PodLists.{IsRising, drop_pod, put_pod};
 
-use jc_types::{Pod, Uid, Want};
+use jc_types::{Arc, Pod, Uid, Want};
 use std::alloc::Global;
 use std::collections::BTreeMap;
 use std::collections::btree_map::Values;
@@ -17,7 +17,7 @@ use std::marker::Model;
 #[derive(Drop)]
 pub struct PodTable {
     // Each pod in the row of its UID's number, in ascending UID.
-    rows: BTreeMap<u64, Pod>,
+    rows: BTreeMap<u64, Arc<Pod>>,
 }
 
 impl Model for PodTable {
@@ -58,14 +58,14 @@ impl PodTable {
     }
 
     /// The pod of the UID; `None` exactly where none has it.
-    pub fn get(&self, uid: Uid) -> Option<&Pod>
+    pub fn get(&self, uid: Uid) -> Option<&Arc<Pod>>
         ensures { option_copied result ≡ find (λ pod. same_uid pod.uid uid) self.now }
     {
         self.rows.get(&uid.0)
     }
 
     /// The pod with the least UID from this one on; `None` exactly where all are below it.
-    pub fn at_or_after(&self, uid: Uid) -> Option<&Pod>
+    pub fn at_or_after(&self, uid: Uid) -> Option<&Arc<Pod>>
         ensures { option_copied result ≡ find (λ pod. nat_le uid.0 pod.uid.0) self.now }
     {
         let (_uid, pod) = self.rows.range(uid.0..).next()?;
@@ -73,7 +73,7 @@ impl PodTable {
     }
 
     /// All pods, in ascending UID.
-    pub fn values(&self) -> Values<'_, u64, Pod>
+    pub fn values(&self) -> Values<'_, u64, Arc<Pod>>
         ensures pods { result ≡ self.now }
         ensures runs { ShowsInOrder (deref {X = Pod}) }
         ensures fits { length self.now < 2 ^ 63 }
@@ -85,7 +85,7 @@ impl PodTable {
     ///
     /// # Errors
     /// `Want` where there is no memory for a new row; the table is then as before.
-    pub fn put(&mut self, pod: Pod) -> Result<(), Want>
+    pub fn put(&mut self, pod: Arc<Pod>) -> Result<(), Want>
         ensures puts { OnOk result (self.new ≡ put_pod pod self.old) }
         ensures kept { OnErr result (self.new ≡ self.old) }
         ensures new_uid { OnErr result (find (λ p. same_uid p.uid pod.uid) self.old ≡ None) }
@@ -95,7 +95,7 @@ impl PodTable {
     }
 
     /// Writes a pod in the place of the one of its UID. It takes no memory.
-    pub fn replace(&mut self, pod: Pod)
+    pub fn replace(&mut self, pod: Arc<Pod>)
         requires { IsSome (find (λ p. same_uid p.uid pod.uid) self.old) }
         ensures { self.new ≡ put_pod pod self.old }
     {
@@ -106,7 +106,7 @@ impl PodTable {
     }
 
     /// Takes the pod of the UID out; `None` exactly where none has it. It takes no memory.
-    pub fn take(&mut self, uid: Uid) -> Option<Pod>
+    pub fn take(&mut self, uid: Uid) -> Option<Arc<Pod>>
         ensures taken { result ≡ find (λ pod. same_uid pod.uid uid) self.old }
         ensures drops { self.new ≡ drop_pod uid self.old }
     {

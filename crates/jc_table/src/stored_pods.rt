@@ -13,7 +13,7 @@ ghost use Rattle.jc_table.specs.Open.{CanReplace};
 
 use super::PodTable;
 use jc_states::is_open;
-use jc_types::{Pod, Uid, Want};
+use jc_types::{Arc, Pod, Uid, Want};
 use std::alloc::Global;
 use std::collections::BTreeSet;
 use std::marker::Model;
@@ -70,7 +70,7 @@ impl StoredPods {
     }
 
     /// The open pod with the least UID from this one on; `None` exactly where there is none.
-    pub fn open_from(&self, uid: Uid) -> Option<&Pod>
+    pub fn open_from(&self, uid: Uid) -> Option<&Arc<Pod>>
         ensures { option_copied result
             ≡ find (λ pod. nat_le uid.0 pod.uid.0 && is_open pod) self.now }
     {
@@ -82,7 +82,7 @@ impl StoredPods {
     ///
     /// # Errors
     /// `Want` where there is no memory for it; the pods are then as before.
-    pub fn add(&mut self, pod: Pod) -> Result<(), Want>
+    pub fn add(&mut self, pod: Arc<Pod>) -> Result<(), Want>
         requires absent { find (λ p. same_uid p.uid pod.uid) self.old ≡ None }
         requires begins_open { is_open pod ≡ true }
         ensures puts { OnOk result (self.new ≡ put_pod pod self.old) }
@@ -101,7 +101,7 @@ impl StoredPods {
 
     /// Writes a pod in the place of the one of its UID. One that has ended does not open again. It
     /// takes no memory.
-    pub fn replace(&mut self, pod: Pod)
+    pub fn replace(&mut self, pod: Arc<Pod>)
         requires { CanReplace pod (find (λ p. same_uid p.uid pod.uid) self.old) }
         ensures { self.new ≡ put_pod pod self.old }
     {

@@ -6,7 +6,7 @@ ghost use Rattle.jc_log.specs.Log.{RowsRise, jobs_in, pods_in};
 
 use jc_states::Pods;
 use jc_store::Store;
-use jc_types::{Copied, Jobs, ListOf, Pod, Version, Want};
+use jc_types::{Arc, Copied, Jobs, ListOf, Pod, Version, Want};
 use std::alloc::Global;
 
 /// The Jobs that are there, in ascending UID, and the log's length.
@@ -40,7 +40,7 @@ pub fn list_pods(alloc: Global, store: &Store) -> Result<(Pods, Version), Want>
 }
 
 // Copies of the pods that are there, in ascending UID.
-fn copies(alloc: Global, store: &Store) -> Result<ListOf<Pod>, Want>
+fn copies(alloc: Global, store: &Store) -> Result<ListOf<Arc<Pod>>, Want>
     ensures pods { IfOk result (λ list. list ≡ pods_in store.now) }
     ensures few { length (pods_in store.now) < 2 ^ 32 }
 {

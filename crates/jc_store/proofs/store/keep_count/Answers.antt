@@ -1,5 +1,10 @@
-use Rattle.jc_store.proofs.Keeps.{counts_with_row, row_put}
+use Rattle.jc_store.proofs.Keeps.{counted_row, counts_with_row, row_put}
 use Rattle.jc_store.proofs.store.keep_count.Goals as goal
+
+-- An owner that was counted has a row.
+pub returns-then-count-gt0-clause-row : goal.returns-then-count-gt0-clause-row
+returns-then-count-gt0-clause-row c =
+    counted_row c.args.made.now c.args.owner c.args.count c.requires c.if-count-gt0.true
 
 pub returns-clause-counts : goal.returns-clause-counts
 returns-clause-counts c =

@@ -1,6 +1,8 @@
-use Rattle.std.proofs.Common.{◌+◌, ◌++◌, ◌∷◌, [], ap, not, sym, subst, ◌∙◌, arith}
+use Rattle.std.proofs.Common.{◌+◌, ◌++◌, ◌∷◌, [], ap, find, not, sym, subst, ◌∙◌, arith}
 use Rattle.jc_types.specs.declared.objects.Entry.TheVariants.{PodPut}
-use Rattle.jc_states.specs.Pods.{is_final}
+use Rattle.jc_types.specs.Keys.{same_uid}
+use Rattle.jc_states.specs.PodLists.{put_pod}
+use Rattle.jc_states.specs.Pods.{is_final, is_open}
 use Rattle.jc_log.specs.Log.{living, made_for}
 use Rattle.jc_log.specs.Writes.{Stored}
 use Rattle.jc_log.proofs.CountFacts.{made_within}
@@ -20,11 +22,12 @@ keep_count-requires c =
 
 pub add_pod-requires-clause-absent : goal.add_pod-requires-clause-absent
 add_pod-requires-clause-absent c =
-    pod_there c.self.inside.pods c.self.inside.log c.args.self.now c.args.pod.uid c.self.invariant.pods_there c.self.view_is
+    ap (λ q. find (λ p. same_uid p.uid q.uid) c.self.inside.pods) c.in_ok-pod.ensures
+    ∙ pod_there c.self.inside.pods c.self.inside.log c.args.self.now c.args.pod.uid c.self.invariant.pods_there c.self.view_is
     ∙ ap living (new_never c.args.self.now c.args.pod (subst Stored c.self.view_is c.self.invariant.stored) c.requires.new_pod)
 
 pub add_pod-requires-clause-begins_open : goal.add_pod-requires-clause-begins_open
-add_pod-requires-clause-begins_open c = ap (λ phase. not (is_final phase)) c.requires.new_pod.phase
+add_pod-requires-clause-begins_open c = ap is_open c.in_ok-pod.ensures ∙ ap (λ phase. not (is_final phase)) c.requires.new_pod.phase
 
 pub replace-requires : goal.replace-requires
 replace-requires c = c.in_ok-keep_count.ensures.row
@@ -34,5 +37,6 @@ invariant_of-self-2 c =
     make_pod-keeps c.self.inside.born (c.born-born.result + 1) c.self.inside.jobs c.self.inside.pods c.add_pod.new.pods c.self.inside.made
     c.keep_count.new.made c.replace.new.self c.self.inside.log c.add_pod.new.log c.args.self.now c.args.pod
     c.made_for-count.result c.self.invariant c.self.view_is
-    (c.in_ok-add_pod.ensures.entry ∙ ap (λ p. c.self.inside.log ++ PodPut p ∷ []) c.in_ok-copy.ensures) c.in_ok-add_pod.ensures.row c.keep_count.ensures.counts c.made_for-count.ensures c.replace.ensures.sets
+    (c.in_ok-add_pod.ensures.entry ∙ ap (λ p. c.self.inside.log ++ PodPut p ∷ []) (c.in_ok-copy.ensures ∙ c.in_ok-pod.ensures))
+    (c.in_ok-add_pod.ensures.row ∙ ap (λ p. put_pod p c.self.inside.pods) c.in_ok-pod.ensures) c.keep_count.ensures.counts c.made_for-count.ensures c.replace.ensures.sets
     (ap (λ n. n + 1) c.born-born.ensures.value) c.requires.few c.requires.version c.requires.new_pod
