@@ -1,9 +1,9 @@
 -- What the rows of a cache are once one more object is put or dropped.
-use Rattle.std.proofs.Common.{◌≡◌, ℕ, ◌+◌, ◌≤◌, zero, suc, nat_lt, Bool, true, false, cond, not, ◌==◌, List, [], ◌∷◌, ◌++◌, filter, length, take, Option, Some, None, is_some, refl, sym, ap, subst, ◌∙◌, arith, true≢false, ltb-true, le-ltb, ne_eqb}
+use Rattle.std.proofs.Common.{◌≡◌, ℕ, ◌+◌, ◌≤◌, zero, suc, nat_lt, Bool, true, false, cond, not, ◌==◌, List, [], ◌∷◌, ◌++◌, filter, length, take, Some, None, is_some, refl, sym, ap, subst, ◌∙◌, arith, true≢false, ltb-true, le-ltb, ne_eqb}
 use Rattle.std.specs.Map.{set_value}
-use Rattle.std.specs.List.{AllByRecursion as Each}
+use Rattle.std.specs.List.{AllByRecursion as Each, list_all}
 use Rattle.std.specs.Option.{option_map_or}
-use Rattle.std.proofs.lemmas.Bool.{cond-true, cond-false}
+use Rattle.std.proofs.lemmas.Bool.{and_parts, cond-true, cond-false}
 use Rattle.std.proofs.lemmas.List.{length-take-le}
 use Rattle.jc_types.specs.declared.objects.Entry.{Entry}
 use Rattle.jc_types.specs.declared.objects.Entry.TheVariants.{JobPut, JobGone, PodPut, PodGone}
@@ -21,7 +21,7 @@ use Rattle.jc_types.proofs.ListFacts.{Each-weaker, Each-take}
 use Rattle.jc_log.proofs.TableFacts.{set_value-puts, Sets-puts}
 use Rattle.jc_states.proofs.PodListFacts.{length-filter-le, put_pod-above, put_pod-below, put_pod-there, rises_filter}
 use Rattle.jc_log.proofs.PodFacts.{pods_in-rises, pods_in-live}
-use Rattle.jc_cache.specs.Caches.{job_rows, AreApart, pods_at, owned_after}
+use Rattle.jc_cache.specs.Caches.{job_rows, AreApart, HoldsByOwner, pods_at, owned_after}
 
 -- ---- Jobs
 
@@ -60,21 +60,35 @@ table-next jobs i job again key table new apart more first k a put =
 
 -- ---- the row of an owner
 
--- A value that stands at the key and is set there again changes nothing.
-pub set-same : (k : Key) (pods : List Pod) (rows : List (Key × List Pod)) → at same_key rows k ≡ Some pods → set_value (same_key k) rows pods ≡ rows
-set-same k pods [] h = refl
-set-same k pods (row ∷ rows) h = by (same_key k row.0) h (set-same k pods rows)
-  where
-    there : (x y : List Pod) → Some x ≡ Some y → x ≡ y
-    there x y e = ap (λ (o : Option (List Pod)). elim o [ None ↦ x | Some z ↦ z ]) e
-
-    by : (b : Bool) → cond b (Some row.1) (at same_key rows k) ≡ Some pods → (at same_key rows k ≡ Some pods → set_value (same_key k) rows pods ≡ rows) → cond b ((row.0, pods) ∷ rows) (row ∷ set_value (same_key k) rows pods) ≡ row ∷ rows
-    by true e ih = ap (λ all. (row.0, all) ∷ rows) (sym (there row.1 pods e))
-    by false e ih = ap (λ rest. row ∷ rest) (ih e)
-
 -- The pods that stand at the key are those under it.
 pub pods_there : (k : Key) (pods : List Pod) (rows : List (Key × List Pod)) → at same_key rows k ≡ Some pods → pods_at k rows ≡ pods
 pods_there k pods rows there = ap (λ found. option_map_or (λ all. all) found []) there
+
+-- Where all pods have one owner, its row alone holds them.
+pub one-row : (owner : Key) (pods : List Pod) → list_all (λ pod. same_key pod.owner owner) pods ≡ true → HoldsByOwner pods ((owner, pods) ∷ [])
+one-row owner pods all k = by (same_key k owner) refl
+  where
+    -- All of them are under the owner's key.
+    every : (some : List Pod) → list_all (λ pod. same_key pod.owner owner) some ≡ true → same_key k owner ≡ true → some ≡ filter (λ pod. same_key pod.owner k) some
+    every [] h s = refl
+    every (pod ∷ some) h s =
+        let own = and_parts (same_key pod.owner owner) (list_all (λ pod. same_key pod.owner owner) some) h in
+        ap (λ rest. pod ∷ rest) (every some own.1 s)
+        ∙ sym (cond-true (same_key pod.owner k) (pod ∷ filter (λ pod. same_key pod.owner k) some) (filter (λ pod. same_key pod.owner k) some)
+        (ap (same_key pod.owner) (same_key-eq k owner s) ∙ own.0))
+
+    -- None is under another key.
+    none : (some : List Pod) → list_all (λ pod. same_key pod.owner owner) some ≡ true → same_key k owner ≡ false → [] ≡ filter (λ pod. same_key pod.owner k) some
+    none [] h s = refl
+    none (pod ∷ some) h s =
+        let own = and_parts (same_key pod.owner owner) (list_all (λ pod. same_key pod.owner owner) some) h in
+        none some own.1 s
+        ∙ sym (cond-false (same_key pod.owner k) (pod ∷ filter (λ pod. same_key pod.owner k) some) (filter (λ pod. same_key pod.owner k) some)
+        (ap (λ key. same_key key k) (same_key-eq pod.owner owner own.0) ∙ same_key-either_way owner k ∙ s))
+
+    by : (b : Bool) → same_key k owner ≡ b → option_map_or (λ all. all) (cond b (Some pods) None) [] ≡ filter (λ pod. same_key pod.owner k) pods
+    by true s = every pods all s
+    by false s = none pods all s
 
 -- The first pod of an owner is put in a row of its own.
 pub put-first : (rows before new : List (Key × List Pod)) (pod again : Pod) (owner : Key) (pods : List Pod) → before ≡ rows → owner ≡ pod.owner → again ≡ pod → pods ≡ put_pod again []

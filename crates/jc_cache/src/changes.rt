@@ -4,7 +4,7 @@ ghost use Rattle.std.specs.Prelude.{◌≡◌, [], IfOk, OnErr, OnOk};
 ghost use Rattle.jc_cache.specs.Changes.{AreRoomed, HasRoomFor, all_changed, with_change};
 
 use jc_states::Pods;
-use jc_types::{Copied, Pod, Uid, Want};
+use jc_types::{Arc, Copied, Pod, Uid, Want};
 use std::alloc::Global;
 use std::collections::VecDeque;
 
@@ -12,7 +12,7 @@ use std::collections::VecDeque;
 #[derive(Drop)]
 pub enum Change {
     /// The pod was written.
-    Put(Pod),
+    Put(Arc<Pod>),
     /// The pod of the UID went.
     Gone(Uid),
 }

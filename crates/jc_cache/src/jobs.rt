@@ -8,7 +8,7 @@ ghost use Rattle.jc_log.specs.Tables.{at};
 ghost use Rattle.jc_cache.specs.Caches.{AreApart, IsNext, job_rows};
 
 use jc_table::Table;
-use jc_types::{Copied, Entry, Job, Jobs, Key, Version, Want};
+use jc_types::{Arc, Copied, Entry, Job, Jobs, Key, Version, Want};
 use std::alloc::Global;
 use std::marker::Model;
 
@@ -18,7 +18,7 @@ use std::marker::Model;
 pub struct JobCache {
     alloc: Global,
     number: Option<Version>,
-    jobs: Table<Key, Job>,
+    jobs: Table<Key, Arc<Job>>,
 }
 
 impl Model for JobCache {
@@ -30,7 +30,7 @@ impl Model for JobCache {
 }
 
 // A table of the Jobs by key, in their order.
-fn table_of(alloc: Global, jobs: &[Job]) -> Result<Table<Key, Job>, Want>
+fn table_of(alloc: Global, jobs: &[Arc<Job>]) -> Result<Table<Key, Arc<Job>>, Want>
     requires { AreApart jobs.now }
     ensures { IfOk result (λ table. table ≡ job_rows jobs.now) }
 {
@@ -44,7 +44,7 @@ fn table_of(alloc: Global, jobs: &[Job]) -> Result<Table<Key, Job>, Want>
 // Takes one more entry in. One about a pod changes nothing.
 //
 // `Want` where there is no memory for it; the table is then as before.
-fn take_in(table: &mut Table<Key, Job>, entry: &Entry) -> Result<(), Want>
+fn take_in(table: &mut Table<Key, Arc<Job>>, entry: &Entry) -> Result<(), Want>
     ensures jobs { OnOk result (table.new ≡ jobs_after entry.now table.old) }
     ensures kept { OnErr result (table.new ≡ table.old) }
 {
@@ -59,7 +59,7 @@ fn take_in(table: &mut Table<Key, Job>, entry: &Entry) -> Result<(), Want>
 }
 
 // Copies of the rows, in their order.
-fn copied_rows(alloc: Global, rows: &Table<Key, Job>) -> Result<Table<Key, Job>, Want>
+fn copied_rows(alloc: Global, rows: &Table<Key, Arc<Job>>) -> Result<Table<Key, Arc<Job>>, Want>
     ensures { IfOk result (λ copies. copies ≡ rows.now) }
 {
     let mut copies = Table::new(alloc);
@@ -90,7 +90,7 @@ impl JobCache {
     }
 
     /// The Job of the key; `None` exactly where the cache has none.
-    pub fn job(&self, key: &Key) -> Option<&Job>
+    pub fn job(&self, key: &Key) -> Option<&Arc<Job>>
         ensures { option_copied result ≡ at same_key self.now.jobs key.now }
     {
         self.jobs.get(key)

@@ -1,7 +1,9 @@
 //! The cache of pods.
 
-ghost use Rattle.std.specs.Prelude.{◌≡◌, ◌-◌, ◌<◌, ◌^◌, [], IfOk, None, OnErr, OnOk, Some, length};
+ghost use Rattle.std.specs.Prelude.{◌≡◌, ◌-◌, ◌<◌, ◌^◌, [], IfOk, None, OnErr, OnOk, Some, length, true};
+ghost use Rattle.std.specs.List.{list_all};
 ghost use Rattle.jc_types.specs.declared.objects.Entry.TheVariants.{PodGone, PodPut};
+ghost use Rattle.jc_types.specs.Keys.{same_key};
 ghost use Rattle.jc_states.specs.PodLists.{IsRising};
 ghost use Rattle.jc_cache.specs.Caches.{HasFewPods, HoldsByOwner, IsNext, TakesIn, pods_at};
 
@@ -33,17 +35,18 @@ impl Model for PodCache {
 // Puts a pod among those of its owner.
 //
 // `Want` where there is no memory for it; the rows are then as before.
-fn put_pod(alloc: Global, rows: &mut IndexMap<Key, SharedPods>, pod: &Pod) -> Result<(), Want>
+fn put_pod(alloc: Global, rows: &mut IndexMap<Key, SharedPods>, pod: &Arc<Pod>) -> Result<(), Want>
     requires few { length (pods_at pod.now.owner rows.old.entries) < 2 ^ 32 - 1 }
     ensures puts { OnOk result (TakesIn (PodPut pod.now) rows.old.entries rows.new.entries) }
     ensures kept { OnErr result (rows.new.entries ≡ rows.old.entries) }
 {
     let again = pod.copy()?;
-    if let Some(pods) = rows.get_mut(&pod.owner) {
+    let owner = &pod.owner;
+    if let Some(pods) = rows.get_mut(owner) {
         pods.put(again)?;
         return Ok(());
     }
-    let owner = pod.owner.copy()?;
+    let owner = owner.copy()?;
     let mut pods = Pods::new(alloc);
     pods.put(again)?;
     rows.insert(owner, SharedPods::new(alloc, pods)?)?;
@@ -61,7 +64,7 @@ fn drop_pod(rows: &mut IndexMap<Key, SharedPods>, pod: &Pod) -> Result<(), Want>
         return Ok(());
     };
     pods.drop_pod(pod.uid)?;
-    if pods.is_empty() {
+    if pods.is_plainly_empty() {
         rows.swap_remove(&pod.owner);
     }
     Ok(())
@@ -92,8 +95,40 @@ fn settle_row(rows: &mut IndexMap<Key, SharedPods>, key: &Key)
     pods.settle();
 }
 
+// Whether each of the pods has the owner of this key.
+fn have_owner(pods: &[Arc<Pod>], owner: &Key) -> bool
+    ensures { result ≡ list_all (λ pod. same_key pod.owner owner.now) pods.now }
+{
+    pods.iter().all(|pod| pod.owner == *owner)
+}
+
+// The pods apart by owner. Where all have the same one, they are its row as they are.
+fn rows_of(alloc: Global, pods: Pods) -> Result<IndexMap<Key, SharedPods>, Want>
+    requires rising { IsRising pods }
+    ensures { IfOk result (λ rows. HoldsByOwner pods rows.entries) }
+{
+    let Some(first) = pods.as_slice().first() else {
+        return Ok(IndexMap::new(alloc));
+    };
+    if !have_owner(pods.as_slice(), &first.owner) {
+        return mixed_rows(alloc, pods.as_slice());
+    }
+    let owner = first.owner.copy()?;
+    row_of(alloc, owner, pods)
+}
+
+// The row of the pods' one owner.
+fn row_of(alloc: Global, owner: Key, pods: Pods) -> Result<IndexMap<Key, SharedPods>, Want>
+    requires { list_all (λ pod. same_key pod.owner owner) pods ≡ true }
+    ensures { IfOk result (λ rows. HoldsByOwner pods rows.entries) }
+{
+    let mut rows = IndexMap::new(alloc);
+    rows.insert(owner, SharedPods::new(alloc, pods)?)?;
+    Ok(rows)
+}
+
 // The pods apart by owner, each in ascending UID as all of them are.
-fn rows_of(alloc: Global, pods: &[Pod]) -> Result<IndexMap<Key, SharedPods>, Want>
+fn mixed_rows(alloc: Global, pods: &[Arc<Pod>]) -> Result<IndexMap<Key, SharedPods>, Want>
     requires rising { IsRising pods.now }
     requires few { length pods.now < 2 ^ 32 }
     ensures { IfOk result (λ rows. HoldsByOwner pods.now rows.entries) }
@@ -165,7 +200,7 @@ impl PodCache {
         ensures pods { OnOk result (HoldsByOwner pods self.new.rows) }
         ensures kept { OnErr result (self.new ≡ self.old) }
     {
-        self.rows = rows_of(self.alloc, pods.as_slice())?;
+        self.rows = rows_of(self.alloc, pods)?;
         self.number = Some(at);
         Ok(())
     }

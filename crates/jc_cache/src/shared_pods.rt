@@ -49,8 +49,8 @@ impl SharedPods {
         })
     }
 
-    /// Whether there is no pod and no change waits.
-    pub fn is_empty(&self) -> bool
+    /// Whether no change waits and there is no pod. Where changes wait it says no, even if they leave no pod.
+    pub fn is_plainly_empty(&self) -> bool
         ensures { IsTrue result → length self.now ≡ 0 }
     {
         self.waiting.is_empty() && self.shared.len() == 0
@@ -87,7 +87,7 @@ impl SharedPods {
     ///
     /// # Errors
     /// `Want` where there is no memory for it; the pods are then as before.
-    pub fn put(&mut self, pod: Pod) -> Result<(), Want>
+    pub fn put(&mut self, pod: Arc<Pod>) -> Result<(), Want>
         requires few { length self.old < 2 ^ 32 - 1 }
         ensures puts { OnOk result (self.new ≡ put_pod pod self.old) }
         ensures kept { OnErr result (self.new ≡ self.old) }

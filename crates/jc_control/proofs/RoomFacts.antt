@@ -1,5 +1,5 @@
 -- Each processing key has what the end of its sync needs, whatever call is made.
-use Rattle.std.proofs.Common.{◌≡◌, ℕ, suc, ◌+◌, ◌≤◌, ◌<◌, Bool, true, false, cond, not, ◌&&◌, ◌||◌, nat_lt, List, [], ◌∷◌, ◌++◌, length, Option, Some, None, slice_get, refl, sym, ap, ◌∙◌, subst, arith, true≢false}
+use Rattle.std.proofs.Common.{◌≡◌, ℕ, suc, ◌+◌, ◌≤◌, ◌<◌, Bool, true, false, cond, not, ◌&&◌, ◌||◌, nat_lt, List, [], ◌∷◌, ◌++◌, length, Some, None, slice_get, refl, sym, ap, ◌∙◌, subst, arith, true≢false}
 use Rattle.jc_control.specs.Schedules.{AreKnown, AreSupplied, IsProvided, RoomMoves}
 use Rattle.jc_control.specs.ControllerCalls.{all_added, delays_after, noted}
 use Rattle.jc_control.specs.declared.controller.Known.{Known}

@@ -2,21 +2,25 @@
 use Rattle.std.proofs.Common.{◌≡◌, ℕ, ◌+◌, ◌≤◌, Bool, true, false, cond, ◌||◌, List, [], ◌∷◌, ◌++◌, length, take, map, Option, Some, None, is_some, slice_get, refl, sym, ap, ◌∙◌, subst, arith, true≢false}
 use Rattle.std.specs.List.{IsDistinct}
 use Rattle.std.specs.Map.{keys_of}
-use Rattle.std.specs.Option.{unwrap_or}
-use Rattle.jc_control.specs.Schedules.{AreKnown, ControllerView, unknown}
-use Rattle.jc_control.specs.ControllerCalls.{Beginning, TakesFirst, TakesKey, all_added, basis_of, begun, begun_at, begun_first, begun_unless, followed, lag, noted, noted_at, unchanged}
+use Rattle.std.specs.Prelude.{IfSome}
+use Rattle.std.specs.Option.{option_map_or, unwrap_or}
+use Rattle.jc_control.specs.Schedules.{AreKnown, ControllerView, known_of, unknown}
+use Rattle.jc_control.specs.ControllerCalls.{Beginning, TakesFirst, TakesKey, all_added, basis_of, begun, begun_at, begun_first, begun_unless, behind, first_lag, followed, lag, noted, noted_at, pods_need, unchanged}
 use Rattle.jc_control.specs.declared.begins.Begin.TheVariants.{NotSynced, NoKey, Begun}
 use Rattle.jc_control.specs.declared.begins.Lag.{Lag}
 use Rattle.jc_control.specs.declared.controller.Known.{Known}
 use Rattle.jc_queue.proofs.BackFacts.{retracted-added}
 use Rattle.jc_queue.proofs.DueFacts.{due_keys-none, due_keys-some, fewer-left, left_after-none, left_after-some, once-left}
 use Rattle.jc_queue.proofs.KeyLists.{is_in-last}
+use Rattle.jc_queue.proofs.KeySets.{is_in-plus}
 use Rattle.jc_queue.proofs.QueueFacts.{first_is_idle}
 use Rattle.jc_queue.specs.Delayed.{Delayed, due_key, due_keys, left_after, left_by}
 use Rattle.jc_queue.specs.Queued.{IsQueue, Queued, added, finished, got, got_first, has_key, plus_key, retracted, sent_back, sent_back_first, without}
-use Rattle.std.proofs.lemmas.Bool.{or_right}
+use Rattle.std.proofs.lemmas.Bool.{cond-true, or_right}
 use Rattle.jc_types.specs.declared.numbers.Version.{Version}
+use Rattle.jc_types.specs.declared.objects.Job.{Job}
 use Rattle.jc_types.specs.declared.objects.Key.{Key}
+use Rattle.jc_types.specs.declared.objects.Kind.TheVariants.{Jobs, Pods}
 use Rattle.jc_states.specs.declared.bases.Basis.{Basis}
 use Rattle.jc_types.specs.Keys.{same_key}
 use Rattle.jc_log.specs.Tables.{Sets, at}
@@ -33,6 +37,21 @@ all_added-last key q (y ∷ xs) x = all_added-last key (added q (key y)) xs x
 pub all_added-next : {X : Type 0} (key : X → Key) (q before after : Queued) (xs : List X) (i next : ℕ) (x : X) → take next xs ≡ take i xs ++ x ∷ [] → before ≡ all_added q (map key (take i xs)) → after ≡ added before (key x) → after ≡ all_added q (map key (take next xs))
 all_added-next key q before after xs i next x more b a =
     a ∙ ap (λ q. added q (key x)) b ∙ sym (all_added-last key q (take i xs) x) ∙ ap (λ ys. all_added q (map key ys)) (sym more)
+
+-- A key that is added is dirty.
+pub added-dirty : (q : Queued) (k : Key) → has_key k (added q k).dirty ≡ true
+added-dirty q k = by (has_key k q.dirty) refl
+  where
+    by : (b : Bool) → has_key k q.dirty ≡ b → has_key k (cond {A = Queued} b q (record { line = cond (has_key k q.processing) q.line (q.line ++ k ∷ []); dirty = plus_key k q.dirty; processing = q.processing })).dirty ≡ true
+    by true h = h
+    by false h = is_in-plus k k q.dirty ∙ ap (λ b. b || has_key k q.dirty) (same_key-itself k)
+
+-- A key that is the last one changes nothing, where the last one is dirty.
+pub added-again : (q : Queued) (last : Option Key) (k : Key) → IfSome last (λ j. has_key j q.dirty ≡ true) → true ≡ option_map_or (λ j. same_key j k) last false → q ≡ added q k
+added-again q None k h e = absurd (true≢false e)
+added-again q (Some last) k h e =
+    let there : has_key k q.dirty ≡ true = ap (λ j. has_key j q.dirty) (sym (same_key-eq last k (sym e))) ∙ h in
+    sym (cond-true {A = Queued} (has_key k q.dirty) q (record { line = cond (has_key k q.processing) q.line (q.line ++ k ∷ []); dirty = plus_key k q.dirty; processing = q.processing }) there)
 
 -- Keys that are added change nothing of those that are processing.
 pub added-processing : (q : Queued) (k : Key) → (added q k).processing ≡ q.processing
@@ -180,6 +199,14 @@ got_busy q new k first n =
     let h = head_is q.line k first in
     ap (λ (q : Queued). has_key k q.processing) (n ∙ ap (λ line. got_first line q) h.1)
     ∙ is_in-last k k q.processing ∙ or_right (has_key k q.processing) (same_key k k) (same_key-itself k)
+
+-- No cache is behind, by what was found of the key.
+pub lag-none : (c : ControllerView) (k : Key) (known : Known) (job : Option Job) (j p : Version) (found : Option Lag) → known ≡ known_of k c.schedule → job ≡ at same_key c.jobs k
+    → found ≡ first_lag (behind Jobs known.floor j) (behind Pods (pods_need known.floor job) p) → found ≡ None → lag k c j p ≡ None
+lag-none c k known job j p found is there e none =
+    ap (λ (known : Known). first_lag (behind Jobs known.floor j) (behind Pods (pods_need known.floor (at same_key c.jobs k)) p)) (sym is)
+    ∙ ap (λ job. first_lag (behind Jobs known.floor j) (behind Pods (pods_need known.floor job) p)) (sym there)
+    ∙ sym e ∙ none
 
 -- The answer of a begin is the basis.
 pub begun-answer : (c : ControllerView) (now : ℕ) (j p : Version) (k : Key) → Some j ≡ c.schedule.jobs_at → Some p ≡ c.schedule.pods_at → Some k ≡ slice_get c.schedule.queue.line 0 → lag k c j p ≡ None → (basis : Basis) → basis ≡ basis_of now c j p k → Begun basis ≡ (begun now c).answer

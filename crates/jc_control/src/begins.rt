@@ -1,10 +1,12 @@
 //! The begin of a sync.
 
 ghost use Rattle.std.specs.Prelude.{◌≡◌};
-ghost use Rattle.jc_control.specs.ControllerCalls.{behind, later};
+ghost use Rattle.std.specs.Option.{option_copied};
+ghost use Rattle.jc_control.specs.ControllerCalls.{behind, first_lag, later, pods_need};
+ghost use Rattle.jc_types.specs.declared.objects.Kind.TheVariants.{Jobs, Pods};
 
 use jc_states::Basis;
-use jc_types::{Arc, Kind, Version};
+use jc_types::{Arc, Job, Kind, Version};
 
 /// The answer of a begin.
 #[derive(Drop)]
@@ -43,7 +45,7 @@ pub(crate) fn later(left: Version, right: Version) -> Version
 }
 
 // The cache, where it is behind what it must have seen.
-pub(crate) fn behind(kind: Kind, need: Version, have: Version) -> Option<Lag>
+fn behind(kind: Kind, need: Version, have: Version) -> Option<Lag>
     ensures { result ≡ behind kind need have }
 {
     if have.0 < need.0 {
@@ -51,4 +53,25 @@ pub(crate) fn behind(kind: Kind, need: Version, have: Version) -> Option<Lag>
     } else {
         None
     }
+}
+
+// The first cache that is behind what the next sync of a key must know, whose floor and cached Job these
+// are: Jobs before Pods.
+pub(crate) fn first_lag(
+    floor: Version,
+    job: Option<&Arc<Job>>,
+    jobs_at: Version,
+    pods_at: Version,
+) -> Option<Lag>
+    ensures { result ≡ first_lag (behind Jobs floor jobs_at)
+        (behind Pods (pods_need floor (option_copied job.entry)) pods_at) }
+{
+    if let Some(lag) = behind(Kind::Jobs, floor, jobs_at) {
+        return Some(lag);
+    }
+    let need = match job {
+        None => floor,
+        Some(job) => later(floor, job.version),
+    };
+    behind(Kind::Pods, need, pods_at)
 }

@@ -3,7 +3,7 @@
 ghost use Rattle.std.specs.Prelude.{◌≡◌, [], IfOk, OnErr, OnOk, Some, slice_get, true, unwrap_or};
 ghost use Rattle.std.specs.Option.{option_copied, option_map};
 ghost use Rattle.jc_cache.specs.Caches.{AreApart, HasFewPods, HoldsByOwner, IsNext, job_rows};
-ghost use Rattle.jc_control.specs.Schedules.{idle, number_of, unknown};
+ghost use Rattle.jc_control.specs.Schedules.{backoff_of, idle, number_of, unknown};
 ghost use Rattle.jc_control.specs.ControllerCalls.{DeliversPods, TakesFirst, TakesKey, answered, basis_of, begun, can_begin, clocked, delivered, ended, followed, forgot, jobs_delivered, jobs_kept, kept_backoff, lag, listed_jobs, listed_pods, noted, numbered, rows_after, rows_kept, taken};
 ghost use Rattle.jc_queue.specs.Delayed.{HasOneMoment, first_of};
 ghost use Rattle.jc_queue.specs.Queued.{IsQueue, has_key};
@@ -11,7 +11,7 @@ ghost use Rattle.jc_types.specs.Keys.{same_key};
 ghost use Rattle.jc_states.specs.PodLists.{IsRising};
 ghost use Rattle.jc_log.specs.Tables.{Sets, at};
 
-use crate::begins::{Begin, Lag, behind, later};
+use crate::begins::{Begin, Lag, first_lag, later};
 use crate::ends::{Ending, SyncEnd, delay, is_lost, take_ending};
 use crate::queues::{move_due, told, with_jobs, with_owners};
 use jc_cache::{JobCache, PodCache};
@@ -19,7 +19,7 @@ use jc_moment::Moment;
 use jc_queue::{Delays, Queue};
 use jc_states::{Basis, Pods};
 use jc_table::Table;
-use jc_types::{Arc, Backoff, Copied, Entry, Jobs, Key, Kind, Version, Want};
+use jc_types::{Arc, Backoff, Copied, Entry, Job, Jobs, Key, Kind, Version, Want};
 use std::alloc::Global;
 use std::marker::Model;
 
@@ -245,14 +245,16 @@ impl Controller {
         let Some(key) = self.queue.first() else {
             return Ok(Begin::NoKey);
         };
-        if let Some(lag) = self.lag(key, jobs_at, pods_at) {
+        let known = known_of(&self.known, key);
+        let job = self.jobs.job(key);
+        if let Some(lag) = first_lag(known.floor, job, jobs_at, pods_at) {
             return Ok(Begin::Behind {
                 kind: lag.kind,
                 need: lag.need,
                 have: lag.have,
             });
         }
-        let basis = self.basis(key, jobs_at, pods_at, now)?;
+        let basis = self.basis(key, known.backoff, job, jobs_at, pods_at, now)?;
         Ok(Begin::Begun(basis))
     }
 
@@ -271,10 +273,26 @@ impl Controller {
         ensures rows { OnOk result (self.new.rows ≡ self.old.rows) }
         ensures kept { OnErr result (self.new ≡ self.old) }
     {
-        self.facts();
         let answer = self.peek(now)?;
-        self.follow(&answer)?;
+        self.begin_as(now, &answer)?;
         Ok(answer)
+    }
+
+    /// Begins a sync as `peek` has answered at this moment, without asking anew.
+    ///
+    /// # Errors
+    /// `Want` where there is no memory for it; the controller is then as before.
+    pub fn begin_as(&mut self, now: Moment, answer: &Begin) -> Result<(), Want>
+        requires foreseen { answer.now ≡ (begun now self.old).answer }
+        ensures schedule { OnOk result (self.new.schedule ≡ (begun now self.old).schedule) }
+        ensures taken { OnOk result (TakesKey answer.now self.old.schedule.queue.processing
+            self.new.schedule.queue.processing) }
+        ensures jobs { OnOk result (self.new.jobs ≡ self.old.jobs) }
+        ensures rows { OnOk result (self.new.rows ≡ self.old.rows) }
+        ensures kept { OnErr result (self.new ≡ self.old) }
+    {
+        self.facts();
+        self.follow(answer)
     }
 
     /// Takes note that a request for the key was answered with the version: its floor becomes the greater of
@@ -406,27 +424,24 @@ impl Controller {
         ensures { result ≡ lag key.now self.now jobs_at pods_at }
     {
         let floor = known_of(&self.known, key).floor;
-        let pods_need = match self.jobs.job(key) {
-            None => floor,
-            Some(job) => later(floor, job.version),
-        };
-        match behind(Kind::Jobs, floor, jobs_at) {
-            None => behind(Kind::Pods, pods_need, pods_at),
-            Some(lag) => Some(lag),
-        }
+        first_lag(floor, self.jobs.job(key), jobs_at, pods_at)
     }
 
-    // What a sync of the key starts from.
+    // What a sync of the key starts from, whose backoff and cached Job were looked up.
     fn basis(
         &self,
         key: &Key,
+        backoff: Backoff,
+        job: Option<&Arc<Job>>,
         jobs_at: Version,
         pods_at: Version,
         now: Moment,
     ) -> Result<Arc<Basis>, Want>
+        requires backoff { backoff ≡ backoff_of key.now self.now.schedule }
+        requires job { option_copied job ≡ at same_key self.now.jobs key.now }
         ensures { IfOk result (λ basis. basis ≡ basis_of now self.now jobs_at pods_at key.now) }
     {
-        let job = match self.jobs.job(key) {
+        let job = match job {
             None => None,
             Some(job) => Some(job.copy()?),
         };
@@ -437,7 +452,7 @@ impl Controller {
             jobs_at,
             pods_at,
             now,
-            backoff: known_of(&self.known, key).backoff,
+            backoff,
         };
         Arc::new(self.alloc, basis)
     }

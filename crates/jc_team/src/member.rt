@@ -20,7 +20,7 @@ ghost use Rattle.jc_runs.specs.Teams.{KnowsNothing, begin_held, begin_registers,
 ghost use Rattle.jc_runs.specs.Texts.{HasNoText};
 
 use crate::places::put;
-use crate::registers::{close, foreseen, start};
+use crate::registers::{begin, close, start};
 use crate::started::Started;
 use crate::twice::Twice;
 use jc_cache::listed_jobs_fill_the_table;
@@ -277,8 +277,7 @@ impl Member {
         if self.registers[worker].is_some() {
             return Ok(Twice::of(Reply::WorkerBusy));
         }
-        let (replies, sync) = foreseen(&mut self.controller, now)?;
-        self.controller.begin(now)?;
+        let (replies, sync) = begin(&mut self.controller, now)?;
         start(&mut self.registers, worker, sync);
         Ok(replies)
     }

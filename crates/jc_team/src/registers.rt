@@ -1,6 +1,6 @@
 //! What a begin puts into a worker's register, and what the end of a sync leaves there.
 
-ghost use Rattle.std.specs.Prelude.{◌≡◌, ◌<◌, IfOk, IsSome, None, length, set, if◌then◌else◌};
+ghost use Rattle.std.specs.Prelude.{◌≡◌, ◌<◌, IfOk, IsSome, None, OnErr, OnOk, length, set, if◌then◌else◌};
 ghost use Rattle.jc_states.specs.declared.bases.Basis.{Basis};
 ghost use Rattle.jc_states.specs.Bases.{CanPlan};
 ghost use Rattle.jc_control.specs.ControllerCalls.{begun};
@@ -15,23 +15,27 @@ use jc_control::{Begin, Controller};
 use jc_moment::Moment;
 use jc_types::{Copied, Reply, Want};
 
-// What the controller's next begin will leave: the reply, and the sync where one begins. Nothing
-// changes yet; but changes of pods that waited for a sync to end are made, so that this one copies none.
+// Begins a sync of the controller: the reply, and the sync where one begins. Changes of pods that waited for
+// a sync to end are made before, so that this one copies none.
 //
-// `Want` where there is no memory for it.
-pub(crate) fn foreseen(
+// `Want` where there is no memory for it; the controller is then as before.
+pub(crate) fn begin(
     controller: &mut Controller,
     now: Moment,
 ) -> Result<(Twice, Option<Started>), Want>
     requires { (basis : Basis) → (begun now controller.old).answer ≡ Begun basis
         → IsSome basis.job → CanPlan basis }
-    ensures same { controller.new ≡ controller.old }
+    ensures schedule { OnOk result (controller.new.schedule ≡ (begun now controller.old).schedule) }
+    ensures jobs { OnOk result (controller.new.jobs ≡ controller.old.jobs) }
+    ensures rows { OnOk result (controller.new.rows ≡ controller.old.rows) }
+    ensures kept { OnErr result (controller.new ≡ controller.old) }
     ensures reply { IfOk result (λ r. r.0 ≡ reply_of_begin (begun now controller.old).answer) }
     ensures sync { IfOk result (λ r. r.1 ≡ begun_sync (begun now controller.old).answer) }
 {
     controller.settle();
     let answer = controller.peek(now)?;
     let left = prepared(&answer)?;
+    controller.begin_as(now, &answer)?;
     Ok(left)
 }
 

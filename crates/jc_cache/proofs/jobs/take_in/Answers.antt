@@ -1,4 +1,4 @@
-use Rattle.std.proofs.Common.{◌≡◌, subst, sym}
+use Rattle.std.proofs.Common.{◌≡◌, ap, subst, sym, ◌∙◌}
 use Rattle.std.specs.Prelude.{OnOk}
 use Rattle.jc_types.specs.Keys.{same_key}
 use Rattle.jc_log.specs.Log.{jobs_after}
@@ -11,5 +11,5 @@ returns-in_ok-copy-in-JobPut-2-clause-jobs c =
     let old = c.args.table.now in
     let new = c.put.new.self in
     subst (λ e. OnOk c.put.result (new ≡ jobs_after e old)) (sym c.in-JobPut.is)
-    (subst (λ k. OnOk c.put.result (new ≡ puts same_key old k c.in-JobPut.job)) c.in_ok-copy-in-JobPut.ensures
+    (subst (λ k. OnOk c.put.result (new ≡ puts same_key old k c.in-JobPut.job)) (c.in_ok-copy-in-JobPut.ensures ∙ ap (λ job. job.key) c.deref.ensures)
     (subst (λ j. OnOk c.put.result (new ≡ puts same_key old c.in_ok-copy-in-JobPut.field-0 j)) c.in_ok-copy-in-JobPut-2.ensures c.put.ensures.puts))

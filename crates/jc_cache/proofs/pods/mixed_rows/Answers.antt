@@ -3,7 +3,7 @@ use Rattle.std.proofs.lemmas.List.{take_more}
 use Rattle.jc_types.specs.declared.objects.Entry.TheVariants.{PodPut}
 use Rattle.jc_cache.specs.Caches.{owned_after}
 use Rattle.jc_cache.proofs.CacheFacts.{first-few, first-next}
-use Rattle.jc_cache.proofs.pods.rows_of.Goals as goal
+use Rattle.jc_cache.proofs.pods.mixed_rows.Goals as goal
 
 -- Those of its owner among the first ones leave room for it.
 pub put_pod-requires : goal.put_pod-requires

@@ -2,7 +2,7 @@ use Rattle.std.proofs.Common.{◌≡◌, filter, take}
 use Rattle.jc_types.specs.declared.objects.Key.{Key}
 use Rattle.jc_types.specs.Keys.{same_key}
 use Rattle.jc_cache.specs.Caches.{pods_at}
-use Rattle.jc_cache.proofs.pods.rows_of.Given as goal
+use Rattle.jc_cache.proofs.pods.mixed_rows.Given as goal
 
 -- The rows so far have the pods before the index, each under its owner.
 abbrev pub invariant-loop-pod : goal.invariant-loop-pod
