@@ -1,6 +1,6 @@
 -- The rows of the pods that are judged now, against the pods.
 use Rattle.std.proofs.Common.{◌≡◌, ℕ, suc, ◌+◌, ◌<◌, ◌≤◌, nat_lt, add-one, Bool, true, false, not, cond, ◌&&◌, List, [], ◌∷◌, map, filter, length, get_or, drop, drop-cons, Option, Some, None, unwrap_or, refl, ap, ◌∙◌, arith, true≢false, sym}
-use Rattle.std.specs.List.{All, cons_option}
+use Rattle.std.specs.List.{All, cons_option, filter_map}
 use Rattle.std.proofs.Math.Bool.{and-false, and-true}
 use Rattle.std.proofs.lemmas.Bool.{lt-ltb}
 use Rattle.std.proofs.lemmas.List.{length-map}
@@ -26,11 +26,22 @@ use Rattle.jc_failpol.specs.Outcomes.{is_verdict, outcome_of, same_outcome}
 use Rattle.jc_account.specs.Accounts.{completed_in, new_uids}
 use Rattle.jc_account.specs.Judged.{candidates, fits, is_candidate, is_new, judged_now, left_with, newly, room}
 use Rattle.jc_account.specs.declared.judgements.Judgement.{Judgement}
-use Rattle.jc_account.specs.Judgements.{completed_judged, first_beyond, first_left, HasSmall, index_judged, indexes_judged, judgement_of, judgements, rows_beyond, rows_with, rows_within, uids_judged}
+use Rattle.jc_account.specs.Judgements.{completed_judged, first_beyond, first_left, HasSmall, index_judged, indexes_judged, judgement_if_new, judgement_of, judgements, rows_beyond, rows_with, rows_within, uids_judged}
 use Rattle.jc_account.specs.Modes.{completed_after, indexes_of, kept_indexes}
 use Rattle.jc_account.proofs.ListedFacts.{each}
 use Rattle.jc_account.proofs.Owned.{filter-least}
 use Rattle.jc_account.proofs.RoomFacts.{first-rows, kind-split, rows-judged, rows-left}
+
+-- The rows of the pods that are to be judged.
+pub rows-new : (job : Job) (pods : List Pod) → filter_map (judgement_if_new job) pods ≡ judgements job pods
+rows-new job [] = refl
+rows-new job (pod ∷ pods) = by (is_candidate job pod) (rows-new job pods)
+  where
+    by : (b : Bool) → filter_map (judgement_if_new job) pods ≡ judgements job pods
+        → cons_option (cond b (Some (judgement_of job pod)) None) (filter_map (judgement_if_new job) pods)
+        ≡ map (judgement_of job) (cond b (pod ∷ candidates job pods) (candidates job pods))
+    by true h = ap (λ rows. judgement_of job pod ∷ rows) h
+    by false h = h
 
 -- The UIDs of the rows with an outcome are those of the pods.
 uids-rows : (job : Job) (outcome : Outcome) (pods : List Pod) → uids_judged outcome (map (judgement_of job) pods) ≡ uids_of (filter (λ pod. same_outcome (outcome_of job.spec pod) outcome) pods)

@@ -8,3 +8,4 @@ pub mod Placed
 pub mod RoomFacts
 pub mod StayingFacts
 pub mod Totals
+pub mod GainFacts

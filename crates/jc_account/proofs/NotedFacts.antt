@@ -15,11 +15,10 @@ use Rattle.jc_states.specs.Conditions.{has_end}
 use Rattle.jc_states.specs.Indexes.{HasSmallIndex}
 use Rattle.jc_states.specs.Listed.{is_listed}
 use Rattle.jc_states.specs.Noted.{is_noted}
-use Rattle.jc_states.specs.PodLists.{IsRising}
 use Rattle.jc_states.specs.Pods.{is_tracked}
 use Rattle.jc_states.specs.UidLists.{is_in, merge, uids_of}
 use Rattle.jc_states.proofs.AtOddsFacts.{noted-listed, noted-odds, own-part, tidy-part, totals-part}
-use Rattle.jc_states.proofs.PodListFacts.{length-filter-le, rises_filter}
+use Rattle.jc_states.proofs.PodListFacts.{length-filter-le}
 use Rattle.jc_failpol.specs.declared.outcomes.Outcome.{Outcome}
 use Rattle.jc_failpol.specs.declared.outcomes.Outcome.TheVariants.{Alive, Failed, Succeeded}
 use Rattle.jc_failpol.specs.Outcomes.{is_verdict, outcome_of, same_outcome}
@@ -145,9 +144,6 @@ module _ (job : Job) (pods some : List Pod) (us vs : List Uid) (of_s : us ≡ jo
 
   pub some-totals : TotalsFit job pods → TotalsFit job some
   some-totals fit = subst (TotalsFit job) (sym some-is) (totals-part job (is_noted_of job) pods fit)
-
-  pub some-rising : IsRising pods → IsRising some
-  some-rising rises = subst IsRising (sym some-is) (rises_filter 0 (is_noted_of job) pods rises)
 
   pub some-small : All HasSmallIndex pods → All HasSmallIndex some
   some-small small = subst (All HasSmallIndex) (sym some-is) (All-filter (is_noted_of job) HasSmallIndex pods small)

@@ -1,6 +1,7 @@
 -- The pods that a sync judges, as rows of what is judged of each. Where the pods ascend by UID, there is room for those
 -- below the first for which there is none.
 --     judgement_of job pod           the row of the pod
+--     judgement_if_new job pod       the row of a pod that is to be judged
 --     judgements job own             the rows of the pods that are to be judged
 --     has_room_for first u              the UID is below the first for which there is no room
 --     is_fit mode first outcome u    there is room for a pod with this outcome
@@ -9,6 +10,7 @@
 --     rows_beyond mode first rows    those of the pods that are left over
 --     rows_with outcome rows         those with this outcome
 --     first_left job own             the first UID for which there is no room, of the pods
+--     has_place first spec pod       the pod has ended, and there is room for it or it takes none
 --     is_to_go first job pod           the finalizer of the pod is to go, by that UID
 --     uids_judged outcome rows       the UIDs of those with this outcome
 --     index_judged row              the index of one that has succeeded
@@ -21,6 +23,7 @@ use Rattle.jc_ranges.specs.declared.bounds.TheConstants.{GREATEST_INDEX}
 use Rattle.jc_types.specs.declared.numbers.Uid.{Uid}
 use Rattle.jc_types.specs.declared.objects.Job.{Job}
 use Rattle.jc_types.specs.declared.objects.Pod.{Pod}
+use Rattle.jc_types.specs.declared.specifications.JobSpec.{JobSpec}
 use Rattle.jc_types.specs.declared.specifications.Mode.{Mode}
 use Rattle.jc_types.specs.declared.specifications.Mode.TheVariants.{NonIndexed, Indexed}
 use Rattle.jc_states.specs.Listed.{is_listed}
@@ -28,7 +31,7 @@ use Rattle.jc_states.specs.Pods.{is_tracked}
 use Rattle.jc_states.specs.UidLists.{join}
 use Rattle.jc_failpol.specs.declared.outcomes.Outcome.{Outcome}
 use Rattle.jc_failpol.specs.declared.outcomes.Outcome.TheVariants.{Alive, Succeeded}
-use Rattle.jc_failpol.specs.Outcomes.{outcome_of, same_outcome}
+use Rattle.jc_failpol.specs.Outcomes.{is_verdict, outcome_of, same_outcome}
 use Rattle.jc_account.specs.declared.judgements.Judgement.{Judgement}
 use Rattle.jc_account.specs.Judged.{candidates, is_candidate, room}
 use Rattle.jc_account.specs.Modes.{kept_indexes}
@@ -37,6 +40,10 @@ use Rattle.jc_account.specs.Rooms.{joins_list, takes_room}
 -- What is judged of the pod.
 abbrev pub judgement_of : Job → Pod → Judgement
 judgement_of job pod = record { uid = pod.uid; outcome = outcome_of job.spec pod; index = pod.index }
+
+-- What would be judged of the Job's own pod, if it is to be judged.
+abbrev pub judgement_if_new : Job → Pod → Option Judgement
+judgement_if_new job pod = if is_candidate job pod then Some (judgement_of job pod) else None
 
 -- What would be judged of the Job's own pods that are to be judged.
 abbrev pub judgements : Job → List Pod → List Judgement
@@ -76,6 +83,12 @@ first_left job own =
 abbrev pub is_left_by : Option Uid → Job → Pod → Bool
 is_left_by first job pod =
     is_candidate job pod && not (is_fit job.spec.mode first (outcome_of job.spec pod) pod.uid)
+
+-- The pod has ended and there is room for it, or it takes none, where this is the first UID for which there is no room.
+abbrev pub has_place : Option Uid → JobSpec → Pod → Bool
+has_place first spec pod =
+    not (same_outcome (outcome_of spec pod) Alive)
+    && not (is_verdict (outcome_of spec pod) && not (is_fit spec.mode first (outcome_of spec pod) pod.uid))
 
 -- The finalizer of the pod is to go, where this is the first UID for which there is no room.
 abbrev pub is_to_go : Option Uid → Job → Pod → Bool

@@ -20,7 +20,7 @@ use crate::rooms::{count_staying, room_beside};
 use crate::uids::{merged, unreleased};
 use jc_ranges::Ranges;
 use jc_states::{Basis, Pods};
-use jc_types::{Copied, CountIn, IndexCounts, Job, JobStatus, Mode, Pod, Uids, Want};
+use jc_types::{Arc, Copied, CountIn, IndexCounts, Job, JobStatus, Mode, Pod, Uids, Want};
 use std::alloc::Global;
 
 // A total with those that left its list.
@@ -73,7 +73,7 @@ fn succeeded(mode: Mode, total: u64, completed: &Ranges) -> u64
 //
 // # Errors
 // `Want` where there is no memory for the lists.
-fn count_job(alloc: Global, job: &Job, pods: &[Pod]) -> Result<CountIn, Want>
+fn count_job(alloc: Global, job: &Job, pods: &[Arc<Pod>]) -> Result<CountIn, Want>
     requires tidy { IsTidy job.now pods.now }
     requires totals { TotalsFit job.now pods.now }
     requires rising { IsRising pods.now }
@@ -127,8 +127,6 @@ fn count_noted(alloc: Global, job: &Job, pods: &Pods) -> Result<CountIn, Want>
     ensures succeeded_fits { IfOk result (λ r. (counts r).1 < 2 ^ 64) }
     ensures few_failed { IfOk result (λ r. r.new_failed ≤ length pods.now) }
 {
-    // That all pods ascend, which is said of their slice, holds of the noted ones too.
-    let _all = pods.as_slice();
     let succeeded = job.status.uncounted_succeeded.as_slice();
     let failed = job.status.uncounted_failed.as_slice();
     let noted = pods.noted(job.uid, succeeded, failed)?;

@@ -1,10 +1,12 @@
 //! Sets of completed indexes.
 
-ghost use Rattle.std.specs.Prelude.{◌≡◌, ◌<◌, ◌≤◌, IfOk, filter, length, nat_lt, slice_index, take};
-ghost use Rattle.jc_ranges.specs.Sets.{IsSet};
+ghost use Rattle.std.specs.Prelude.{◌≡◌, ◌<◌, ◌≤◌, IfOk, filter, length, nat_lt, slice_index, take, true};
+ghost use Rattle.std.specs.List.{AllByRecursion, flat_map};
+ghost use Rattle.jc_ranges.specs.Sets.{IsSet, has};
+ghost use Rattle.jc_ranges.specs.Texts.{numbers};
 ghost use Rattle.jc_account.specs.Modes.{gained, kept_indexes};
 
-use jc_ranges::Ranges;
+use jc_ranges::{GREATEST_INDEX, Ranges, Run};
 use jc_types::Want;
 use std::alloc::Global;
 
@@ -19,8 +21,28 @@ fn member_at(set: &Ranges, place: u32) -> u32
     }
 }
 
-// How many members of a set the set before it had not.
-pub(crate) fn gained(before: &Ranges, after: &Ranges) -> u32
+// Whether the set is known to have all numbers of the run.
+fn has_run(set: &Ranges, run: Run) -> bool
+    ensures { result ≡ true → AllByRecursion (λ n. has n set.now ≡ true) (numbers run) }
+{
+    run.first <= GREATEST_INDEX && run.last < set.first_missing(run.first)
+}
+
+// Whether the set is known to have all numbers of the runs.
+fn has_runs(set: &Ranges, runs: &[Run]) -> bool
+    ensures { result ≡ true
+        → AllByRecursion (λ n. has n set.now ≡ true) (flat_map numbers runs.now) }
+{
+    for run in runs {
+        if !has_run(set, *run) {
+            return false;
+        }
+    }
+    true
+}
+
+// How many members of a set the set before it had not, by looking for each of them.
+fn count_new(before: &Ranges, after: &Ranges) -> u32
     ensures { result ≡ gained before.now after.now }
 {
     let mut count = 0;
@@ -30,6 +52,17 @@ pub(crate) fn gained(before: &Ranges, after: &Ranges) -> u32
         }
     }
     count
+}
+
+// How many members of a set the set before it had not. A set that has lost none is longer by what it has
+// gained, so it is gone over only where the completions were lowered.
+pub(crate) fn gained(before: &Ranges, after: &Ranges) -> u32
+    ensures { result ≡ gained before.now after.now }
+{
+    if has_runs(after, before.runs()) {
+        return after.len() - before.len();
+    }
+    count_new(before, after)
 }
 
 // The first members of a set, as many as are asked for.

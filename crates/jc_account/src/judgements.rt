@@ -8,8 +8,8 @@ ghost use Rattle.jc_states.specs.PodLists.{IsRising};
 ghost use Rattle.jc_states.specs.UidLists.{join};
 ghost use Rattle.jc_failpol.specs.declared.outcomes.Outcome.TheVariants.{Failed, Succeeded};
 ghost use Rattle.jc_account.specs.Accounts.{completed_in, new_uids};
-ghost use Rattle.jc_account.specs.Judged.{is_candidate, left_with, room as room_of};
-ghost use Rattle.jc_account.specs.Judgements.{completed_judged, HasSmall, indexes_judged, judgement_of};
+ghost use Rattle.jc_account.specs.Judged.{left_with, room as room_of};
+ghost use Rattle.jc_account.specs.Judgements.{completed_judged, HasSmall, indexes_judged, judgement_if_new, judgement_of};
 ghost use Rattle.jc_account.specs.Judgements.{first_left, index_judged, judgements, rows_beyond, rows_with, rows_within, uids_judged};
 
 use crate::indexes::kept_indexes;
@@ -17,7 +17,7 @@ use crate::rooms::{first_beyond, is_fit};
 use jc_failpol::{Outcome, is_same_outcome, is_verdict, outcome};
 use jc_ranges::Ranges;
 use jc_states::{has_end, is_listed, is_own};
-use jc_types::{Job, Mode, Pod, Uid, Uids, Want};
+use jc_types::{Arc, Job, Mode, Pod, Uid, Uids, Want};
 use std::alloc::Global;
 
 /// What is judged of a pod: its outcome, under its UID, and its index.
@@ -43,13 +43,6 @@ pub(crate) struct Verdicts {
     pub first_left: Option<Uid>,
 }
 
-// Whether the Job's own pod is to be judged.
-pub(crate) fn is_candidate(job: &Job, pod: &Pod) -> bool
-    ensures { result ≡ is_candidate job.now pod.now }
-{
-    pod.tracked && is_verdict(outcome(&job.spec, pod)) && !is_listed(&job.status, pod.uid)
-}
-
 // What is judged of the pod.
 fn judgement_of(job: &Job, pod: &Pod) -> Judgement
     ensures { result ≡ judgement_of job.now pod.now }
@@ -61,14 +54,29 @@ fn judgement_of(job: &Job, pod: &Pod) -> Judgement
     }
 }
 
+// What would be judged of the Job's own pod, if it is to be judged. What it has come to is asked once, and
+// of no pod that is listed: a failure policy may have many rules.
+fn judgement_if_new(job: &Job, pod: &Pod) -> Option<Judgement>
+    ensures { result ≡ judgement_if_new job.now pod.now }
+{
+    if !pod.tracked || is_listed(&job.status, pod.uid) {
+        return None;
+    }
+    let row = judgement_of(job, pod);
+    if is_verdict(row.outcome) {
+        Some(row)
+    } else {
+        None
+    }
+}
+
 // What would be judged of the Job's own pods that are to be judged.
-fn judgements(alloc: Global, job: &Job, pods: &[Pod]) -> Result<Vec<Judgement>, Want>
+fn judgements(alloc: Global, job: &Job, pods: &[Arc<Pod>]) -> Result<Vec<Judgement>, Want>
     ensures { IfOk result (λ rows. rows.items ≡ judgements job.now (own_pods job.now pods.now)) }
 {
     pods.iter()
         .filter(|pod| is_own(job, pod))
-        .filter(|pod| is_candidate(job, pod))
-        .map(|pod| judgement_of(job, pod))
+        .filter_map(|pod| judgement_if_new(job, pod))
         .collect(alloc)
 }
 
@@ -165,7 +173,12 @@ fn count_beyond(mode: Mode, first: Option<Uid>, rows: &[Judgement], want: Outcom
 //
 // # Errors
 // `Want` where there is no memory for it.
-pub(crate) fn judge(alloc: Global, job: &Job, pods: &[Pod], room: usize) -> Result<Verdicts, Want>
+pub(crate) fn judge(
+    alloc: Global,
+    job: &Job,
+    pods: &[Arc<Pod>],
+    room: usize,
+) -> Result<Verdicts, Want>
     requires rising { IsRising pods.now }
     requires indexes { All HasSmallIndex pods.now }
     requires few { length pods.now < 2 ^ 31 }

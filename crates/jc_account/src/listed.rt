@@ -8,7 +8,7 @@ ghost use Rattle.jc_states.specs.Pods.{is_tracked};
 ghost use Rattle.jc_account.specs.Judged.{has_tracked, is_tracked_as, stayed};
 
 use jc_states::is_own;
-use jc_types::{Job, Pod, Uid, Uids, Want};
+use jc_types::{Arc, Job, Pod, Uid, Uids, Want};
 use std::alloc::Global;
 
 // Whether the pod is tracked and has the UID.
@@ -19,7 +19,7 @@ fn is_tracked_as(pod: &Pod, uid: Uid) -> bool
 }
 
 // Whether one of the pods is the Job's own, is tracked and has the UID.
-fn finds_tracked(job: &Job, pods: &[Pod], uid: Uid) -> bool
+fn finds_tracked(job: &Job, pods: &[Arc<Pod>], uid: Uid) -> bool
     ensures { result ≡ list_any (λ pod. is_own job.now pod && is_tracked_as uid pod) pods.now }
 {
     pods.iter()
@@ -27,7 +27,7 @@ fn finds_tracked(job: &Job, pods: &[Pod], uid: Uid) -> bool
 }
 
 // Whether a tracked pod of the Job has the UID.
-fn has_tracked(job: &Job, pods: &[Pod], uid: Uid) -> bool
+fn has_tracked(job: &Job, pods: &[Arc<Pod>], uid: Uid) -> bool
     ensures { result ≡ has_tracked (own_pods job.now pods.now) uid }
 {
     finds_tracked(job, pods, uid)
@@ -37,7 +37,12 @@ fn has_tracked(job: &Job, pods: &[Pod], uid: Uid) -> bool
 //
 // # Errors
 // `Want` where there is no memory for them.
-pub(crate) fn stayed(alloc: Global, job: &Job, pods: &[Pod], uids: &[Uid]) -> Result<Uids, Want>
+pub(crate) fn stayed(
+    alloc: Global,
+    job: &Job,
+    pods: &[Arc<Pod>],
+    uids: &[Uid],
+) -> Result<Uids, Want>
     ensures stayed { IfOk result (λ list. list ≡ stayed (own_pods job.now pods.now) uids.now) }
     ensures shorter { IfOk result (λ list. length list ≤ length uids.now) }
 {

@@ -5,20 +5,25 @@ ghost use Rattle.jc_states.specs.Bases.{is_own, own_pods};
 ghost use Rattle.jc_states.specs.PodLists.{IsRising};
 ghost use Rattle.jc_states.specs.UidLists.{uids_of};
 ghost use Rattle.jc_account.specs.Judged.{to_release};
-ghost use Rattle.jc_account.specs.Judgements.{first_left, is_to_go, is_left_by};
+ghost use Rattle.jc_account.specs.Judgements.{first_left, has_place, is_to_go};
 
-use crate::judgements::is_candidate;
-use crate::rooms::is_fit;
-use jc_failpol::{Outcome, is_same_outcome, outcome};
+use crate::rooms::{is_before, is_fit};
+use jc_failpol::{Outcome, has_ended, is_same_outcome, is_verdict, outcome};
 use jc_states::{is_listed, is_own};
-use jc_types::{Job, Pod, Uid, Uids, Want};
+use jc_types::{Arc, Job, JobSpec, Pod, Uid, Uids, Want};
 use std::alloc::Global;
 
-// Whether the Job's own pod is left over, where this is the first UID for which there is no room.
-fn is_left_over(first: Option<Uid>, job: &Job, pod: &Pod) -> bool
-    ensures { result ≡ is_left_by first job.now pod.now }
+// Whether the pod has ended and there is room for it, or it takes none, where this is the first UID for
+// which there is no room. The failure policy is asked only where there may be none.
+fn has_place(first: Option<Uid>, spec: &JobSpec, pod: &Pod) -> bool
+    ensures { result ≡ has_place first spec.now pod.now }
 {
-    is_candidate(job, pod) && !is_fit(job.spec.mode, first, outcome(&job.spec, pod), pod.uid)
+    if is_before(first, pod.uid) {
+        return has_ended(spec, pod);
+    }
+    let outcome = outcome(spec, pod);
+    !is_same_outcome(outcome, Outcome::Alive)
+        && (!is_verdict(outcome) || is_fit(spec.mode, first, outcome, pod.uid))
 }
 
 // Whether the finalizer of the Job's own pod is to go (KEP-2307): the pod has it, and either is listed as
@@ -26,10 +31,7 @@ fn is_left_over(first: Option<Uid>, job: &Job, pod: &Pod) -> bool
 fn is_due(first: Option<Uid>, job: &Job, pod: &Pod) -> bool
     ensures { result ≡ is_to_go first job.now pod.now }
 {
-    pod.tracked
-        && (!is_same_outcome(outcome(&job.spec, pod), Outcome::Alive)
-            && !is_left_over(first, job, pod)
-            || is_listed(&job.status, pod.uid))
+    pod.tracked && (is_listed(&job.status, pod.uid) || has_place(first, &job.spec, pod))
 }
 
 // Whether the pod is the Job's own and its finalizer is to go.
@@ -46,7 +48,7 @@ fn is_own_due(first: Option<Uid>, job: &Job, pod: &Pod) -> bool
 pub(crate) fn releases(
     alloc: Global,
     job: &Job,
-    pods: &[Pod],
+    pods: &[Arc<Pod>],
     first: Option<Uid>,
 ) -> Result<Uids, Want>
     requires rising { IsRising pods.now }

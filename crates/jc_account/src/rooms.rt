@@ -10,7 +10,7 @@ ghost use Rattle.jc_account.specs.Rooms.{joins_list};
 use crate::judgements::Judgement;
 use jc_failpol::{Outcome, is_same_outcome};
 use jc_states::{is_listed, is_own};
-use jc_types::{Job, MOST_UNCOUNTED, Mode, Pod, Uid};
+use jc_types::{Arc, Job, MOST_UNCOUNTED, Mode, Pod, Uid};
 
 /// Whether a pod that is judged so joins a list.
 pub fn joins_list(mode: Mode, outcome: Outcome) -> bool
@@ -23,7 +23,7 @@ pub fn joins_list(mode: Mode, outcome: Outcome) -> bool
 }
 
 // Whether the UID is below the first for which there is no room.
-fn is_before(first: Option<Uid>, uid: Uid) -> bool
+pub(crate) fn is_before(first: Option<Uid>, uid: Uid) -> bool
     ensures { result ≡ has_room_for first uid }
 {
     match first {
@@ -47,7 +47,7 @@ fn is_own_staying(job: &Job, pod: &Pod) -> bool
 }
 
 // How many of the Job's own pods stay listed.
-pub(crate) fn count_staying(job: &Job, pods: &[Pod]) -> usize
+pub(crate) fn count_staying(job: &Job, pods: &[Arc<Pod>]) -> usize
     ensures { result
         ≡ length (filter (λ pod. is_own job.now pod && is_staying job.now pod) pods.now) }
 {

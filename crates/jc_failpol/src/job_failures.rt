@@ -3,8 +3,7 @@
 ghost use Rattle.std.specs.Prelude.{◌≡◌};
 ghost use Rattle.jc_failpol.specs.FailJob.{fails_job, policy_fails_job};
 
-use crate::judgements::outcome;
-use crate::outcomes::Outcome;
+use crate::judgements::has_failed;
 use crate::rules::decided_action;
 use jc_types::{Action, FailurePolicy, JobSpec, Pod};
 
@@ -26,8 +25,6 @@ fn does_policy_fail_job(policy: &Option<FailurePolicy>, pod: &Pod) -> bool
 pub fn fails_job(spec: &JobSpec, pod: &Pod) -> bool
     ensures { result ≡ fails_job spec.now pod.now }
 {
-    match outcome(spec, pod) {
-        Outcome::Failed => does_policy_fail_job(&spec.failure, pod),
-        Outcome::Alive | Outcome::Succeeded | Outcome::Ignored => false,
-    }
+    // A pod whose failure is ignored fails no Job: the policy is asked once.
+    has_failed(spec, pod) && does_policy_fail_job(&spec.failure, pod)
 }

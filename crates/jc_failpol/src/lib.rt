@@ -9,7 +9,7 @@ mod outcomes;
 mod rules;
 
 pub use job_failures::fails_job;
-pub use judgements::outcome;
+pub use judgements::{has_ended, outcome};
 pub use laws::{first_match_decides, outcomes_are_told_apart, outcomes_settle};
 pub use outcomes::{Outcome, is_same_outcome, is_verdict};
 pub use rules::{action, decided_action};

@@ -44,11 +44,12 @@ fn is_code_met(operator: Operator, values: &Codes, container: &Container) -> boo
     }
 }
 
-// Whether the pattern looks for the condition: the same type and the same status.
+// Whether the pattern looks for the condition: the same type and the same status. Types are compared
+// last, as they are long.
 fn is_found(pattern: &Pattern, condition: &Pattern) -> bool
     ensures { result ≡ finds pattern.now condition.now }
 {
-    condition.is_same(pattern)
+    condition.truth == pattern.truth && condition.kind.is_same(&pattern.kind)
 }
 
 // Whether a container that the rule looks at has an exit code that meets the operator.

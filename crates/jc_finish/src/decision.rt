@@ -13,12 +13,12 @@ use jc_ranges::Ranges;
 use jc_states::{Basis, Pods, count_restarts, has_active, has_target, is_own};
 use jc_succpol::is_met;
 use jc_types::{
-    CondKind, CountIn, Job, JobSpec, JobStatus, Pod, Reason, Restart, SuccessPolicy, counts,
+    Arc, CondKind, CountIn, Job, JobSpec, JobStatus, Pod, Reason, Restart, SuccessPolicy, counts,
 };
 
 // Whether one of the pods is the Job's own, is tracked and has failed, and the failure policy then fails
 // the Job.
-fn finds_failing(job: &Job, pods: &[Pod]) -> bool
+fn finds_failing(job: &Job, pods: &[Arc<Pod>]) -> bool
     ensures { result ≡ is_failed_by_pod job.now.spec (own_pods job.now pods.now) }
 {
     pods.iter().any(|pod| is_own(job, pod) && (pod.tracked && fails_job(&*job.spec, pod)))
@@ -26,7 +26,7 @@ fn finds_failing(job: &Job, pods: &[Pod]) -> bool
 
 // Whether a tracked pod has failed, and the failure policy then fails the Job. Where there is no policy it
 // goes over no pod.
-fn is_failed_by_a_pod(job: &Job, pods: &[Pod]) -> bool
+fn is_failed_by_a_pod(job: &Job, pods: &[Arc<Pod>]) -> bool
     ensures { result ≡ is_failed_by_pod job.now.spec (own_pods job.now pods.now) }
 {
     job.spec.failure.is_some() && finds_failing(job, pods)

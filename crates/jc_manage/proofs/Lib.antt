@@ -1,5 +1,6 @@
 pub mod Bounds
 pub mod Failures
+pub mod Fronts
 pub mod NotedFacts
 pub mod Numbered
 pub mod OneWay

@@ -2,12 +2,14 @@
 use Rattle.std.proofs.Common.{◌≡◌, ℕ, zero, suc, ◌+◌, ◌-◌, ◌<◌, ◌≤◌, ◌==◌, nat_le, nat_lt, Bool, true, false, cond, not, ◌&&◌, ◌||◌, ◌⊎◌, inl, inr, List, [], ◌∷◌, ◌++◌, filter, length, Option, Some, None, refl, sym, ap, ◌∙◌, arith, ltb-true}
 use Rattle.std.specs.List.{All, AllByRecursion as Each, count_by, flat_map, list_any, range_with_len}
 use Rattle.std.specs.Option.{option_map_or}
-use Rattle.std.proofs.lemmas.Bool.{and_from, cases_eq, eq-eqb, false_from_ne_true, le-ltb, leb-false, leb-true, ne_eqb, or_from, or_left, or_right}
+use Rattle.std.proofs.lemmas.Bool.{and_from, eq-eqb, false_from_ne_true, le-ltb, leb-false, leb-true, ne_eqb, or_from, or_left, or_right}
 use Rattle.std.proofs.lemmas.List.Elements.{All-from_recursion, recursion_from_All}
 use Rattle.std.proofs.lemmas.List.Folds.{list_any-append}
+use Rattle.std.proofs.lemmas.List.FromFn.{get_or-range_with_len, length-range_with_len}
 use Rattle.jc_ranges.specs.declared.runs.Run.{Run}
 use Rattle.jc_ranges.specs.Sets.{has}
 use Rattle.jc_ranges.specs.Texts.{numbers}
+use Rattle.jc_ranges.proofs.Order.{has_at}
 use Rattle.jc_types.specs.declared.objects.Pod.{Pod}
 use Rattle.jc_types.specs.declared.specifications.Mode.{Mode}
 use Rattle.jc_types.specs.declared.specifications.Mode.TheVariants.{NonIndexed, Indexed}
@@ -70,15 +72,6 @@ outside n a zero h = refl
 outside n a (suc k) (inl h) = or_from (a == n) (has n (range_with_len (a + 1) k)) (ne_eqb a n (λ e. omega (arith, h, e))) (outside n (a + 1) k (inl (omega (arith, h))))
 outside n a (suc k) (inr h) = or_from (a == n) (has n (range_with_len (a + 1) k)) (ne_eqb a n (λ e. omega (arith, h, e))) (outside n (a + 1) k (inr (omega (arith, h))))
 
--- Else it is among them.
-inside : (n a k : ℕ) → a ≤ n → n < a + k → has n (range_with_len a k) ≡ true
-inside n a zero h g = absurd (omega (arith, h, g))
-inside n a (suc k) h g = by (λ above. inside n (a + 1) k above (omega (arith, g))) (cases_eq a n)
-  where
-    by : (a + 1 ≤ n → has n (range_with_len (a + 1) k) ≡ true) → (a ≡ n) ⊎ (a ≡ n → ⊥) → (a == n || has n (range_with_len (a + 1) k)) ≡ true
-    by ih (inl e) = or_left (a == n) (has n (range_with_len (a + 1) k)) (eq-eqb a n e)
-    by ih (inr ne) = or_right (a == n) (has n (range_with_len (a + 1) k)) (ih (omega (arith, h, ne)))
-
 -- The numbers of a run are those from its first up to its last.
 has-run : (n : ℕ) (run : Run) → (nat_le run.first n && nat_le n run.last) ≡ has n (numbers run)
 has-run n run = by (nat_le run.first n) refl (nat_le n run.last) refl
@@ -87,7 +80,9 @@ has-run n run = by (nat_le run.first n) refl (nat_le n run.last) refl
     by true l true g =
         let low = leb-true run.first n l in
         let high = leb-true n run.last g in
-        sym (inside n run.first (suc run.last - run.first) low (omega (arith, low, high)))
+        let long = suc run.last - run.first in
+        sym (has_at n (numbers run) (n - run.first) (omega (arith, length-range_with_len run.first long, low, high))
+        (get_or-range_with_len run.first long (n - run.first) 0 (omega (arith, low, high)) ∙ omega (arith, low)))
     by true l false g =
         let low = leb-true run.first n l in
         let high = leb-false n run.last g in

@@ -1,5 +1,5 @@
 -- Where all active pods are tracked and no others keep their indexes, the holders tell which indexes are kept; and
--- completed indexes may be skipped.
+-- indexes that are not free may be skipped.
 use Rattle.std.proofs.Common.{◌≡◌, ℕ, zero, suc, ◌+◌, ◌-◌, ◌<◌, ◌≤◌, ◌==◌, nat_le, nat_lt, Bool, true, false, cond, not, ◌&&◌, ◌||◌, List, [], ◌∷◌, ◌++◌, map, filter, length, take, Option, Some, None, refl, sym, ap, ◌∙◌, arith}
 use Rattle.std.specs.List.{list_any, range_with_len}
 use Rattle.std.specs.Option.{option_map_or}
@@ -80,6 +80,11 @@ found-skip test most a b found le none is =
     let whole : a + (b - a) ≡ b = omega (arith, le) in
     is ∙ ap (λ ns. map (λ n. Some n) (take most ns)) (sym (filter-skip test a (b - a) (λ n low high. none n low (omega (arith, le, high)))) ∙ ap (λ n. filter test (range_with_len 0 n)) whole)
 
--- No new pod may have an index that is completed.
-pub settled-not_free : (done gone kept : Bool) → done ≡ true → (not (done || gone) && not kept) ≡ false
-settled-not_free done gone kept h = ap (λ b. not (b || gone) && not kept) h
+-- No new pod may have an index that is settled.
+pub settled-not_free : (settled held : Bool) → settled ≡ true → (not settled && not held) ≡ false
+settled-not_free settled held h = ap (λ b. not b && not held) h
+
+-- Nor one that is held.
+pub held-not_free : (settled held : Bool) → held ≡ true → (not settled && not held) ≡ false
+held-not_free true held h = refl
+held-not_free false held h = ap not h

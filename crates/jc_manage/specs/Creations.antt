@@ -9,9 +9,10 @@
 --     new_pods mode n free                the indexes of n new pods; none for pods without one
 --     IsIndexFor job index                a new pod of the Job may have the index
 --     creatable target job own counted    what the Job would make at once
+--     front one made                      the first of it alone, where it matters only whether there is one
 --     creates ..                          what it makes, as no pod is made before the opening
 --     next ..                             the moment of that, where it was what held pods back
-use Rattle.std.specs.Prelude.{◌≡◌, ◌<◌, ℕ, ◌-◌, ◌==◌, min, Bool, true, false, not, ◌&&◌, ◌||◌, if◌then◌else◌, List, [], ◌∷◌, map, filter, length, take, replicate, Option, Some, None, IfSome, is_some, unwrap_or}
+use Rattle.std.specs.Prelude.{◌≡◌, ◌<◌, ℕ, ◌-◌, ◌==◌, min, Bool, true, false, not, nat_lt, ◌&&◌, ◌||◌, if◌then◌else◌, List, [], ◌∷◌, map, filter, length, take, replicate, Option, Some, None, IfSome, is_some, unwrap_or}
 use Rattle.std.specs.List.{list_any, range_with_len}
 use Rattle.jc_ranges.specs.Sets.{has}
 use Rattle.jc_types.specs.declared.objects.Job.{Job}
@@ -99,6 +100,14 @@ creatable target job own counted =
     if target || job.spec.suspend then []
     else new_pods job.spec.mode (job_lacks job own counted)
     (free (unwrap_or job.spec.completions 0) counted (keepers job.spec.replacement own))
+
+-- How many of so many are looked for, where it may matter only whether there is one.
+abbrev pub looked_for : Bool → ℕ → ℕ
+looked_for one lacking = if one && nat_lt 0 lacking then 1 else lacking
+
+-- The first of what would be made alone, where it matters only whether there is one.
+abbrev pub front : Bool → List (Option ℕ) → List (Option ℕ)
+front one made = if one then take 1 made else made
 
 -- Of what would be made at once, nothing before the opening.
 abbrev pub creates : Option ℕ → ℕ → List (Option ℕ) → List (Option ℕ)

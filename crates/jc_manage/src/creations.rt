@@ -5,11 +5,11 @@ ghost use Rattle.std.specs.List.{range_with_len};
 ghost use Rattle.jc_states.specs.Indexes.{has_index};
 ghost use Rattle.jc_states.specs.Bases.{is_own, own_pods};
 ghost use Rattle.jc_types.specs.Counts.{counts as counts_of};
-ghost use Rattle.jc_manage.specs.Creations.{creatable, free, holds, is_settled_index, job_lacks, job_wants, keepers, keeps, keeps_own, lacking, wanted};
+ghost use Rattle.jc_manage.specs.Creations.{creatable, free, front, holds, is_settled_index, job_lacks, job_wants, keepers, keeps, keeps_own, lacking, looked_for, wanted};
 
 use crate::unheld::{are_kept_as_held, unheld_indexes};
 use jc_states::{Pods, count_ending, count_tracked_active, is_active, is_ending, is_own};
-use jc_types::{CountIn, Indexes, Job, JobSpec, Mode, Pod, Replacement, Want, counts};
+use jc_types::{Arc, CountIn, Indexes, Job, JobSpec, Mode, Pod, Replacement, Want, counts};
 use std::alloc::Global;
 
 // How many active pods there should be, where so many have succeeded, so many indexes have failed and so
@@ -116,7 +116,12 @@ fn keep_index(kept: &mut [bool], job: &Job, pod: &Pod)
 }
 
 // For each index below `completions` whether the Job's pods keep it from new ones.
-fn kept_indexes(alloc: Global, job: &Job, pods: &[Pod], completions: u32) -> Result<Vec<bool>, Want>
+fn kept_indexes(
+    alloc: Global,
+    job: &Job,
+    pods: &[Arc<Pod>],
+    completions: u32,
+) -> Result<Vec<bool>, Want>
     ensures { IfOk result (λ kept. (n : ℕ) → n < completions
         → get_or kept.items n false
         ≡ holds (keepers job.now.spec.replacement (own_pods job.now pods.now)) n) }
@@ -196,7 +201,7 @@ fn without_index(alloc: Global, count: u64) -> Result<Indexes, Want>
 fn least_free(
     alloc: Global,
     job: &Job,
-    pods: &[Pod],
+    pods: &[Arc<Pod>],
     counted: &CountIn,
     most: u64,
 ) -> Result<Indexes, Want>
@@ -232,12 +237,22 @@ fn first_free(
     least_free(alloc, job, pods.as_slice(), counted, most)
 }
 
-// What the Job would make at once, if nothing held it back.
+// How many of so many are looked for: where it matters only whether there is one, at most that one.
+fn looked_for(one: bool, lacking: u64) -> u64
+    ensures { result ≡ looked_for one lacking }
+{
+    if one && lacking > 0 { 1 } else { lacking }
+}
+
+// What the Job would make at once, if nothing held it back; where it matters only whether there is one, the
+// first of it alone.
 //
 // # Errors
 // `Want` where there is no memory for it.
+#[tactic(auto, using(crate::proofs::Fronts::front_pods))]
 pub(crate) fn creatable(
     alloc: Global,
+    one: bool,
     target: bool,
     job: &Job,
     pods: &Pods,
@@ -246,12 +261,12 @@ pub(crate) fn creatable(
     requires failed { (counts_of counted.now).0 < 2 ^ 64 }
     requires succeeded { (counts_of counted.now).1 < 2 ^ 64 }
     ensures { IfOk result (λ indexes.
-        indexes ≡ creatable target job.now (own_pods job.now pods.now) counted.now) }
+        indexes ≡ front one (creatable target job.now (own_pods job.now pods.now) counted.now)) }
 {
     if target || job.spec.suspend {
         return Ok(Indexes::new(alloc));
     }
-    let lacking = job_lacks(job, pods, counted);
+    let lacking = looked_for(one, job_lacks(job, pods, counted));
     match job.spec.mode {
         Mode::NonIndexed => without_index(alloc, lacking),
         Mode::Indexed => first_free(alloc, job, pods, counted, lacking),

@@ -16,7 +16,7 @@ use crate::lists::list_of;
 use crate::ranks::{Rank, is_below, least_to_go, rank_of};
 use crate::spares::may_go;
 use jc_states::{Pods, is_active, is_own, is_tracked_active};
-use jc_types::{CountIn, Job, JobSpec, Mode, Pod, PodVersions, Uid, Uids, Version, Want};
+use jc_types::{Arc, CountIn, Job, JobSpec, Mode, Pod, PodVersions, Uid, Uids, Version, Want};
 use std::alloc::Global;
 use std::collections::HashMap;
 
@@ -28,7 +28,7 @@ fn is_to_mark(target: bool, pod: &Pod) -> bool
 }
 
 // The UIDs of the Job's own pods that are marked at once.
-fn marked(alloc: Global, target: bool, job: &Job, pods: &[Pod]) -> Result<Vec<Uid>, Want>
+fn marked(alloc: Global, target: bool, job: &Job, pods: &[Arc<Pod>]) -> Result<Vec<Uid>, Want>
     ensures { IfOk result (λ uids. uids.items ≡ marks target (own_pods job.now pods.now)) }
 {
     pods.iter()
@@ -87,7 +87,7 @@ fn claim_own(holders: &mut HashMap<u32, Uid>, job: &Job, pod: &Pod) -> Result<()
 }
 
 // Of each index the active tracked pod of smallest UID that holds it.
-fn oldest_holders(alloc: Global, job: &Job, pods: &[Pod]) -> Result<HashMap<u32, Uid>, Want>
+fn oldest_holders(alloc: Global, job: &Job, pods: &[Arc<Pod>]) -> Result<HashMap<u32, Uid>, Want>
     ensures { IfOk result (λ holders.
         AreOldest (own_tracked job.now pods.now) (λ index. get nat_eq holders index)) }
 {
@@ -99,7 +99,7 @@ fn oldest_holders(alloc: Global, job: &Job, pods: &[Pod]) -> Result<HashMap<u32,
 }
 
 // Of each index of an Indexed Job the active tracked pod of smallest UID that holds it.
-fn holders_of(alloc: Global, job: &Job, pods: &[Pod]) -> Result<HashMap<u32, Uid>, Want>
+fn holders_of(alloc: Global, job: &Job, pods: &[Arc<Pod>]) -> Result<HashMap<u32, Uid>, Want>
     ensures { IfOk result (λ holders. job.now.spec.mode ≡ Indexed
         → AreOldest (own_tracked job.now pods.now) (λ index. get nat_eq holders index)) }
 {
@@ -159,7 +159,7 @@ fn is_spare(spec: &JobSpec, counted: &CountIn, holders: &HashMap<u32, Uid>, pod:
 fn ranks_of(
     alloc: Global,
     job: &Job,
-    pods: &[Pod],
+    pods: &[Arc<Pod>],
     counted: &CountIn,
     holders: &HashMap<u32, Uid>,
 ) -> Result<Vec<Rank>, Want>
@@ -209,7 +209,7 @@ fn seen(pod: &Pod) -> (Uid, Version)
 fn going(
     alloc: Global,
     job: &Job,
-    pods: &[Pod],
+    pods: &[Arc<Pod>],
     counted: &CountIn,
     holders: &HashMap<u32, Uid>,
     least: Option<Rank>,
@@ -253,7 +253,7 @@ fn surplus(
 }
 
 // All active tracked pods.
-fn all_tracked(alloc: Global, job: &Job, pods: &[Pod]) -> Result<Vec<(Uid, Version)>, Want>
+fn all_tracked(alloc: Global, job: &Job, pods: &[Arc<Pod>]) -> Result<Vec<(Uid, Version)>, Want>
     ensures { IfOk result (λ going. going.items ≡ map seen (own_tracked job.now pods.now)) }
 {
     pods.iter()

@@ -3,7 +3,7 @@
 ghost use Rattle.std.specs.Prelude.{◌≡◌, ◌+◌, ◌<◌, ◌≤◌, ◌^◌, IfOk, IfSome, IsSome, length};
 ghost use Rattle.jc_types.specs.Counts.{counts as counts_of};
 ghost use Rattle.jc_manage.specs.Creations.{creates, next};
-ghost use Rattle.jc_manage.specs.Planned.{backoff_in, creates_in, let_goes_in, marks_in, next_in};
+ghost use Rattle.jc_manage.specs.Planned.{backoff_in, creatable_in, creates_in, let_goes_in, marks_in, next_in};
 
 use crate::backoffs::{as_moment, backoff_after, is_held_back, opening};
 use crate::creations::creatable;
@@ -34,6 +34,33 @@ fn next(opening: Option<u64>, now: Moment, creatable: &Indexes) -> Option<Moment
     None
 }
 
+// What the Job makes, and the moment of what is held back. Of what is held back it matters only whether there
+// is some.
+//
+// # Errors
+// `Want` where there is no memory for it.
+#[tactic(auto, using(crate::proofs::Fronts::next_front, crate::proofs::Fronts::creates_front))]
+fn made_and_next(
+    alloc: Global,
+    opening: Option<u64>,
+    target: bool,
+    job: &Job,
+    basis: &Basis,
+    counted: &CountIn,
+) -> Result<(Indexes, Option<Moment>), Want>
+    requires failed { (counts_of counted.now).0 < 2 ^ 64 }
+    requires succeeded { (counts_of counted.now).1 < 2 ^ 64 }
+    ensures creates { IfOk result (λ r. r.0 ≡ creates opening basis.entry.now.now
+        (creatable_in target job.now basis.entry.now counted.now)) }
+    ensures next { IfOk result (λ r. r.1 ≡ next opening basis.entry.now.now
+        (creatable_in target job.now basis.entry.now counted.now)) }
+{
+    let held_back = is_held_back(opening, basis.now);
+    let found = creatable(alloc, held_back, target, job, &*basis.pods, counted)?;
+    let next = next(opening, basis.now, &found);
+    Ok((creates(alloc, opening, basis.now, found), next))
+}
+
 // What a sync wants of the Job's pods.
 fn wants_of(
     alloc: Global,
@@ -59,11 +86,9 @@ fn wants_of(
     let pods = &*basis.pods;
     let backoff = backoff_after(&basis.backoff, counted, basis.now);
     let opening = opening(&backoff);
-    let creatable = creatable(alloc, target, job, pods, counted)?;
+    let (creates, next) = made_and_next(alloc, opening, target, job, basis, counted)?;
     let marks = marks(alloc, target, job, pods)?;
     let let_goes = let_goes(alloc, target, job, pods, counted)?;
-    let next = next(opening, basis.now, &creatable);
-    let creates = creates(alloc, opening, basis.now, creatable);
     Ok(Wants {
         creates,
         marks,

@@ -1,6 +1,6 @@
 //! The least indexes that a Job makes pods for, found without going over its pods.
 
-ghost use Rattle.std.specs.Prelude.{◌≡◌, ◌≤◌, ◌<◌, ◌&&◌, ◌∷◌, ◌++◌, [], ℕ, IfOk, OnOk, Some, filter, if◌then◌else◌, length, map, nat_lt, not, take, true};
+ghost use Rattle.std.specs.Prelude.{◌≡◌, ◌≤◌, ◌<◌, ◌&&◌, ◌∷◌, ◌++◌, [], ℕ, IfOk, OnOk, Some, false, filter, if◌then◌else◌, length, map, nat_lt, not, take, true};
 ghost use Rattle.std.specs.List.{list_any, range_with_len};
 ghost use Rattle.jc_ranges.specs.Sets.{has};
 ghost use Rattle.jc_states.specs.Bases.{own_pods};
@@ -10,7 +10,7 @@ ghost use Rattle.jc_states.specs.Tallies.{pods_for};
 ghost use Rattle.jc_manage.specs.Creations.{holds, is_settled_index, keepers};
 
 use crate::creations::is_settled_index;
-use jc_ranges::GREATEST_INDEX;
+use jc_ranges::{GREATEST_INDEX, Ranges};
 use jc_states::{Pods, count_active, count_ending, count_tracked_active};
 use jc_types::{CountIn, Indexes, Job, Replacement, Uid, Want};
 use std::alloc::Global;
@@ -68,17 +68,42 @@ fn offer(
     Ok(())
 }
 
-// The least index from this one on that is not completed; the end where there is none below it.
-fn past_completed(counted: &CountIn, from: u32, end: u32) -> u32
+// The least index from this one on that is not in the set; the end where there is none below it.
+fn past_members(set: &Ranges, from: u32, end: u32) -> u32
     requires { from ≤ end }
     ensures above { from ≤ result }
     ensures within { result ≤ end }
-    ensures between { (n : ℕ) → from ≤ n → n < result → has n counted.now.completed ≡ true }
+    ensures between { (n : ℕ) → from ≤ n → n < result → has n set.now ≡ true }
 {
     if from > GREATEST_INDEX {
         return from;
     }
-    counted.completed.first_missing(from).min(end)
+    set.first_missing(from).min(end)
+}
+
+// Where one comes from this index by going past completed ones, and then past failed ones; at most the end.
+fn past_settled(counted: &CountIn, from: u32, end: u32) -> u32
+    requires { from ≤ end }
+    ensures above { from ≤ result }
+    ensures within { result ≤ end }
+    ensures between { (n : ℕ) → from ≤ n → n < result → is_settled_index counted.now n ≡ true }
+{
+    let from = past_members(&counted.completed, from, end);
+    past_members(&counted.failed_indexes, from, end)
+}
+
+// Where one comes from this index by going past settled ones, and then past those that active tracked pods
+// of the owner have; at most the end.
+fn past_settled_and_held(owner: Uid, pods: &Pods, counted: &CountIn, from: u32, end: u32) -> u32
+    requires { from ≤ end }
+    ensures above { from ≤ result }
+    ensures within { result ≤ end }
+    ensures between { (n : ℕ) → from ≤ n → n < result
+        → (not (is_settled_index counted.now n) && not (list_any
+        (has_index_in n n) (tracked_active_pods (pods_for owner pods.now)))) ≡ false }
+{
+    let from = past_settled(counted, from, end);
+    pods.first_unheld(owner, from, end)
 }
 
 // The least indexes below `completions` that are not settled and that no active tracked pod of the owner
@@ -104,7 +129,7 @@ pub(crate) fn unheld_indexes(
             return Ok(indexes);
         }
         offer(&mut indexes, index, owner, pods, counted, most)?;
-        index = past_completed(counted, index + 1, completions);
+        index = past_settled_and_held(owner, pods, counted, index + 1, completions);
     }
     Ok(indexes)
 }

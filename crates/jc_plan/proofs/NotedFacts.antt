@@ -1,5 +1,6 @@
--- The pods that lose their finalizer are among those at which a sync has to look.
-use Rattle.std.proofs.Common.{◌≡◌, inl, inr, true, nat_le, ◌&&◌, List, filter, Some, ap, sym, ◌∙◌}
+-- The pods that lose their finalizer are among those at which a sync has to look, and the UIDs by which they are found
+-- ascend.
+use Rattle.std.proofs.Common.{◌≡◌, inl, inr, true, nat_le, ◌&&◌, List, filter, Option, None, Some, ap, sym, ◌∙◌}
 use Rattle.std.proofs.lemmas.Bool.{and_parts, or_cases}
 use Rattle.jc_types.specs.declared.numbers.Uid.{Uid}
 use Rattle.jc_types.specs.declared.objects.Job.{Job}
@@ -9,8 +10,10 @@ use Rattle.jc_states.specs.declared.bases.Basis.{Basis}
 use Rattle.jc_states.specs.Noted.{is_noted}
 use Rattle.jc_states.specs.Owners.{is_foreign}
 use Rattle.jc_states.specs.Pods.{is_tracked}
-use Rattle.jc_states.specs.UidLists.{is_in, uids_of}
+use Rattle.jc_states.specs.PodLists.{IsRising}
+use Rattle.jc_states.specs.UidLists.{Ascends, is_in, uids_of}
 use Rattle.jc_states.proofs.AtOddsFacts.{noted-in, noted-other}
+use Rattle.jc_account.proofs.AccountFacts.{release-order}
 use Rattle.jc_plan.specs.Releases.{due_uids, is_orphan, is_owed, is_released, releases_of}
 
 module _ (basis : Basis) (job : Job) (due more : List Uid) (this : basis.job ≡ Some job) (are : due ≡ due_uids basis.job basis.pods) where
@@ -27,3 +30,8 @@ module _ (basis : Basis) (job : Job) (due more : List Uid) (this : basis.job ≡
   -- So they are the same of the noted pods as of all.
   pub releases-noted : uids_of (filter (is_released basis) (filter (is_noted job.uid due more) basis.pods)) ≡ releases_of basis
   releases-noted = ap uids_of (filter_within (is_released basis) (is_noted job.uid due more) released-noted basis.pods)
+
+-- The UIDs that the Job is to release ascend.
+pub due-ascends : (job : Option Job) (pods : List Pod) → IsRising pods → Ascends (due_uids job pods)
+due-ascends None pods rising = tt
+due-ascends (Some job) pods rising = release-order job pods rising

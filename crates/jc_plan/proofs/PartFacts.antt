@@ -39,27 +39,27 @@ wants-going job basis wants e =
     subst (λ (w : Wants). length w.marks + length w.let_goes ≤ length (active_pods (own_pods job basis.pods))) (sym e)
     (going-active (is_settled job (decided_in job basis)) job (own_pods job basis.pods) (accounted job basis))
 
-module _ (job : Job) (basis : Basis) (counted : CountIn) (target : Option (CondKind × Reason)) (wants : Wants) (first second : JobStatus)
-    (is_counted : counted ≡ accounted job basis) (is_decided : target ≡ decided_in job basis) (is_wanted : wants ≡ wants_in job basis)
-    (is_first : first ≡ first_status_of basis.now job (own_pods job basis.pods) counted target wants)
-    (is_second : second ≡ second_after basis.now job (own_pods job basis.pods) counted target (counted_out first counted.releases)) where
-  -- What is computed is the first status.
-  pub first-is : first ≡ first_value job basis
-  unfolding first_value
-  first-is =
-      is_first
-      ∙ ap (λ (k : CountIn). first_status_of basis.now job (own_pods job basis.pods) k target wants) is_counted
-      ∙ ap (λ (g : Option (CondKind × Reason)). first_status_of basis.now job (own_pods job basis.pods) (accounted job basis) g wants) is_decided
-      ∙ ap (λ (w : Wants). first_status_of basis.now job (own_pods job basis.pods) (accounted job basis) (decided_in job basis) w) is_wanted
+-- What is computed is the first status.
+pub first-is : (job : Job) (basis : Basis) (counted : CountIn) (target : Option (CondKind × Reason)) (wants : Wants) (first : JobStatus)
+    → counted ≡ accounted job basis → target ≡ decided_in job basis → wants ≡ wants_in job basis
+    → first ≡ first_status_of basis.now job (own_pods job basis.pods) counted target wants → first ≡ first_value job basis
+unfolding first_value
+first-is job basis counted target wants first is_counted is_decided is_wanted is_first =
+    is_first
+    ∙ ap (λ (k : CountIn). first_status_of basis.now job (own_pods job basis.pods) k target wants) is_counted
+    ∙ ap (λ (g : Option (CondKind × Reason)). first_status_of basis.now job (own_pods job basis.pods) (accounted job basis) g wants) is_decided
+    ∙ ap (λ (w : Wants). first_status_of basis.now job (own_pods job basis.pods) (accounted job basis) (decided_in job basis) w) is_wanted
 
-  -- And the second.
-  pub second-is : second ≡ second_value job basis
-  unfolding first_value second_value
-  second-is =
-      is_second
-      ∙ ap (λ (g : Option (CondKind × Reason)). second_after basis.now job (own_pods job basis.pods) counted g (counted_out first counted.releases)) is_decided
-      ∙ ap (λ (f : JobStatus). second_after basis.now job (own_pods job basis.pods) counted (decided_in job basis) (counted_out f counted.releases)) first-is
-      ∙ ap (λ (k : CountIn). second_after basis.now job (own_pods job basis.pods) k (decided_in job basis) (counted_out (first_value job basis) k.releases)) is_counted
+-- And the second.
+pub second-is : (job : Job) (basis : Basis) (counted : CountIn) (target : Option (CondKind × Reason)) (first second : JobStatus)
+    → counted ≡ accounted job basis → target ≡ decided_in job basis → first ≡ first_value job basis
+    → second ≡ second_after basis.now job (own_pods job basis.pods) counted target (counted_out first counted.releases) → second ≡ second_value job basis
+unfolding first_value second_value
+second-is job basis counted target first second is_counted is_decided is_first is_second =
+    is_second
+    ∙ ap (λ (g : Option (CondKind × Reason)). second_after basis.now job (own_pods job basis.pods) counted g (counted_out first counted.releases)) is_decided
+    ∙ ap (λ (f : JobStatus). second_after basis.now job (own_pods job basis.pods) counted (decided_in job basis) (counted_out f counted.releases)) is_first
+    ∙ ap (λ (k : CountIn). second_after basis.now job (own_pods job basis.pods) k (decided_in job basis) (counted_out (first_value job basis) k.releases)) is_counted
 
 -- All parts together are the plan.
 pub planned-is : (job : Job) (basis : Basis) (wants : Wants) → wants ≡ wants_in job basis

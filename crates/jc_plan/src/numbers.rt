@@ -8,7 +8,7 @@ ghost use Rattle.jc_plan.specs.Numbers.{active_after, ending_after, is_let_go_of
 
 use jc_manage::Wants;
 use jc_states::{Pods, count_active, count_ending, count_ready, is_among, is_own, is_ready};
-use jc_types::{Job, Pod, PodVersions, Uid};
+use jc_types::{Arc, Job, Pod, PodVersions, Uid};
 
 /// How many pods are active, ready and terminating once the requests of a sync are made.
 #[derive(Clone, Copy)]
@@ -40,7 +40,7 @@ fn stops_none(wants: &Wants) -> bool
 }
 
 // How many of the Job's own pods are ready and are neither marked nor let go, counted one by one.
-fn count_kept_on(job: &Job, pods: &[Pod], wants: &Wants) -> usize
+fn count_kept_on(job: &Job, pods: &[Arc<Pod>], wants: &Wants) -> usize
     ensures { result ≡ ready_after wants.now (own_pods job.now pods.now) }
 {
     pods.iter()

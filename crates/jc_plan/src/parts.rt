@@ -130,6 +130,33 @@ fn wants_for(
     wants(alloc, basis, counted, is_settled(job, target))
 }
 
+// The second status, where it is to be written. Where no pod is to be released it is as the first.
+fn second_for(
+    alloc: Global,
+    basis: &Basis,
+    job: &Job,
+    counted: &CountIn,
+    target: Option<(CondKind, Reason)>,
+    first: &JobStatus,
+) -> Result<Option<JobStatus>, Want>
+    requires this { basis.now.job ≡ Some job.now }
+    requires counted { counted.now ≡ accounted job.now basis.now }
+    requires target { target ≡ decided_in job.now basis.now }
+    requires kind { IfSome target (λ pair. is_target_kind pair.0 ≡ true) }
+    requires fresh { IsSome target → has_target job.now.status.conditions ≡ false }
+    requires first { first.now ≡ first_value job.now basis.now }
+    requires succeeded { first.now.succeeded + length first.now.uncounted_succeeded < 2 ^ 64 }
+    requires failed { first.now.failed + length first.now.uncounted_failed < 2 ^ 64 }
+    ensures { IfOk result (λ r.
+        r ≡ changed (first_value job.now basis.entry.now) (second_value job.now basis.entry.now)) }
+{
+    if counted.releases.is_empty() {
+        return Ok(None);
+    }
+    let second = second_status(alloc, basis, job, counted, target, first)?;
+    Ok(changed(first, second))
+}
+
 // Both statuses, where they are to be written.
 fn statuses_for(
     alloc: Global,
@@ -154,8 +181,7 @@ fn statuses_for(
         ≡ changed (first_value job.now basis.entry.now) (second_value job.now basis.entry.now)) }
 {
     let first = first_status(alloc, basis, job, counted, target, wants)?;
-    let second = second_status(alloc, basis, job, counted, target, &first)?;
-    let second = changed(&first, second);
+    let second = second_for(alloc, basis, job, counted, target, &first)?;
     Ok((changed(&job.status, first), second))
 }
 

@@ -1,11 +1,11 @@
 //! Which pods lose their finalizer.
 
 ghost use Rattle.std.specs.Prelude.{◌≡◌, IfOk, filter};
-ghost use Rattle.jc_states.specs.UidLists.{uids_of};
+ghost use Rattle.jc_states.specs.UidLists.{Ascends, is_in, uids_of};
 ghost use Rattle.jc_plan.specs.Releases.{due_uids, is_owed, is_orphan, is_released, releases_of};
 
-use jc_states::{Basis, is_among, is_foreign};
-use jc_types::{Pod, Uid, Uids, Want};
+use jc_states::{Basis, is_foreign};
+use jc_types::{Arc, Pod, Uid, Uids, Want};
 use std::alloc::Global;
 
 // Whether the pod is an orphan.
@@ -15,16 +15,27 @@ fn is_orphan(basis: &Basis, pod: &Pod) -> bool
     pod.tracked && (is_foreign(&basis.job, pod) && pod.version.0 <= basis.jobs_at.0)
 }
 
+// Whether the UID is one of these, found by halving.
+fn is_due(due: &[Uid], uid: Uid) -> bool
+    requires { Ascends due.now }
+    ensures { result ≡ is_in uid due.now }
+{
+    let place = due.partition_point(|other| other.0 < uid.0);
+    place < due.len() && due[place].0 == uid.0
+}
+
 // Whether the pod has the finalizer, and its UID is one of those that the Job is to release.
 fn is_owed(due: &[Uid], pod: &Pod) -> bool
+    requires { Ascends due.now }
     ensures { result ≡ is_owed due.now pod.now }
 {
-    pod.tracked && is_among(pod.uid, due)
+    pod.tracked && is_due(due, pod.uid)
 }
 
 // Whether the pod loses its finalizer, where these are the UIDs that the Job is to release.
 fn is_released(basis: &Basis, due: &[Uid], pod: &Pod) -> bool
-    requires { due.now ≡ due_uids basis.now.job basis.now.pods }
+    requires due { due.now ≡ due_uids basis.now.job basis.now.pods }
+    requires ascends { Ascends due.now }
     ensures { result ≡ is_released basis.entry.now pod.now }
 {
     is_owed(due, pod) || is_orphan(basis, pod)
@@ -34,8 +45,9 @@ fn is_released(basis: &Basis, due: &[Uid], pod: &Pod) -> bool
 //
 // # Errors
 // `Want` where there is no memory for them.
-fn released_of(alloc: Global, basis: &Basis, due: &[Uid], pods: &[Pod]) -> Result<Uids, Want>
-    requires { due.now ≡ due_uids basis.now.job basis.now.pods }
+fn released_of(alloc: Global, basis: &Basis, due: &[Uid], pods: &[Arc<Pod>]) -> Result<Uids, Want>
+    requires due { due.now ≡ due_uids basis.now.job basis.now.pods }
+    requires ascends { Ascends due.now }
     ensures { IfOk result (λ uids. uids ≡ uids_of (filter (is_released basis.entry.now) pods.now)) }
 {
     let mut uids = Uids::new(alloc);
@@ -58,8 +70,9 @@ pub fn released(alloc: Global, basis: &Basis, due: &Uids) -> Result<Uids, Want>
     ensures { IfOk result (λ uids. uids ≡ releases_of basis.entry.now) }
 {
     let due = due.as_slice();
+    let pods = basis.pods.as_slice();
     let Some(job) = &basis.job else {
-        return released_of(alloc, basis, due, basis.pods.as_slice());
+        return released_of(alloc, basis, due, pods);
     };
     // Those that the Job is to release are noted by their UID, and orphans are another owner's.
     let noted = basis.pods.noted(job.uid, due, &[])?;

@@ -7,5 +7,5 @@ pub returns : goal.returns
 returns c =
     subst (λ us. IfOk c.list_of-2.result (λ uids. uids ≡ us))
     (c.as_slice-3.ensures.value ∙ c.in_ok-uids-2.ensures
-    ∙ marks-noted c.args.target c.if-target.false c.args.job.now c.args.pods.now _ [] [] (c.as_slice-2.ensures.value ∙ c.in_ok-noted.ensures))
+    ∙ marks-noted c.args.target c.if-target.false c.args.job.now c.args.pods.now _ [] [] (c.as_slice-2.ensures.value ∙ c.in_ok-noted.ensures.pods))
     c.list_of-2.ensures

@@ -23,6 +23,7 @@ loop-pod-preserved c =
     let job = c.args.job.now in
     let pods = c.args.pods.now in
     let i = c.loop-pod.pod-index in
-    let pod = c.pod-item.result in
-    let more : take (i + 1) pods ≡ take i pods ++ pod ∷ [] = search (rules, take_more) in
+    let pod = c.deref.result.now in
+    let item : take (i + 1) pods ≡ take i pods ++ c.pod-item.result ∷ [] = search (rules, take_more) in
+    let more : take (i + 1) pods ≡ take i pods ++ pod ∷ [] = item ∙ ap (λ p. take i pods ++ p ∷ []) (sym c.deref.ensures) in
     λ index uid. any-next (λ p. is_own job p && (is_tracked_active p && is_earlier index uid p)) pods i pod _ _ more (c.loop-pod.invariant index uid) (c.in_ok-claim_own.ensures index uid)

@@ -1,12 +1,11 @@
 use Rattle.std.proofs.Common.{ℕ, ◌+◌, ◌&&◌, Bool, not, arith}
 use Rattle.std.specs.List.{list_any}
-use Rattle.jc_ranges.specs.Sets.{has}
 use Rattle.jc_states.specs.Holders.{has_index_in}
 use Rattle.jc_states.specs.Pods.{tracked_active_pods}
 use Rattle.jc_states.specs.Tallies.{pods_for}
 use Rattle.jc_manage.specs.Creations.{is_settled_index}
 use Rattle.jc_manage.proofs.Sequences.{free-enough, free-next}
-use Rattle.jc_manage.proofs.UnheldFacts.{found-skip, settled-not_free}
+use Rattle.jc_manage.proofs.UnheldFacts.{found-skip}
 use Rattle.jc_manage.proofs.unheld.unheld_indexes.Goals as goal
 
 pub loop-index-preserved : goal.loop-index-preserved
@@ -14,9 +13,8 @@ loop-index-preserved c =
     let counted = c.args.counted.now in
     let tracked = tracked_active_pods (pods_for c.args.owner c.args.pods.now) in
     let test : ℕ → Bool = λ n. not (is_settled_index counted n) && not (list_any (has_index_in n n) tracked) in (
-      c.past_completed-index.ensures.within,
-      found-skip test c.args.most (c.loop-index.index + 1) _ _ c.past_completed-index.ensures.above
-          (λ n low high. settled-not_free (has n counted.completed) (has n counted.failed_indexes) (list_any (has_index_in n n) tracked) (c.past_completed-index.ensures.between n low high))
+      c.past_settled_and_held-index.ensures.within,
+      found-skip test c.args.most (c.loop-index.index + 1) _ _ c.past_settled_and_held-index.ensures.above c.past_settled_and_held-index.ensures.between
           (free-next test c.args.most c.loop-index.index _ _ c.loop-index.invariant.1 c.in_ok-offer.ensures),
     )
 

@@ -1,8 +1,7 @@
 -- The statuses are those of the plan of the basis's Job.
 use Rattle.std.proofs.Common.{ap, ◌∙◌}
 use Rattle.jc_plan.specs.Plans.{changed}
-use Rattle.jc_plan.specs.Statuses.{first_value}
-use Rattle.jc_plan.proofs.PartFacts.{first-is, second-is, wants-created, wants-going}
+use Rattle.jc_plan.proofs.PartFacts.{first-is, wants-created, wants-going}
 use Rattle.jc_plan.proofs.parts.statuses_for.Goals as goal
 
 pub first_status-requires-clause-created : goal.first_status-requires-clause-created
@@ -12,19 +11,14 @@ first_status-requires-clause-created c =
 pub first_status-requires-clause-going : goal.first_status-requires-clause-going
 first_status-requires-clause-going c = wants-going c.args.job.now c.args.basis.now c.args.wants.now c.requires.wants
 
+pub second_for-requires-clause-first : goal.second_for-requires-clause-first
+second_for-requires-clause-first c =
+    first-is c.args.job.now c.args.basis.now c.args.counted.now c.args.target c.args.wants.now c.in_ok-first.first
+    c.requires.counted c.requires.target c.requires.wants c.in_ok-first.ensures
+
 pub returns-clause-first : goal.returns-clause-first
 returns-clause-first c =
     c.changed.ensures
     ∙ ap (changed c.args.job.now.status)
-    (first-is c.args.job.now c.args.basis.now c.args.counted.now c.args.target c.args.wants.now c.in_ok-first.first c.in_ok-second.second
-    c.requires.counted c.requires.target c.requires.wants c.in_ok-first.ensures c.in_ok-second.ensures)
-
-pub returns-clause-second : goal.returns-clause-second
-returns-clause-second c =
-    c.changed-second.ensures
-    ∙ ap (λ s. changed s c.in_ok-second.second)
-    (first-is c.args.job.now c.args.basis.now c.args.counted.now c.args.target c.args.wants.now c.in_ok-first.first c.in_ok-second.second
-    c.requires.counted c.requires.target c.requires.wants c.in_ok-first.ensures c.in_ok-second.ensures)
-    ∙ ap (changed (first_value c.args.job.now c.args.basis.now))
-    (second-is c.args.job.now c.args.basis.now c.args.counted.now c.args.target c.args.wants.now c.in_ok-first.first c.in_ok-second.second
-    c.requires.counted c.requires.target c.requires.wants c.in_ok-first.ensures c.in_ok-second.ensures)
+    (first-is c.args.job.now c.args.basis.now c.args.counted.now c.args.target c.args.wants.now c.in_ok-first.first
+    c.requires.counted c.requires.target c.requires.wants c.in_ok-first.ensures)

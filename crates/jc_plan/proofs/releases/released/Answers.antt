@@ -1,10 +1,21 @@
 -- Of the noted pods the same lose their finalizer as of all.
-use Rattle.std.proofs.Common.{◌≡◌, [], IfOk, filter, ap, subst, ◌∙◌}
+use Rattle.std.proofs.Common.{◌≡◌, [], IfOk, filter, ap, sym, subst, ◌∙◌}
 use Rattle.jc_states.specs.Noted.{is_noted}
-use Rattle.jc_states.specs.UidLists.{uids_of}
+use Rattle.jc_states.specs.PodLists.{IsRising}
+use Rattle.jc_states.specs.UidLists.{Ascends, uids_of}
 use Rattle.jc_plan.specs.Releases.{is_released}
-use Rattle.jc_plan.proofs.NotedFacts.{releases-noted}
+use Rattle.jc_plan.proofs.NotedFacts.{due-ascends, releases-noted}
 use Rattle.jc_plan.proofs.releases.released.Goals as goal
+
+pub released_of-requires-clause-ascends : goal.released_of-requires-clause-ascends
+released_of-requires-clause-ascends c =
+    let basis = c.args.basis.now in
+    subst Ascends (sym (c.as_slice-due.ensures ∙ c.requires)) (due-ascends basis.job basis.pods (subst IsRising c.deref.ensures c.as_slice-pods.ensures.rising))
+
+pub released_of-requires-2-clause-ascends : goal.released_of-requires-2-clause-ascends
+released_of-requires-2-clause-ascends c =
+    let basis = c.args.basis.now in
+    subst Ascends (sym (c.as_slice-due.ensures ∙ c.requires)) (due-ascends basis.job basis.pods (subst IsRising c.deref.ensures c.as_slice-pods.ensures.rising))
 
 pub returns : goal.returns
 returns c =
@@ -12,6 +23,6 @@ returns c =
     let due = c.as_slice-due.result.now in
     subst (λ us. IfOk c.released_of-2.result (λ uids. uids ≡ us))
     (ap (λ pods. uids_of (filter (is_released basis) pods))
-    (c.as_slice-2.ensures.value ∙ c.in_ok-noted.ensures ∙ ap (filter (is_noted c.in-Some.job.uid due [])) c.deref-2.ensures)
+    (c.as_slice.ensures.value ∙ c.in_ok-noted.ensures.pods ∙ (λ i. filter (is_noted (c.deref-3.ensures i).uid due []) (c.deref-2.ensures i)))
     ∙ releases-noted basis c.in-Some.job due [] c.in-Some.is (c.as_slice-due.ensures ∙ c.requires))
     c.released_of-2.ensures

@@ -1,6 +1,6 @@
 use Rattle.std.proofs.Common.{◌≡◌, ◌≤◌, take}
 use Rattle.jc_account.specs.Modes.{gained}
-use Rattle.jc_account.proofs.indexes.gained.Given as goal
+use Rattle.jc_account.proofs.indexes.count_new.Given as goal
 
 -- The count so far is that of the members before the place.
 abbrev pub invariant-loop-place : goal.invariant-loop-place
