@@ -28,6 +28,7 @@ use Rattle.jc_account.specs.Accounts.{counted_in}
 use Rattle.jc_account.specs.Judged.{newly}
 use Rattle.jc_account.specs.Modes.{indexes_of}
 use Rattle.jc_account.proofs.AccountFacts.{judged-failed}
+use Rattle.jc_account.proofs.GainFacts.{has-below_all}
 use Rattle.jc_account.proofs.JudgementFacts.{newly-is}
 use Rattle.jc_account.proofs.ListedFacts.{each, has-indexes}
 use Rattle.jc_account.proofs.Owned.{filter-least}
@@ -38,13 +39,6 @@ use Rattle.jc_ledger.proofs.RoomFacts.{is_newly}
 use Rattle.jc_perindex.proofs.Sets.{increasing-join as increases_join}
 
 -- ---- increasing numbers
-
--- A number below all is not among them.
-has-below_all : (n : ℕ) (xs : List ℕ) → Each (λ x. n < x) xs → has n xs ≡ false
-has-below_all n [] all = refl
-has-below_all n (x ∷ xs) all =
-    let first : n < x = all.0 in
-    ap (λ b. b || has n xs) (ne_eqb x n (λ e. omega (arith, e, first))) ∙ has-below_all n xs all.1
 
 -- Increasing numbers of which just the same are members are the same.
 same_increasing : (xs ys : List ℕ) → IsIncreasing xs → IsIncreasing ys → ((n : ℕ) → has n xs ≡ has n ys) → xs ≡ ys

@@ -35,8 +35,7 @@ fn print_wanted(out: &mut String, version: Option<Version>) -> Result<(), Want>
     match version {
         None => out.push_str(" any "),
         Some(version) => {
-            out.push_str(" ")?;
-            print_version(out, version)?;
+            print_version(out, " v", version)?;
             out.push_str(" ")
         }
     }
@@ -73,7 +72,7 @@ fn print_finish(out: &mut String, pod: Uid, exit: i32) -> Result<(), Want>
     ensures { OnOk result (string_bytes out.new
         ≡ string_bytes out.old ++ act_text (does.Finish pod exit)) }
 {
-    print_pod(out, "finish", pod)?;
+    print_pod(out, "finish ", pod)?;
     out.push_str(" ")?;
     put_decimal(out, exit)
 }
@@ -82,7 +81,7 @@ fn print_report(out: &mut String, alloc: Global, pod: Uid, change: &PhaseChange)
     ensures { OnOk result (string_bytes out.new
         ≡ string_bytes out.old ++ act_text (does.Report pod change.now)) }
 {
-    print_pod(out, "report", pod)?;
+    print_pod(out, "report ", pod)?;
     out.push_str(" ")?;
     print_phase_change(out, alloc, change)?;
     Ok(())
@@ -107,25 +106,23 @@ fn print_clock(out: &mut String, add: u64) -> Result<(), Want>
     put_decimal(out, add)
 }
 
-// What befalls a controller's cache of a kind, in a word.
-fn print_cache(out: &mut String, word: &str, controller: u32, kind: Kind) -> Result<(), Want>
+// What befalls a controller's cache of a kind, in words.
+fn print_cache(out: &mut String, words: &str, controller: u32, kind: Kind) -> Result<(), Want>
     ensures { OnOk result (string_bytes out.new ≡ string_bytes out.old
-        ++ (word.now ++ (codes " " ++ (decimal controller ++ (codes " " ++ objects_word kind))))) }
+        ++ (words.now ++ (decimal controller ++ (codes " " ++ objects_word kind)))) }
 {
-    out.push_str(word)?;
-    out.push_str(" ")?;
+    out.push_str(words)?;
     put_decimal(out, controller)?;
     out.push_str(" ")?;
     out.push_str(kind_word(kind))
 }
 
-// What a controller's worker does, in a word.
-fn print_worker(out: &mut String, word: &str, controller: u32, worker: u32) -> Result<(), Want>
-    ensures { OnOk result (string_bytes out.new ≡ string_bytes out.old
-        ++ (word.now ++ (codes " " ++ worker_text controller worker))) }
+// What a controller's worker does, in words.
+fn print_worker(out: &mut String, words: &str, controller: u32, worker: u32) -> Result<(), Want>
+    ensures { OnOk result (string_bytes out.new
+        ≡ string_bytes out.old ++ (words.now ++ worker_text controller worker)) }
 {
-    out.push_str(word)?;
-    out.push_str(" ")?;
+    out.push_str(words)?;
     put_decimal(out, controller)?;
     out.push_str(" ")?;
     put_decimal(out, worker)
@@ -143,7 +140,7 @@ fn print_fault(out: &mut String, controller: u32, worker: u32, fault: Fault) -> 
     ensures { OnOk result (string_bytes out.new
         ≡ string_bytes out.old ++ act_text (does.PutFault controller worker fault)) }
 {
-    print_worker(out, "fault", controller, worker)?;
+    print_worker(out, "fault ", controller, worker)?;
     out.push_str(" ")?;
     out.push_str(fault_word(fault))
 }
@@ -165,17 +162,17 @@ pub fn print_action(out: &mut String, alloc: Global, action: &Action1) -> Result
             change,
         } => { print_update(out, alloc, key, *version, change) }
         Action1::Delete { key } => print_delete(out, key),
-        Action1::Mark { pod } => print_pod(out, "mark", *pod),
-        Action1::Strip { pod } => print_pod(out, "strip", *pod),
+        Action1::Mark { pod } => print_pod(out, "mark ", *pod),
+        Action1::Strip { pod } => print_pod(out, "strip ", *pod),
         Action1::Finish { pod, exit } => print_finish(out, *pod, *exit),
         Action1::Report { pod, change } => print_report(out, alloc, *pod, change),
         Action1::Fate { key, ends } => print_fate(out, alloc, key, ends),
         Action1::Clock { add } => print_clock(out, *add),
-        Action1::List { controller, kind } => print_cache(out, "list", *controller, *kind),
-        Action1::Deliver { controller, kind } => print_cache(out, "deliver", *controller, *kind),
-        Action1::Begin { controller, worker } => print_worker(out, "begin", *controller, *worker),
-        Action1::Sync { controller, worker } => print_worker(out, "begin", *controller, *worker),
-        Action1::Step { controller, worker } => print_worker(out, "step", *controller, *worker),
+        Action1::List { controller, kind } => print_cache(out, "list ", *controller, *kind),
+        Action1::Deliver { controller, kind } => print_cache(out, "deliver ", *controller, *kind),
+        Action1::Begin { controller, worker } => print_worker(out, "begin ", *controller, *worker),
+        Action1::Sync { controller, worker } => print_worker(out, "begin ", *controller, *worker),
+        Action1::Step { controller, worker } => print_worker(out, "step ", *controller, *worker),
         Action1::Node => out.push_str("node"),
         Action1::Restart { controller } => print_restart(out, *controller),
         Action1::PutFault {
@@ -197,10 +194,10 @@ pub fn print_system(out: &mut String, system: &Sys) -> Result<(), Want>
         ≡ string_bytes out.old ++ act_text (act_of_system system.now)) }
 {
     match system {
-        Sys::List { controller, kind } => print_cache(out, "list", *controller, *kind),
-        Sys::Deliver { controller, kind } => print_cache(out, "deliver", *controller, *kind),
-        Sys::Begin { controller, worker } => print_worker(out, "begin", *controller, *worker),
-        Sys::Step { controller, worker } => print_worker(out, "step", *controller, *worker),
+        Sys::List { controller, kind } => print_cache(out, "list ", *controller, *kind),
+        Sys::Deliver { controller, kind } => print_cache(out, "deliver ", *controller, *kind),
+        Sys::Begin { controller, worker } => print_worker(out, "begin ", *controller, *worker),
+        Sys::Step { controller, worker } => print_worker(out, "step ", *controller, *worker),
         Sys::Node => out.push_str("node"),
         Sys::Clock { add } => print_clock(out, *add),
     }

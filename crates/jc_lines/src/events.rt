@@ -20,7 +20,7 @@ fn command_at<'s>(script: &'s Script, number: u32) -> &'s Command
     &script.commands.as_slice()[number as usize]
 }
 
-// The lane of a command, and what it does.
+// The lane of a command behind a blank, and what it does.
 fn print_command(
     out: &mut String,
     alloc: Global,
@@ -29,28 +29,29 @@ fn print_command(
     number: u32,
 ) -> Result<(), Want>
     requires { number < length script.now.commands }
-    ensures { OnOk result (string_bytes out.new ≡ string_bytes out.old ++ (tag_text (Some lane)
-        ++ (codes " " ++ act_text (act_of_command (slice_get script.now.commands number))))) }
+    ensures { OnOk result (string_bytes out.new ≡ string_bytes out.old
+        ++ (codes " " ++ (tag_text (Some lane)
+        ++ (codes " " ++ act_text (act_of_command (slice_get script.now.commands number)))))) }
 {
     let command = command_at(script, number);
-    out.push_str("@")?;
+    out.push_str(" @")?;
     put_decimal(out, lane)?;
     out.push_str(" ")?;
     print_action(out, alloc, &command.action)?;
     Ok(())
 }
 
-// Whose event it is, and what it does.
+// Whose event it is, behind a blank, and what it does.
 fn print_deed(out: &mut String, alloc: Global, script: &Script, event: &Event) -> Result<(), Want>
     requires { IsPlace script.now.commands event.now }
     ensures { OnOk result (string_bytes out.new ≡ string_bytes out.old
-        ++ (tag_text (lane_of event.now)
-        ++ (codes " " ++ act_text (act_of_event script.now.commands event.now)))) }
+        ++ (codes " " ++ (tag_text (lane_of event.now)
+        ++ (codes " " ++ act_text (act_of_event script.now.commands event.now))))) }
 {
     match event {
         Event::Command { lane, number } => print_command(out, alloc, script, *lane, *number),
         Event::System(system) => {
-            out.push_str("- ")?;
+            out.push_str(" - ")?;
             print_system(out, system)
         }
     }
@@ -74,7 +75,6 @@ pub fn put_event(
         ≡ string_bytes out.old ++ event_line number (deed script.now past.now)) }
 {
     put_decimal(out, number)?;
-    out.push_str(" ")?;
     print_deed(out, alloc, script, &past.event)?;
     out.push_str(" -> ")?;
     print_reply(out, alloc, &past.reply)?;

@@ -10,12 +10,12 @@ use crate::jobs::print_job;
 use crate::summaries::print_verdicts;
 use jc_ledger::Verdicts;
 use jc_table::Table;
-use jc_types::{Copied, Job, Jobs, Key, Uid, Want};
+use jc_types::{Arc, Copied, Job, Jobs, Key, Uid, Want};
 use std::alloc::Global;
 use std::collections::BTreeMap;
 
 // Puts a copy of the Job at its key's place.
-fn put_copy(rows: &mut BTreeMap<Key, Job>, key: &Key, job: &Job) -> Result<(), Want>
+fn put_copy(rows: &mut BTreeMap<Key, Arc<Job>>, key: &Key, job: &Arc<Job>) -> Result<(), Want>
     ensures { OnOk result (rows.new.entries
         ≡ insert_entry key_order rows.old.entries key.now job.now) }
 {
@@ -24,7 +24,7 @@ fn put_copy(rows: &mut BTreeMap<Key, Job>, key: &Key, job: &Job) -> Result<(), W
 }
 
 // The Jobs by their keys, in ascending key.
-fn ordered(alloc: Global, jobs: &Table<Key, Job>) -> Result<BTreeMap<Key, Job>, Want>
+fn ordered(alloc: Global, jobs: &Table<Key, Arc<Job>>) -> Result<BTreeMap<Key, Arc<Job>>, Want>
     ensures { IfOk result (λ rows. rows.entries ≡ by_key jobs.now) }
 {
     let mut rows = BTreeMap::new(alloc);
@@ -39,7 +39,7 @@ fn ordered(alloc: Global, jobs: &Table<Key, Job>) -> Result<BTreeMap<Key, Job>, 
 /// # Errors
 ///
 /// Want of memory.
-pub fn in_order(alloc: Global, jobs: &Table<Key, Job>) -> Result<Jobs, Want>
+pub fn in_order(alloc: Global, jobs: &Table<Key, Arc<Job>>) -> Result<Jobs, Want>
     ensures { IfOk result (λ list. list ≡ in_order jobs.now) }
 {
     let rows = ordered(alloc, jobs)?;
@@ -91,7 +91,11 @@ fn print_lines(
 /// # Errors
 ///
 /// Want of memory.
-pub fn jobs_text(alloc: Global, rows: &Table<Uid, Verdicts>, jobs: &[Job]) -> Result<String, Want>
+pub fn jobs_text(
+    alloc: Global,
+    rows: &Table<Uid, Verdicts>,
+    jobs: &[Arc<Job>],
+) -> Result<String, Want>
     ensures { IfOk result (λ text. string_bytes text
         ≡ jobs_text (λ j. verdicts_at j rows.now) jobs.now) }
 {

@@ -19,8 +19,7 @@ fn print_identity(out: &mut String, alloc: Global, job: &Job) -> Result<(), Want
     let uid = uid_text(alloc, job.uid)?;
     out.push_str(" ")?;
     out.push_str(uid.as_str())?;
-    out.push_str(" ")?;
-    print_version(out, job.version)?;
+    print_version(out, " v", job.version)?;
     out.push_str(" ")
 }
 

@@ -1,7 +1,7 @@
-//! The texts of keys, of versions and of pods.
+//! The texts of keys, of versions and of pods. Fixed words come with the blank behind them, in one piece.
 
-ghost use Rattle.std.specs.Prelude.{◌≡◌, ◌++◌, OnOk, codes, decimal, string_bytes};
-ghost use Rattle.jc_lines.specs.Words.{key_text, version_text};
+ghost use Rattle.std.specs.Prelude.{◌≡◌, ◌++◌, OnOk, decimal, string_bytes};
+ghost use Rattle.jc_lines.specs.Words.{key_text};
 
 use jc_print::put_decimal;
 use jc_types::{Key, Uid, Version, Want};
@@ -20,28 +20,28 @@ pub fn print_key(out: &mut String, key: &Key) -> Result<(), Want>
     Ok(())
 }
 
-/// Puts a version behind the text, as `v3`.
+/// Puts words behind the text that end in the `v` of a version, and the version's number.
 ///
 /// # Errors
 ///
 /// Want of memory.
-pub fn print_version(out: &mut String, version: Version) -> Result<(), Want>
-    ensures { OnOk result (string_bytes out.new ≡ string_bytes out.old ++ version_text version) }
+pub fn print_version(out: &mut String, words: &str, version: Version) -> Result<(), Want>
+    ensures { OnOk result (string_bytes out.new
+        ≡ string_bytes out.old ++ (words.now ++ decimal version.0)) }
 {
-    out.push_str("v")?;
+    out.push_str(words)?;
     put_decimal(out, version.0)
 }
 
-/// Puts a word behind the text, and the pod that it is said of.
+/// Puts words behind the text, and the pod that they are said of.
 ///
 /// # Errors
 ///
 /// Want of memory.
-pub fn print_pod(out: &mut String, word: &str, pod: Uid) -> Result<(), Want>
+pub fn print_pod(out: &mut String, words: &str, pod: Uid) -> Result<(), Want>
     ensures { OnOk result (string_bytes out.new
-        ≡ string_bytes out.old ++ (word.now ++ (codes " " ++ decimal pod.0))) }
+        ≡ string_bytes out.old ++ (words.now ++ decimal pod.0)) }
 {
-    out.push_str(word)?;
-    out.push_str(" ")?;
+    out.push_str(words)?;
     put_decimal(out, pod.0)
 }

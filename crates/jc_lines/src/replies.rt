@@ -5,7 +5,6 @@ ghost use Rattle.jc_types.specs.declared.replies.Answer.TheVariants as answer;
 ghost use Rattle.jc_types.specs.declared.replies.Reply.TheVariants as reply;
 ghost use Rattle.jc_types.specs.declared.replies.Request.TheVariants as request;
 ghost use Rattle.jc_lines.specs.Replies.{TellsThree, answer_text, index_text, reply_text, request_text};
-ghost use Rattle.jc_lines.specs.Words.{version_text};
 
 use crate::keys::{print_key, print_pod, print_version};
 use crate::words::{field_word, kind_word, phase_word};
@@ -21,23 +20,11 @@ fn print_word(out: &mut String, word: &str) -> Result<(), Want>
     out.push_str(word)
 }
 
-// A word and a version.
-fn print_at(out: &mut String, word: &str, version: Version) -> Result<(), Want>
-    ensures { OnOk result (string_bytes out.new
-        ≡ string_bytes out.old ++ (word.now ++ (codes " " ++ version_text version))) }
+// Words and what they are said of.
+fn print_pair(out: &mut String, words: &str, of: &str) -> Result<(), Want>
+    ensures { OnOk result (string_bytes out.new ≡ string_bytes out.old ++ (words.now ++ of.now)) }
 {
-    out.push_str(word)?;
-    out.push_str(" ")?;
-    print_version(out, version)
-}
-
-// A word and what it is said of.
-fn print_pair(out: &mut String, word: &str, of: &str) -> Result<(), Want>
-    ensures { OnOk result (string_bytes out.new
-        ≡ string_bytes out.old ++ (word.now ++ (codes " " ++ of.now))) }
-{
-    out.push_str(word)?;
-    out.push_str(" ")?;
+    out.push_str(words)?;
     out.push_str(of)
 }
 
@@ -45,16 +32,15 @@ fn print_created(out: &mut String, uid: Uid, version: Version) -> Result<(), Wan
     ensures { OnOk result (string_bytes out.new
         ≡ string_bytes out.old ++ answer_text (answer.Created uid version)) }
 {
-    print_pod(out, "created", uid)?;
-    out.push_str(" ")?;
-    print_version(out, version)
+    print_pod(out, "created ", uid)?;
+    print_version(out, " v", version)
 }
 
 fn print_bad_step(out: &mut String, from: Phase, to: Phase) -> Result<(), Want>
     ensures { OnOk result (string_bytes out.new
         ≡ string_bytes out.old ++ answer_text (answer.BadStep from to)) }
 {
-    print_pair(out, "bad-step", phase_word(from))?;
+    print_pair(out, "bad-step ", phase_word(from))?;
     out.push_str(" ")?;
     out.push_str(phase_word(to))
 }
@@ -63,7 +49,7 @@ fn print_no_container(out: &mut String, name: &Name) -> Result<(), Want>
     ensures { OnOk result (string_bytes out.new
         ≡ string_bytes out.old ++ answer_text (answer.NoContainer name.now)) }
 {
-    print_pair(out, "no-container", name.as_str())
+    print_pair(out, "no-container ", name.as_str())
 }
 
 fn print_moment(out: &mut String, alloc: Global, moment: Moment) -> Result<(), Want>
@@ -82,32 +68,27 @@ fn print_begun(out: &mut String, key: &Key, jobs_at: Version, pods_at: Version) 
 {
     out.push_str("begun ")?;
     print_key(out, key)?;
-    out.push_str(" jobs ")?;
-    print_version(out, jobs_at)?;
-    out.push_str(" pods ")?;
-    print_version(out, pods_at)
+    print_version(out, " jobs v", jobs_at)?;
+    print_version(out, " pods v", pods_at)
 }
 
 fn print_behind(out: &mut String, kind: Kind, need: Version, have: Version) -> Result<(), Want>
     ensures { OnOk result (string_bytes out.new
         ≡ string_bytes out.old ++ reply_text (reply.Behind kind need have)) }
 {
-    print_pair(out, "behind", kind_word(kind))?;
-    out.push_str(" need ")?;
-    print_version(out, need)?;
-    out.push_str(" have ")?;
-    print_version(out, have)
+    print_pair(out, "behind ", kind_word(kind))?;
+    print_version(out, " need v", need)?;
+    print_version(out, " have v", have)
 }
 
 fn print_node(out: &mut String, pod: Uid, phase: Phase, version: Version) -> Result<(), Want>
     ensures { OnOk result (string_bytes out.new
         ≡ string_bytes out.old ++ reply_text (reply.NodeDone pod phase version)) }
 {
-    print_pod(out, "pod", pod)?;
+    print_pod(out, "pod ", pod)?;
     out.push_str(" ")?;
     out.push_str(phase_word(phase))?;
-    out.push_str(" written ")?;
-    print_version(out, version)
+    print_version(out, " written v", version)
 }
 
 // A reply that tells of three things.
@@ -169,10 +150,10 @@ pub fn print_request(out: &mut String, request: &Request) -> Result<(), Want>
 {
     match request {
         Request::CreatePod { index } => print_creation(out, *index),
-        Request::MarkPod { pod } => print_pod(out, "mark", *pod),
-        Request::LetGo { pod } => print_pod(out, "let-go", *pod),
+        Request::MarkPod { pod } => print_pod(out, "mark ", *pod),
+        Request::LetGo { pod } => print_pod(out, "let-go ", *pod),
         Request::Status => print_word(out, "status"),
-        Request::Release { pod } => print_pod(out, "release", *pod),
+        Request::Release { pod } => print_pod(out, "release ", *pod),
     }
 }
 
@@ -187,16 +168,16 @@ pub fn print_answer(out: &mut String, answer: &Answer) -> Result<(), Want>
 {
     match answer {
         Answer::Created { uid, version } => print_created(out, *uid, *version),
-        Answer::Written { version } => print_at(out, "written", *version),
-        Answer::Unchanged { version } => print_at(out, "unchanged", *version),
-        Answer::Released { version } => print_at(out, "released", *version),
-        Answer::Removed { version } => print_at(out, "removed", *version),
-        Answer::Conflict { current } => print_at(out, "conflict", *current),
+        Answer::Written { version } => print_version(out, "written v", *version),
+        Answer::Unchanged { version } => print_version(out, "unchanged v", *version),
+        Answer::Released { version } => print_version(out, "released v", *version),
+        Answer::Removed { version } => print_version(out, "removed v", *version),
+        Answer::Conflict { current } => print_version(out, "conflict v", *current),
         Answer::NotFound => print_word(out, "not-found"),
         Answer::AlreadyExists => print_word(out, "exists"),
-        Answer::Immutable { field } => print_pair(out, "immutable", field_word(*field)),
-        Answer::Invalid { field } => print_pair(out, "invalid", field_word(*field)),
-        Answer::Final { phase } => print_pair(out, "final", phase_word(*phase)),
+        Answer::Immutable { field } => print_pair(out, "immutable ", field_word(*field)),
+        Answer::Invalid { field } => print_pair(out, "invalid ", field_word(*field)),
+        Answer::Final { phase } => print_pair(out, "final ", phase_word(*phase)),
         Answer::BadStep { from, to } => print_bad_step(out, *from, *to),
         Answer::NoContainer { name } => print_no_container(out, name),
         Answer::NotTracked => print_word(out, "not-tracked"),
@@ -226,25 +207,25 @@ pub fn print_reply(out: &mut String, alloc: Global, reply: &Reply) -> Result<(),
 {
     match reply {
         Reply::Created { uid, version } => print_created(out, *uid, *version),
-        Reply::Written { version } => print_at(out, "written", *version),
-        Reply::Unchanged { version } => print_at(out, "unchanged", *version),
-        Reply::Released { version } => print_at(out, "released", *version),
-        Reply::Removed { version } => print_at(out, "removed", *version),
-        Reply::Conflict { current } => print_at(out, "conflict", *current),
+        Reply::Written { version } => print_version(out, "written v", *version),
+        Reply::Unchanged { version } => print_version(out, "unchanged v", *version),
+        Reply::Released { version } => print_version(out, "released v", *version),
+        Reply::Removed { version } => print_version(out, "removed v", *version),
+        Reply::Conflict { current } => print_version(out, "conflict v", *current),
         Reply::NotFound => print_word(out, "not-found"),
         Reply::AlreadyExists => print_word(out, "exists"),
-        Reply::Immutable { field } => print_pair(out, "immutable", field_word(*field)),
-        Reply::Invalid { field } => print_pair(out, "invalid", field_word(*field)),
-        Reply::Final { phase } => print_pair(out, "final", phase_word(*phase)),
+        Reply::Immutable { field } => print_pair(out, "immutable ", field_word(*field)),
+        Reply::Invalid { field } => print_pair(out, "invalid ", field_word(*field)),
+        Reply::Final { phase } => print_pair(out, "final ", phase_word(*phase)),
         Reply::BadStep { from, to } => print_bad_step(out, *from, *to),
         Reply::NoContainer { name } => print_no_container(out, name),
         Reply::NotTracked => print_word(out, "not-tracked"),
         Reply::Now { moment } => print_moment(out, alloc, *moment),
         Reply::ClockEnd => print_word(out, "clock-end"),
-        Reply::Listed { at } => print_at(out, "listed", *at),
-        Reply::Delivered { version } => print_at(out, "entry", *version),
+        Reply::Listed { at } => print_version(out, "listed v", *at),
+        Reply::Delivered { version } => print_version(out, "entry v", *version),
         Reply::UpToDate => print_word(out, "up-to-date"),
-        Reply::Expired { floor } => print_at(out, "expired", *floor),
+        Reply::Expired { floor } => print_version(out, "expired v", *floor),
         Reply::NotSynced => print_word(out, "not-synced"),
         Reply::Begun { .. } => print_three(out, reply),
         Reply::NoKey => print_word(out, "no-key"),

@@ -13,7 +13,7 @@ use crate::events::put_event;
 use crate::job_lists::{in_order, jobs_text};
 use crate::summaries::{print_full, print_summary};
 use jc_table::Table;
-use jc_types::{Entries, History, Job, Key, Past, Script, Want};
+use jc_types::{Arc, Entries, History, Job, Key, Past, Script, Want};
 use jc_verdicts::all_verdicts;
 use std::alloc::Global;
 
@@ -57,7 +57,7 @@ pub fn tail(
     script: &Script,
     history: &History,
     log: &Entries,
-    jobs: &Table<Key, Job>,
+    jobs: &Table<Key, Arc<Job>>,
 ) -> Result<String, Want>
     requires few { length log.now < 2 ^ 32 }
     requires places { IsNumbered script.now history.now }
@@ -85,7 +85,7 @@ pub fn report_of_parts(
     script: &Script,
     history: &History,
     log: &Entries,
-    jobs: &Table<Key, Job>,
+    jobs: &Table<Key, Arc<Job>>,
     full: bool,
 ) -> Result<String, Want>
     requires few { length log.now < 2 ^ 32 }
@@ -111,7 +111,7 @@ pub fn report_of_parts(
 pub fn summary_of_parts(
     alloc: Global,
     log: &Entries,
-    jobs: &Table<Key, Job>,
+    jobs: &Table<Key, Arc<Job>>,
     full: bool,
 ) -> Result<String, Want>
     requires jobs { jobs.now ≡ jobs_in (reverse log.now) }

@@ -8,7 +8,7 @@ ghost use Rattle.jc_lines.specs.Summaries.{with_condition};
 use crate::keys::print_key;
 use jc_print::put_decimal;
 use jc_states::stands;
-use jc_types::{CondKind, Job, Mode, Want};
+use jc_types::{Arc, CondKind, Job, Mode, Want};
 use std::alloc::Global;
 
 // A number behind its words.
@@ -97,7 +97,7 @@ pub fn print_full(out: &mut String, full: bool) -> Result<(), Want>
 }
 
 // How many Jobs have a true condition of the kind.
-fn with_condition(kind: CondKind, jobs: &[Job]) -> usize
+fn with_condition(kind: CondKind, jobs: &[Arc<Job>]) -> usize
     ensures { result ≡ with_condition kind jobs.now }
 {
     jobs.iter()
@@ -107,7 +107,7 @@ fn with_condition(kind: CondKind, jobs: &[Job]) -> usize
 
 // How many pods the Jobs have counted as succeeded. A sum of so many numbers of 64 bits has at most
 // 128.
-fn all_succeeded(jobs: &[Job]) -> u128
+fn all_succeeded(jobs: &[Arc<Job>]) -> u128
     ensures { result ≡ all_succeeded jobs.now }
 {
     let mut sum: u128 = 0;
@@ -118,7 +118,7 @@ fn all_succeeded(jobs: &[Job]) -> u128
 }
 
 // How many they have counted as failed.
-fn all_failed(jobs: &[Job]) -> u128
+fn all_failed(jobs: &[Arc<Job>]) -> u128
     ensures { result ≡ all_failed jobs.now }
 {
     let mut sum: u128 = 0;
@@ -128,7 +128,7 @@ fn all_failed(jobs: &[Job]) -> u128
     sum
 }
 
-fn print_jobs_summary(out: &mut String, jobs: &[Job]) -> Result<(), Want>
+fn print_jobs_summary(out: &mut String, jobs: &[Arc<Job>]) -> Result<(), Want>
     ensures { OnOk result (string_bytes out.new ≡ string_bytes out.old ++ jobs_summary jobs.now) }
 {
     let complete = with_condition(CondKind::Complete, jobs);
@@ -155,7 +155,7 @@ fn print_counts(
     out.push_str("\n")
 }
 
-fn print_pods_summary(out: &mut String, jobs: &[Job]) -> Result<(), Want>
+fn print_pods_summary(out: &mut String, jobs: &[Arc<Job>]) -> Result<(), Want>
     ensures { OnOk result (string_bytes out.new ≡ string_bytes out.old ++ pods_summary jobs.now) }
 {
     let succeeded = all_succeeded(jobs);
@@ -164,7 +164,7 @@ fn print_pods_summary(out: &mut String, jobs: &[Job]) -> Result<(), Want>
 }
 
 // All lines of the summary.
-fn put_summary(out: &mut String, jobs: &[Job], full: bool) -> Result<(), Want>
+fn put_summary(out: &mut String, jobs: &[Arc<Job>], full: bool) -> Result<(), Want>
     ensures { OnOk result (string_bytes out.new
         ≡ string_bytes out.old ++ summary_text jobs.now full) }
 {
@@ -180,7 +180,12 @@ fn put_summary(out: &mut String, jobs: &[Job], full: bool) -> Result<(), Want>
 /// # Errors
 ///
 /// Want of memory; the text is then as before.
-pub fn print_summary(out: &mut String, alloc: Global, jobs: &[Job], full: bool) -> Result<(), Want>
+pub fn print_summary(
+    out: &mut String,
+    alloc: Global,
+    jobs: &[Arc<Job>],
+    full: bool,
+) -> Result<(), Want>
     ensures lines { OnOk result (string_bytes out.new
         ≡ string_bytes out.old ++ summary_text jobs.now full) }
     ensures kept { OnErr result (string_bytes out.new ≡ string_bytes out.old) }

@@ -8,7 +8,7 @@ ghost use Rattle.jc_reap.specs.Expiries.{after_end, ended_at, expired, expires_a
 
 use jc_moment::Moment;
 use jc_table::Table;
-use jc_types::{CondKind, Condition, Conditions, Copied, Job, Key, Uid, Want};
+use jc_types::{Arc, CondKind, Condition, Conditions, Copied, Job, Key, Uid, Want};
 use std::alloc::Global;
 use std::collections::BTreeMap;
 
@@ -76,10 +76,25 @@ fn note(rows: &mut BTreeMap<Expiry, Uid>, job: &Job, ttl: Option<u32>) -> Result
     Ok(())
 }
 
+// Puts the Job at its place among those that may go, where the command that made it lets it go.
+fn note_made(
+    rows: &mut BTreeMap<Expiry, Uid>,
+    makers: &Table<Uid, u32>,
+    ttls: &[Option<u32>],
+    job: &Arc<Job>,
+) -> Result<(), Want>
+    ensures { OnOk result (rows.new.entries ≡ with_expiry
+        (expires_at job.now (ttl_at ttls.now (at same_uid makers.now job.now.uid)))
+        job.now rows.old.entries) }
+{
+    let ttl = ttl_of(makers, ttls, job.uid);
+    note(rows, job, ttl)
+}
+
 // The Jobs that may go, in the order in which they go, where these commands made the Jobs.
 pub(crate) fn expired(
     alloc: Global,
-    jobs: &Table<Key, Job>,
+    jobs: &Table<Key, Arc<Job>>,
     makers: &Table<Uid, u32>,
     ttls: &[Option<u32>],
 ) -> Result<BTreeMap<Expiry, Uid>, Want>
@@ -88,8 +103,7 @@ pub(crate) fn expired(
 {
     let mut rows = BTreeMap::new(alloc);
     for row in jobs.rows().rev() {
-        let job = &row.1;
-        note(&mut rows, job, ttl_of(makers, ttls, job.uid))?;
+        note_made(&mut rows, makers, ttls, &row.1)?;
     }
     Ok(rows)
 }

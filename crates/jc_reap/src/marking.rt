@@ -5,7 +5,7 @@ ghost use Rattle.jc_types.specs.declared.objects.Job.{Job};
 ghost use Rattle.jc_reap.specs.Reaping.{HasUids, command, is_ownerless, mark_commands};
 
 use jc_table::{PodTable, Table};
-use jc_types::{Action1, Command, Commands, Job, Key, Pod, Uid, Want};
+use jc_types::{Action1, Arc, Command, Commands, Job, Key, Pod, Uid, Want};
 use std::alloc::Global;
 
 // Adds the command of lane 0 that does this.
@@ -23,7 +23,7 @@ fn mark(commands: &mut Commands, pod: &Pod) -> Result<(), Want>
 }
 
 // Adds marks of all these pods.
-pub(crate) fn mark_all(commands: &mut Commands, pods: &[Pod]) -> Result<(), Want>
+pub(crate) fn mark_all(commands: &mut Commands, pods: &[Arc<Pod>]) -> Result<(), Want>
     ensures { OnOk result (commands.new ≡ commands.old ++ mark_commands pods.now) }
 {
     for pod in pods {
@@ -33,7 +33,7 @@ pub(crate) fn mark_all(commands: &mut Commands, pods: &[Pod]) -> Result<(), Want
 }
 
 // The UIDs of the Jobs that are there.
-fn present(alloc: Global, jobs: &Table<Key, Job>) -> Result<Table<Uid, ()>, Want>
+fn present(alloc: Global, jobs: &Table<Key, Arc<Job>>) -> Result<Table<Uid, ()>, Want>
     ensures { IfOk result (λ uids. HasUids uids (map (λ row. row.1) jobs.now)) }
 {
     let mut uids = Table::new(alloc);
@@ -66,7 +66,7 @@ fn mark_ownerless(commands: &mut Commands, uids: &Table<Uid, ()>, pod: &Pod) -> 
 pub(crate) fn mark_all_ownerless(
     alloc: Global,
     commands: &mut Commands,
-    jobs: &Table<Key, Job>,
+    jobs: &Table<Key, Arc<Job>>,
     pods: &PodTable,
 ) -> Result<(), Want>
     ensures { OnOk result (commands.new ≡ commands.old

@@ -1,10 +1,10 @@
 -- What is kept of a ledger: its rows, and the set of its indexes.
-use Rattle.std.proofs.Common.{◌≡◌, ℕ, ◌+◌, ◌-◌, ◌<◌, Bool, true, false, cond, not, ◌&&◌, List, [], ◌∷◌, ◌++◌, map, filter, find, length, get_or, drop, take, Option, Some, None, is_some, Result, Ok, Err, refl, sym, ap, ◌∙◌, subst}
+use Rattle.std.proofs.Common.{◌≡◌, ℕ, ◌+◌, ◌-◌, ◌<◌, Bool, true, false, cond, not, ◌&&◌, ◌||◌, List, [], ◌∷◌, ◌++◌, map, filter, find, length, get_or, drop, take, Option, Some, None, is_some, Result, Ok, Err, refl, sym, ap, ◌∙◌, subst, arith}
 use Rattle.std.specs.Prelude.{IfOk, Vec, option_and_then, option_map, slice_get}
 use Rattle.std.specs.declared.alloc.Global.{Global}
 use Rattle.std.specs.List.{cons_option, insert}
 use Rattle.std.specs.Option.{option_map_or, option_or}
-use Rattle.std.proofs.lemmas.List.Elements.{filter_agree, filter_map-append}
+use Rattle.std.proofs.lemmas.List.Elements.{filter-append, filter_agree, filter_map-append}
 use Rattle.std.proofs.lemmas.List.Folds.{find-append}
 use Rattle.std.proofs.lemmas.Option.{slice_get-map}
 use Rattle.std.specs.List.Sorted.{IsBinarySearchResult}
@@ -18,17 +18,21 @@ use Rattle.jc_ranges.proofs.Order.{non_decreasing, present, absent}
 use Rattle.jc_types.specs.declared.limits.TheConstants.{MOST_UNCOUNTED}
 use Rattle.jc_types.specs.declared.numbers.Uid.{Uid}
 use Rattle.jc_types.specs.declared.objects.Job.{Job}
+use Rattle.jc_types.specs.declared.objects.Phase.{Phase}
+use Rattle.jc_types.specs.declared.objects.Phase.TheVariants as phase
 use Rattle.jc_types.specs.declared.objects.Pod.{Pod}
+use Rattle.jc_types.specs.declared.policies.FailurePolicy.{FailurePolicy}
 use Rattle.jc_types.specs.declared.specifications.JobSpec.{JobSpec}
 use Rattle.jc_types.specs.Keys.{same_uid}
 use Rattle.jc_states.specs.PodLists.{IsRising, RisesFrom}
 use Rattle.jc_states.proofs.PodListFacts.{rises_filter}
-use Rattle.jc_states.specs.Pods.{is_tracked}
+use Rattle.jc_states.specs.Pods.{is_marked, is_tracked}
 use Rattle.jc_states.specs.UidLists.{join}
 use Rattle.jc_types.proofs.ListFacts.{filter_same, filter-map}
 use Rattle.jc_failpol.specs.declared.outcomes.Outcome.{Outcome}
-use Rattle.jc_failpol.specs.declared.outcomes.Outcome.TheVariants.{Failed, Succeeded}
-use Rattle.jc_failpol.specs.Outcomes.{is_verdict, outcome_of, same_outcome}
+use Rattle.jc_failpol.specs.declared.outcomes.Outcome.TheVariants.{Alive, Failed, Ignored, Succeeded}
+use Rattle.jc_failpol.specs.Outcomes.{counts_marked, failure_of, is_failed, is_ignore, is_succeeded, is_verdict, outcome_of, same_outcome}
+use Rattle.jc_failpol.specs.Rules.{action_of}
 use Rattle.jc_account.specs.Modes.{indexes_of}
 use Rattle.jc_account.specs.Judgements.{first_beyond, is_fit, rows_within}
 use Rattle.jc_account.specs.Rooms.{has_room, joins_list, judged_within, takes_room}
@@ -36,7 +40,7 @@ use Rattle.jc_account.proofs.RoomFacts.{first_of, room-below}
 use Rattle.jc_account.specs.declared.judgements.Judgement.{Judgement as Row}
 use Rattle.jc_account.specs.Judged.{has_come_to, is_fresh}
 use Rattle.jc_ledger.specs.Ledger.{Record, Ledger, record_of, has_record, is_held, is_success, is_within, fresh, chosen, kept, recorded, judged_as, successes, entered, within}
-use Rattle.jc_verdicts.specs.Verdicts.{row_of, row_for, done_by, is_held_by, is_row_of, is_success_by, new_rows, outcome_in, rows_for, space_by, success_index, success_indexes, waiting, IsCount}
+use Rattle.jc_verdicts.specs.Verdicts.{row_of, row_for, done_by, fresh_row, is_held_by, is_row_of, is_success_by, new_rows, outcome_in, rows_for, space_by, success_index, success_indexes, waiting, IsCount}
 
 -- ---- the set of indexes
 
@@ -114,6 +118,27 @@ fitting_rows spec n pods rises =
         ∙ ap (option_map (λ (row : Row). row.uid)) (slice_get-map (row_for spec) (filter (takes_room spec) pods) n)
         ∙ uid_of (slice_get (filter (takes_room spec) pods) n)
 
+-- The rows of waiting pods and of one more.
+pub one-row : (spec : JobSpec) (known : Uid → Option Outcome) (pods : List Pod) (pod : Pod) (rows new : List Row) (o : Option Row) → rows ≡ map (row_for spec) (waiting spec known pods) → o ≡ fresh_row spec known pod → new ≡ rows ++ cons_option o []
+    → new ≡ map (row_for spec) (waiting spec known (pods ++ pod ∷ []))
+one-row spec known pods pod rows new o are is more =
+    more ∙ ap (λ rs. rs ++ cons_option o []) are ∙ ap (λ r. map (row_for spec) (waiting spec known pods) ++ cons_option r []) is
+    ∙ ap (λ rs. map (row_for spec) (waiting spec known pods) ++ rs) (by (is_fresh spec (λ u. is_some (known u)) pod))
+    ∙ sym (ap (map (row_for spec)) (filter-append (is_fresh spec (λ u. is_some (known u))) pods (pod ∷ [])) ∙ map-append (row_for spec) (waiting spec known pods) (waiting spec known (pod ∷ [])))
+  where
+    by : (b : Bool) → cons_option (cond b (Some (row_for spec pod)) None) [] ≡ map (row_for spec) (cond b (pod ∷ []) [])
+    by true = refl
+    by false = refl
+
+-- Where none waits, none is judged.
+pub no_rows : (spec : JobSpec) (known : Uid → Option Outcome) (pods : List Pod) (rows : List Row) → rows ≡ map (row_for spec) (waiting spec known pods) → length rows ≡ 0 → rows ≡ rows_for spec known pods
+no_rows spec known pods rows are none = by rows (waiting spec known pods) are none
+  where
+    by : (some : List Row) (left : List Pod) → some ≡ map (row_for spec) left → length some ≡ 0 → some ≡ map (row_for spec) (judged_within spec (space_by spec known pods) left)
+    by [] [] e n = refl
+    by [] (pod ∷ left) e n = absurd (omega (arith, ap length e))
+    by (row ∷ some) left e n = absurd (omega (arith, n))
+
 -- The outcomes by rows and more.
 pub outcomes-append : (u : Uid) (rows more : List Row) → outcome_in (rows ++ more) u ≡ option_or (outcome_in rows u) (outcome_in more u)
 outcomes-append u rows more = ap (option_map (λ (row : Row). row.outcome)) (find-append (is_row_of u) rows more) ∙ by (find (is_row_of u) rows)
@@ -148,6 +173,28 @@ fitting_result spec known pods space rows others first rises room are same found
 recorded_rows : (job : Job) (seen at : ℕ) (pods : List Pod) → map row_of (map (recorded job seen at) pods) ≡ map (row_for job.spec) pods
 recorded_rows job seen at [] = refl
 recorded_rows job seen at (pod ∷ pods) = ap (λ rest. row_for job.spec pod ∷ rest) (recorded_rows job seen at pods)
+
+-- A pod has succeeded where its phase says so.
+pub succeeded_is : (spec : JobSpec) (pod : Pod) → same_outcome (outcome_of spec pod) Succeeded ≡ is_succeeded pod.phase
+succeeded_is spec pod = by pod.phase
+  where
+    failed : (f : Option FailurePolicy) → same_outcome (failure_of f pod) Succeeded ≡ false
+    failed None = refl
+    failed (Some policy) = ignored (is_ignore (action_of policy pod))
+      where
+        ignored : (b : Bool) → same_outcome (cond b Ignored Failed) Succeeded ≡ false
+        ignored true = refl
+        ignored false = refl
+
+    other : (b : Bool) → same_outcome (cond b (failure_of spec.failure pod) Alive) Succeeded ≡ false
+    other true = failed spec.failure
+    other false = refl
+
+    by : (p : Phase) → same_outcome (cond (is_succeeded p) Succeeded (cond (is_failed p || (counts_marked spec.replacement && is_marked pod)) (failure_of spec.failure pod) Alive)) Succeeded ≡ is_succeeded p
+    by phase.Pending = other (counts_marked spec.replacement && is_marked pod)
+    by phase.Running = other (counts_marked spec.replacement && is_marked pod)
+    by phase.Succeeded = refl
+    by phase.Failed = failed spec.failure
 
 -- A pod is a success by its record where it is by its row.
 success_is : (job : Job) (records : List Record) (pod : Pod) → is_success job records pod ≡ is_success_by job (outcome_in (map row_of records)) pod

@@ -7,6 +7,7 @@
 --     is_held_by spec known pod      the pod is tracked, and was judged so that it joined a list
 --     space_by spec known pods       how many UIDs may join the lists
 --     waiting spec known pods        the pods that are still to be judged
+--     fresh_row spec known pod       the row of a pod that is still to be judged
 --     rows_for spec known pods       the rows of the pods that are judged where pods were judged so
 --     new_rows spec rows pods        the rows of the pods that a write judges
 --     fresh_rows job rows log seen   those that it judges of the Job's pods among the first entries
@@ -95,6 +96,11 @@ space_by spec known pods = MOST_UNCOUNTED - length (filter (is_held_by spec know
 -- The pods that are still to be judged, where pods were judged so.
 abbrev pub waiting : JobSpec → (Uid → Option Outcome) → List Pod → List Pod
 waiting spec known pods = filter (is_fresh spec (λ u. is_some (known u))) pods
+
+-- The row of a pod that is still to be judged, where pods were judged so.
+abbrev pub fresh_row : JobSpec → (Uid → Option Outcome) → Pod → Option Row
+fresh_row spec known pod =
+    if is_fresh spec (λ u. is_some (known u)) pod then Some (row_for spec pod) else None
 
 -- The rows of the pods that are judged, where pods were judged so.
 abbrev pub rows_for : JobSpec → (Uid → Option Outcome) → List Pod → List Row

@@ -21,7 +21,7 @@ use crate::seen::{Sight, look, no_sight};
 use indexmap::IndexMap;
 use jc_account::Judgement as Row;
 use jc_failpol::Outcome;
-use jc_types::{Entry, Job, Pod, Uid, Want};
+use jc_types::{Arc, Entry, Job, Pod, Uid, Want};
 use std::alloc::Global;
 
 /// What is kept of a Job: its judged pods, the indexes of the successes, and its pods among the
@@ -93,7 +93,7 @@ fn look_in(
 /// The pods of the book at which a write has to look: those whose finalizer and state are at odds,
 /// and those that were judged and are active all the same. Of the others none is judged, and none
 /// takes room.
-fn looked(book: &Book, owner: Uid) -> Result<Vec<Pod>, Want>
+fn looked(book: &Book, owner: Uid) -> Result<Vec<Arc<Pod>>, Want>
     requires rising { IsRising book.now.sight.pods }
     requires back { HasBack book.now.known.entries book.now.sight.pods book.now.sight.back.items }
     ensures rising { IfOk result (λ pods. IsRising pods.items) }

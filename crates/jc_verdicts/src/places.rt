@@ -43,34 +43,22 @@ pub fn count_below(places: &[usize], n: usize) -> usize
     places.partition_point(|place| *place < n)
 }
 
-/// Takes the list of a key out; where it has none, an empty one.
-fn taken<K: Eq + Hash + Drop>(
+/// Adds a place to the list of a key. The key is copied only where it has no list yet.
+fn note<K: Copied + Eq + Hash>(
     alloc: Global,
     lists: &mut IndexMap<K, Vec<usize>>,
     key: &K,
-) -> Vec<usize>
-    ensures list { result.items ≡ places_at K.eq lists.old.entries key.now }
-    ensures others { (k : K) → K.eq key.now k ≡ false
-        → at K.eq lists.new.entries k ≡ at K.eq lists.old.entries k }
-{
-    match lists.swap_remove(key) {
-        Some(places) => places,
-        None => Vec::new(alloc),
-    }
-}
-
-/// Adds a place to the list of a key.
-fn note<K: Eq + Hash + Drop>(
-    alloc: Global,
-    lists: &mut IndexMap<K, Vec<usize>>,
-    key: K,
     place: usize,
 ) -> Result<(), Want>
-    ensures { OnOk result (Adds K.eq lists.old.entries lists.new.entries (K.eq key) place) }
+    ensures { OnOk result (Adds K.eq lists.old.entries lists.new.entries (K.eq key.now) place) }
 {
-    let mut places = taken(alloc, lists, &key);
+    if let Some(places) = lists.get_mut(key) {
+        places.push(place)?;
+        return Ok(());
+    }
+    let mut places = Vec::new(alloc);
     places.push(place)?;
-    lists.insert(key, places)?;
+    lists.insert(key.copy()?, places)?;
     Ok(())
 }
 
@@ -91,7 +79,7 @@ fn note_other(
     if other.0 == owner.0 {
         return Ok(());
     }
-    note(alloc, lists, other, place)
+    note(alloc, lists, &other, place)
 }
 
 /// A pod is put: its owner is told, and the owner that it had before.
@@ -100,7 +88,7 @@ fn pod_put(alloc: Global, places: &mut Places, pod: &Pod, place: usize) -> Resul
         → ArePlaces older places.old → ArePlaces (PodPut pod.now ∷ older) places.new) }
 {
     let before = places.owners.insert(pod.uid, pod.owner_uid)?;
-    note(alloc, &mut places.pods, pod.owner_uid, place)?;
+    note(alloc, &mut places.pods, &pod.owner_uid, place)?;
     note_other(alloc, &mut places.pods, before, pod.owner_uid, place)?;
     Ok(())
 }
@@ -113,7 +101,7 @@ fn pod_gone(alloc: Global, places: &mut Places, pod: &Pod, place: usize) -> Resu
     let Some(owner) = places.owners.swap_remove(&pod.uid) else {
         return Ok(());
     };
-    note(alloc, &mut places.pods, owner, place)?;
+    note(alloc, &mut places.pods, &owner, place)?;
     Ok(())
 }
 
@@ -124,11 +112,11 @@ fn take_in(alloc: Global, places: &mut Places, entry: &Entry, place: usize) -> R
 {
     match entry {
         Entry::JobPut(job) => {
-            note(alloc, &mut places.jobs, job.key.copy()?, place)?;
+            note(alloc, &mut places.jobs, &job.key, place)?;
             Ok(())
         }
         Entry::JobGone(job) => {
-            note(alloc, &mut places.jobs, job.key.copy()?, place)?;
+            note(alloc, &mut places.jobs, &job.key, place)?;
             Ok(())
         }
         Entry::PodPut(pod) => pod_put(alloc, places, pod, place),

@@ -4,33 +4,25 @@ ghost use Rattle.std.specs.Prelude.{◌≡◌, ◌<◌, ◌^◌, ◌∷◌, [], 
 ghost use Rattle.std.specs.Option.{option_and_then, option_copied, option_map_or, option_or, unwrap_or};
 ghost use Rattle.jc_ranges.specs.Sets.{IsIncreasing, with_member};
 ghost use Rattle.jc_types.specs.declared.numbers.Uid.{Uid};
+ghost use Rattle.jc_types.specs.declared.objects.Job.{Job};
 ghost use Rattle.jc_types.specs.Keys.{same_uid};
 ghost use Rattle.jc_log.specs.Tables.{at};
 ghost use Rattle.jc_states.specs.PodLists.{IsRising};
 ghost use Rattle.jc_states.specs.UidLists.{join};
 ghost use Rattle.jc_failpol.specs.declared.outcomes.Outcome.TheVariants.{Failed};
-ghost use Rattle.jc_failpol.specs.Outcomes.{outcome_of, same_outcome};
+ghost use Rattle.jc_failpol.specs.Outcomes.{is_succeeded, same_outcome};
 ghost use Rattle.jc_account.specs.declared.judgements.Judgement.{Judgement as Row};
-ghost use Rattle.jc_account.specs.Judged.{is_fresh};
 ghost use Rattle.jc_account.specs.Rooms.{joins_list};
 ghost use Rattle.jc_ledger.specs.Ledger.{is_within, kept as kept_of};
-ghost use Rattle.jc_verdicts.specs.Verdicts.{is_held_by, is_success_by, outcome_in, row_for, rows_for, space_by};
+ghost use Rattle.jc_verdicts.specs.Verdicts.{fresh_row, is_held_by, is_success_by, outcome_in, row_for, rows_for, space_by};
 ghost use Rattle.jc_verdicts.specs.Verdicts.{success_index, success_indexes, waiting};
 
 use indexmap::IndexMap;
 use jc_account::{Judgement as Row, first_beyond, joins_list, rows_within};
 use jc_failpol::{Outcome, is_verdict, outcome};
 use jc_states::has_end;
-use jc_types::{Job, JobSpec, MOST_UNCOUNTED, Mode, Pod, Uid, Want};
+use jc_types::{Arc, Job, JobSpec, MOST_UNCOUNTED, Mode, Phase, Pod, Uid, Want};
 use std::alloc::Global;
-
-/// Whether the pod is still to be judged.
-fn is_fresh(spec: &JobSpec, known: &IndexMap<Uid, Outcome>, pod: &Pod) -> bool
-    ensures { result
-        ≡ is_fresh spec.now (λ u. is_some (at same_uid known.now.entries u)) pod.now }
-{
-    pod.tracked && is_verdict(outcome(spec, pod)) && !known.contains_key(&pod.uid)
-}
 
 /// Whether a pod that was judged so, if it was, joined a list.
 fn has_joined(mode: Mode, outcome: Option<&Outcome>) -> bool
@@ -51,7 +43,7 @@ fn is_held(spec: &JobSpec, known: &IndexMap<Uid, Outcome>, pod: &Pod) -> bool
 }
 
 /// How many UIDs may join the lists: one less for each pod that is tracked and joined one.
-fn space(spec: &JobSpec, known: &IndexMap<Uid, Outcome>, pods: &[Pod]) -> usize
+fn space(spec: &JobSpec, known: &IndexMap<Uid, Outcome>, pods: &[Arc<Pod>]) -> usize
     ensures { result ≡ space_by spec.now (at same_uid known.now.entries) pods.now }
 {
     let mut space = MOST_UNCOUNTED as usize;
@@ -63,15 +55,22 @@ fn space(spec: &JobSpec, known: &IndexMap<Uid, Outcome>, pods: &[Pod]) -> usize
     space
 }
 
-/// The row of a pod that is judged.
-fn row_for(spec: &JobSpec, pod: &Pod) -> Row
-    ensures { result ≡ row_for spec.now pod.now }
+/// The row of a pod, where the pod is still to be judged. Of one that was judged no policy is asked.
+fn fresh_row(spec: &JobSpec, known: &IndexMap<Uid, Outcome>, pod: &Pod) -> Option<Row>
+    ensures { result ≡ fresh_row spec.now (at same_uid known.now.entries) pod.now }
 {
-    Row {
-        uid: pod.uid,
-        outcome: outcome(spec, pod),
-        index: pod.index,
+    if !pod.tracked || known.contains_key(&pod.uid) {
+        return None;
     }
+    let outcome = outcome(spec, pod);
+    if !is_verdict(outcome) {
+        return None;
+    }
+    Some(Row {
+        uid: pod.uid,
+        outcome,
+        index: pod.index,
+    })
 }
 
 /// The rows of the pods that are still to be judged: their UIDs are not known yet.
@@ -79,15 +78,15 @@ fn waiting_rows(
     alloc: Global,
     spec: &JobSpec,
     known: &IndexMap<Uid, Outcome>,
-    pods: &[Pod],
+    pods: &[Arc<Pod>],
 ) -> Result<Vec<Row>, Want>
     ensures { IfOk result (λ new. new.items
         ≡ map (row_for spec.now) (waiting spec.now (at same_uid known.now.entries) pods.now)) }
 {
     let mut new = Vec::new(alloc);
     for pod in pods {
-        if is_fresh(spec, known, pod) {
-            new.push(row_for(spec, pod))?;
+        if let Some(row) = fresh_row(spec, known, pod) {
+            new.push(row)?;
         }
     }
     Ok(new)
@@ -99,16 +98,20 @@ pub fn new_rows(
     alloc: Global,
     spec: &JobSpec,
     known: &IndexMap<Uid, Outcome>,
-    pods: &[Pod],
+    pods: &[Arc<Pod>],
 ) -> Result<Vec<Row>, Want>
     requires { IsRising pods.now }
     ensures { IfOk result (λ new. new.items
         ≡ rows_for spec.now (at same_uid known.now.entries) pods.now) }
 {
-    let space = space(spec, known, pods);
     let waiting = waiting_rows(alloc, spec, known, pods)?;
-    let first = first_beyond(spec.mode, waiting.as_slice(), space);
-    rows_within(alloc, spec.mode, first, waiting.as_slice())
+    let rows = waiting.as_slice();
+    if rows.is_empty() {
+        return Ok(waiting);
+    }
+    let space = space(spec, known, pods);
+    let first = first_beyond(spec.mode, rows, space);
+    rows_within(alloc, spec.mode, first, rows)
 }
 
 /// Notes the outcome of a row, where its UID has none.
@@ -144,11 +147,23 @@ fn has_failed(outcome: Option<&Outcome>) -> bool
     }
 }
 
-/// Whether the pod is tracked and has succeeded, and was not judged Failed.
-fn is_success(job: &Job, known: &IndexMap<Uid, Outcome>, pod: &Pod) -> bool
-    ensures { result ≡ is_success_by job.now (at same_uid known.now.entries) pod.now }
+/// Whether the phase is Succeeded.
+fn is_succeeded(phase: Phase) -> bool
+    ensures { result ≡ is_succeeded phase }
 {
-    pod.tracked && outcome(&job.spec, pod) == Outcome::Succeeded && !has_failed(known.get(&pod.uid))
+    match phase {
+        Phase::Succeeded => true,
+        Phase::Pending | Phase::Running | Phase::Failed => false,
+    }
+}
+
+/// Whether the pod is tracked and has succeeded, and was not judged Failed. Its phase says whether it
+/// has succeeded, by whatever policies.
+#[tactic(auto, using(crate::proofs::VerdictRows::succeeded_is))]
+fn is_success(known: &IndexMap<Uid, Outcome>, pod: &Pod) -> bool
+    ensures { (job : Job) → result ≡ is_success_by job (at same_uid known.now.entries) pod.now }
+{
+    pod.tracked && is_succeeded(pod.phase) && !has_failed(known.get(&pod.uid))
 }
 
 /// The number of completions of the Job.
@@ -173,7 +188,7 @@ fn index_within(job: &Job, index: Option<u32>) -> Option<u32>
 fn success_index(job: &Job, known: &IndexMap<Uid, Outcome>, pod: &Pod) -> Option<u32>
     ensures { result ≡ success_index job.now (at same_uid known.now.entries) pod.now }
 {
-    if is_success(job, known, pod) {
+    if is_success(known, pod) {
         index_within(job, pod.index)
     } else {
         None
@@ -185,7 +200,7 @@ pub fn success_indexes(
     alloc: Global,
     job: &Job,
     known: &IndexMap<Uid, Outcome>,
-    pods: &[Pod],
+    pods: &[Arc<Pod>],
 ) -> Result<Vec<u32>, Want>
     ensures { IfOk result (λ indexes. indexes.items
         ≡ success_indexes job.now (at same_uid known.now.entries) pods.now) }

@@ -20,7 +20,7 @@ use crate::places::{Places, count_below, places_at};
 use indexmap::IndexMap;
 use jc_failpol::Outcome;
 use jc_states::{Pods, is_tracked_active};
-use jc_types::{Copied, Entry, Job, Key, Pod, Uid, Want};
+use jc_types::{Arc, Copied, Entry, Job, Key, Pod, Uid, Want};
 use std::alloc::Global;
 
 /// The pods of a Job among the first entries of the log.
@@ -124,7 +124,7 @@ fn forget_ended(back: &mut Vec<Uid>, pods: &Pods)
 }
 
 /// Puts a pod of the Job.
-fn put(sight: &mut Sight, known: &IndexMap<Uid, Outcome>, pod: &Pod) -> Result<(), Want>
+fn put(sight: &mut Sight, known: &IndexMap<Uid, Outcome>, pod: &Arc<Pod>) -> Result<(), Want>
     requires few { length sight.old.pods < 2 ^ 32 - 1 }
     ensures puts { OnOk result (sight.new.pods ≡ put_pod pod.now sight.old.pods) }
     ensures back { OnOk result (HasBack known.now.entries sight.old.pods sight.old.back.items

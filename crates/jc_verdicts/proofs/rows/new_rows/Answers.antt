@@ -1,8 +1,15 @@
-use Rattle.std.proofs.Common.{◌∙◌}
+use Rattle.std.proofs.Common.{ap, length, sym, ◌∙◌}
+use Rattle.std.proofs.lemmas.Bool.{eqb-true}
 use Rattle.jc_types.specs.Keys.{same_uid}
 use Rattle.jc_log.specs.Tables.{at}
-use Rattle.jc_verdicts.proofs.VerdictRows.{fitting_result}
+use Rattle.jc_verdicts.proofs.VerdictRows.{fitting_result, no_rows}
 use Rattle.jc_verdicts.proofs.rows.new_rows.Goals as goal
+
+-- No pod is still to be judged.
+pub returns-then-is_empty : goal.returns-then-is_empty
+returns-then-is_empty c =
+    no_rows c.args.spec.now (at same_uid c.args.known.now.entries) c.args.pods.now c.in_ok-waiting.waiting.items c.in_ok-waiting.ensures
+    (ap length (sym c.as_slice-rows.ensures.value) ∙ eqb-true _ _ (sym c.is_empty.ensures ∙ c.if-is_empty.true))
 
 -- The rows of those that are still to be judged for which there is room.
 pub returns : goal.returns
@@ -10,5 +17,5 @@ returns c =
     let spec = c.args.spec.now in
     let known = at same_uid c.args.known.now.entries in
     let pods = c.args.pods.now in
-    fitting_result spec known pods c.space-space.result c.as_slice.result.now c.as_slice-2.result.now c.first_beyond-first.result c.requires c.space-space.ensures
-    (c.as_slice.ensures.value ∙ c.in_ok-waiting.ensures) (c.as_slice-2.ensures.value ∙ c.in_ok-waiting.ensures) c.first_beyond-first.ensures c.rows_within.result c.rows_within.ensures
+    fitting_result spec known pods c.space-space.result c.as_slice-rows.result.now c.as_slice-rows.result.now c.first_beyond-first.result c.requires c.space-space.ensures
+    (c.as_slice-rows.ensures.value ∙ c.in_ok-waiting.ensures) (c.as_slice-rows.ensures.value ∙ c.in_ok-waiting.ensures) c.first_beyond-first.ensures c.rows_within.result c.rows_within.ensures

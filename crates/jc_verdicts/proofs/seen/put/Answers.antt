@@ -13,4 +13,4 @@ returns-clause-back c =
     λ has.
     subst (λ pods. HasBack c.args.known.now.entries pods c.note_back.new.back.items)
     (sym (c.in_ok-put.ensures.puts ∙ ap (λ p. put_pod p c.args.sight.now.pods) c.in_ok-copy.ensures))
-    (c.in_ok-note_back.ensures has)
+    (subst (λ pod. HasBack c.args.known.now.entries (put_pod pod c.args.sight.now.pods) c.note_back.new.back.items) c.deref.ensures (c.in_ok-note_back.ensures has))
