@@ -109,9 +109,7 @@ impl Machine {
         ensures { IsTrue result ↔ MaySettle (act_seen self.now event.now)
             (is_quiescent self.now.shape (deeds_seen self.now) (log_seen self.now)) }
     {
-        let settles = is_settle(self.script(), event);
-        let rests = self.is_quiescent();
-        !settles || rests
+        !is_settle(self.script(), event) || self.is_quiescent()
     }
 
     /// Whether the event may come next: a command is its lane's next one, the controller and the
@@ -119,10 +117,9 @@ impl Machine {
     pub fn admits(&self, event: &Event) -> bool
         ensures { IsTrue result ↔ Admits self.now event.now }
     {
-        let is_next = self.lanes.is_next(event);
-        let fits = fits_event(&self.script, &self.shape, event);
-        let may_settle = self.may_settle(event);
-        is_next && fits && may_settle
+        self.lanes.is_next(event)
+            && fits_event(&self.script, &self.shape, event)
+            && self.may_settle(event)
     }
 
     /// Whether the machine is of this script and this shape.

@@ -48,9 +48,8 @@ impl Machine {
         ensures { result ≡ (nat_lt 0 self.now.shape.workers
             && may_begin (diary_seen self.now controller) (log_seen self.now)) }
     {
-        let begins = self.may_begin(controller);
         let workers = self.shape().workers;
-        workers > 0 && begins
+        workers > 0 && self.may_begin(controller)
     }
 
     // Whether the controller has nothing to do.
@@ -97,9 +96,7 @@ impl Machine {
         ensures { result
             ≡ is_quiescent self.now.shape (deeds_seen self.now) (log_seen self.now) }
     {
-        let idle = self.are_idle();
-        let acts = self.node_has_step();
-        idle && !acts
+        self.are_idle() && !self.node_has_step()
     }
 
     // Nothing of the system was left to do.

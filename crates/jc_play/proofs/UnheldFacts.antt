@@ -2,6 +2,7 @@
 use Rattle.std.proofs.Common.{◌≡◌, ℕ, nat_lt, ◌<◌, Bool, true, false, cond, ◌||◌, List, [], ◌∷◌, ◌++◌, length, filter, Option, Some, None, is_some, refl, sym, ap, ◌∙◌, subst}
 use Rattle.std.specs.Prelude.{IfSome}
 use Rattle.std.proofs.lemmas.List.Elements.{filter-append}
+use Rattle.std.proofs.lemmas.Option.{none-some}
 use Rattle.std.specs.List.{AllByRecursion as Each, flat_map}
 use Rattle.std.specs.Option.{option_map, option_to_list}
 use Rattle.jc_types.specs.declared.numbers.Version.{Version}
@@ -59,6 +60,18 @@ module _ (seen : Seen) where
   -- The first that is left can come.
   pub unheld-comes : (slots : List Slot) (found : Option Event) → found ≡ first_event (unheld_seen slots seen) → IfSome found (λ event. CanCome seen event)
   unheld-comes slots found e = subst (λ o. IfSome o (λ event. CanCome seen event)) (sym e) (first-comes (unheld_seen slots seen) (Each-filter Comes (is_unheld slots) events_of all-come))
+
+-- ---- where nothing is left
+
+-- Where all lists but that in the middle, and another in its place, have none, the first of all is that of the middle.
+first-middle : (ls ks js is hs middle : List Sys) → first_event (ls ++ (ks ++ (js ++ (is ++ hs)))) ≡ None → first_event middle ≡ first_event (ls ++ (ks ++ (middle ++ (is ++ hs))))
+first-middle (x ∷ ls) ks js is hs middle e = absurd (none-some _ (sym e))
+first-middle [] (x ∷ ks) js is hs middle e = absurd (none-some _ (sym e))
+first-middle [] [] (x ∷ js) is hs middle e = absurd (none-some _ (sym e))
+first-middle [] [] [] (x ∷ is) hs middle e = absurd (none-some _ (sym e))
+first-middle [] [] [] [] (x ∷ hs) middle e = absurd (none-some _ (sym e))
+first-middle [] [] [] [] [] [] e = refl
+first-middle [] [] [] [] [] (x ∷ middle) e = refl
 
 -- ---- what is left of each kind
 
@@ -157,6 +170,10 @@ module _ (slots : List Slot) where
         filter-append (is_unheld slots) begins node
         ∙ ap (λ bs. bs ++ left node) begins-left
         ∙ ap (λ rest. begins ++ rest) node-left)))
+
+    -- Where nothing of it is left, the first of it is the first step.
+    pub first-held : first_event (left (but_clock shape past log)) ≡ None → first_event steps ≡ first_event (but_clock shape past log)
+    first-held e = first-middle lists deliveries (left steps) begins node steps (sym (ap first_event but-clock-left) ∙ e)
 
   -- Where there is something, what is left of it; else the clock.
   left-or-clock : (events clock : List Sys) (found other : Option Event) → Each Passes clock → found ≡ first_event (left events) → other ≡ first_event events

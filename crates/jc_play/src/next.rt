@@ -43,7 +43,7 @@ pub(crate) fn first_delivery(machine: &Machine) -> Option<Event>
 }
 
 // The first step.
-fn first_step(machine: &Machine) -> Option<Event>
+pub(crate) fn first_step(machine: &Machine) -> Option<Event>
     ensures { result ≡ first_event (flat_map
         (λ c. step_events (diary_seen machine.now c) machine.now.shape.workers c)
         (below machine.now.shape.controllers)) }

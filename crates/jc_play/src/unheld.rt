@@ -1,6 +1,6 @@
 //! What is available where some registers are held.
 
-ghost use Rattle.std.specs.Prelude.{◌≡◌, ◌<◌, IfSome, filter};
+ghost use Rattle.std.specs.Prelude.{◌≡◌, ◌<◌, IfSome, None, filter};
 ghost use Rattle.std.specs.List.{flat_map};
 ghost use Rattle.jc_machine.specs.Diaries.{diary_seen};
 ghost use Rattle.jc_history.specs.Available.{below, but_clock, step_event, step_events};
@@ -9,9 +9,7 @@ ghost use Rattle.jc_runs.specs.Seen.{deeds_seen, log_seen};
 ghost use Rattle.jc_play.specs.Actors.{CanCome};
 ghost use Rattle.jc_play.specs.Slots.{has_holder, is_unheld, unheld_seen};
 
-use crate::next::{
-    but_clock_event, clock_event, first_begin, first_delivery, first_list, node_event,
-};
+use crate::next::{clock_event, first_begin, first_delivery, first_list, first_step, node_event};
 use crate::slots::Slot;
 use jc_machine::Machine;
 use jc_types::{Event, Sys};
@@ -85,6 +83,17 @@ fn but_clock_unheld(machine: &Machine, slots: &[Slot]) -> Option<Event>
     }
 }
 
+// What there is but for the clock, where nothing else of it is left than the steps of registers that
+// are held: such a step.
+fn held_step(machine: &Machine, slots: &[Slot]) -> Option<Event>
+    requires { first_event (filter (is_unheld slots.now)
+        (but_clock machine.now.shape (deeds_seen machine.now) (log_seen machine.now))) ≡ None }
+    ensures { result ≡ first_event (but_clock machine.now.shape (deeds_seen machine.now)
+        (log_seen machine.now)) }
+{
+    first_step(machine)
+}
+
 /// The first event of the system that is available and is not the step of a register that is held.
 /// Such a step counts as available all the same: the clock has to wait for it. `None` exactly where
 /// nothing is available but for such steps.
@@ -93,7 +102,7 @@ pub fn next_unheld(machine: &Machine, slots: &[Slot]) -> Option<Event>
     ensures can_come { IfSome result (λ event. CanCome machine.now event) }
 {
     let found = but_clock_unheld(machine, slots);
-    if found.is_some() || but_clock_event(machine).is_some() {
+    if found.is_some() || held_step(machine, slots).is_some() {
         found
     } else {
         clock_event(machine)

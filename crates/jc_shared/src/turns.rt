@@ -27,7 +27,7 @@ pub enum Turn {
     Plan(Work),
     /// To take another turn: an event has happened.
     Went,
-    /// To wait until another seat hands in its plan.
+    /// To wait: it has nothing to do while another seat is at its plan.
     Wait,
     /// To end: it has nothing left to do.
     End,

@@ -13,8 +13,8 @@ returns-then-is_some-2-clause-first c =
     elim c.if-is_some.branch [
       | then-is_some w ↦ left-there c.args.slots.now seen c.but_clock_unheld-found.result rest c.but_clock_unheld-found.ensures refl (ap (λ b. b || is_some rest) (sym c.is_some.ensures ∙ w.if-is_some.true))
       | else-is_some w ↦
-          left-there c.args.slots.now seen c.but_clock_unheld-found.result w.but_clock_event.result c.but_clock_unheld-found.ensures w.but_clock_event.ensures
-          (ap (λ b. b || is_some w.but_clock_event.result) (sym c.is_some.ensures ∙ w.if-is_some.false) ∙ sym w.is_some-else-is_some.ensures ∙ sym w.value-is ∙ c.if-is_some-2.true)
+          left-there c.args.slots.now seen c.but_clock_unheld-found.result w.held_step.result c.but_clock_unheld-found.ensures w.held_step.ensures
+          (ap (λ b. b || is_some w.held_step.result) (sym c.is_some.ensures ∙ w.if-is_some.false) ∙ sym w.is_some-else-is_some.ensures ∙ sym w.value-is ∙ c.if-is_some-2.true)
     ]
 
 pub returns-then-is_some-2-clause-can_come : goal.returns-then-is_some-2-clause-can_come
@@ -26,8 +26,8 @@ returns-else-is_some-2-clause-first c =
     elim c.if-is_some.branch [
       | then-is_some w ↦ absurd (true≢false (sym (w.value-is ∙ w.if-is_some.true) ∙ c.if-is_some-2.false))
       | else-is_some w ↦
-          left-clock c.args.slots.now seen c.but_clock_unheld-found.result w.but_clock_event.result c.but_clock_unheld-found.ensures w.but_clock_event.ensures
-          (ap (λ b. b || is_some w.but_clock_event.result) (sym c.is_some.ensures ∙ w.if-is_some.false) ∙ sym w.is_some-else-is_some.ensures ∙ sym w.value-is ∙ c.if-is_some-2.false)
+          left-clock c.args.slots.now seen c.but_clock_unheld-found.result w.held_step.result c.but_clock_unheld-found.ensures w.held_step.ensures
+          (ap (λ b. b || is_some w.held_step.result) (sym c.is_some.ensures ∙ w.if-is_some.false) ∙ sym w.is_some-else-is_some.ensures ∙ sym w.value-is ∙ c.if-is_some-2.false)
           c.clock_event.result c.clock_event.ensures
     ]
 
