@@ -56,12 +56,12 @@ bounded_number path least greatest d = do
   within_bounds path least greatest n
 
 -- the items of an array, in their order
-abbrev pub items_in : Items → List Data
-items_in no_items = []
-items_in (item d ds) = d ∷ items_in ds
+abbrev pub listed_items : Items → List Data
+listed_items no_items = []
+listed_items (item d ds) = d ∷ listed_items ds
 
 abbrev pub list_of : List ℕ → Data → Result (List Data) Refusal
-list_of path d = ok_or (option_map items_in (as_array d)) (wrong_type path)
+list_of path d = ok_or (option_map listed_items (as_array d)) (wrong_type path)
 
 -- the value itself, where it is an object
 abbrev pub object_of : List ℕ → Data → Result Data Refusal

@@ -3,7 +3,7 @@
 ghost use Rattle.std.specs.Prelude.{◌≡◌, ◌≤ℤ◌, IfOk, IfSome, map, option_map, string_bytes};
 ghost use Rattle.serde_json.specs.Find.{as_array};
 ghost use Rattle.serde_json.specs.View.{view};
-ghost use Rattle.jc_json.specs.Field.{items_in, member_of, optional_text, optional_bool, optional_number, optional_list, optional_object};
+ghost use Rattle.jc_json.specs.Field.{listed_items, member_of, optional_text, optional_bool, optional_number, optional_list, optional_object};
 ghost use Rattle.jc_json.specs.Exact.{Gives};
 
 use crate::field::FieldFault;
@@ -27,7 +27,7 @@ pub fn member<'v>(object: &'v Value, name: &str) -> Option<&'v Value>
 #[tactic(auto, using(crate::proofs::Items::items_seen))]
 fn listed(value: &Value) -> Option<&[Value]>
     ensures { option_map (λ items. map view items.now) result
-        ≡ option_map items_in (as_array (view value.now)) }
+        ≡ option_map listed_items (as_array (view value.now)) }
 {
     match value.as_array() {
         Some(items) => Some(items.as_slice()),

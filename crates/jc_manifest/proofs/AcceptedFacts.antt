@@ -12,7 +12,7 @@ use Rattle.serde_json.specs.Data.{Data, null, boolean, number, string, array, ob
 use Rattle.serde_json.specs.Events.{items_len}
 use Rattle.serde_json.specs.Find.{get, as_array, as_integer, as_number}
 use Rattle.jc_json.specs.Place.{path_to, path_at}
-use Rattle.jc_json.specs.Field.{Refusal, wrong_type, out_of_range, ◌>>=◌, member_of, unless_null, within_bounds, bounded_number, items_in, list_of, may_be, optional_number, optional_list, optional_object, needed_text, needed_list}
+use Rattle.jc_json.specs.Field.{Refusal, wrong_type, out_of_range, ◌>>=◌, member_of, unless_null, within_bounds, bounded_number, listed_items, list_of, may_be, optional_number, optional_list, optional_object, needed_text, needed_list}
 use Rattle.jc_types.specs.declared.limits.TheConstants.{GREATEST_COMPLETIONS, GREATEST_LIMIT, GREATEST_PARALLELISM, MOST_CONTAINERS}
 use Rattle.jc_types.specs.declared.objects.Key.{Key}
 use Rattle.jc_types.specs.declared.policies.Action.{Action}
@@ -169,7 +169,7 @@ names_counted : (path : List ℕ) (place : ℕ) (ds : List Data) → length (nam
 names_counted path place [] = refl
 names_counted path place (d ∷ ds) = ap suc (names_counted path (place + 1) ds)
 
-pub items_counted_in : (items : Items) → length (items_in items) ≡ items_len items
+pub items_counted_in : (items : Items) → length (listed_items items) ≡ items_len items
 items_counted_in no_items = refl
 items_counted_in (item d ds) = ap suc (items_counted_in ds)
 

@@ -10,7 +10,7 @@ use Rattle.serde_json.specs.Events.{items_len}
 use Rattle.serde_json.specs.Find.{of_integer}
 use Rattle.serde_json.specs.View.{items_of}
 use Rattle.jc_json.specs.Place.{path_to, path_at}
-use Rattle.jc_json.specs.Field.{member_of, unless_null, items_in, out_of_range, item_number, item_object, needed_text, optional_text}
+use Rattle.jc_json.specs.Field.{member_of, unless_null, listed_items, out_of_range, item_number, item_object, needed_text, optional_text}
 use Rattle.jc_types.specs.declared.policies.Action.{Action}
 use Rattle.jc_types.specs.declared.policies.Action.TheVariants.{FailJob, Ignore, Count, FailIndex}
 use Rattle.jc_types.specs.declared.policies.FailurePolicy.{FailurePolicy}

@@ -8,7 +8,7 @@ use Rattle.serde_json.specs.Events.{items_len}
 use Rattle.serde_json.specs.Find.{get, as_array}
 use Rattle.serde_json.specs.View.{items_of}
 use Rattle.jc_json.specs.Place.{path_to, path_at}
-use Rattle.jc_json.specs.Field.{◌>>=◌, member_of, unless_null, missing, items_in, list_of, object_of, text_of, may_be, needed_list, needed_object, needed_text, optional_list, item_object}
+use Rattle.jc_json.specs.Field.{◌>>=◌, member_of, unless_null, missing, listed_items, list_of, object_of, text_of, may_be, needed_list, needed_object, needed_text, optional_list, item_object}
 use Rattle.jc_types.specs.declared.limits.TheConstants.{MOST_CONTAINERS}
 use Rattle.jc_types.specs.declared.specifications.JobSpec.{JobSpec}
 use Rattle.jc_types.specs.declared.specifications.Restart.{Restart}
@@ -32,11 +32,11 @@ pub text_needed : (path name : List ℕ) (d : Data) (s : List ℕ) → member_of
 unfolding needed_text
 text_needed path name d s is = ap (λ o. ok_or o (missing (path_to path name)) >>= text_of (path_to path name)) is
 
-pub list_needed : (path name : List ℕ) (d : Data) (items : Items) → member_of name d ≡ Some (array items) → needed_list path name d ≡ Ok (items_in items)
+pub list_needed : (path name : List ℕ) (d : Data) (items : Items) → member_of name d ≡ Some (array items) → needed_list path name d ≡ Ok (listed_items items)
 unfolding needed_list
 list_needed path name d items is = ap (λ o. ok_or o (missing (path_to path name)) >>= list_of (path_to path name)) is
 
-pub list_given : (path name : List ℕ) (d : Data) (items : Items) → member_of name d ≡ Some (array items) → optional_list path name d ≡ Ok (Some (items_in items))
+pub list_given : (path name : List ℕ) (d : Data) (items : Items) → member_of name d ≡ Some (array items) → optional_list path name d ≡ Ok (Some (listed_items items))
 unfolding optional_list
 list_given path name d items is = ap (may_be (list_of (path_to path name))) is
 
@@ -57,7 +57,7 @@ pub object_read : (path name : List ℕ) (d : Data) (ms : Members) → member_of
 unfolding object_in
 object_read path name d ms is = ap (λ r. result_unwrap_or r null) (object_needed path name d ms is)
 
-pub list_read : (path name : List ℕ) (d : Data) (items : Items) → member_of name d ≡ Some (array items) → list_in path d name ≡ items_in items
+pub list_read : (path name : List ℕ) (d : Data) (items : Items) → member_of name d ≡ Some (array items) → list_in path d name ≡ listed_items items
 unfolding list_in
 list_read path name d items is = ap (λ r. result_unwrap_or r []) (list_needed path name d items is)
 

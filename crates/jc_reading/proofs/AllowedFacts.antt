@@ -8,7 +8,7 @@ use Rattle.serde_json.specs.Data.{Data, null, boolean, number, string, array, ob
 use Rattle.serde_json.specs.Events.{items_len}
 use Rattle.serde_json.specs.Find.{as_integer, as_number}
 use Rattle.jc_json.specs.Place.{path_to, path_at}
-use Rattle.jc_json.specs.Field.{Refusal, missing, wrong_type, out_of_range, ◌>>=◌, member_of, within_bounds, items_in, list_of, item_number, optional_object, optional_text, needed_text, needed_list}
+use Rattle.jc_json.specs.Field.{Refusal, missing, wrong_type, out_of_range, ◌>>=◌, member_of, within_bounds, listed_items, list_of, item_number, optional_object, optional_text, needed_text, needed_list}
 use Rattle.jc_types.specs.declared.policies.Pattern.{Pattern}
 use Rattle.jc_types.specs.declared.policies.Requirement.TheVariants.{Conditions}
 use Rattle.jc_types.specs.declared.specifications.Template.{Template}

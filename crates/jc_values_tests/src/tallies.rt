@@ -2,7 +2,7 @@
 
 use crate::samples::{POD, PodRow, key, main_container, moment, pod_conditions, pod_of};
 use jc_states::{Pods, Tally};
-use jc_types::{Phase, Pod, Truth, Uid};
+use jc_types::{Arc, Phase, Pod, Truth, Uid};
 use std::alloc::Global;
 use std::process::Abort;
 use std::test::Fail;
@@ -42,24 +42,24 @@ const STEPS: &[(Step, Numbers)] = &[
     (Step::Take(4, true), (2, 1, 1, 1, 0, 0, 0)),
 ];
 
-fn plain(alloc: Global, row: PodRow) -> Result<Pod, Fail> {
-    Ok(pod_of(alloc, key(alloc)?, moment(0)?, row))
+fn plain(alloc: Global, row: PodRow) -> Result<Arc<Pod>, Fail> {
+    Ok(Arc::new(alloc, pod_of(alloc, key(alloc)?, moment(0)?, row))?)
 }
 
-fn running(alloc: Global, uid: u64, restarts: u32) -> Result<Pod, Fail> {
+fn running(alloc: Global, uid: u64, restarts: u32) -> Result<Arc<Pod>, Fail> {
     let row = PodRow {
         uid,
         phase: Phase::Running,
         ..POD
     };
-    let mut pod = plain(alloc, row)?;
+    let mut pod = pod_of(alloc, key(alloc)?, moment(0)?, row);
     pod.containers.push(main_container(alloc, None, restarts)?)?;
     pod.conditions = pod_conditions(alloc, &[("Ready", Truth::True)])?;
-    Ok(pod)
+    Ok(Arc::new(alloc, pod)?)
 }
 
 // Puts a pod among the few that a test has.
-fn put(rt: &impl Abort, pods: &mut Pods, pod: Pod) -> Result<(), Fail> {
+fn put(rt: &impl Abort, pods: &mut Pods, pod: Arc<Pod>) -> Result<(), Fail> {
     assert!(rt; pods.len() < 100);
     pods.put(pod)?;
     Ok(())

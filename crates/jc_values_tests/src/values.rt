@@ -111,7 +111,7 @@ fn pod(alloc: Global, now: Moment, marked: bool) -> Result<Pod, Want> {
 // A list of the one pod.
 fn pods(alloc: Global, now: Moment, marked: bool) -> Result<Arc<Pods>, Want> {
     let mut pods = Pods::new(alloc);
-    pods.put(pod(alloc, now, marked)?)?;
+    pods.put(Arc::new(alloc, pod(alloc, now, marked)?)?)?;
     Ok(Arc::new(alloc, pods)?)
 }
 
@@ -122,7 +122,7 @@ fn basis(alloc: Global, now: Moment, marked: bool) -> Result<Basis, Want> {
     let job = job(alloc, now, 0)?;
     Ok(Basis {
         key,
-        job: Some(job),
+        job: Some(Arc::new(alloc, job)?),
         pods,
         jobs_at: Version(4),
         pods_at: Version(4),
@@ -256,17 +256,30 @@ fn no_container(alloc: Global) -> Result<Reply, Want> {
 }
 
 fn job_put(alloc: Global, now: Moment) -> Result<Entry, Want> {
-    Ok(Entry::JobPut(job(alloc, now, 0)?))
+    Ok(Entry::JobPut(Arc::new(alloc, job(alloc, now, 0)?)?))
 }
 
 fn pod_gone(alloc: Global, now: Moment) -> Result<Entry, Want> {
-    Ok(Entry::PodGone(pod(alloc, now, false)?))
+    Ok(Entry::PodGone(Arc::new(alloc, pod(alloc, now, false)?)?))
 }
 
 // A value that threads may share.
 fn crosses_threads<T: Send + Sync + Drop>(made: Result<T, Want>) -> Result<(), Want> {
     let _value = made?;
     Ok(())
+}
+
+// So many indexes with one failure each.
+fn index_counts(alloc: Global, many: u32) -> Result<IndexCounts, Want> {
+    let mut counts = IndexCounts::new(alloc);
+    for index in 0..many {
+        counts.push(IndexCount {
+            index,
+            failures: 1,
+            fail: false,
+        })?;
+    }
+    Ok(counts)
 }
 
 // The list of the item alone.
@@ -357,6 +370,7 @@ fn keeps_objects(rt: &impl Abort, alloc: Global, now: Moment) -> Result<(), Want
     keeps(rt, alloc, pod_gone(alloc, now))?;
     tells_apart(rt, job(alloc, now, 0), job(alloc, now, 1))?;
     tells_apart(rt, pod(alloc, now, false), pod(alloc, now, true))?;
+    tells_apart(rt, index_counts(alloc, 200), index_counts(alloc, 199))?;
     tells_apart(rt, basis(alloc, now, false), basis(alloc, now, true))?;
     crosses_threads(basis(alloc, now, false))
 }
