@@ -14,6 +14,7 @@ A stand-in is kept under the sum of what it was made from, in $STANDINS (~/.cach
 change of bodies makes none anew; one of a contract makes those of the crate and of the crates above it.
 """
 import concurrent.futures
+import fcntl
 import hashlib
 import os
 import re
@@ -208,6 +209,16 @@ class Standins:
 
     def build(self, name):
         """Builds one stand-in, those below it being there, and returns whether it could."""
+        if os.path.isdir(self.place(name)):
+            self.show(name)
+            return True
+        with open(f"{CACHE}/rooms/{name}-{self.sum(name)}.lock", "w", encoding="utf-8") as lock:
+            # (so that two checkouts do not make the same one side by side)
+            fcntl.flock(lock, fcntl.LOCK_EX)
+            return self.make(name)
+
+    def make(self, name):
+        """Makes one stand-in, unless another checkout has made it meanwhile, and returns whether it could."""
         if os.path.isdir(self.place(name)):
             self.show(name)
             return True
