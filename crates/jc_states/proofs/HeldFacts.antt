@@ -1,6 +1,7 @@
 -- What an index that is added or taken out does to indexes in ascending order.
 use Rattle.std.proofs.Common.{◌≡◌, ℕ, ◌+◌, ◌-◌, ◌<◌, ◌≤◌, zero, suc, nat_lt, nat_le, ◌==◌, Bool, true, false, cond, ◌&&◌, ◌||◌, List, [], ◌∷◌, filter, length, get_or, refl, sym, ap, subst, ◌∙◌, arith, true≢false, lt-ltb, le-ltb, ltb-true, ltb-false, eq-eqb, eqb-true, ne_eqb}
 use Rattle.std.specs.List.{AllWithin, insert, list_any, remove}
+use Rattle.std.specs.Prelude.{OnSome, Option, Some, slice_index_or}
 use Rattle.std.specs.List.Sorted.{IsNonDecreasingBy}
 use Rattle.std.proofs.lemmas.Bool.{cond-true, cond-false, eqb-false, le-leb, lt-leb, leb-false}
 use Rattle.std.proofs.Math.Dec.{leb-suc-suc, leb-suc-zero}
@@ -326,35 +327,37 @@ any-from first (m ∷ ms) = by (nat_lt m first) refl (any-from first ms)
 -- ---- what is added and taken out at the place, as a slice of the indexes shows it
 
 -- With one more they ascend.
-pub added-ascends : (n : ℕ) (ns seen new : List ℕ) (i : ℕ) → ClimbsFrom 0 ns → seen ≡ ns → i ≡ place_for n seen → new ≡ insert ns i n → ClimbsFrom 0 new
-added-ascends n ns seen new i r is at put =
-    subst (ClimbsFrom 0) (sym (put ∙ ap (λ k. insert ns k n) (at ∙ ap (place_for n) is))) (ascends-insert 0 n ns (omega arith) r)
+pub added-ascends : (n : ℕ) (ns new : List ℕ) (i : ℕ) → ClimbsFrom 0 ns → i ≡ place_for n ns → new ≡ insert ns i n → ClimbsFrom 0 new
+added-ascends n ns new i r at put =
+    subst (ClimbsFrom 0) (sym (put ∙ ap (λ k. insert ns k n) at)) (ascends-insert 0 n ns (omega arith) r)
 
--- As many more are there once more as the slice shows.
-pub added-repeats : (n : ℕ) (ns seen new : List ℕ) (i repeated more : ℕ) (again : Bool) → seen ≡ ns → repeated ≡ repeats ns → again ≡ nat_lt 0 (times n seen) → more ≡ cond again 1 0 → new ≡ insert ns i n
+-- As many more are there once more as was seen.
+pub added-repeats : (n : ℕ) (ns new : List ℕ) (i repeated more : ℕ) (again : Bool) → repeated ≡ repeats ns → again ≡ nat_lt 0 (times n ns) → more ≡ cond again 1 0 → new ≡ insert ns i n
     → repeated + more ≡ repeats new
-added-repeats n ns seen new i repeated more again is before there one put =
-    let is_more : more ≡ some (times n ns) = one ∙ ap {B = ℕ} (λ b. cond b 1 0) (there ∙ ap (λ all. nat_lt 0 (times n all)) is) in
+added-repeats n ns new i repeated more again before there one put =
+    let is_more : more ≡ some (times n ns) = one ∙ ap {B = ℕ} (λ b. cond b 1 0) there in
     let after = ap repeats put ∙ repeats-insert ns i n in
     omega (arith, before, is_more, after)
 
 -- The index that is there stands at the place.
-pub found-shown : (n : ℕ) (ns seen : List ℕ) (i : ℕ) (there : Bool) → ClimbsFrom 0 ns → seen ≡ ns → i ≡ place_for n seen → there ≡ nat_lt 0 (times n seen) → there ≡ true → (i < length ns) × (get_or ns i 0 ≡ n)
-found-shown n ns seen i there r is at shown truth =
-    let place : place_for n ns ≡ i = sym (at ∙ ap (place_for n) is) in
-    subst (λ k. (k < length ns) × (get_or ns k 0 ≡ n)) place (found-place 0 n ns r (sym (ap (λ all. nat_lt 0 (times n all)) is) ∙ sym shown ∙ truth))
+pub found-shown : (n : ℕ) (ns : List ℕ) (i : ℕ) (there : Bool) → ClimbsFrom 0 ns → i ≡ place_for n ns → there ≡ nat_lt 0 (times n ns) → there ≡ true → (i < length ns) × (get_or ns i 0 ≡ n)
+found-shown n ns i there r at shown truth =
+    subst (λ k. (k < length ns) × (get_or ns k 0 ≡ n)) (sym at) (found-place 0 n ns r (sym shown ∙ truth))
+
+-- An index that is there is taken out.
+pub taken-out : (ns left : List ℕ) (i : ℕ) (taken : Option ℕ) → taken ≡ Some (slice_index_or ns i 0) → OnSome taken (left ≡ remove ns i) → left ≡ remove ns i
+taken-out ns left i taken is out = subst (λ t. OnSome t (left ≡ remove ns i)) is out
 
 -- Without it the place of the index is the same.
-pub removed-place : (n : ℕ) (ns seen left : List ℕ) (i : ℕ) → ClimbsFrom 0 ns → seen ≡ ns → i ≡ place_for n seen → left ≡ remove ns i → i ≡ place_for n left
-removed-place n ns seen left i r is at taken =
-    let place : i ≡ place_for n ns = at ∙ ap (place_for n) is in
-    place ∙ sym (place-removed 0 n ns r) ∙ ap (λ k. place_for n (remove ns k)) (sym place) ∙ ap (place_for n) (sym taken)
+pub removed-place : (n : ℕ) (ns left : List ℕ) (i : ℕ) → ClimbsFrom 0 ns → i ≡ place_for n ns → left ≡ remove ns i → i ≡ place_for n left
+removed-place n ns left i r at taken =
+    at ∙ sym (place-removed 0 n ns r) ∙ ap (λ k. place_for n (remove ns k)) (sym at) ∙ ap (place_for n) (sym taken)
 
 -- As many fewer are there once more as what is left shows.
-pub removed-repeats : (n : ℕ) (ns left after : List ℕ) (i repeated less : ℕ) (still : Bool) → (i < length ns) × (get_or ns i 0 ≡ n) → repeated ≡ repeats ns → left ≡ remove ns i → after ≡ left → still ≡ nat_lt 0 (times n after) → less ≡ cond still 1 0
+pub removed-repeats : (n : ℕ) (ns left : List ℕ) (i repeated less : ℕ) (still : Bool) → (i < length ns) × (get_or ns i 0 ≡ n) → repeated ≡ repeats ns → left ≡ remove ns i → still ≡ nat_lt 0 (times n left) → less ≡ cond still 1 0
     → repeated ≡ repeats left + less
-removed-repeats n ns left after i repeated less still found before taken is there one =
-    let is_less : less ≡ some (times n (remove ns i)) = one ∙ ap {B = ℕ} (λ b. cond b 1 0) (there ∙ ap (λ all. nat_lt 0 (times n all)) (is ∙ taken)) in
+removed-repeats n ns left i repeated less still found before taken there one =
+    let is_less : less ≡ some (times n (remove ns i)) = one ∙ ap {B = ℕ} (λ b. cond b 1 0) (there ∙ ap (λ all. nat_lt 0 (times n all)) taken) in
     let all = repeats-remove ns i n found.0 found.1 in
     let rest = ap repeats taken in
     omega (arith, before, is_less, all, rest)

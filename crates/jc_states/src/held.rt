@@ -6,13 +6,15 @@ ghost use Rattle.jc_states.specs.Held.{IsAscending, is_between, place_for, repea
 
 use jc_types::Want;
 use std::alloc::Global;
+use std::collections::VecDeque;
 use std::marker::Model;
 
 /// The indexes that the pods of one owner hold, in ascending order and each as often as a pod holds it. A
 /// contract sees this list.
 #[derive(Drop)]
 pub(crate) struct Held {
-    indexes: Vec<u32>,
+    // Pods mostly end in the order of their indexes, so that both ends are cheap.
+    indexes: VecDeque<u32>,
     // How many of them are there once more.
     repeated: usize,
 }
@@ -30,33 +32,33 @@ impl Model for Held {
 }
 
 // The place of the first index that is at least this one, found by halving.
-fn place_for(indexes: &[u32], n: u32) -> usize
-    requires { IsAscending indexes.now }
-    ensures { result ≡ place_for n indexes.now }
+fn place_for(indexes: &VecDeque<u32>, n: u32) -> usize
+    requires { IsAscending indexes.now.items }
+    ensures { result ≡ place_for n indexes.now.items }
 {
     indexes.partition_point(|index| *index < n)
 }
 
 // Whether the index is there, whose place this is.
-fn is_there(indexes: &[u32], n: u32, place: usize) -> bool
-    requires ascending { IsAscending indexes.now }
-    requires place { place ≡ place_for n indexes.now }
-    ensures { result ≡ nat_lt 0 (times n indexes.now) }
+fn is_there(indexes: &VecDeque<u32>, n: u32, place: usize) -> bool
+    requires ascending { IsAscending indexes.now.items }
+    requires place { place ≡ place_for n indexes.now.items }
+    ensures { result ≡ nat_lt 0 (times n indexes.now.items) }
 {
     place < indexes.len() && indexes[place] == n
 }
 
 // The least index from this one on that is not there, of indexes none of which is there twice; the end where
 // there is none below it. It is found by halving: up to it the places grow as the indexes do.
-fn end_of_run(indexes: &[u32], from: u32, end: u32) -> u32
-    requires ascending { IsAscending indexes.now }
-    requires once { repeats indexes.now ≡ 0 }
+fn end_of_run(indexes: &VecDeque<u32>, from: u32, end: u32) -> u32
+    requires ascending { IsAscending indexes.now.items }
+    requires once { repeats indexes.now.items ≡ 0 }
     requires range { from ≤ end }
     ensures above { from ≤ result }
     ensures within { result ≤ end }
     ensures held { (n : ℕ) → from ≤ n → n < result
-        → list_any (is_between n n) indexes.now ≡ true }
-    ensures free { result < end → list_any (is_between result result) indexes.now ≡ false }
+        → list_any (is_between n n) indexes.now.items ≡ true }
+    ensures free { result < end → list_any (is_between result result) indexes.now.items ≡ false }
 {
     let place = place_for(indexes, from);
     let mut low = from;
@@ -79,7 +81,7 @@ impl Held {
         ensures { result ≡ [] }
     {
         Held {
-            indexes: Vec::new(alloc),
+            indexes: VecDeque::new(alloc),
             repeated: 0,
         }
     }
@@ -93,9 +95,8 @@ impl Held {
             ≡ times m self.old + (if n == m then 1 else 0)) }
         ensures kept { OnErr result (self.new ≡ self.old) }
     {
-        let indexes = self.indexes.as_slice();
-        let place = place_for(indexes, n);
-        let again = is_there(indexes, n, place);
+        let place = place_for(&self.indexes, n);
+        let again = is_there(&self.indexes, n, place);
         self.indexes.insert(place, n)?;
         self.repeated += usize::from(again);
         Ok(())
@@ -105,13 +106,12 @@ impl Held {
     pub(crate) fn remove(&mut self, n: u32)
         ensures { (m : ℕ) → times m self.new ≡ times m self.old - (if n == m then 1 else 0) }
     {
-        let indexes = self.indexes.as_slice();
-        let place = place_for(indexes, n);
-        if !is_there(indexes, n, place) {
+        let place = place_for(&self.indexes, n);
+        if !is_there(&self.indexes, n, place) {
             return;
         }
         self.indexes.remove(place);
-        let still = is_there(self.indexes.as_slice(), n, place);
+        let still = is_there(&self.indexes, n, place);
         self.repeated -= usize::from(still);
     }
 
@@ -126,9 +126,8 @@ impl Held {
     pub(crate) fn has_between(&self, first: u32, last: u32) -> bool
         ensures { result ≡ list_any (is_between first last) self.now }
     {
-        let indexes = self.indexes.as_slice();
-        let place = place_for(indexes, first);
-        place < indexes.len() && indexes[place] <= last
+        let place = place_for(&self.indexes, first);
+        place < self.indexes.len() && self.indexes[place] <= last
     }
 
     /// The least index from this one on that is not there; the end where there is none below it.
@@ -141,7 +140,7 @@ impl Held {
         ensures free { result < end → list_any (is_between result result) self.now ≡ false }
     {
         if self.repeated == 0 {
-            return end_of_run(self.indexes.as_slice(), from, end);
+            return end_of_run(&self.indexes, from, end);
         }
         self.walk(from, end)
     }
@@ -167,7 +166,6 @@ impl Held {
     pub(crate) fn has_from(&self, first: u32) -> bool
         ensures { result ≡ list_any (λ n. nat_le first n) self.now }
     {
-        let indexes = self.indexes.as_slice();
-        place_for(indexes, first) < indexes.len()
+        place_for(&self.indexes, first) < self.indexes.len()
     }
 }

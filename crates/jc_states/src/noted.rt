@@ -1,7 +1,7 @@
 //! At which pods a sync of an owner's Job has to look.
 
 ghost use Rattle.std.specs.Prelude.{◌≡◌, IfOk, filter};
-ghost use Rattle.jc_states.specs.Noted.{is_noted};
+ghost use Rattle.jc_states.specs.Noted.{is_at_odds, is_noted};
 
 use crate::pods::is_at_odds;
 use crate::uids::is_among;
@@ -16,6 +16,21 @@ fn is_noted(pod: &Pod, owner: Uid, uids: &[Uid], more: &[Uid]) -> bool
         || pod.owner_uid.0 != owner.0
         || is_among(pod.uid, uids)
         || is_among(pod.uid, more)
+}
+
+// Copies of the pods at odds among these. It goes over all of them.
+//
+// `Want` where there is no memory for them.
+pub(crate) fn odd_among(alloc: Global, pods: &[Arc<Pod>]) -> Result<Vec<Arc<Pod>>, Want>
+    ensures { IfOk result (λ odd. odd.items ≡ filter is_at_odds pods.now) }
+{
+    let mut odd = Vec::new(alloc);
+    for pod in pods {
+        if is_at_odds(pod) {
+            odd.push(pod.copy()?)?;
+        }
+    }
+    Ok(odd)
 }
 
 // Copies of the pods at which a sync of the owner has to look. It goes over all pods.

@@ -13,7 +13,7 @@ ghost use Rattle.jc_states.specs.Pods.{tracked_active_pods};
 ghost use Rattle.jc_states.specs.Tallies.{pods_for, tally_of};
 
 use crate::holders::Holders;
-use crate::noted::noted_among;
+use crate::noted::{noted_among, odd_among};
 use crate::odds::note;
 use crate::pods::is_at_odds;
 use crate::tallies::{Tally, enter, leave, tally_in};
@@ -220,10 +220,24 @@ impl Pods {
         uids.iter().any(|uid| self.is_calm(*uid))
     }
 
-    // Copies of the pods at odds. It goes over no other pod.
+    // Copies of the pods at odds. Where these are few it goes over no other pod; where they are many, to go
+    // over all is less than to look each up.
     //
     // `Want` where there is no memory for them.
     fn odd_pods(&self) -> Result<Vec<Arc<Pod>>, Want>
+        ensures pods { IfOk result (λ pods. pods.items ≡ filter is_at_odds self.now) }
+        ensures rising { IsRising self.now }
+    {
+        if self.odd.len() > self.pods.len() / 8 {
+            return odd_among(self.alloc, self.as_slice());
+        }
+        self.few_odd_pods()
+    }
+
+    // Copies of the pods at odds, each of which is looked up.
+    //
+    // `Want` where there is no memory for them.
+    fn few_odd_pods(&self) -> Result<Vec<Arc<Pod>>, Want>
         ensures pods { IfOk result (λ pods. pods.items ≡ filter is_at_odds self.now) }
         ensures rising { IsRising self.now }
     {

@@ -6,8 +6,8 @@ use Rattle.jc_states.proofs.held.end_of_run.Given as goal
 abbrev pub invariant-halving : goal.invariant-halving
 invariant-halving l =
     (l.from ≤ l.low) × (l.low ≤ l.high) × (l.high ≤ l.end)
-    × (place_for l.low l.indexes ≡ place_for l.from l.indexes + (l.low - l.from))
-    × (l.high < l.end → place_for (l.high + 1) l.indexes ≡ place_for l.from l.indexes + (l.high + 1 - l.from) → ⊥)
+    × (place_for l.low l.indexes.items ≡ place_for l.from l.indexes.items + (l.low - l.from))
+    × (l.high < l.end → place_for (l.high + 1) l.indexes.items ≡ place_for l.from l.indexes.items + (l.high + 1 - l.from) → ⊥)
 
 -- The indexes between the bounds.
 abbrev pub decreases-halving : goal.decreases-halving

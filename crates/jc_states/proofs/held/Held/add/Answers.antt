@@ -1,12 +1,12 @@
-use Rattle.std.proofs.Common.{ap, arith, cond, length, rules, ◌∙◌, ◌==◌, ◌≡◌, ◌+◌}
+use Rattle.std.proofs.Common.{ap, arith, cond, rules, ◌∙◌, ◌==◌, ◌≡◌, ◌+◌}
 use Rattle.jc_states.specs.Held.{times}
 use Rattle.jc_states.proofs.HeldFacts.{added-ascends, added-repeats, one-more, place-within, repeats-few, times-insert}
 use Rattle.jc_states.proofs.held.Held.add.Goals as goal
 
 pub insert-requires : goal.insert-requires
 insert-requires c =
-    let within = place-within c.args.n c.as_slice-indexes.result.now in
-    omega (arith, within, ap length c.as_slice-indexes.ensures.value, c.place_for-place.ensures)
+    let within = place-within c.args.n c.self.inside.indexes.items in
+    omega (arith, within, c.self.inside.indexes.ok, c.place_for-place.ensures)
 
 pub overflow_add-self : goal.overflow_add-self
 overflow_add-self c =
@@ -19,8 +19,8 @@ overflow_add-self c =
 pub invariant_of-self-2 : goal.invariant_of-self-2
 invariant_of-self-2 c =
     let one : c.from.result ≡ cond c.is_there-again.result 1 0 = search rules in (
-      added-ascends c.args.n c.self.inside.indexes.items c.as_slice-indexes.result.now c.insert.new.self.items c.place_for-place.result c.self.invariant.0 c.as_slice-indexes.ensures.value c.place_for-place.ensures c.in_ok-insert.ensures.items,
-      added-repeats c.args.n c.self.inside.indexes.items c.as_slice-indexes.result.now c.insert.new.self.items c.place_for-place.result c.self.inside.repeated c.from.result c.is_there-again.result c.as_slice-indexes.ensures.value c.self.invariant.1 c.is_there-again.ensures one c.in_ok-insert.ensures.items,
+      added-ascends c.args.n c.self.inside.indexes.items c.insert.new.self.items c.place_for-place.result c.self.invariant.0 c.place_for-place.ensures c.in_ok-insert.ensures.items,
+      added-repeats c.args.n c.self.inside.indexes.items c.insert.new.self.items c.place_for-place.result c.self.inside.repeated c.from.result c.is_there-again.result c.self.invariant.1 c.is_there-again.ensures one c.in_ok-insert.ensures.items,
     )
 
 pub returns-clause-adds : goal.returns-clause-adds

@@ -1,7 +1,7 @@
 use Rattle.std.proofs.Common.{subst}
 use Rattle.jc_states.specs.PodLists.{IsRising}
 use Rattle.jc_states.proofs.NotedFacts.{copied-left, next-there}
-use Rattle.jc_states.proofs.pod_lists.Pods.odd_pods.Goals as goal
+use Rattle.jc_states.proofs.pod_lists.Pods.few_odd_pods.Goals as goal
 
 pub unreachable-requires : goal.unreachable-requires
 unreachable-requires c =

@@ -1,6 +1,6 @@
 use Rattle.std.proofs.Common.{length}
 use Rattle.jc_states.proofs.NotedFacts.{AreLeft}
-use Rattle.jc_states.proofs.pod_lists.Pods.odd_pods.Given as goal
+use Rattle.jc_states.proofs.pod_lists.Pods.few_odd_pods.Given as goal
 
 -- Of the pods at odds some are copied, and the numbers are those of the others.
 abbrev pub invariant-copying : goal.invariant-copying
