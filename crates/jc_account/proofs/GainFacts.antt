@@ -1,41 +1,12 @@
 -- How many members a set has gained that has lost none: as many as it is longer.
-use Rattle.std.proofs.Common.{◌≡◌, ℕ, zero, suc, ◌+◌, ◌-◌, ◌<◌, ◌≤◌, Bool, true, false, not, cond, eqb, ◌||◌, inl, inr, List, [], ◌∷◌, ◌++◌, filter, take, length, get_or, refl, ap, sym, ◌∙◌, subst, arith, true≢false}
-use Rattle.std.specs.List.{AllByRecursion as Each, flat_map, range_with_len}
+use Rattle.std.proofs.Common.{◌≡◌, ℕ, suc, ◌+◌, ◌<◌, Bool, true, false, not, cond, eqb, ◌||◌, inl, inr, List, [], ◌∷◌, filter, length, refl, ap, sym, ◌∙◌, subst, arith, true≢false}
+use Rattle.std.specs.List.{AllByRecursion as Each}
 use Rattle.std.proofs.lemmas.Bool.{eq-eqb, eqb-true, ne_eqb, or_cases}
-use Rattle.std.proofs.lemmas.Grind.{flat_map-append}
-use Rattle.std.proofs.lemmas.List.{append-nil, take_more}
 use Rattle.std.proofs.lemmas.List.Sums.{length-filter}
-use Rattle.jc_ranges.specs.Sets.{IsFirstMissing, IsIncreasing, has}
-use Rattle.jc_ranges.specs.Texts.{numbers}
-use Rattle.jc_ranges.specs.declared.runs.Run.{Run}
-use Rattle.jc_types.proofs.ListFacts.{Each-append, Each-both, Each-weaker, filter_all, filter_same}
+use Rattle.jc_ranges.specs.Sets.{IsIncreasing, has}
+use Rattle.jc_types.proofs.ListFacts.{Each-both, Each-weaker, filter_all, filter_same}
 use Rattle.jc_account.specs.Modes.{gained}
 use Rattle.jc_account.proofs.ListedFacts.{each}
-
--- ---- runs of members
-
--- What holds of each number from a on, holds of a range of them.
-each-range : (P : ℕ → Type 0) (a k : ℕ) → ((n : ℕ) → a ≤ n → n < a + k → P n) → Each P (range_with_len a k)
-each-range P a zero all = tt
-each-range P a (suc k) all =
-    (all a (omega arith) (omega arith), each-range P (a + 1) k (λ n l h. all n (omega (arith, l)) (omega (arith, h))))
-
--- A run that ends before the first number that is missing from its beginning on.
-pub run-held : (set : List ℕ) (run : Run) (m : ℕ) → IsFirstMissing set run.first m → run.last < m → Each (λ n. has n set ≡ true) (numbers run)
-run-held set run m is lt =
-    each-range (λ n. has n set ≡ true) run.first (suc run.last - run.first) (λ n l h. is.least n l (omega (arith, l, h, lt)))
-
--- One run more.
-pub runs-held : (P : ℕ → Type 0) (rs : List Run) (i : ℕ) (d : Run) → i < length rs
-    → Each P (flat_map numbers (take i rs)) → Each P (numbers (get_or rs i d)) → Each P (flat_map numbers (take (i + 1) rs))
-runs-held P rs i d lt front next =
-    subst (Each P)
-    (sym (ap (flat_map numbers) (take_more rs i d lt)
-    ∙ flat_map-append numbers (take i rs) (get_or rs i d ∷ [])
-    ∙ ap (λ ns. flat_map numbers (take i rs) ++ ns) (append-nil (numbers (get_or rs i d)))))
-    (Each-append P (flat_map numbers (take i rs)) (numbers (get_or rs i d)) front next)
-
--- ---- what a set gains
 
 -- The members that the set before has not.
 abbrev new_members : List ℕ → List ℕ → List ℕ

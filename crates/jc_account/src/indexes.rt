@@ -1,12 +1,10 @@
 //! Sets of completed indexes.
 
-ghost use Rattle.std.specs.Prelude.{◌≡◌, ◌<◌, ◌≤◌, IfOk, filter, length, nat_lt, slice_index, take, true};
-ghost use Rattle.std.specs.List.{AllByRecursion, flat_map};
-ghost use Rattle.jc_ranges.specs.Sets.{IsSet, has};
-ghost use Rattle.jc_ranges.specs.Texts.{numbers};
+ghost use Rattle.std.specs.Prelude.{◌≡◌, ◌<◌, ◌≤◌, IfOk, filter, length, nat_lt, slice_index, take};
+ghost use Rattle.jc_ranges.specs.Sets.{IsSet};
 ghost use Rattle.jc_account.specs.Modes.{gained, kept_indexes};
 
-use jc_ranges::{GREATEST_INDEX, Ranges, Run};
+use jc_ranges::Ranges;
 use jc_types::Want;
 use std::alloc::Global;
 
@@ -19,26 +17,6 @@ fn member_at(set: &Ranges, place: u32) -> u32
         Some(n) => n,
         None => unreachable!(),
     }
-}
-
-// Whether the set is known to have all numbers of the run.
-fn has_run(set: &Ranges, run: Run) -> bool
-    ensures { result ≡ true → AllByRecursion (λ n. has n set.now ≡ true) (numbers run) }
-{
-    run.first <= GREATEST_INDEX && run.last < set.first_missing(run.first)
-}
-
-// Whether the set is known to have all numbers of the runs.
-fn has_runs(set: &Ranges, runs: &[Run]) -> bool
-    ensures { result ≡ true
-        → AllByRecursion (λ n. has n set.now ≡ true) (flat_map numbers runs.now) }
-{
-    for run in runs {
-        if !has_run(set, *run) {
-            return false;
-        }
-    }
-    true
 }
 
 // How many members of a set the set before it had not, by looking for each of them.
@@ -59,7 +37,7 @@ fn count_new(before: &Ranges, after: &Ranges) -> u32
 pub(crate) fn gained(before: &Ranges, after: &Ranges) -> u32
     ensures { result ≡ gained before.now after.now }
 {
-    if has_runs(after, before.runs()) {
+    if after.contains_all(before) {
         return after.len() - before.len();
     }
     count_new(before, after)

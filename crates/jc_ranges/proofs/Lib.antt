@@ -7,5 +7,6 @@ pub mod Rising
 pub mod Back
 pub mod Apart
 pub mod Counts
+pub mod Within
 pub mod Puts
 pub mod Writing

@@ -1,6 +1,6 @@
 //! The set and its members.
-ghost use Rattle.std.specs.Prelude.{◌≡◌, ◌+◌, ◌≤◌, ◌↔◌, ℕ, ◌||◌, ◌==◌, List, [], length, not, IfOk, OnOk, OnErr, IsTrue, slice_get};
-ghost use Rattle.std.specs.List.{flat_map};
+ghost use Rattle.std.specs.Prelude.{◌≡◌, ◌+◌, ◌≤◌, ◌↔◌, ℕ, ◌||◌, ◌==◌, List, [], length, not, true, IfOk, OnOk, OnErr, IsTrue, slice_get};
+ghost use Rattle.std.specs.List.{AllByRecursion, flat_map};
 ghost use Rattle.jc_ranges.specs.Sets.{IsSet, has, with_member, count_below, IsFirstMissing};
 ghost use Rattle.jc_ranges.specs.Texts.{numbers, StandApart};
 
@@ -113,6 +113,14 @@ impl Ranges {
         }
     }
 
+    /// Whether each member of the other set is one of this set. It goes over the runs of the other
+    /// set.
+    pub fn contains_all(&self, other: &Ranges) -> bool
+        ensures { IsTrue result ↔ AllByRecursion (λ n. has n self.now ≡ true) other.now }
+    {
+        has_runs(self, other.runs.as_slice())
+    }
+
     /// The member at a place in increasing order, counted from 0; none from the number of members
     /// on.
     pub fn member(&self, place: u32) -> Option<u32>
@@ -165,4 +173,26 @@ impl Ranges {
     pub(crate) fn allocator(&self) -> Global {
         self.runs.allocator()
     }
+}
+
+// Whether the set has all numbers of the run.
+fn has_run(set: &Ranges, run: Run) -> bool
+    requires { run.first ≤ GREATEST_INDEX }
+    ensures { IsTrue result ↔ AllByRecursion (λ n. has n set.now ≡ true) (numbers run) }
+{
+    run.last < set.first_missing(run.first)
+}
+
+// Whether the set has all numbers of the runs.
+fn has_runs(set: &Ranges, runs: &[Run]) -> bool
+    requires { StandApart 0 runs.now }
+    ensures { IsTrue result
+        ↔ AllByRecursion (λ n. has n set.now ≡ true) (flat_map numbers runs.now) }
+{
+    for run in runs {
+        if !has_run(set, *run) {
+            return false;
+        }
+    }
+    true
 }
