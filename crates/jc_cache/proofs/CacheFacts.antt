@@ -108,17 +108,13 @@ put-first rows before new pod again owner pods is o a p none sets k =
 
 -- The last pod of an owner is dropped, and the owner's row with it.
 pub drop-last : (rows mid new : List (Key × List Pod)) (pod : Pod) (left pods : List Pod) → mid ≡ set_value (same_key pod.owner) rows left → at same_key rows pod.owner ≡ Some pods
-    → left ≡ drop_pod pod.uid pods → length left ≡ 0 → Sets same_key mid new pod.owner None → (k : Key) → pods_at k new ≡ owned_after k (PodGone pod) (pods_at k rows)
+    → left ≡ drop_pod pod.uid pods → left ≡ [] → Sets same_key mid new pod.owner None → (k : Key) → pods_at k new ≡ owned_after k (PodGone pod) (pods_at k rows)
 drop-last rows mid new pod left pods is there drops none sets k =
     ap (λ found. option_map_or (λ all. all) found []) (sets k) ∙ by (same_key pod.owner k) refl
   where
-    no_item : (xs : List Pod) → length xs ≡ 0 → [] ≡ xs
-    no_item [] h = refl
-    no_item (x ∷ xs) h = absurd (omega (arith, h))
-
     by : (b : Bool) → same_key pod.owner k ≡ b → option_map_or (λ all. all) (cond b None (at same_key mid k)) [] ≡ cond b (drop_pod pod.uid (pods_at k rows)) (pods_at k rows)
     by true s =
-        no_item left none ∙ drops
+        sym none ∙ drops
         ∙ ap (drop_pod pod.uid) (sym (ap (λ found. option_map_or (λ all. all) found []) (ap (at same_key rows) (sym (same_key-eq pod.owner k s)) ∙ there)))
     by false s =
         ap (λ found. option_map_or (λ all. all) found [])

@@ -1,30 +1,48 @@
--- Changes of pods, which may wait before they are made.
---     with_change c pods        the pods after one change
---     all_changed changes pods  the pods after all changes, one after the other
---     HasRoomFor c pods         a pod that is put can be counted
---     AreRoomed changes pods    so it is at each change, when those before it are made
-use Rattle.std.specs.Prelude.{◌-◌, ◌<◌, ◌^◌, List, [], ◌∷◌, length}
+-- Changes of pods, which may wait before they are made. A change of a UID is the pod that it has from then
+-- on, or none where its pod goes.
+--     IsOf u change              a pod that is written has the UID
+--     with_change u change pods  the pods after one change
+--     all_changed rows pods      the pods after the changes of all rows, one after the other
+--     HasRoomFor change pods     a pod that is put can be counted
+--     AreNamed rows              each change is of the UID under which it stands
+--     KeepsChanges rows pods n   what is kept of pods and of the changes that wait
+use Rattle.std.specs.Prelude.{◌≡◌, ℕ, ◌-◌, ◌<◌, ◌^◌, List, [], ◌∷◌, Option, None, Some, length}
+use Rattle.std.specs.List.{IsDistinct}
+use Rattle.std.specs.Map.{keys_of}
+use Rattle.jc_types.specs.declared.numbers.Uid.{Uid}
 use Rattle.jc_types.specs.declared.objects.Pod.{Pod}
-use Rattle.jc_states.specs.PodLists.{put_pod, drop_pod}
-use Rattle.jc_cache.specs.declared.changes.Change.{Change}
-use Rattle.jc_cache.specs.declared.changes.Change.TheVariants.{Put, Gone}
+use Rattle.jc_types.specs.Keys.{same_uid}
+use Rattle.jc_states.specs.PodLists.{IsRising, put_pod, drop_pod}
+
+-- A pod that is written has the UID.
+abbrev pub IsOf : Uid → Option Pod → Type 0
+IsOf u None = Unit {0}
+IsOf u (Some pod) = pod.uid ≡ u
 
 -- The pods after one change.
-abbrev pub with_change : Change → List Pod → List Pod
-with_change (Put pod) pods = put_pod pod pods
-with_change (Gone u) pods = drop_pod u pods
+abbrev pub with_change : Uid → Option Pod → List Pod → List Pod
+with_change u None pods = drop_pod u pods
+with_change u (Some pod) pods = put_pod pod pods
 
--- The pods after all changes, one after the other.
-abbrev pub all_changed : List Change → List Pod → List Pod
+-- The pods after the changes of all rows, one after the other.
+abbrev pub all_changed : List (Uid × Option Pod) → List Pod → List Pod
 all_changed [] pods = pods
-all_changed (c ∷ changes) pods = all_changed changes (with_change c pods)
+all_changed (row ∷ rows) pods = all_changed rows (with_change row.0 row.1 pods)
 
 -- A pod that is put is counted in 32 bits with the others.
-abbrev pub HasRoomFor : Change → List Pod → Type 0
-HasRoomFor (Put pod) pods = length pods < 2 ^ 32 - 1
-HasRoomFor (Gone u) pods = Unit {0}
+abbrev pub HasRoomFor : Option Pod → List Pod → Type 0
+HasRoomFor None pods = Unit {0}
+HasRoomFor (Some pod) pods = length pods < 2 ^ 32 - 1
 
--- So it is at each of the changes, when those before it are made.
-abbrev pub AreRoomed : List Change → List Pod → Type 0
-AreRoomed [] pods = Unit {0}
-AreRoomed (c ∷ changes) pods = HasRoomFor c pods × AreRoomed changes (with_change c pods)
+-- Each change is of the UID under which it stands.
+abbrev pub AreNamed : List (Uid × Option Pod) → Type 0
+AreNamed [] = Unit {0}
+AreNamed (row ∷ rows) = IsOf row.0 row.1 × AreNamed rows
+
+-- What is kept of pods and of the changes that wait: the pods ascend, each change is of the UID under which it
+-- stands, none stands under the UID of another, and after all of them there are so many pods.
+pub record KeepsChanges (rows : List (Uid × Option Pod)) (pods : List Pod) (count : ℕ) : Type 0 where
+  pub rising : IsRising pods
+  pub named : AreNamed rows
+  pub once : IsDistinct same_uid (keys_of rows)
+  pub counted : count ≡ length (all_changed rows pods)

@@ -53,7 +53,7 @@ fn put_pod(alloc: Global, rows: &mut IndexMap<Key, SharedPods>, pod: &Arc<Pod>) 
     Ok(())
 }
 
-// Drops a pod from those of its owner; the row of an owner that is seen to have none goes.
+// Drops a pod from those of its owner; the row of an owner that has none left goes.
 //
 // `Want` where there is no memory for it; the rows are then as before.
 fn drop_pod(rows: &mut IndexMap<Key, SharedPods>, pod: &Pod) -> Result<(), Want>
@@ -64,7 +64,7 @@ fn drop_pod(rows: &mut IndexMap<Key, SharedPods>, pod: &Pod) -> Result<(), Want>
         return Ok(());
     };
     pods.drop_pod(pod.uid)?;
-    if pods.is_plainly_empty() {
+    if pods.is_empty() {
         rows.swap_remove(&pod.owner);
     }
     Ok(())

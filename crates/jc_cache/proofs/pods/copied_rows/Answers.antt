@@ -1,4 +1,6 @@
 use Rattle.std.proofs.Common.{rules, ◌≡◌, ◌∷◌, ◌∙◌}
+use Rattle.jc_types.specs.Keys.{same_key}
+use Rattle.jc_types.proofs.KeyFacts.{same_key-eq, same_key-itself}
 use Rattle.jc_cache.proofs.CopyFacts.{insert_entry-puts, row-copied}
 use Rattle.jc_cache.proofs.pods.copied_rows.Goals as goal
 
@@ -10,9 +12,9 @@ loop-owner-preserved c =
     let first : c.loop-owner.owner-iterator ≡ (owner, pods) ∷ c.next.new.self = c.in-Some.ensures.steps in
     let key : c.in_ok-copy.field-0 ≡ owner = search rules in
     let again : c.in_ok-copy-2.field-0 ≡ pods = search rules in
-    row-copied c.args.rows.now.entries c.loop-owner.copies.entries c.loop-owner.owner-iterator c.next.new.self c.insert.new.self.entries owner c.in_ok-copy.field-0 pods c.in_ok-copy-2.field-0
+    row-copied same_key same_key-eq same_key-itself c.args.rows.now.entries c.loop-owner.copies.entries c.loop-owner.owner-iterator c.next.new.self c.insert.new.self.entries owner c.in_ok-copy.field-0 pods c.in_ok-copy-2.field-0
     c.iter-owner-items.ensures.unique c.loop-owner.invariant first key again
-    (c.in_ok-insert.ensures.entries ∙ insert_entry-puts c.in_ok-copy.field-0 c.in_ok-copy-2.field-0 c.loop-owner.copies.entries)
+    (c.in_ok-insert.ensures.entries ∙ insert_entry-puts same_key c.in_ok-copy.field-0 c.in_ok-copy-2.field-0 c.loop-owner.copies.entries)
 
 pub loop-owner-preserved-in_ok-insert : goal.loop-owner-preserved-in_ok-insert
 loop-owner-preserved-in_ok-insert c =
@@ -21,6 +23,6 @@ loop-owner-preserved-in_ok-insert c =
     let first : c.loop-owner.owner-iterator ≡ (owner, pods) ∷ c.next.new.self = c.in-Some.ensures.steps in
     let key : c.in_ok-copy.field-0 ≡ owner = search rules in
     let again : c.in_ok-copy-2.field-0 ≡ pods = search rules in
-    row-copied c.args.rows.now.entries c.loop-owner.copies.entries c.loop-owner.owner-iterator c.next.new.self c.insert.new.self.entries owner c.in_ok-copy.field-0 pods c.in_ok-copy-2.field-0
+    row-copied same_key same_key-eq same_key-itself c.args.rows.now.entries c.loop-owner.copies.entries c.loop-owner.owner-iterator c.next.new.self c.insert.new.self.entries owner c.in_ok-copy.field-0 pods c.in_ok-copy-2.field-0
     c.iter-owner-items.ensures.unique c.loop-owner.invariant first key again
-    (c.in_ok-insert.ensures.entries ∙ insert_entry-puts c.in_ok-copy.field-0 c.in_ok-copy-2.field-0 c.loop-owner.copies.entries)
+    (c.in_ok-insert.ensures.entries ∙ insert_entry-puts same_key c.in_ok-copy.field-0 c.in_ok-copy-2.field-0 c.loop-owner.copies.entries)

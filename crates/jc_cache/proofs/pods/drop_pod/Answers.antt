@@ -15,9 +15,9 @@ returns-in_err-drop_pod-clause-kept c =
     (sym c.get_mut.ensures.value ∙ ap option_copied_mut c.in-Some.is ∙ ap Some (sym c.in_err-drop_pod.ensures.kept)))
 
 -- No pod of the owner is left.
-pub returns-then-is_plainly_empty-clause-drops : goal.returns-then-is_plainly_empty-clause-drops
-returns-then-is_plainly_empty-clause-drops c =
+pub returns-then-is_empty-clause-drops : goal.returns-then-is_empty-clause-drops
+returns-then-is_empty-clause-drops c =
     drop-last c.args.rows.now.entries (c.get_mut.follows.lender c.drop_pod.new.self).entries c.swap_remove.new.self.entries c.args.pod.now c.drop_pod.new.self c.in-Some.pods.now
     (c.get_mut.follows.holds c.drop_pod.new.self).0
     (sym c.get_mut.ensures.value ∙ ap option_copied_mut c.in-Some.is)
-    c.in_ok-drop_pod.ensures.drops (c.is_plainly_empty.ensures c.if-is_plainly_empty.true) c.swap_remove.ensures.updates.0
+    c.in_ok-drop_pod.ensures.drops (c.is_empty.ensures.0 c.if-is_empty.true) c.swap_remove.ensures.updates.0
