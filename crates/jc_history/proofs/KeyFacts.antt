@@ -1,27 +1,17 @@
 -- Facts on lists of keys in which each stands once.
 use Rattle.std.proofs.Common.{◌≡◌, Bool, true, false, cond, not, ◌&&◌, ◌||◌, List, [], ◌∷◌, ◌++◌, filter, refl, sym, ap, ◌∙◌, true≢false}
 use Rattle.std.specs.List.{AllByRecursion as Each, IsDistinct}
+use Rattle.std.proofs.Math.Bool.{and_comm}
 use Rattle.std.proofs.lemmas.List.Elements.{filter_agree}
 use Rattle.std.proofs.lemmas.List.Folds.{list_any-append}
 use Rattle.jc_types.specs.declared.objects.Key.{Key}
 use Rattle.jc_types.specs.Keys.{same_key}
 use Rattle.jc_types.proofs.KeyFacts.{same_key-eq, same_key-itself, same_key-either_way}
-use Rattle.jc_types.proofs.ListFacts.{Each-filter, Each-passes, Each-weaker, filter_filter}
+use Rattle.jc_types.proofs.ListFacts.{Each-filter, Each-passes, Each-weaker, filter_filter, filter_swap}
 use Rattle.jc_queue.specs.Queued.{has_key}
 use Rattle.jc_queue.proofs.KeyLists.{none_is}
 use Rattle.jc_history.specs.Keys.{once, last_of}
 use Rattle.std.proofs.lemmas.Bool.{not-true as not-true_is}
-
-and-swap : (a b : Bool) → (a && b) ≡ (b && a)
-and-swap true true = refl
-and-swap true false = refl
-and-swap false true = refl
-and-swap false false = refl
-
--- Two filters in the one order or the other.
-pub filter-swap : (p q : Key → Bool) (keys : List Key) → filter p (filter q keys) ≡ filter q (filter p keys)
-filter-swap p q keys =
-    filter_filter p q keys ∙ filter_agree _ _ (λ k. and-swap (q k) (p k)) keys ∙ sym (filter_filter q p keys)
 
 pub filter-all : (keys : List Key) → filter (λ k. true) keys ≡ keys
 filter-all [] = refl
@@ -30,7 +20,7 @@ filter-all (k ∷ keys) = ap (λ rest. k ∷ rest) (filter-all keys)
 -- ---- membership
 
 pub is_in-filter : (p : Key → Bool) (k : Key) (keys : List Key) → has_key k (filter p keys) ≡ (p k && has_key k keys)
-is_in-filter p k [] = sym (and-swap (p k) false)
+is_in-filter p k [] = sym (and_comm (p k) false)
 is_in-filter p k (x ∷ keys) = by (p x) refl (same_key k x) refl (is_in-filter p k keys)
   where
     absorbs : (c r : Bool) → c ≡ true → true ≡ (c && (true || r))
@@ -77,7 +67,7 @@ once-filter p (x ∷ keys) = by (p x) refl (once-filter p keys)
     drops k t false s = refl
 
     by : (b : Bool) → p x ≡ b → once (filter p keys) ≡ filter p (once keys) → once (cond b (x ∷ filter p keys) (filter p keys)) ≡ cond b (x ∷ filter p (filter (λ j. not (same_key x j)) (once keys))) (filter p (filter (λ j. not (same_key x j)) (once keys)))
-    by true t ih = ap (λ rest. x ∷ filter (λ j. not (same_key x j)) rest) ih ∙ ap (λ rest. x ∷ rest) (filter-swap (λ j. not (same_key x j)) p (once keys))
+    by true t ih = ap (λ rest. x ∷ filter (λ j. not (same_key x j)) rest) ih ∙ ap (λ rest. x ∷ rest) (filter_swap (λ j. not (same_key x j)) p (once keys))
     by false t ih = ih ∙ filter_agree _ _ (λ k. drops k t (same_key x k) refl) (once keys) ∙ sym (filter_filter p (λ j. not (same_key x j)) (once keys))
 
 pub distinct-filter : (p : Key → Bool) (keys : List Key) → IsDistinct same_key keys → IsDistinct same_key (filter p keys)

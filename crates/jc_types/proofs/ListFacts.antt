@@ -7,7 +7,7 @@ use Rattle.std.proofs.lemmas.List.Elements.{filter_agree}
 use Rattle.std.proofs.Math.Bool.{and_comm}
 
 -- Beside what is weaker a test says all.
-and_weaker : (weaker test : Bool) → (test ≡ true → weaker ≡ true) → (weaker && test) ≡ test
+pub and_weaker : (weaker test : Bool) → (test ≡ true → weaker ≡ true) → (weaker && test) ≡ test
 and_weaker true test h = refl
 and_weaker false true h = h refl
 and_weaker false false h = refl

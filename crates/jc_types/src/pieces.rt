@@ -4,6 +4,7 @@ ghost use Rattle.std.specs.Prelude.{
   ◌≡◌,
   ◌↔◌,
   ◌+◌,
+  ◌-◌,
   ◌<◌,
   ◌≤◌,
   ◌++◌,
@@ -14,6 +15,7 @@ ghost use Rattle.std.specs.Prelude.{
   IsNone,
   IsTrue,
   List,
+  None,
   OnErr,
   OnOk,
   drop,
@@ -192,6 +194,8 @@ fn room_of<T>(pieces: &[ListOf<T>]) -> Option<Spot>
     ensures place { IfSome result (λ spot. spot.place ≤ length (get_or pieces.now spot.piece [])) }
     ensures last { IfSome result (λ spot. place_in pieces.now spot.piece spot.place
         ≡ length (items_in pieces.now)) }
+    ensures full { result ≡ None → 0 < length pieces.now
+        → MOST ≤ length (get_or pieces.now (length pieces.now - 1) []) }
 {
     if pieces.is_empty() {
         return None;
