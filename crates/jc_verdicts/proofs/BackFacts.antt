@@ -10,7 +10,7 @@ use Rattle.jc_types.specs.declared.objects.Pod.{Pod}
 use Rattle.jc_types.specs.declared.specifications.JobSpec.{JobSpec}
 use Rattle.jc_types.specs.Keys.{same_uid}
 use Rattle.jc_types.proofs.KeyFacts.{same_uid-eq, same_uid-itself}
-use Rattle.jc_types.proofs.ListFacts.{Each-both, Each-filter, Each-passes, Each-weaker, filter_filter, filter_same, filter_within}
+use Rattle.jc_types.proofs.ListFacts.{Each-both, Each-filter, Each-passes, Each-weaker, and_weaker, filter_filter, filter_same, filter_within}
 use Rattle.jc_log.specs.Tables.{at}
 use Rattle.jc_states.specs.Noted.{is_at_odds, is_noted}
 use Rattle.jc_states.specs.PodLists.{IsRising, drop_pod, put_pod}
@@ -158,12 +158,7 @@ module _ (known : List (Uid × Outcome)) (pods : List Pod) (back : List Uid) (ri
         filter_filter test noted pods
         ∙ filter_same (λ pod. noted pod && test pod) test pods
         (Each-weaker (λ pod. pod_among pod.uid pods ≡ Some pod) (λ pod. (noted pod && test pod) ≡ test pod)
-        (λ pod found. beside (noted pod) (test pod) (h pod found)) pods (rises-found 0 pods rises))
-      where
-        beside : (weaker strong : Bool) → (strong ≡ true → weaker ≡ true) → (weaker && strong) ≡ strong
-        beside true strong k = refl
-        beside false true k = k refl
-        beside false false k = refl
+        (λ pod found. and_weaker (noted pod) (test pod) (h pod found)) pods (rises-found 0 pods rises))
 
     -- A pod that joined a list is noted.
     held-noted : (spec : JobSpec) (pod : Pod) → pod_among pod.uid pods ≡ Some pod → is_held_by spec (at same_uid known) pod ≡ true → noted pod ≡ true

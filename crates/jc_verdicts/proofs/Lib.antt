@@ -8,3 +8,4 @@ pub mod BookFacts
 pub mod PlaceLists
 pub mod TouchFacts
 pub mod PlaceSteps
+pub mod IndexSets

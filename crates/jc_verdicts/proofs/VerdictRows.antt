@@ -1,5 +1,5 @@
 -- What is kept of a ledger: its rows, and the set of its indexes.
-use Rattle.std.proofs.Common.{◌≡◌, ℕ, ◌+◌, ◌-◌, ◌<◌, Bool, true, false, cond, not, ◌&&◌, ◌||◌, List, [], ◌∷◌, ◌++◌, map, filter, find, length, get_or, drop, take, Option, Some, None, is_some, Result, Ok, Err, refl, sym, ap, ◌∙◌, subst, arith}
+use Rattle.std.proofs.Common.{◌≡◌, ℕ, ◌+◌, ◌-◌, ◌<◌, Bool, true, false, cond, not, ◌&&◌, ◌||◌, List, [], ◌∷◌, ◌++◌, map, filter, find, length, get_or, take, Option, Some, None, is_some, Result, Ok, Err, refl, sym, ap, ◌∙◌, subst, arith}
 use Rattle.std.specs.Prelude.{IfOk, Vec, option_and_then, option_map, slice_get}
 use Rattle.std.specs.declared.alloc.Global.{Global}
 use Rattle.std.specs.List.{cons_option, insert}
@@ -10,7 +10,7 @@ use Rattle.std.proofs.lemmas.Option.{slice_get-map}
 use Rattle.std.specs.List.Sorted.{IsBinarySearchResult}
 use Rattle.std.specs.Ordering.{nat_cmp}
 use Rattle.std.specs.Result.{MatchResult}
-use Rattle.std.proofs.lemmas.List.{drop_more, map-append, length-map, take_more}
+use Rattle.std.proofs.lemmas.List.{map-append, length-map, take_more}
 use Rattle.std.proofs.lemmas.List.Sorted.{searched}
 use Rattle.std.proofs.lemmas.Result.{MatchResult-weaker}
 use Rattle.jc_ranges.specs.Sets.{IsIncreasing, with_member}
@@ -49,13 +49,6 @@ pub searched_place : (n : ℕ) (xs ys : List ℕ) (r : Result ℕ ℕ) → ys �
 searched_place n xs ys r same s h =
     let found = searched xs n r (subst (λ zs. IsBinarySearchResult (λ y. nat_cmp y n) zs r) same h) (λ i j q k. non_decreasing xs s i j 0 q k) in
     MatchResult-weaker r found (λ i q. present n xs i s q.0 q.1) (λ i q. (absent n xs i q.0 q.1 q.2).1)
-
--- One index more, from the last to the first.
-pub joined_index : (indexes : List ℕ) (d k n : ℕ) (set mid new : List ℕ) → k + 1 ≡ n → k < length indexes
-    → mid ≡ join set (drop n indexes) → new ≡ with_member (get_or indexes k d) mid → new ≡ join set (drop k indexes)
-joined_index indexes d k n set mid new next within so_far puts =
-    puts ∙ ap (with_member (get_or indexes k d)) so_far
-    ∙ ap (join set) (sym (drop_more indexes k d within ∙ ap (λ i. get_or indexes k d ∷ drop i indexes) next))
 
 -- ---- the rows
 

@@ -184,12 +184,14 @@ fn index_within(job: &Job, index: Option<u32>) -> Option<u32>
     }
 }
 
-/// The index of a pod that has succeeded, where it is below the number of completions.
+/// The index of a pod that has succeeded, where it is below the number of completions. Of a pod without one
+/// nothing is looked up.
 fn success_index(job: &Job, known: &IndexMap<Uid, Outcome>, pod: &Pod) -> Option<u32>
     ensures { result ≡ success_index job.now (at same_uid known.now.entries) pod.now }
 {
+    let index = index_within(job, pod.index)?;
     if is_success(known, pod) {
-        index_within(job, pod.index)
+        Some(index)
     } else {
         None
     }
@@ -244,13 +246,13 @@ fn put_index(done: &mut Vec<u32>, index: u32) -> Result<(), Want>
     Ok(())
 }
 
-/// Puts the indexes in their places, the last first.
+/// Puts the indexes in their places. They mostly come behind those that are there, the first one first.
 fn put_indexes(done: &mut Vec<u32>, indexes: &[u32]) -> Result<(), Want>
     requires { IsIncreasing done.old.items }
     ensures { OnOk result (done.new.items ≡ join done.old.items indexes.now) }
 {
-    for place in (0..indexes.len()).rev() {
-        put_index(done, indexes[place])?;
+    for index in indexes {
+        put_index(done, *index)?;
     }
     Ok(())
 }

@@ -3,9 +3,9 @@ use Rattle.jc_ranges.specs.Sets.{IsIncreasing}
 use Rattle.jc_states.specs.UidLists.{join}
 use Rattle.jc_verdicts.proofs.rows.put_indexes.Given as goal
 
--- The indexes so far have those from the place on.
-abbrev pub invariant-loop-place : goal.invariant-loop-place
-invariant-loop-place l = record {
-  joined : l.done.items ≡ join l.fn.done.items (drop l.place l.indexes);
+-- With those that are left it is the set with all.
+abbrev pub invariant-loop-index : goal.invariant-loop-index
+invariant-loop-index l = record {
+  joined : join l.done.items (drop l.index-index l.indexes) ≡ join l.fn.done.items l.indexes;
   order : IsIncreasing l.done.items;
 }
