@@ -1,6 +1,6 @@
 //! Readers of members that must be there.
 
-ghost use Rattle.std.specs.Prelude.{◌≤ℤ◌, IfOk, map, string_bytes};
+ghost use Rattle.std.specs.Prelude.{◌≤ℤ◌, IfOk, map};
 ghost use Rattle.serde_json.specs.View.{view};
 ghost use Rattle.jc_json.specs.Field.{needed_text, needed_bool, needed_number, needed_list, needed_object};
 ghost use Rattle.jc_json.specs.Exact.{Gives};
@@ -17,13 +17,14 @@ use std::alloc::Global;
 ///
 /// `Missing` exactly where the member is absent, and the refusals of `may_text`.
 #[tactic(auto, unfolding(crate::specs::Field::needed_text, crate::specs::Field::optional_text))]
-pub fn need_text(
+pub fn need_text<'v>(
     alloc: Global,
-    object: &Value,
+    object: &'v Value,
     path: &Path,
     name: &str,
-) -> Result<String, FieldFault>
-    ensures { Gives string_bytes result (needed_text path.now name.now (view object.now)) }
+) -> Result<&'v str, FieldFault>
+    ensures { Gives (λ text. text.now) result
+        (needed_text path.now name.now (view object.now)) }
 {
     match may_text(alloc, object, path, name)? {
         Some(found) => Ok(found),

@@ -1,6 +1,6 @@
 //! Readers of members that may be absent.
 
-ghost use Rattle.std.specs.Prelude.{◌≡◌, ◌≤ℤ◌, IfOk, IfSome, map, option_map, string_bytes};
+ghost use Rattle.std.specs.Prelude.{◌≡◌, ◌≤ℤ◌, IfOk, IfSome, map, option_map};
 ghost use Rattle.serde_json.specs.Find.{as_array};
 ghost use Rattle.serde_json.specs.View.{view};
 ghost use Rattle.jc_json.specs.Field.{listed_items, member_of, optional_text, optional_bool, optional_number, optional_list, optional_object};
@@ -41,18 +41,18 @@ fn listed(value: &Value) -> Option<&[Value]>
 ///
 /// `WrongType` exactly where the member is no text. `Want`: memory ran out.
 #[tactic(auto, unfolding(crate::specs::Field::optional_text))]
-pub fn may_text(
+pub fn may_text<'v>(
     alloc: Global,
-    object: &Value,
+    object: &'v Value,
     path: &Path,
     name: &str,
-) -> Result<Option<String>, FieldFault>
-    ensures { Gives (option_map string_bytes) result
+) -> Result<Option<&'v str>, FieldFault>
+    ensures { Gives (option_map (λ text. text.now)) result
         (optional_text path.now name.now (view object.now)) }
 {
     match member(object, name) {
         None => Ok(None),
-        Some(Value::String(text)) => Ok(Some(String::from_str(alloc, text.as_str())?)),
+        Some(Value::String(text)) => Ok(Some(text.as_str())),
         Some(_) => Err(FieldFault::WrongType {
             path: Path::of_member(alloc, path, name)?,
         }),

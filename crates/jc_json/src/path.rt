@@ -33,11 +33,15 @@ impl Path {
         ensures { IfOk result (λ path. path ≡ path_to object.now name.now) }
     {
         let front = object.as_str();
-        let text = if front.is_empty() {
-            String::from_str(alloc, name)?
-        } else {
-            format!(in alloc; "{front}.{name}")?
-        };
+        if front.is_empty() {
+            let text = String::from_str(alloc, name)?;
+            return Ok(Path { text });
+        }
+        // (in one piece of memory: a path is made for each member that is read)
+        let mut text = String::with_capacity(alloc, front.len() + name.len() + 1)?;
+        text.push_str(front)?;
+        text.push_str(".")?;
+        text.push_str(name)?;
         Ok(Path { text })
     }
 

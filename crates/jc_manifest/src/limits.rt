@@ -27,7 +27,7 @@ pub fn check_managed(alloc: Global, spec: &Value, path: &Path) -> Result<(), Man
     let Some(text) = may_text(alloc, spec, path, "managedBy")? else {
         return Ok(());
     };
-    if text.as_str() == "kubernetes.io/job-controller" {
+    if text == "kubernetes.io/job-controller" {
         return Ok(());
     }
     Err(broken(path, "managedBy", 26))

@@ -72,7 +72,7 @@ fn read_known_replacement(
     let Some(text) = may_text(alloc, spec, path, "podReplacementPolicy")? else {
         return Ok(usual_replacement(has_failure));
     };
-    match replacement_of(text.as_str()) {
+    match replacement_of(text) {
         Some(replacement) => Ok(replacement),
         None => Err(broken(path, "podReplacementPolicy", 7)),
     }

@@ -26,7 +26,7 @@ fn check_word(
         (text_row path.now (view object.now) name.now rule (λ s. bytes_eq s word.now)) }
 {
     let text = need_text(alloc, object, path, name)?;
-    if text.as_str() == word {
+    if text == word {
         return Ok(());
     }
     Err(broken(path, name, rule))
@@ -53,7 +53,7 @@ fn read_name(alloc: Global, metadata: &Value, path: &Path) -> Result<Name, Manif
     if !is_subdomain(text.as_bytes()) {
         return Err(broken(path, "name", 3));
     }
-    Ok(Name::from_string(text)?)
+    Ok(Name::from_text(alloc, text)?)
 }
 
 // The Job's namespace.
@@ -69,7 +69,7 @@ fn read_namespace(alloc: Global, metadata: &Value, path: &Path) -> Result<Name, 
     if !is_label(text.as_bytes()) {
         return Err(broken(path, "namespace", 4));
     }
-    Ok(Name::from_string(text)?)
+    Ok(Name::from_text(alloc, text)?)
 }
 
 /// The key of the Job.

@@ -23,10 +23,10 @@ fn read_type(alloc: Global, condition: &Value, path: &Path) -> Result<Text, Line
         (text_in path.now (codes "type") 30 is_type (view condition.now)) }
 {
     let text = need_text(alloc, condition, path, "type")?;
-    if !is_type(text.as_str()) {
+    if !is_type(text) {
         return Err(broken(path, "type", 30));
     }
-    Ok(Text::from_string(text)?)
+    Ok(Text::from_str(alloc, text)?)
 }
 
 // The status of a condition.
@@ -37,7 +37,7 @@ fn read_truth(alloc: Global, condition: &Value, path: &Path) -> Result<Truth, Li
     let Some(text) = may_text(alloc, condition, path, "status")? else {
         return Ok(Truth::True);
     };
-    match truth_of(text.as_str()) {
+    match truth_of(text) {
         Some(truth) => Ok(truth),
         None => Err(broken(path, "status", 29)),
     }

@@ -25,10 +25,10 @@ fn read_condition(alloc: Global, end: &Value, path: &Path) -> Result<Option<Text
     let Some(text) = may_text(alloc, end, path, "condition")? else {
         return Ok(None);
     };
-    if !is_type(text.as_str()) {
+    if !is_type(text) {
         return Err(broken(path, "condition", 30));
     }
-    Ok(Some(Text::from_string(text)?))
+    Ok(Some(Text::from_str(alloc, text)?))
 }
 
 // The members of one end.

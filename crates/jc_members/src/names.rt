@@ -29,7 +29,7 @@ fn read_name(alloc: Global, value: &Value) -> Result<Name, LineFault>
     if !is_subdomain(text.as_bytes()) {
         return Err(broken(&path, "name", 3));
     }
-    Ok(Name::from_string(text)?)
+    Ok(Name::from_text(alloc, text)?)
 }
 
 // The namespace of a Job.
@@ -44,7 +44,7 @@ fn read_namespace(alloc: Global, value: &Value) -> Result<Name, LineFault>
     if !is_label(text.as_bytes()) {
         return Err(broken(&path, "namespace", 4));
     }
-    Ok(Name::from_string(text)?)
+    Ok(Name::from_text(alloc, text)?)
 }
 
 /// The key of a Job.

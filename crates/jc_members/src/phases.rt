@@ -34,7 +34,7 @@ fn read_phase(alloc: Global, value: &Value, path: &Path) -> Result<Phase, LineFa
         (word_in path.now (codes "phase") phase_of (view value.now)) }
 {
     let text = need_text(alloc, value, path, "phase")?;
-    match phase_of(text.as_str()) {
+    match phase_of(text) {
         Some(phase) => Ok(phase),
         None => Err(broken(path, "phase", 29)),
     }

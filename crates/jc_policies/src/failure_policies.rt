@@ -70,7 +70,7 @@ fn read_operator(alloc: Global, exits: &Value, path: &Path) -> Result<Operator, 
         (operator_in path.now (view exits.now)) }
 {
     let text = need_text(alloc, exits, path, "operator")?;
-    match operator_of(text.as_str()) {
+    match operator_of(text) {
         Some(operator) => Ok(operator),
         None => Err(broken(path, "operator", 16)),
     }
@@ -205,7 +205,7 @@ fn read_container(
     let Some(text) = may_text(alloc, exits, path, "containerName")? else {
         return Ok(None);
     };
-    match named(template, text.as_str())? {
+    match named(template, text)? {
         Some(name) => Ok(Some(name)),
         None => Err(broken(path, "containerName", 18)),
     }
@@ -248,10 +248,10 @@ fn read_type(alloc: Global, pattern: &Value, path: &Path) -> Result<Text, Manife
         (type_in path.now (view pattern.now)) }
 {
     let text = need_text(alloc, pattern, path, "type")?;
-    if !is_type(text.as_str()) {
+    if !is_type(text) {
         return Err(broken(path, "type", 30));
     }
-    Ok(Text::from_string(text)?)
+    Ok(Text::from_str(alloc, text)?)
 }
 
 // The status of a condition.
@@ -264,7 +264,7 @@ fn read_truth(alloc: Global, pattern: &Value, path: &Path) -> Result<Truth, Mani
     let Some(text) = may_text(alloc, pattern, path, "status")? else {
         return Ok(Truth::True);
     };
-    match truth_of(text.as_str()) {
+    match truth_of(text) {
         Some(truth) => Ok(truth),
         None => Err(broken(path, "status", 20)),
     }
@@ -325,7 +325,7 @@ fn read_known_action(alloc: Global, rule: &Value, path: &Path) -> Result<Action,
         (action_in path.now (view rule.now)) }
 {
     let text = need_text(alloc, rule, path, "action")?;
-    match action_named(text.as_str()) {
+    match action_named(text) {
         Some(action) => Ok(action),
         None => Err(broken(path, "action", 14)),
     }

@@ -64,7 +64,7 @@ fn read_indexes(
     let Some(text) = may_text(alloc, rule, path, "succeededIndexes")? else {
         return Ok(None);
     };
-    match indexes_read(alloc, text.as_str(), completions)? {
+    match indexes_read(alloc, text, completions)? {
         Some(set) => Ok(Some(set)),
         None => Err(broken(path, "succeededIndexes", 24)),
     }

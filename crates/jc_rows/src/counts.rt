@@ -68,7 +68,7 @@ fn read_mode(alloc: Global, spec: &Value, path: &Path) -> Result<Mode, ManifestF
     let Some(text) = may_text(alloc, spec, path, "completionMode")? else {
         return Ok(Mode::NonIndexed);
     };
-    match mode_of(text.as_str()) {
+    match mode_of(text) {
         Some(mode) => Ok(mode),
         None => Err(broken(path, "completionMode", 5)),
     }

@@ -44,7 +44,7 @@ fn read_restart(alloc: Global, pod: &Value, path: &Path) -> Result<Restart, Mani
         (restart_in path.now (view pod.now)) }
 {
     let text = need_text(alloc, pod, path, "restartPolicy")?;
-    match restart_of(text.as_str()) {
+    match restart_of(text) {
         Some(restart) => Ok(restart),
         None => Err(broken(path, "restartPolicy", 9)),
     }
@@ -173,10 +173,10 @@ fn read_name(
     if !is_label(text.as_bytes()) {
         return Err(broken(path, "name", 11));
     }
-    if is_among(others.as_slice(), text.as_str()) || is_among(earlier.as_slice(), text.as_str()) {
+    if is_among(others.as_slice(), text) || is_among(earlier.as_slice(), text) {
         return Err(broken(path, "name", 11));
     }
-    Ok(Name::from_string(text)?)
+    Ok(Name::from_text(alloc, text)?)
 }
 
 // The names of containers, which differ from each other and from the others.

@@ -53,7 +53,7 @@ fn read_kind(alloc: Global, value: &Value) -> Result<Kind, LineFault>
 {
     let path = Path::new(alloc);
     let text = need_text(alloc, value, &path, "kind")?;
-    match kind_of(text.as_str()) {
+    match kind_of(text) {
         Some(kind) => Ok(kind),
         None => Err(broken(&path, "kind", 29)),
     }
@@ -66,7 +66,7 @@ fn read_fault_kind(alloc: Global, value: &Value) -> Result<Fault, LineFault>
 {
     let path = Path::new(alloc);
     let text = need_text(alloc, value, &path, "kind")?;
-    match fault_of(text.as_str()) {
+    match fault_of(text) {
         Some(fault) => Ok(fault),
         None => Err(broken(&path, "kind", 29)),
     }

@@ -84,13 +84,16 @@ fn are_few(before: usize, times: u32) -> bool
 }
 
 // Adds a command as often as it is given.
-fn add_times(commands: &mut Commands, said: &Said) -> Result<(), Want>
-    ensures { OnOk result (commands.new ≡ commands.old ++ commands_of said.now) }
+fn add_times(commands: &mut Commands, said: Said) -> Result<(), Want>
+    ensures { OnOk result (commands.new ≡ commands.old ++ commands_of said) }
 {
-    for _ in 0..said.times {
+    if said.times == 0 {
+        return Ok(());
+    }
+    for _ in 0..said.times - 1 {
         commands.push(said.command.copy()?)?;
     }
-    Ok(())
+    commands.push(said.command)
 }
 
 // Adds the line's commands to those of the lines before it.
@@ -121,7 +124,7 @@ fn take_line(
                     cause: Cause::TooMany,
                 });
             }
-            Ok(add_times(commands, &said)?)
+            Ok(add_times(commands, said)?)
         }
         Err(LineFault::Bad { cause }) => Err(ScriptFault::BadLine { number, cause }),
         Err(LineFault::Want) => Err(ScriptFault::Want),

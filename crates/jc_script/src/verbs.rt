@@ -102,7 +102,7 @@ fn read_word(alloc: Global, value: &Value, path: &Path) -> Result<Verb, LineFaul
         (word_in path.now (codes "do") verb_of (view value.now)) }
 {
     let text = need_text(alloc, value, path, "do")?;
-    match verb_of(text.as_str()) {
+    match verb_of(text) {
         Some(verb) => Ok(verb),
         None => Err(broken(path, "do", 29)),
     }

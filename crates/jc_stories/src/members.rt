@@ -5,14 +5,13 @@ use jc_manifest::{UpdateFault, check_update, read_job};
 use jc_types::{Field, SpecChange};
 use std::alloc::{AllocError, Global};
 
-// The answer, or the refusal and its path.
-fn answered(alloc: Global, answer: Result<String, FieldFault>) -> Result<String, AllocError> {
-    match answer {
-        Ok(text) => Ok(text),
-        Err(FieldFault::Missing { path }) => format!(in alloc; "missing {}", path.as_str()),
-        Err(FieldFault::WrongType { path }) => format!(in alloc; "wrong type {}", path.as_str()),
-        Err(FieldFault::OutOfRange { path }) => format!(in alloc; "out of range {}", path.as_str()),
-        Err(FieldFault::Want) => Err(AllocError),
+// The refusal and its path.
+fn refused(alloc: Global, fault: FieldFault) -> Result<String, AllocError> {
+    match fault {
+        FieldFault::Missing { path } => format!(in alloc; "missing {}", path.as_str()),
+        FieldFault::WrongType { path } => format!(in alloc; "wrong type {}", path.as_str()),
+        FieldFault::OutOfRange { path } => format!(in alloc; "out of range {}", path.as_str()),
+        FieldFault::Want => Err(AllocError),
     }
 }
 
@@ -26,8 +25,10 @@ pub fn text(alloc: Global, text: &str) -> Result<String, AllocError> {
     let Ok(value) = read_line(alloc, line.as_bytes()) else {
         return String::from_str(alloc, "not JSON");
     };
-    let answer = need_text(alloc, &value, &Path::new(alloc), name);
-    answered(alloc, answer)
+    match need_text(alloc, &value, &Path::new(alloc), name) {
+        Ok(text) => String::from_str(alloc, text),
+        Err(fault) => refused(alloc, fault),
+    }
 }
 
 /// The whole number of the member `n` between the first two words, of the object behind them.
@@ -45,7 +46,7 @@ pub fn number(alloc: Global, text: &str) -> Result<String, AllocError> {
     };
     match need_number(alloc, &value, &Path::new(alloc), "n", least, greatest) {
         Ok(number) => format!(in alloc; "{number}"),
-        Err(fault) => answered(alloc, Err(fault)),
+        Err(fault) => refused(alloc, fault),
     }
 }
 
