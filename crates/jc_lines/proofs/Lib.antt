@@ -1,7 +1,7 @@
+mod ChangeMembers
 pub mod Digits
 mod Given
 mod Lines
-mod NoFloats
 pub mod PlaceFacts
 mod Systems
 pub mod Texts

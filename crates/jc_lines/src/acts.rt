@@ -19,11 +19,10 @@ fn print_create(out: &mut String, alloc: Global, key: &Key, spec: &JobSpec) -> R
     ensures { OnOk result (string_bytes out.new
         ≡ string_bytes out.old ++ act_text (does.Create key.now spec.now)) }
 {
-    let text = print_spec(alloc, spec)?;
     out.push_str("create ")?;
     print_key(out, key)?;
     out.push_str(" ")?;
-    out.push_str(text.as_str())?;
+    print_spec(out, alloc, spec)?;
     Ok(())
 }
 
@@ -51,11 +50,10 @@ fn print_update(
     ensures { OnOk result (string_bytes out.new
         ≡ string_bytes out.old ++ act_text (does.Update key.now version change.now)) }
 {
-    let text = print_change(alloc, change)?;
     out.push_str("update ")?;
     print_key(out, key)?;
     print_wanted(out, version)?;
-    out.push_str(text.as_str())?;
+    print_change(out, alloc, change)?;
     Ok(())
 }
 

@@ -10,7 +10,6 @@ mod job_lists;
 mod jobs;
 mod keys;
 mod laws;
-mod members;
 mod replies;
 mod reports;
 mod summaries;

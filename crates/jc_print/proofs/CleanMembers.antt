@@ -1,10 +1,9 @@
 -- JSON values without floats: a member, a list, what may be given.
-use Rattle.std.proofs.Common.{◌≡◌, ℕ, ℤ, pos, negsuc, List, [], ◌∷◌, map, Bool, true, false, ◌||◌, cond, Option, Some, None, option_map, Ordering, Less, Equal, Greater, nat_cmp, true≢false, refl}
+use Rattle.std.proofs.Common.{◌≡◌, ℕ, List, [], ◌∷◌, map, Bool, true, false, ◌||◌, cond, Option, Some, None, option_map, Ordering, Less, Equal, Greater, nat_cmp, true≢false, refl}
 use Rattle.std.specs.Prelude.{IfSome}
 use Rattle.std.specs.Cmp.Lexicographic.{slice_cmp}
 use Rattle.std.specs.Ordering.{match_ordering}
-use Rattle.serde_json.specs.Data.{Data, number, Members, no_members, member, put}
-use Rattle.serde_json.specs.Find.{of_integer}
+use Rattle.serde_json.specs.Data.{Data, Members, no_members, member, put}
 use Rattle.serde_json.specs.View.{items_of}
 use Rattle.serde_json.specs.Written.{has_float, items_have_float, members_have_float}
 use Rattle.jc_print.specs.Members.{with_json_member}
@@ -52,7 +51,3 @@ list_clean f (x ∷ xs) clean = both _ _ (clean x) (list_clean f xs clean)
 pub some_clean : (b : Bool) (d : Data) → has_float d ≡ false → IsClean (cond b None (Some d))
 some_clean true d clean = tt
 some_clean false d clean = clean
-
-pub exit_clean : (z : ℤ) → has_float (number (of_integer z)) ≡ false
-exit_clean (pos n) = refl
-exit_clean (negsuc n) = refl

@@ -1,3 +1,4 @@
 pub mod Members
 pub mod PrintedSpecs
 pub mod PrintedStatuses
+pub mod Tokens

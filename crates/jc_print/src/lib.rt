@@ -6,11 +6,12 @@ mod decimals;
 mod members;
 mod printed_specs;
 mod printed_statuses;
+mod writes;
 
 pub use decimals::put_decimal;
-pub use members::{
-    Members, put_bool, put_given, put_given_bool, put_given_number, put_number, put_text,
-    put_unless_zero, put_value,
-};
+pub use members::{Members, put_text, put_value};
 pub use printed_specs::{print_change, print_spec};
 pub use printed_statuses::print_status;
+pub use writes::{
+    new_writer, put_written, write_exit, write_given_number, write_number, write_text,
+};

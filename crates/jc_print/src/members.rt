@@ -63,23 +63,6 @@ pub fn put_bool(members: &mut Members, alloc: Global, name: &str, truth: bool) -
     put_value(members, alloc, name, Value::from(truth))
 }
 
-/// Puts a number where it is given.
-#[tactic(auto, unfolding(crate::specs::Members::with_json_member))]
-pub fn put_given_number(
-    members: &mut Members,
-    alloc: Global,
-    name: &str,
-    number: Option<u32>,
-) -> Result<(), Want>
-    ensures { OnOk result (members_view members.new.entries
-        ≡ with_json_member name.now (option_map number_data number) (members_view members.old.entries)) }
-{
-    match number {
-        None => Ok(()),
-        Some(number) => put_number(members, alloc, name, number),
-    }
-}
-
 /// Puts a truth where it is given.
 #[tactic(auto, unfolding(crate::specs::Members::with_json_member))]
 pub fn put_given_bool(

@@ -1,23 +1,24 @@
 //! The texts of specifications and of their changes: compact JSON, members in byte order.
 
-ghost use Rattle.std.specs.Prelude.{◌≡◌, ℤ, IfOk, OnOk, codes, map, option_map, Some, None};
-ghost use Rattle.serde_json.specs.Data.{boolean, number, string, no_members};
+ghost use Rattle.std.specs.Prelude.{◌≡◌, ◌++◌, ℤ, OnOk, codes, map, option_map, string_bytes};
+ghost use Rattle.serde_json.specs.Data.{number, string, no_members};
 ghost use Rattle.serde_json.specs.Find.{of_integer};
-ghost use Rattle.serde_json.specs.View.{view, members_view};
 ghost use Rattle.serde_json.specs.Written.{compact_text};
 ghost use Rattle.jc_ranges.specs.Texts.{ranges_text};
 ghost use Rattle.jc_print.specs.Members.{texts_data, list_data};
-ghost use Rattle.jc_print.specs.PrintedSpecs.{mode_word, replacement_word, restart_word, action_word, operator_word, truth_word, rules_data, pattern_data, exit_codes_data, with_requirement, failure_rule_data, failure_data, with_success_rule, success_rule_data, success_data, with_template, template_data, with_limits, with_index_limits, with_counts, with_policies, spec_data, with_changed_limits, with_changed_counts, change_data};
+ghost use Rattle.jc_print.specs.PrintedSpecs.{mode_word, replacement_word, restart_word, action_word, operator_word, truth_word, pattern_data, exit_codes_data, with_requirement, failure_rule_data, failure_data, success_rule_data, success_data, template_data, spec_data, change_data};
+ghost use Rattle.jc_print.specs.Tokens.{AddsTokens, data_tokens, front_tokens, given_tokens};
 
-use crate::members::{
-    Members, put_bool, put_given, put_given_bool, put_given_number, put_number, put_text, put_value,
+use crate::writes::{
+    new_writer, put_written, write_given_number, write_given_truth, write_number, write_text,
+    write_truth,
 };
 use jc_types::{
     Action, Codes, FailurePolicy, FailureRule, JobSpec, Mode, Name, Names, Operator, Pattern,
-    Patterns, Replacement, Requirement, Restart, SpecChange, SuccessPolicy, SuccessRule, Template,
-    Text, Truth, Want,
+    Replacement, Requirement, Restart, SpecChange, SuccessPolicy, SuccessRule, Template, Truth,
+    Want,
 };
-use serde_json::{Map, Value};
+use json::Writer;
 use std::alloc::Global;
 
 fn mode_word(mode: Mode) -> &'static str
@@ -78,83 +79,84 @@ fn truth_word(truth: Truth) -> &'static str
 }
 
 // A list of names as texts.
-fn names_value(alloc: Global, names: &Names) -> Result<Value, Want>
-    ensures { IfOk result (λ v. view v ≡ texts_data names.now) }
+fn write_names(writer: &mut Writer, names: &Names) -> Result<(), Want>
+    ensures { OnOk result (AddsTokens writer.old writer.new (data_tokens (texts_data names.now))) }
 {
-    let mut values = Vec::new(alloc);
+    writer.begin_array()?;
     for name in names.as_slice() {
-        values.push(Value::try_from_str(alloc, name.as_str())?)?;
+        writer.string(name.as_str())?;
     }
-    Ok(Value::Array(values))
+    writer.end_array()?;
+    Ok(())
 }
 
 // Exit codes as numbers.
-fn codes_value(alloc: Global, exits: &[i32]) -> Result<Value, Want>
-    ensures { IfOk result (λ v.
-        view v ≡ list_data (map (λ z. number (of_integer z)) exits.now)) }
+fn write_codes(writer: &mut Writer, exits: &[i32]) -> Result<(), Want>
+    ensures { OnOk result (AddsTokens writer.old writer.new
+        (data_tokens (list_data (map (λ z. number (of_integer z)) exits.now)))) }
 {
-    let mut values = Vec::new(alloc);
+    writer.begin_array()?;
     for exit in exits {
-        values.push(Value::from(*exit))?;
+        writer.i64(i64::from(*exit))?;
     }
-    Ok(Value::Array(values))
+    writer.end_array()?;
+    Ok(())
 }
 
-#[tactic(auto, unfolding(crate::specs::PrintedSpecs::pattern_data))]
-fn pattern_value(alloc: Global, pattern: &Pattern) -> Result<Value, Want>
-    ensures { IfOk result (λ v. view v ≡ pattern_data pattern.now) }
+fn write_pattern(writer: &mut Writer, pattern: &Pattern) -> Result<(), Want>
+    ensures { OnOk result (AddsTokens writer.old writer.new (data_tokens (pattern_data pattern.now))) }
 {
-    let mut members = Map::new(alloc);
-    put_text(&mut members, alloc, "status", truth_word(pattern.truth))?;
-    put_text(&mut members, alloc, "type", pattern.kind.as_str())?;
-    Ok(Value::Object(members))
+    writer.begin_object()?;
+    write_text(writer, "status", truth_word(pattern.truth))?;
+    write_text(writer, "type", pattern.kind.as_str())?;
+    writer.end_object()?;
+    Ok(())
 }
 
-fn patterns_value(alloc: Global, patterns: &[Pattern]) -> Result<Value, Want>
-    ensures { IfOk result (λ v. view v ≡ list_data (map pattern_data patterns.now)) }
+fn write_patterns(writer: &mut Writer, patterns: &[Pattern]) -> Result<(), Want>
+    ensures { OnOk result (AddsTokens writer.old writer.new
+        (data_tokens (list_data (map pattern_data patterns.now)))) }
 {
-    let mut values = Vec::new(alloc);
+    writer.begin_array()?;
     for pattern in patterns {
-        values.push(pattern_value(alloc, pattern)?)?;
+        write_pattern(writer, pattern)?;
     }
-    Ok(Value::Array(values))
+    writer.end_array()?;
+    Ok(())
 }
 
-// A name that may be given.
-fn given_name(alloc: Global, name: &Option<Name>) -> Result<Option<Value>, Want>
-    ensures { IfOk result (λ o. option_map view o ≡ option_map string name.now) }
+// The container that exit codes are of, where it is given.
+fn write_container(writer: &mut Writer, container: &Option<Name>) -> Result<(), Want>
+    ensures { OnOk result (AddsTokens writer.old writer.new
+        (given_tokens (codes "containerName") (option_map string container.now))) }
 {
-    match name {
-        None => Ok(None),
-        Some(name) => Ok(Some(Value::try_from_str(alloc, name.as_str())?)),
+    match container {
+        None => Ok(()),
+        Some(container) => write_text(writer, "containerName", container.as_str()),
     }
 }
 
-#[tactic(auto, unfolding(crate::specs::PrintedSpecs::exit_codes_data))]
-fn exit_codes_value(
-    alloc: Global,
+fn write_exit_codes(
+    writer: &mut Writer,
     container: &Option<Name>,
     operator: Operator,
     values: &Codes,
-) -> Result<Value, Want>
-    ensures { IfOk result (λ v. view v ≡ exit_codes_data container.now operator values.now) }
+) -> Result<(), Want>
+    ensures { OnOk result (AddsTokens writer.old writer.new
+        (data_tokens (exit_codes_data container.now operator values.now))) }
 {
-    let mut members = Map::new(alloc);
-    let container = given_name(alloc, container)?;
-    put_given(&mut members, alloc, "containerName", container)?;
-    put_text(&mut members, alloc, "operator", operator_word(operator))?;
-    let values = codes_value(alloc, values.as_slice())?;
-    put_value(&mut members, alloc, "values", values)?;
-    Ok(Value::Object(members))
+    writer.begin_object()?;
+    write_container(writer, container)?;
+    write_text(writer, "operator", operator_word(operator))?;
+    writer.key("values")?;
+    write_codes(writer, values.as_slice())?;
+    writer.end_object()?;
+    Ok(())
 }
 
-fn put_requirement(
-    members: &mut Members,
-    alloc: Global,
-    requirement: &Requirement,
-) -> Result<(), Want>
-    ensures { OnOk result (members_view members.new.entries
-        ≡ with_requirement requirement.now (members_view members.old.entries)) }
+fn write_requirement(writer: &mut Writer, requirement: &Requirement) -> Result<(), Want>
+    ensures { OnOk result (AddsTokens writer.old writer.new
+        (front_tokens (with_requirement requirement.now no_members))) }
 {
     match requirement {
         Requirement::ExitCodes {
@@ -162,246 +164,200 @@ fn put_requirement(
             operator,
             values,
         } => {
-            let value = exit_codes_value(alloc, container, *operator, values)?;
-            put_value(members, alloc, "onExitCodes", value)
+            writer.key("onExitCodes")?;
+            write_exit_codes(writer, container, *operator, values)?;
+            Ok(())
         }
         Requirement::Conditions { patterns } => {
-            let value = patterns_value(alloc, patterns.as_slice())?;
-            put_value(members, alloc, "onPodConditions", value)
+            writer.key("onPodConditions")?;
+            write_patterns(writer, patterns.as_slice())?;
+            Ok(())
         }
     }
 }
 
-#[tactic(auto, unfolding(crate::specs::PrintedSpecs::failure_rule_data))]
-fn failure_rule_value(alloc: Global, rule: &FailureRule) -> Result<Value, Want>
-    ensures { IfOk result (λ v. view v ≡ failure_rule_data rule.now) }
+fn write_failure_rule(writer: &mut Writer, rule: &FailureRule) -> Result<(), Want>
+    ensures { OnOk result (AddsTokens writer.old writer.new (data_tokens (failure_rule_data rule.now))) }
 {
-    let mut members = Map::new(alloc);
-    put_text(&mut members, alloc, "action", action_word(rule.action))?;
-    put_requirement(&mut members, alloc, &rule.requirement)?;
-    Ok(Value::Object(members))
+    writer.begin_object()?;
+    write_text(writer, "action", action_word(rule.action))?;
+    write_requirement(writer, &rule.requirement)?;
+    writer.end_object()?;
+    Ok(())
 }
 
-// The rules of a policy as its one member.
-#[tactic(auto, unfolding(crate::specs::PrintedSpecs::rules_data))]
-fn rules_value(alloc: Global, rules: Vec<Value>) -> Result<Value, Want>
-    ensures { IfOk result (λ v. view v ≡ rules_data (map view rules.items)) }
+fn write_failure_rules(writer: &mut Writer, rules: &[FailureRule]) -> Result<(), Want>
+    ensures { OnOk result (AddsTokens writer.old writer.new
+        (data_tokens (list_data (map failure_rule_data rules.now)))) }
 {
-    let mut members = Map::new(alloc);
-    put_value(&mut members, alloc, "rules", Value::Array(rules))?;
-    Ok(Value::Object(members))
-}
-
-fn failure_value(alloc: Global, policy: &FailurePolicy) -> Result<Value, Want>
-    ensures { IfOk result (λ v. view v ≡ failure_data policy.now) }
-{
-    let mut values = Vec::new(alloc);
-    for rule in policy.rules.as_slice() {
-        values.push(failure_rule_value(alloc, rule)?)?;
+    writer.begin_array()?;
+    for rule in rules {
+        write_failure_rule(writer, rule)?;
     }
-    rules_value(alloc, values)
+    writer.end_array()?;
+    Ok(())
 }
 
-// A set of indexes that may be given, as its text.
-fn given_indexes(rule: &SuccessRule) -> Result<Option<Value>, Want>
-    ensures { IfOk result (λ o. option_map view o
-        ≡ option_map (λ set. string (ranges_text set)) rule.now.indexes) }
+fn write_failure(writer: &mut Writer, policy: &FailurePolicy) -> Result<(), Want>
+    ensures { OnOk result (AddsTokens writer.old writer.new (data_tokens (failure_data policy.now))) }
+{
+    writer.begin_object()?;
+    writer.key("rules")?;
+    write_failure_rules(writer, policy.rules.as_slice())?;
+    writer.end_object()?;
+    Ok(())
+}
+
+// The indexes that count, where they are given.
+fn write_indexes(writer: &mut Writer, rule: &SuccessRule) -> Result<(), Want>
+    ensures { OnOk result (AddsTokens writer.old writer.new (given_tokens (codes "succeededIndexes")
+        (option_map (λ set. string (ranges_text set)) rule.now.indexes))) }
 {
     match &rule.indexes {
-        None => Ok(None),
-        Some(indexes) => Ok(Some(Value::String(indexes.text()?))),
+        None => Ok(()),
+        Some(indexes) => {
+            let text = indexes.text()?;
+            write_text(writer, "succeededIndexes", text.as_str())
+        }
     }
 }
 
-fn put_success_rule(members: &mut Members, alloc: Global, rule: &SuccessRule) -> Result<(), Want>
-    ensures { OnOk result (members_view members.new.entries
-        ≡ with_success_rule rule.now (members_view members.old.entries)) }
+fn write_success_rule(writer: &mut Writer, rule: &SuccessRule) -> Result<(), Want>
+    ensures { OnOk result (AddsTokens writer.old writer.new (data_tokens (success_rule_data rule.now))) }
 {
-    put_given_number(members, alloc, "succeededCount", rule.count)?;
-    let indexes = given_indexes(rule)?;
-    put_given(members, alloc, "succeededIndexes", indexes)?;
+    writer.begin_object()?;
+    write_given_number(writer, "succeededCount", rule.count)?;
+    write_indexes(writer, rule)?;
+    writer.end_object()?;
     Ok(())
 }
 
-#[tactic(auto, unfolding(crate::specs::PrintedSpecs::success_rule_data))]
-fn success_rule_value(alloc: Global, rule: &SuccessRule) -> Result<Value, Want>
-    ensures { IfOk result (λ v. view v ≡ success_rule_data rule.now) }
+fn write_success_rules(writer: &mut Writer, rules: &[SuccessRule]) -> Result<(), Want>
+    ensures { OnOk result (AddsTokens writer.old writer.new
+        (data_tokens (list_data (map success_rule_data rules.now)))) }
 {
-    let mut members = Map::new(alloc);
-    put_success_rule(&mut members, alloc, rule)?;
-    Ok(Value::Object(members))
-}
-
-fn success_value(alloc: Global, policy: &SuccessPolicy) -> Result<Value, Want>
-    ensures { IfOk result (λ v. view v ≡ success_data policy.now) }
-{
-    let mut values = Vec::new(alloc);
-    for rule in policy.rules.as_slice() {
-        values.push(success_rule_value(alloc, rule)?)?;
+    writer.begin_array()?;
+    for rule in rules {
+        write_success_rule(writer, rule)?;
     }
-    rules_value(alloc, values)
-}
-
-fn put_template(members: &mut Members, alloc: Global, template: &Template) -> Result<(), Want>
-    ensures { OnOk result (members_view members.new.entries
-        ≡ with_template template.now (members_view members.old.entries)) }
-{
-    let containers = names_value(alloc, &template.containers)?;
-    put_value(members, alloc, "containers", containers)?;
-    let inits = names_value(alloc, &template.inits)?;
-    put_value(members, alloc, "initContainers", inits)?;
-    put_text(
-        members,
-        alloc,
-        "restartPolicy",
-        restart_word(template.restart),
-    )?;
+    writer.end_array()?;
     Ok(())
 }
 
-#[tactic(auto, unfolding(crate::specs::PrintedSpecs::template_data))]
-fn template_value(alloc: Global, template: &Template) -> Result<Value, Want>
-    ensures { IfOk result (λ v. view v ≡ template_data template.now) }
+fn write_success(writer: &mut Writer, policy: &SuccessPolicy) -> Result<(), Want>
+    ensures { OnOk result (AddsTokens writer.old writer.new (data_tokens (success_data policy.now))) }
 {
-    let mut members = Map::new(alloc);
-    put_template(&mut members, alloc, template)?;
-    Ok(Value::Object(members))
-}
-
-fn put_limits(members: &mut Members, alloc: Global, spec: &JobSpec) -> Result<(), Want>
-    ensures { OnOk result (members_view members.new.entries
-        ≡ with_limits spec.now (members_view members.old.entries)) }
-{
-    put_given_number(members, alloc, "activeDeadlineSeconds", spec.deadline)?;
-    put_number(members, alloc, "backoffLimit", spec.backoff_limit)?;
-    put_text(members, alloc, "completionMode", mode_word(spec.mode))?;
+    writer.begin_object()?;
+    writer.key("rules")?;
+    write_success_rules(writer, policy.rules.as_slice())?;
+    writer.end_object()?;
     Ok(())
 }
 
-fn put_index_limits(members: &mut Members, alloc: Global, spec: &JobSpec) -> Result<(), Want>
-    ensures { OnOk result (members_view members.new.entries
-        ≡ with_index_limits spec.now (members_view members.old.entries)) }
+fn write_template(writer: &mut Writer, template: &Template) -> Result<(), Want>
+    ensures { OnOk result (AddsTokens writer.old writer.new (data_tokens (template_data template.now))) }
 {
-    put_given_number(members, alloc, "backoffLimitPerIndex", spec.per_index)?;
-    put_given_number(members, alloc, "maxFailedIndexes", spec.max_failed)?;
+    writer.begin_object()?;
+    writer.key("containers")?;
+    write_names(writer, &template.containers)?;
+    writer.key("initContainers")?;
+    write_names(writer, &template.inits)?;
+    write_text(writer, "restartPolicy", restart_word(template.restart))?;
+    writer.end_object()?;
     Ok(())
 }
 
-fn put_counts(members: &mut Members, alloc: Global, spec: &JobSpec) -> Result<(), Want>
-    ensures { OnOk result (members_view members.new.entries
-        ≡ with_counts spec.now (members_view members.old.entries)) }
-{
-    put_given_number(members, alloc, "completions", spec.completions)?;
-    put_number(members, alloc, "parallelism", spec.parallelism)?;
-    put_bool(members, alloc, "suspend", spec.suspend)?;
-    Ok(())
-}
-
-// A failure policy that may be given.
-fn given_failure(alloc: Global, spec: &JobSpec) -> Result<Option<Value>, Want>
-    ensures { IfOk result (λ o. option_map view o ≡ option_map failure_data spec.now.failure) }
+// The failure policy, where it is given.
+fn write_given_failure(writer: &mut Writer, spec: &JobSpec) -> Result<(), Want>
+    ensures { OnOk result (AddsTokens writer.old writer.new
+        (given_tokens (codes "podFailurePolicy") (option_map failure_data spec.now.failure))) }
 {
     match &spec.failure {
-        None => Ok(None),
-        Some(policy) => Ok(Some(failure_value(alloc, policy)?)),
+        None => Ok(()),
+        Some(policy) => {
+            writer.key("podFailurePolicy")?;
+            write_failure(writer, policy)?;
+            Ok(())
+        }
     }
 }
 
-// A success policy that may be given.
-fn given_success(alloc: Global, spec: &JobSpec) -> Result<Option<Value>, Want>
-    ensures { IfOk result (λ o. option_map view o ≡ option_map success_data spec.now.success) }
+// The success policy, where it is given.
+fn write_given_success(writer: &mut Writer, spec: &JobSpec) -> Result<(), Want>
+    ensures { OnOk result (AddsTokens writer.old writer.new
+        (given_tokens (codes "successPolicy") (option_map success_data spec.now.success))) }
 {
     match &spec.success {
-        None => Ok(None),
-        Some(policy) => Ok(Some(success_value(alloc, policy)?)),
+        None => Ok(()),
+        Some(policy) => {
+            writer.key("successPolicy")?;
+            write_success(writer, policy)?;
+            Ok(())
+        }
     }
 }
 
-fn put_policies(members: &mut Members, alloc: Global, spec: &JobSpec) -> Result<(), Want>
-    ensures { OnOk result (members_view members.new.entries
-        ≡ with_policies spec.now (members_view members.old.entries)) }
+fn write_spec(writer: &mut Writer, spec: &JobSpec) -> Result<(), Want>
+    ensures { OnOk result (AddsTokens writer.old writer.new (data_tokens (spec_data spec.now))) }
 {
-    let failure = given_failure(alloc, spec)?;
-    put_given(members, alloc, "podFailurePolicy", failure)?;
-    put_text(
-        members,
-        alloc,
-        "podReplacementPolicy",
-        replacement_word(spec.replacement),
-    )?;
-    let success = given_success(alloc, spec)?;
-    put_given(members, alloc, "successPolicy", success)?;
+    writer.begin_object()?;
+    write_given_number(writer, "activeDeadlineSeconds", spec.deadline)?;
+    write_number(writer, "backoffLimit", spec.backoff_limit)?;
+    write_given_number(writer, "backoffLimitPerIndex", spec.per_index)?;
+    write_text(writer, "completionMode", mode_word(spec.mode))?;
+    write_given_number(writer, "completions", spec.completions)?;
+    write_given_number(writer, "maxFailedIndexes", spec.max_failed)?;
+    write_number(writer, "parallelism", spec.parallelism)?;
+    write_given_failure(writer, spec)?;
+    let replacement = replacement_word(spec.replacement);
+    write_text(writer, "podReplacementPolicy", replacement)?;
+    write_given_success(writer, spec)?;
+    write_truth(writer, "suspend", spec.suspend)?;
+    writer.key("template")?;
+    write_template(writer, &spec.template)?;
+    writer.end_object()?;
     Ok(())
 }
 
-#[tactic(auto, unfolding(crate::specs::PrintedSpecs::spec_data))]
-fn spec_value(alloc: Global, spec: &JobSpec) -> Result<Value, Want>
-    ensures { IfOk result (λ v. view v ≡ spec_data spec.now) }
+fn write_change(writer: &mut Writer, change: &SpecChange) -> Result<(), Want>
+    ensures { OnOk result (AddsTokens writer.old writer.new (data_tokens (change_data change.now))) }
 {
-    let mut members = Map::new(alloc);
-    put_limits(&mut members, alloc, spec)?;
-    put_index_limits(&mut members, alloc, spec)?;
-    put_counts(&mut members, alloc, spec)?;
-    put_policies(&mut members, alloc, spec)?;
-    let template = template_value(alloc, &spec.template)?;
-    put_value(&mut members, alloc, "template", template)?;
-    Ok(Value::Object(members))
-}
-
-#[tactic(auto, unfolding(crate::specs::PrintedSpecs::with_changed_limits))]
-fn put_changed_limits(members: &mut Members, alloc: Global, change: &SpecChange) -> Result<(), Want>
-    ensures { OnOk result (members_view members.new.entries
-        ≡ with_changed_limits change.now (members_view members.old.entries)) }
-{
-    put_given_number(members, alloc, "activeDeadlineSeconds", change.deadline)?;
-    put_given_number(members, alloc, "backoffLimit", change.backoff_limit)?;
+    writer.begin_object()?;
+    write_given_number(writer, "activeDeadlineSeconds", change.deadline)?;
+    write_given_number(writer, "backoffLimit", change.backoff_limit)?;
+    write_given_number(writer, "completions", change.completions)?;
+    write_given_number(writer, "parallelism", change.parallelism)?;
+    write_given_truth(writer, "suspend", change.suspend)?;
+    writer.end_object()?;
     Ok(())
 }
 
-fn put_changed_counts(members: &mut Members, alloc: Global, change: &SpecChange) -> Result<(), Want>
-    ensures { OnOk result (members_view members.new.entries
-        ≡ with_changed_counts change.now (members_view members.old.entries)) }
-{
-    put_given_number(members, alloc, "completions", change.completions)?;
-    put_given_number(members, alloc, "parallelism", change.parallelism)?;
-    put_given_bool(members, alloc, "suspend", change.suspend)?;
-    Ok(())
-}
-
-#[tactic(auto, unfolding(crate::specs::PrintedSpecs::change_data))]
-fn change_value(alloc: Global, change: &SpecChange) -> Result<Value, Want>
-    ensures { IfOk result (λ v. view v ≡ change_data change.now) }
-{
-    let mut members = Map::new(alloc);
-    put_changed_limits(&mut members, alloc, change)?;
-    put_changed_counts(&mut members, alloc, change)?;
-    Ok(Value::Object(members))
-}
-
-/// The specification as compact JSON, its members in byte order of their names. What is not given is left out.
+/// Puts the specification behind the text, as compact JSON, its members in byte order of their names. What is not given
+/// is left out.
 ///
 /// # Errors
 ///
 /// Want of memory.
-#[tactic(auto, using(crate::proofs::NoFloats::spec_has_no_float))]
-pub fn print_spec(alloc: Global, spec: &JobSpec) -> Result<Text, Want>
-    ensures { IfOk result (λ text. text ≡ compact_text (spec_data spec.now)) }
+pub fn print_spec(out: &mut String, alloc: Global, spec: &JobSpec) -> Result<(), Want>
+    ensures { OnOk result (string_bytes out.new
+        ≡ string_bytes out.old ++ compact_text (spec_data spec.now)) }
 {
-    let value = spec_value(alloc, spec)?;
-    let text = value.to_string(alloc)?;
-    Text::from_string(text)
+    let mut writer = new_writer(alloc)?;
+    write_spec(&mut writer, spec)?;
+    put_written(out, writer)
 }
 
-/// What an update changes, as compact JSON: the members that are given, in byte order of their names.
+/// Puts what an update changes behind the text, as compact JSON: the members that are given, in byte order of their
+/// names.
 ///
 /// # Errors
 ///
 /// Want of memory.
-#[tactic(auto, using(crate::proofs::NoFloats::change_has_no_float))]
-pub fn print_change(alloc: Global, change: &SpecChange) -> Result<Text, Want>
-    ensures { IfOk result (λ text. text ≡ compact_text (change_data change.now)) }
+pub fn print_change(out: &mut String, alloc: Global, change: &SpecChange) -> Result<(), Want>
+    ensures { OnOk result (string_bytes out.new
+        ≡ string_bytes out.old ++ compact_text (change_data change.now)) }
 {
-    let value = change_value(alloc, change)?;
-    let text = value.to_string(alloc)?;
-    Text::from_string(text)
+    let mut writer = new_writer(alloc)?;
+    write_change(&mut writer, change)?;
+    put_written(out, writer)
 }

@@ -165,7 +165,7 @@ fn index_count_value(alloc: Global, count: &IndexCount) -> Result<Value, Want>
     Ok(Value::Object(members))
 }
 
-// Adds the values of the counts of a piece.
+// AddsTokens the values of the counts of a piece.
 fn put_index_counts(
     values: &mut Vec<Value>,
     alloc: Global,

@@ -1,0 +1,8 @@
+use Rattle.std.proofs.Common.{take}
+use Rattle.jc_print.specs.PrintedSpecs.{failure_rule_data}
+use Rattle.jc_print.specs.Tokens.{AddsTokens}
+use Rattle.jc_print.proofs.Writing.{each_tokens}
+use Rattle.jc_print.proofs.printed_specs.write_failure_rules.Given as goal
+
+abbrev pub invariant-loop-rule : goal.invariant-loop-rule
+invariant-loop-rule l = AddsTokens l.initial.writer l.writer (each_tokens failure_rule_data (take l.rule-index l.rules))
