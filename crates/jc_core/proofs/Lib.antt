@@ -1,3 +1,4 @@
+pub mod SinceFacts
 pub mod SlotFacts
 pub mod ToldFacts
 pub mod TouchFacts

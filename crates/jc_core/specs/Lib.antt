@@ -1,5 +1,6 @@
 pub mod Changes
 pub mod Shared
+pub mod Since
 -- Words of the crates below, handed on to those above.
 pub use Rattle.jc_machine.specs.declared.apply.ApplyFault
 pub use Rattle.jc_machine.specs.Diaries

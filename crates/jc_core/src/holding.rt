@@ -6,10 +6,12 @@ ghost use Rattle.jc_runs.specs.Bases.{CanPlan};
 ghost use Rattle.jc_history.specs.Registers.{register};
 ghost use Rattle.jc_machine.specs.Diaries.{diary_seen};
 ghost use Rattle.jc_core.specs.Shared.{all_registers, freed_slots, has_holders, holds_slot, is_open_slot, numbers_of, put_back_by, submitted_by, taken_by};
+ghost use Rattle.jc_core.specs.Since.{seen_at};
 
 use crate::changes::{Change, change_all};
 use crate::cluster::Cluster;
 use crate::registers::{copy_basis, first_open, is_held_by, is_of_sync};
+use crate::since::is_still_of_sync;
 use jc_machine::Basis;
 use jc_plan::Plan;
 use jc_types::{Arc, Want};
@@ -78,6 +80,27 @@ impl Cluster {
             && is_of_sync(&self.machine, controller, worker, plan)
     }
 
+    // The same, where the plan was made of what the sync had begun with when the history had so many events.
+    fn awaits_since(
+        &self,
+        seat: u32,
+        controller: u32,
+        worker: u32,
+        plan: &Plan,
+        events: usize,
+    ) -> bool
+        requires begun { register worker (diary_seen (seen_at events self.now.seen) controller)
+            ≡ Some plan.now.basis }
+        ensures exactly { IsTrue result
+            ↔ ((list_any (holds_slot seat controller worker) self.now.slots ≡ true)
+            × (register worker (diary_seen self.now.seen controller) ≡ Some plan.now.basis)) }
+        ensures of_shape { IsTrue result → controller < self.now.seen.shape.controllers }
+        ensures worker { IsTrue result → worker < self.now.seen.shape.workers }
+    {
+        is_held_by(self.slots.as_slice(), seat, controller, worker)
+            && is_still_of_sync(&self.machine, controller, worker, plan, events)
+    }
+
     /// Hands in a plan. True exactly where the seat holds the register and the plan was made of what
     /// the register's sync began with, compared by value; the plan is then kept, and its requests are made
     /// from it at the sync's first step. Else it is dropped, and a step of a sync without a plan makes it
@@ -91,6 +114,46 @@ impl Cluster {
         ensures seen { self.new.seen ≡ self.old.seen }
     {
         let fits = self.awaits(seat, controller, worker, &plan);
+        self.hand_in(seat, controller, worker, plan, fits);
+        fits
+    }
+
+    /// Hands in a plan as `submit` does. Its caller knows that it was made of what the register's sync had begun
+    /// with when the history had so many events: the plan is compared only where an event since then is of the
+    /// register.
+    pub fn submit_since(
+        &mut self,
+        seat: u32,
+        controller: u32,
+        worker: u32,
+        plan: Plan,
+        events: usize,
+    ) -> bool
+        requires begun { register worker (diary_seen (seen_at events self.old.seen) controller)
+            ≡ Some plan.basis }
+        ensures exactly { IsTrue result
+            ↔ ((list_any (holds_slot seat controller worker) self.old.slots ≡ true)
+            × (register worker (diary_seen self.old.seen controller) ≡ Some plan.basis)) }
+        ensures slots { self.new.slots
+            ≡ submitted_by seat controller worker result self.old.slots }
+        ensures seen { self.new.seen ≡ self.old.seen }
+    {
+        let fits = self.awaits_since(seat, controller, worker, &plan, events);
+        self.hand_in(seat, controller, worker, plan, fits);
+        fits
+    }
+
+    // Hands in a plan that the seat's register awaits, or does not. The register is held by that seat no
+    // longer.
+    fn hand_in(&mut self, seat: u32, controller: u32, worker: u32, plan: Plan, fits: bool)
+        requires of_shape { IsTrue fits → controller < self.old.seen.shape.controllers }
+        requires worker { IsTrue fits → worker < self.old.seen.shape.workers }
+        requires own { IsTrue fits
+            → register worker (diary_seen self.old.seen controller) ≡ Some plan.basis }
+        ensures slots { self.new.slots
+            ≡ submitted_by seat controller worker fits self.old.slots }
+        ensures seen { self.new.seen ≡ self.old.seen }
+    {
         self.put_back(seat, controller, worker);
         if fits {
             self.machine.give_plan(controller, worker, plan);
@@ -101,7 +164,6 @@ impl Cluster {
             };
             change_all(&mut self.slots, change);
         }
-        fits
     }
 
     /// Where the seat holds the register, it does no longer. Nothing else changes, also where the shape has

@@ -8,6 +8,7 @@ mod holding;
 mod offers;
 mod reading;
 mod registers;
+mod since;
 mod touches;
 
 pub use cluster::Cluster;
