@@ -1,4 +1,2 @@
 mod LeftFacts
-mod LeaveFacts
 mod SeenFacts
-mod TurnFacts

@@ -1,5 +1,4 @@
 -- What a seat of a turn lock is answered to an event.
---     named_seen script shape g       a cluster of this script and shape with the history g
 --     IsSeenHistory seen                     its history is legal and orderly, and counts once
 --     Found script shape old g        a history that was found, by a seat that had seen old
 --     IsDone seen event answer new    what an event is answered, and what it leaves
@@ -18,12 +17,9 @@ use Rattle.jc_runs.specs.Seen.{Seen, deeds_seen, happened, log_seen, past_seen, 
 use Rattle.jc_core.specs.ApplyFault.{ApplyFault}
 use Rattle.jc_core.specs.ApplyFault.TheVariants.{HistoryFull, Want}
 use Rattle.jc_play.specs.Actors.{CanCome}
+use Rattle.jc_seats.specs.Names.{named_seen}
 use Rattle.jc_shared.specs.declared.seen.SeenReply.{SeenReply}
 use Rattle.jc_shared.specs.declared.seen.SeenReply.TheVariants as seen
-
--- A cluster of this script and this shape with this history, the oldest event first.
-abbrev pub named_seen : Script → Shape → List Past → Seen
-named_seen script shape g = record { script = script; shape = shape; pasts = reverse g }
 
 -- The history is a legal and orderly one of the script, and it counts once.
 pub record IsSeenHistory (seen : Seen) : Type 0 where

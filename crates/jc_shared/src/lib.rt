@@ -4,20 +4,14 @@
 
 mod finishing;
 mod gate;
-mod kept;
-mod lanes;
-mod naming;
 mod players;
-mod seats;
 mod seen;
 mod threads;
 mod turning;
-mod turns;
 
 pub use gate::{FreeGate, Gate};
 pub use jc_core::{ApplyFault, Cluster};
-pub use kept::{Kept, keep};
-pub use naming::Naming;
+pub use jc_seats::{Kept, Naming, keep};
 pub use seen::{SeenReply, apply_seen};
 pub use threads::{ThreadsFault, run_threads};
 pub use turning::run_turn;

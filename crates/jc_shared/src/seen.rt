@@ -1,13 +1,12 @@
 //! One event, done by a seat of a turn lock that knows what came before.
 
 ghost use Rattle.std.specs.Prelude.{◌≡◌, ◌<◌, ◌↔◌, false};
-ghost use Rattle.jc_shared.specs.Names.{IsOfName};
+ghost use Rattle.jc_seats.specs.Names.{IsOfName};
 ghost use Rattle.jc_turn.specs.Seats.{IsSameSeat};
 ghost use Rattle.jc_shared.specs.Turning.{SeatIsAnswered, IsDone, IsOutAnswer, IsSeenHistory};
 
-use crate::kept::Kept;
-use crate::naming::Naming;
 use jc_core::ApplyFault;
+use jc_seats::{Kept, Naming};
 use jc_turn::{Seat, Taken, Turn};
 use jc_types::{Event, Reply};
 

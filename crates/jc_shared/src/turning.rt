@@ -11,20 +11,18 @@ ghost use Rattle.jc_core.specs.Plays.{IsProper};
 ghost use Rattle.jc_core.specs.Shared.{Shared};
 ghost use Rattle.jc_core.specs.declared.holding.Work.{Work};
 ghost use Rattle.jc_turn.specs.Seats.{NoSeatHolds, BelongTo, IsSameSeat, fresh_seats};
-ghost use Rattle.jc_shared.specs.Names.{IsOfName};
+ghost use mathlib.Core.List.{IsPrefix};
+ghost use Rattle.jc_seats.specs.Hands.{WasTaken};
+ghost use Rattle.jc_seats.specs.Names.{IsOfName};
 ghost use Rattle.jc_shared.specs.Runs.{IsLeft, IsWhole};
 
 use crate::finishing::finish;
 use crate::gate::Gate;
-use crate::kept::Kept;
-use crate::naming::Naming;
-use crate::players::hand_in;
-use crate::seats::Seat;
 use crate::threads::{ThreadsFault, freed, new_kept};
-use crate::turns::Turn;
 use jc_core::{ApplyFault, Cluster, Work};
 use jc_plan::plan;
-use jc_turn::{Seat as Place, Seats as Places, Taken, Turn as Lock, make};
+use jc_seats::{Kept, Naming, Seat, Turn, hand_in};
+use jc_turn::{Booked, Seat as Place, Seats as Places, Taken, Turn as Lock, make};
 use jc_types::{Copied, Script, Shape, Want};
 use std::alloc::Global;
 use std::marker::Brand;
@@ -33,26 +31,32 @@ use std::sync::atomic::{AtomicBool, Ordering};
 use std::thread;
 use std::thread::Threads;
 
-// Takes the cluster for one turn of the seat, and gives it back. `None` where it was out.
+// Takes the cluster for one turn of the seat, and gives it back: what the seat has to do next, and how many
+// events have happened. `None` where it was out.
 fn go<J: Naming>(
     lock: &Lock<Kept<J>>,
     place: &mut Place,
     seat: &mut Seat,
-) -> Option<Result<Turn, ApplyFault>>
+) -> Option<(Result<Turn, ApplyFault>, usize)>
     requires turn { place.old.turn ≡ lock.now.name }
     requires free { place.old.holds ≡ false }
     requires number { seat.old.number < seat.old.threads }
     ensures place { IsSameSeat place.old place.new × (place.new.holds ≡ false) }
     ensures seat { (seat.new.number ≡ seat.old.number) × (seat.new.threads ≡ seat.old.threads) }
-    ensures plannable { IfSome result (λ next. IfOk next (λ turn. (work : Work)
+    ensures plannable { IfSome result (λ next. IfOk next.0 (λ turn. (work : Work)
         → turn ≡ Turn.Plan work → IsSome work.basis.job → CanPlan work.basis)) }
+    ensures taken { IfSome result (λ next. IfOk next.0 (λ turn. (work : Work)
+        → turn ≡ Turn.Plan work → WasTaken J.script J.shape place.new.seen work)) }
+    ensures events { IfSome result (λ next. next.1 ≡ length place.new.seen) }
 {
     let Taken::Value(mut kept) = lock.take(place) else {
         return None;
     };
+    kept.keeps();
     let next = kept.turn(seat);
+    let events = kept.history().events.len();
     lock.give(place, kept);
-    Some(next)
+    Some((next, events))
 }
 
 // Takes the cluster, once it is there.
@@ -61,6 +65,7 @@ fn wait_for<J: Naming, R: Wait>(rt: &R, lock: &Lock<Kept<J>>, place: &mut Place)
     requires free { place.old.holds ≡ false }
     ensures place { IsSameSeat place.old place.new × (place.new.holds ≡ true) }
     ensures seen { place.new.seen ≡ reverse result.seen.pasts }
+    ensures begins { IsPrefix place.old.seen (reverse result.seen.pasts) }
 {
     for _ in rt.forever() {
         if let Taken::Value(kept) = lock.take(place) {
@@ -72,7 +77,8 @@ fn wait_for<J: Naming, R: Wait>(rt: &R, lock: &Lock<Kept<J>>, place: &mut Place)
 }
 
 // Makes the plan while the seat does not hold the cluster, tells the gate, and hands it in. False
-// where there is no memory for it; the register is then put back.
+// where there is no memory for it; the register is then put back. So many events had happened when the seat
+// took the work.
 fn make_plan<J: Naming, R: Wait, G: Gate>(
     rt: &R,
     gate: &G,
@@ -81,10 +87,13 @@ fn make_plan<J: Naming, R: Wait, G: Gate>(
     place: &mut Place,
     seat: u32,
     work: &Work,
+    events: usize,
 ) -> bool
     requires turn { place.old.turn ≡ lock.now.name }
     requires free { place.old.holds ≡ false }
     requires plannable { IsSome work.now.basis.job → CanPlan work.now.basis }
+    requires taken { WasTaken J.script J.shape place.old.seen work.now }
+    requires events { events ≡ length place.old.seen }
     ensures { IsSameSeat place.old place.new × (place.new.holds ≡ false) }
 {
     let made = plan(alloc, &work.basis);
@@ -92,7 +101,8 @@ fn make_plan<J: Naming, R: Wait, G: Gate>(
         gate.planned(seat, &work.basis.key);
     }
     let mut kept = wait_for(rt, lock, place);
-    let is_made = hand_in(&mut kept, seat, work, made);
+    kept.keeps();
+    let is_made = hand_in(&mut kept, seat, work, events, made);
     lock.give(place, kept);
     is_made
 }
@@ -113,13 +123,13 @@ fn step<J: Naming, R: Wait, G: Gate>(
     ensures place { IsSameSeat place.old place.new × (place.new.holds ≡ false) }
     ensures seat { (seat.new.number ≡ seat.old.number) × (seat.new.threads ≡ seat.old.threads) }
 {
-    let Some(next) = go(lock, place, seat) else {
+    let Some((next, events)) = go(lock, place, seat) else {
         thread::yield_now();
         return true;
     };
     match next {
         Ok(Turn::Plan(work)) => {
-            let is_made = make_plan(rt, gate, alloc, lock, place, seat.number, &work);
+            let is_made = make_plan(rt, gate, alloc, lock, place, seat.number, &work, events);
             if !is_made {
                 want.store(true, Ordering::SeqCst);
             }

@@ -1,0 +1,4 @@
+pub mod Beginnings
+pub mod HandFacts
+pub mod LeaveFacts
+pub mod TurnFacts

@@ -1,0 +1,3 @@
+pub mod Hands
+pub mod Names
+pub mod SeatTurns

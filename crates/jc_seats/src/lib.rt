@@ -1,0 +1,19 @@
+//! What the seats of a threaded run share, and what each of them does with it: a cluster of a named script and shape,
+//! turns, and plans that are handed in. It waits for nothing.
+#![tactic(auto)]
+
+mod desks;
+mod hands;
+mod kept;
+mod lanes;
+mod naming;
+mod seats;
+mod turns;
+
+pub use desks::{Desk, Errand, Step};
+pub use hands::hand_in;
+pub use kept::{Kept, keep};
+pub use lanes::lanes_are_bytes;
+pub use naming::{Logged, Naming};
+pub use seats::Seat;
+pub use turns::Turn;
