@@ -139,11 +139,3 @@ same-numbers (change.Restart c) slot = either (slot.controller == c) (fresh_slot
 pub kept-numbers : (change : Change) (slots : List Slot) → map numbers_of (map (changed_slot change) slots) ≡ map numbers_of slots
 kept-numbers change [] = refl
 kept-numbers change (slot ∷ slots) = ap (λ n. n ∷ map numbers_of (map (changed_slot change) slots)) (same-numbers change slot) ∙ ap (λ ns. numbers_of slot ∷ ns) (kept-numbers change slots)
-
--- So it is once all are changed.
-pub all-changed : (change : Change) (old new : List Slot) (i : ℕ) → length old ≤ i → new ≡ map (changed_slot change) (take i old) ++ drop i old → new ≡ map (changed_slot change) old
-all-changed change old new i le made =
-    made ∙ ap (λ xs. map (changed_slot change) xs ++ drop i old) (take_all i old le) ∙ ap (λ xs. map (changed_slot change) old ++ xs) (drop_all i old le) ∙ append-nil (map (changed_slot change) old)
-
-pub all-numbers : (change : Change) (old new : List Slot) (i : ℕ) → length old ≤ i → new ≡ map (changed_slot change) (take i old) ++ drop i old → map numbers_of new ≡ map numbers_of old
-all-numbers change old new i le made = ap (map numbers_of) (all-changed change old new i le made) ∙ kept-numbers change old

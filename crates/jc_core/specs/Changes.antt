@@ -1,8 +1,9 @@
 -- How the registers of a threaded run change.
 --     changed_slot change slot            the register, once the change was made
+--     sole_register change             the register that the change is of, where it is of one alone
 --     touch_of act                   how an act touches the registers
 --     touched_slots touch reply slots      once it was answered so
-use Rattle.std.specs.Prelude.{◌==◌, List, if◌then◌else◌, None, Some, true, false}
+use Rattle.std.specs.Prelude.{ℕ, ◌==◌, List, if◌then◌else◌, Option, None, Some, true, false}
 use Rattle.jc_types.specs.declared.replies.Reply.{Reply}
 use Rattle.jc_types.specs.declared.replies.Reply.TheVariants as reply
 use Rattle.jc_log.specs.Acts as does
@@ -26,6 +27,13 @@ changed_slot (change.Want wants c w) slot =
 changed_slot change.Free slot = record slot { holder = None }
 changed_slot (change.Restart c) slot =
     if slot.controller == c then fresh_slot (numbers_of slot) else slot
+
+-- The register that the change is of, where it is of one alone.
+abbrev pub sole_register : Change → Option (ℕ × ℕ)
+sole_register (change.Take seat c w) = Some (c, w)
+sole_register (change.PutBack seat c w) = Some (c, w)
+sole_register (change.Want wants c w) = Some (c, w)
+sole_register other = None
 
 -- How an act touches the registers.
 abbrev pub touch_of : Act → Touch

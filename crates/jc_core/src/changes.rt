@@ -1,10 +1,11 @@
 //! How the registers of a threaded run change, as its seats see them.
 
-ghost use Rattle.std.specs.Prelude.{◌≡◌, map};
-ghost use Rattle.jc_core.specs.Changes.{changed_slot};
-ghost use Rattle.jc_core.specs.Shared.{fresh_slot, holds_slot, is_seat, numbers_of};
+ghost use Rattle.std.specs.Prelude.{◌≡◌, ◌+◌, ◌*◌, Some, map};
+ghost use Rattle.jc_core.specs.Changes.{changed_slot, sole_register};
+ghost use Rattle.jc_core.specs.Shared.{all_registers, fresh_slot, holds_slot, is_seat, numbers_of};
 
 use jc_play::Slot;
+use jc_types::Shape;
 
 // A change of the registers.
 #[derive(Clone, Copy)]
@@ -117,12 +118,67 @@ fn changed(change: Change, slot: Slot) -> Slot
     slot
 }
 
-// Makes the change at each register. It takes no memory.
-pub(crate) fn change_all(slots: &mut Vec<Slot>, change: Change)
-    ensures slots { slots.new.items ≡ map (changed_slot change) slots.old.items }
-    ensures numbers { map numbers_of slots.new.items ≡ map numbers_of slots.old.items }
+// The register that the change is of, where it is of one alone.
+fn sole_register(change: Change) -> Option<(u32, u32)>
+    ensures { result ≡ sole_register change }
+{
+    match change {
+        Change::Take {
+            controller,
+            worker,
+            ..
+        }
+        | Change::PutBack {
+            controller,
+            worker,
+            ..
+        }
+        | Change::Want {
+            controller,
+            worker,
+            ..
+        } => Some((controller, worker)),
+        Change::Free | Change::Restart { .. } => None,
+    }
+}
+
+// The place of the register among all, by controller and worker; behind them or that of another one, where the
+// shape has no such register.
+fn place_of(shape: &Shape, controller: u32, worker: u32) -> usize
+    ensures { result ≡ controller * shape.now.workers + worker }
+{
+    controller as usize * shape.workers as usize + worker as usize
+}
+
+// Makes the change at each register.
+fn change_each(slots: &mut Vec<Slot>, change: Change)
+    ensures { slots.new.items ≡ map (changed_slot change) slots.old.items }
 {
     for i in 0..slots.len() {
         slots[i] = changed(change, slots[i]);
+    }
+}
+
+// Makes the change of one register, which stands at its place.
+fn change_at(slots: &mut Vec<Slot>, shape: &Shape, controller: u32, worker: u32, change: Change)
+    requires whole { map numbers_of slots.old.items ≡ all_registers shape.now }
+    requires of { sole_register change ≡ Some (controller, worker) }
+    ensures { slots.new.items ≡ map (changed_slot change) slots.old.items }
+{
+    let place = place_of(shape, controller, worker);
+    if place < slots.len() {
+        slots[place] = changed(change, slots[place]);
+    }
+}
+
+// Makes the change. It takes no memory.
+pub(crate) fn change_all(slots: &mut Vec<Slot>, shape: &Shape, change: Change)
+    requires { map numbers_of slots.old.items ≡ all_registers shape.now }
+    ensures slots { slots.new.items ≡ map (changed_slot change) slots.old.items }
+    ensures numbers { map numbers_of slots.new.items ≡ map numbers_of slots.old.items }
+{
+    match sole_register(change) {
+        None => change_each(slots, change),
+        Some((controller, worker)) => change_at(slots, shape, controller, worker, change),
     }
 }

@@ -92,7 +92,7 @@ impl Cluster {
     {
         let touch = touch_of_event(self.machine.script(), event);
         let reply = self.machine.apply(event)?;
-        touch_all(&mut self.slots, touch, &reply);
+        touch_all(&mut self.slots, self.machine.shape(), touch, &reply);
         Ok(reply)
     }
 }

@@ -14,22 +14,23 @@ ghost use Rattle.jc_machine.specs.Diaries.{diary_seen};
 ghost use Rattle.jc_machine.specs.Syncs.{StartsCurrent, IsLast, IsSynced, StepsOn, StepsQuietly, begin_event, next_seen, tells_begin};
 ghost use Rattle.jc_machine.specs.declared.apply.ApplyFault.TheVariants.{HistoryFull};
 ghost use Rattle.jc_play.specs.Turns.{HasGoneOn, HasGrown, Reaches, has_rest, next_to_settle, playing_of};
-ghost use Rattle.jc_core.specs.Shared.{HasKeptUp, has_holders, numbers_of, slots_told};
+ghost use Rattle.jc_core.specs.Shared.{HasKeptUp, all_registers, has_holders, numbers_of, slots_told};
 
 use crate::cluster::Cluster;
 use crate::touches::{touch_all, touch_of_event};
 use jc_machine::ApplyFault;
 use jc_play::{Slot, play, settle};
-use jc_types::{Past, Reply, Script};
+use jc_types::{Past, Reply, Script, Shape};
 
 // The registers, once these events have happened, in order.
-fn keep_up(slots: &mut Vec<Slot>, script: &Script, events: &[Past])
+fn keep_up(slots: &mut Vec<Slot>, shape: &Shape, script: &Script, events: &[Past])
+    requires { map numbers_of slots.old.items ≡ all_registers shape.now }
     ensures slots { slots.new.items ≡ slots_told script.now.commands events.now slots.old.items }
     ensures numbers { map numbers_of slots.new.items ≡ map numbers_of slots.old.items }
 {
     for past in events {
         let touch = touch_of_event(script, past.event);
-        touch_all(slots, touch, &past.reply);
+        touch_all(slots, shape, touch, &past.reply);
     }
 }
 
@@ -42,7 +43,13 @@ impl Cluster {
         ensures seen { self.new.seen ≡ self.old.seen }
     {
         let events = self.machine.history().events.as_slice();
-        keep_up(&mut self.slots, self.machine.script(), &events[from..]);
+        let machine = &self.machine;
+        keep_up(
+            &mut self.slots,
+            machine.shape(),
+            machine.script(),
+            &events[from..],
+        );
     }
 
     /// Does what is available, one event after the other in first order, until nothing is. An orderly

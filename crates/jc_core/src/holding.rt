@@ -59,7 +59,7 @@ impl Cluster {
             controller: slot.controller,
             worker: slot.worker,
         };
-        change_all(&mut self.slots, change);
+        change_all(&mut self.slots, self.machine.shape(), change);
         Ok(Some(Work {
             controller: slot.controller,
             worker: slot.worker,
@@ -162,7 +162,7 @@ impl Cluster {
                 controller,
                 worker,
             };
-            change_all(&mut self.slots, change);
+            change_all(&mut self.slots, self.machine.shape(), change);
         }
     }
 
@@ -177,7 +177,7 @@ impl Cluster {
             controller,
             worker,
         };
-        change_all(&mut self.slots, change);
+        change_all(&mut self.slots, self.machine.shape(), change);
     }
 
     /// No register is held any more. Nothing else changes.
@@ -186,7 +186,7 @@ impl Cluster {
         ensures free { has_holders self.new.slots ≡ false }
         ensures seen { self.new.seen ≡ self.old.seen }
     {
-        change_all(&mut self.slots, Change::Free);
+        change_all(&mut self.slots, self.machine.shape(), Change::Free);
     }
 
     /// Whether a register is held.

@@ -4,11 +4,11 @@ ghost use Rattle.std.specs.Prelude.{◌≡◌, false, map};
 ghost use Rattle.jc_log.specs.Deeds.{act_of_action, act_of_event, act_of_system};
 ghost use Rattle.jc_play.specs.Turns.{is_begun_reply};
 ghost use Rattle.jc_core.specs.Changes.{touch_of, touched_slots};
-ghost use Rattle.jc_core.specs.Shared.{has_holders, numbers_of};
+ghost use Rattle.jc_core.specs.Shared.{all_registers, has_holders, numbers_of};
 
 use crate::changes::{Change, change_all};
 use jc_play::Slot;
-use jc_types::{Action1, Event, Reply, Script, Sys};
+use jc_types::{Action1, Event, Reply, Script, Shape, Sys};
 
 // How an event touches the registers.
 #[derive(Clone, Copy)]
@@ -78,7 +78,8 @@ fn is_begun(reply: &Reply) -> bool
 
 // Changes the registers as an event asks that touches them so, once it was answered. It takes no
 // memory.
-pub(crate) fn touch_all(slots: &mut Vec<Slot>, touch: Touch, reply: &Reply)
+pub(crate) fn touch_all(slots: &mut Vec<Slot>, shape: &Shape, touch: Touch, reply: &Reply)
+    requires { map numbers_of slots.old.items ≡ all_registers shape.now }
     ensures slots { slots.new.items ≡ touched_slots touch reply.now slots.old.items }
     ensures numbers { map numbers_of slots.new.items ≡ map numbers_of slots.old.items }
     ensures free { has_holders slots.old.items ≡ false → has_holders slots.new.items ≡ false }
@@ -91,7 +92,7 @@ pub(crate) fn touch_all(slots: &mut Vec<Slot>, touch: Touch, reply: &Reply)
                     controller,
                     worker,
                 };
-                change_all(slots, change);
+                change_all(slots, shape, change);
             }
         }
         Touch::Step { controller, worker } => {
@@ -100,9 +101,11 @@ pub(crate) fn touch_all(slots: &mut Vec<Slot>, touch: Touch, reply: &Reply)
                 controller,
                 worker,
             };
-            change_all(slots, change);
+            change_all(slots, shape, change);
         }
-        Touch::Restart { controller } => change_all(slots, Change::Restart { controller }),
+        Touch::Restart { controller } => {
+            change_all(slots, shape, Change::Restart { controller });
+        }
         Touch::Nothing => {}
     }
 }

@@ -1,25 +1,10 @@
-use Rattle.std.proofs.Common.{◌<◌, ◌≤◌, length, set, ap, ◌∙◌, arith}
-use Rattle.std.proofs.lemmas.List.{length-set}
-use Rattle.jc_machine.proofs.Clocks.{put_next}
-use Rattle.jc_core.specs.Changes.{changed_slot}
-use Rattle.jc_core.proofs.SlotFacts.{all-numbers}
+use Rattle.std.proofs.Common.{map, ap, ◌∙◌}
+use Rattle.jc_core.specs.Shared.{numbers_of}
+use Rattle.jc_core.proofs.SlotFacts.{kept-numbers}
 use Rattle.jc_core.proofs.changes.change_all.Goals as goal
 
-pub loop-i-preserved : goal.loop-i-preserved
-loop-i-preserved c =
-    let test = c.loop-i-test.true in
-    let count = c.len-i-end.ensures in
-    let within : c.loop-i.i < length c.args.slots.now.items = omega (arith, test, count) in
-    record {
-      made =
-          ap (λ t. set c.loop-i.slots.items c.loop-i.i t) c.changed.ensures
-          ∙ put_next (changed_slot c.args.change) c.args.slots.now.items c.loop-i.slots.items c.loop-i.i c.index.result.now within c.loop-i.invariant.made c.index.ensures;
-      count = length-set c.loop-i.slots.items c.loop-i.i c.changed.result ∙ c.loop-i.invariant.count;
-    }
+pub returns-in-None-clause-numbers : goal.returns-in-None-clause-numbers
+returns-in-None-clause-numbers c = ap (map numbers_of) c.change_each.ensures ∙ kept-numbers c.args.change c.args.slots.now.items
 
-pub returns-clause-numbers : goal.returns-clause-numbers
-returns-clause-numbers c =
-    let test = c.loop-i-test.false in
-    let count = c.len-i-end.ensures in
-    let past : length c.args.slots.now.items ≤ c.loop-i.i = omega (arith, test, count) in
-    all-numbers c.args.change c.args.slots.now.items c.loop-i.slots.items c.loop-i.i past c.loop-i.invariant.made
+pub returns-in-Some-clause-numbers : goal.returns-in-Some-clause-numbers
+returns-in-Some-clause-numbers c = ap (map numbers_of) c.change_at.ensures ∙ kept-numbers c.args.change c.args.slots.now.items

@@ -1,6 +1,6 @@
 use Rattle.std.proofs.Common.{◌≡◌, ◌++◌, length, map, take, drop}
 use Rattle.jc_core.specs.Changes.{changed_slot}
-use Rattle.jc_core.proofs.changes.change_all.Given as goal
+use Rattle.jc_core.proofs.changes.change_each.Given as goal
 
 -- The registers before this one are changed.
 abbrev pub invariant-loop-i : goal.invariant-loop-i
