@@ -7,11 +7,12 @@
 --     AreLanesBelow bound commands    their lanes are below the bound
 --     AreLanes commands    their lanes are bytes
 --     KeepsRun lanes seen      what the type of what is shared keeps of its cluster
-use Rattle.std.specs.Prelude.{◌≡◌, ◌<◌, ◌≤◌, ℕ, List, []}
+use Rattle.std.specs.Prelude.{◌≡◌, ◌<◌, ◌≤◌, ℕ, List, [], reverse}
 use Rattle.std.specs.List.{AllByRecursion as Each}
 use Rattle.atomic_table.specs.Seated.{TableId}
 use Rattle.jc_types.specs.declared.actions.Command.{Command}
 use Rattle.jc_types.specs.declared.actions.Script.{Script}
+use Rattle.jc_types.specs.declared.runs.Past.{Past}
 use Rattle.jc_types.specs.declared.runs.Shape.{Shape}
 use Rattle.jc_history.specs.Available.{IsOrderly}
 use Rattle.jc_runs.specs.Seen.{Seen, deeds_seen}
