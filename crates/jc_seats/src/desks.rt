@@ -1,19 +1,16 @@
 //! What lies under the lock of a threaded run: the cluster, and a log of what its seats have marked.
 
-ghost use Rattle.std.specs.Prelude.{◌≡◌, ◌<◌, ◌≤◌, [], Err, IfOk, IsSome, None, OnErr, Some, is_ok, length, reverse, true};
+ghost use Rattle.std.specs.Prelude.{◌≡◌, ◌<◌, ◌≤◌, [], Err, IfOk, IsSome, None, OnErr, is_ok, length, reverse, true};
 ghost use mathlib.Core.List.{IsPrefix};
-ghost use Rattle.jc_types.specs.declared.runs.Event.{Event};
 ghost use Rattle.jc_runs.specs.Bases.{CanPlan};
 ghost use Rattle.jc_history.specs.Play.{first_event};
-ghost use Rattle.jc_history.specs.Registers.{register};
 ghost use Rattle.jc_core.specs.ApplyFault.TheVariants.{HistoryFull};
-ghost use Rattle.jc_core.specs.Diaries.{diary_seen};
-ghost use Rattle.jc_core.specs.Shared.{has_holders, taken_by};
+ghost use Rattle.jc_core.specs.Shared.{has_holders};
 ghost use Rattle.jc_core.specs.declared.holding.Work.{Work};
 ghost use Rattle.jc_play.specs.Slots.{unheld_seen};
 ghost use Rattle.jc_play.specs.Turns.{has_rest};
 ghost use Rattle.jc_seats.specs.Hands.{IsHandedIn, WasTaken};
-ghost use Rattle.jc_seats.specs.SeatTurns.{HasHappened, HasLeft, IsOwnEvent};
+ghost use Rattle.jc_seats.specs.SeatTurns.{HasLeft};
 
 use crate::hands::hand_in;
 use crate::kept::Kept;
@@ -170,13 +167,6 @@ impl<J: Naming, L: Logged> Desk<J, L> {
     // One turn of the seat, as `Kept::turn`. Where it is to make a plan, what has happened is marked.
     fn turn(&mut self, seat: &mut Seat) -> Result<Step<J, L>, ApplyFault>
         requires { seat.old.number < seat.old.threads }
-        ensures plan { IfOk result (λ step. (work : Work) → step ≡ Step.Plan work
-            → (register work.worker (diary_seen self.old.seen work.controller) ≡ Some work.basis)
-            × (self.new.slots ≡ taken_by seat.old.number work.controller work.worker self.old.slots)
-            × (self.new.seen ≡ self.old.seen)) }
-        ensures went { IfOk result (λ step. step ≡ Step.Went
-            → (event : Event) × HasHappened event self.old self.new
-            × IsOwnEvent seat.old self.old event) }
         ensures waits { IfOk result (λ step. step ≡ Step.Wait → (self.new ≡ self.old)
             × (has_holders self.old.slots ≡ true)
             × (first_event (unheld_seen self.old.slots self.old.seen) ≡ None)
@@ -205,17 +195,7 @@ impl<J: Naming, L: Logged> Desk<J, L> {
     /// memory. What happened before stands.
     pub fn turns(&mut self, seat: &mut Seat) -> Result<Step<J, L>, ApplyFault>
         requires { seat.old.number < seat.old.threads }
-        ensures plan { IfOk result (λ step. (work : Work) → step ≡ Step.Plan work
-            → register work.worker (diary_seen self.new.seen work.controller) ≡ Some work.basis) }
-        ensures waits { IfOk result (λ step. step ≡ Step.Wait
-            → (has_holders self.new.slots ≡ true)
-            × (first_event (unheld_seen self.new.slots self.new.seen) ≡ None)
-            × ¬ HasLeft seat.old self.new.seen) }
-        ensures ends { IfOk result (λ step. step ≡ Step.End
-            → (has_rest self.new.seen ≡ true) × ¬ HasLeft seat.old self.new.seen) }
-        ensures room { result ≡ Err HistoryFull
-            → self.new.seen.shape.events ≤ length self.new.seen.pasts }
-        ensures seat { (seat.new.number ≡ seat.old.number) × (seat.new.threads ≡ seat.old.threads) }
+        ensures { (seat.new.number ≡ seat.old.number) × (seat.new.threads ≡ seat.old.threads) }
     {
         for _ in 0..MOST_TURNS {
             match self.turn(seat)? {
