@@ -1,7 +1,8 @@
 //! Lists of UIDs.
 
-ghost use Rattle.std.specs.Prelude.{◌≡◌, ◌+◌, ◌≤◌, IfOk, OnOk, length, nat_le};
+ghost use Rattle.std.specs.Prelude.{◌≡◌, ◌+◌, ◌<◌, ◌≤◌, IfOk, IfSome, OnOk, length, nat_le};
 ghost use Rattle.std.specs.List.{position};
+ghost use Rattle.std.specs.VecDeque.{deque_len};
 ghost use Rattle.jc_types.specs.declared.numbers.Uid.{Uid};
 ghost use Rattle.jc_states.specs.UidLists.{merge, with_uid};
 ghost use Rattle.jc_account.specs.Accounts.{unreleased};
@@ -9,10 +10,12 @@ ghost use Rattle.jc_account.specs.Accounts.{unreleased};
 use jc_states::is_among;
 use jc_types::{Uid, Uids, Want};
 use std::alloc::Global;
+use std::collections::VecDeque;
 
 // The place of the first UID that is not below the given one.
-fn place_of(uid: Uid, uids: &[Uid]) -> Option<usize>
-    ensures { result ≡ position (λ (other : Uid). nat_le uid.0 other.0) uids.now }
+fn place_of(uid: Uid, uids: &VecDeque<Uid>) -> Option<usize>
+    ensures place { result ≡ position (λ (other : Uid). nat_le uid.0 other.0) uids.now.items }
+    ensures within { IfSome result (λ place. place < deque_len uids.now) }
 {
     uids.iter().position(|other| uid.0 <= other.0)
 }
@@ -21,12 +24,12 @@ fn place_of(uid: Uid, uids: &[Uid]) -> Option<usize>
 //
 // # Errors
 // `Want` where there is no memory for it.
-fn put(uids: &mut Vec<Uid>, uid: Uid) -> Result<(), Want>
+fn put(uids: &mut VecDeque<Uid>, uid: Uid) -> Result<(), Want>
     ensures { OnOk result (uids.new.items ≡ with_uid uid uids.old.items) }
 {
-    match place_of(uid, uids.as_slice()) {
+    match place_of(uid, uids) {
         None => {
-            uids.push(uid)?;
+            uids.push_back(uid)?;
             Ok(())
         }
         Some(place) => {
@@ -53,16 +56,17 @@ fn listed(alloc: Global, uids: &[Uid]) -> Result<Uids, Want>
     Ok(list)
 }
 
-// The UIDs with others, the last of these first.
+// The UIDs with others, the last of these first: mostly each goes before all, which a double-ended queue does
+// without moving the others.
 fn with_each(alloc: Global, uids: &[Uid], more: &[Uid]) -> Result<Vec<Uid>, Want>
     ensures merged { IfOk result (λ all. all.items ≡ merge uids.now more.now) }
     ensures few { IfOk result (λ all. length all.items ≤ length uids.now + length more.now) }
 {
-    let mut all = Vec::from_slice(alloc, uids)?;
+    let mut all = VecDeque::from_vec(Vec::from_slice(alloc, uids)?);
     for place in (0..more.len()).rev() {
         put(&mut all, more[place])?;
     }
-    Ok(all)
+    Ok(all.into_vec())
 }
 
 // The UIDs with each of the others in its place.
