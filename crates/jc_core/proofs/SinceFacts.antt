@@ -4,7 +4,7 @@ use Rattle.std.specs.List.{list_any}
 use Rattle.std.specs.Option.{option_map, option_or, option_to_list, unwrap_or}
 use Rattle.std.proofs.Math.Seq.{drop-append_seam}
 use Rattle.std.proofs.lemmas.Bool.{or_parts}
-use Rattle.std.proofs.lemmas.List.{length-drop, length-reverse, reverse-append, take-append-drop, take_all}
+use Rattle.std.proofs.lemmas.List.{drop_min, length-drop, length-reverse, reverse-append, reverse-reverse, take-append-drop, take_all}
 use Rattle.std.proofs.lemmas.List.Sorted.{IsPermutation-reverse, list_any-IsPermutation}
 use Rattle.jc_types.specs.declared.actions.Command.{Command}
 use Rattle.jc_types.specs.declared.actions.Script.{Script}
@@ -128,6 +128,19 @@ none-of false e = refl
 same-reverse : {A : Type 0} (test : A → Bool) (xs : List A) → list_any test (reverse xs) ≡ list_any test xs
 same-reverse test xs = sym (list_any-IsPermutation test xs (reverse xs) (IsPermutation-reverse xs))
 
+-- The events that are left of a list from one on, where the last ones are taken.
+all-left : (events : List Past) (from : ℕ) → take (length events - from) (drop from events) ≡ drop from events
+all-left events from = let exactly = length-drop from events in take_all (length events - from) (drop from events) (omega (arith, exactly))
+
+-- Whether none of the events since the history had so many is of the register.
+pub since-told : (seen : Seen) (c w n from : ℕ) (events : List Past) (commands : List Command) (found : Bool) → reverse events ≡ seen.pasts → commands ≡ seen.script.commands → from ≡ min n (length events)
+    → found ≡ list_any (is_past_of commands c w) (take (length events - from) (drop from events)) → not found ≡ not (list_any (is_past_of seen.script.commands c w) (drop n (reverse seen.pasts)))
+since-told seen c w n from events commands found is script least at =
+    ap not
+    (at
+    ∙ ap (list_any (is_past_of commands c w)) (all-left events from ∙ ap (λ k. drop k events) least ∙ drop_min n events ∙ ap (drop n) (sym (reverse-reverse events) ∙ ap reverse is))
+    ∙ ap (λ cs. list_any (is_past_of cs c w) (drop n (reverse seen.pasts))) script)
+
 -- The register is what it was when the history had so many events, where none since is of it.
 pub since-stays : (seen : Seen) (c w n from : ℕ) (events : List Past) (commands : List Command) (found : Bool) → reverse events ≡ seen.pasts → commands ≡ seen.script.commands → IsLegal seen.shape (deeds_seen seen) → from ≡ min n (length events)
     → found ≡ list_any (is_past_of commands c w) (take (length events - from) (drop from events)) → not found ≡ true → register w (diary_seen seen c) ≡ register w (diary_seen (seen_at n seen) c)
@@ -157,13 +170,10 @@ since-stays seen c w n from events commands found is script legal least at none 
     test : Past → Bool
     test = is_past_of commands c w
 
-    all-left : take (length events - from) (drop from events) ≡ drop from events
-    all-left = let exactly = length-drop from events in take_all (length events - from) (drop from events) (omega (arith, exactly))
-
     untouched : list_any (is_past_of seen.script.commands c w) more ≡ false
     untouched =
         ap (λ cs. list_any (is_past_of cs c w) more) (sym script)
         ∙ same-reverse test (drop from events)
-        ∙ ap (list_any test) (sym all-left)
+        ∙ ap (list_any test) (sym (all-left events from))
         ∙ sym at
         ∙ none-of found none

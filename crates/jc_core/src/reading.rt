@@ -5,7 +5,7 @@ ghost use Rattle.jc_types.specs.declared.objects.Job.{Job};
 ghost use Rattle.jc_types.specs.declared.objects.Key.{Key};
 ghost use Rattle.jc_log.specs.Log.{job_in};
 ghost use Rattle.jc_history.specs.Diaries.{moment};
-ghost use Rattle.jc_history.specs.Legal.{InLanes, IsHistory, IsLegal};
+ghost use Rattle.jc_history.specs.Legal.{InLanes, IsHistory, IsLegal, next_place};
 ghost use Rattle.jc_bounds.specs.Histories.{HoldsBounds};
 ghost use Rattle.jc_runs.specs.Once.{AllJustified, OnceAtEach};
 ghost use Rattle.jc_runs.specs.Seen.{deeds_seen, log_seen};
@@ -80,6 +80,13 @@ impl Cluster {
             ↔ ((self.now.seen.script ≡ script.now) × (self.now.seen.shape ≡ shape.now)) }
     {
         self.machine.of_script(script, shape)
+    }
+
+    /// The place in the script of the lane's next command; `None` exactly where the lane is used up.
+    pub fn next_command(&self, lane: u8) -> Option<u32>
+        ensures { result ≡ next_place self.now.seen.script.commands lane self.now.seen.pasts }
+    {
+        self.machine.next_command(lane)
     }
 
     /// Whether every lane of the script is used up.

@@ -1,6 +1,6 @@
 //! Whether a register has been touched since the history had so many events.
 
-ghost use Rattle.std.specs.Prelude.{◌≡◌, ◌↔◌, ◌<◌, IsTrue, Some};
+ghost use Rattle.std.specs.Prelude.{◌≡◌, ◌↔◌, ◌<◌, IsTrue, Some, drop, not, reverse};
 ghost use Rattle.std.specs.List.{list_any};
 ghost use Rattle.jc_history.specs.Registers.{register};
 ghost use Rattle.jc_machine.specs.Diaries.{diary_seen};
@@ -48,7 +48,10 @@ fn is_touched(script: &Script, events: &[Past], controller: u32, worker: u32) ->
 
 // Whether no event is of the register since the history had so many. It is then what it was.
 fn is_as_then(machine: &Machine, controller: u32, worker: u32, events: usize) -> bool
-    ensures { IsTrue result → register worker (diary_seen machine.now controller)
+    ensures exactly { result ≡ not (list_any
+        (is_past_of machine.now.script.commands controller worker)
+        (drop events (reverse machine.now.pasts))) }
+    ensures stays { IsTrue result → register worker (diary_seen machine.now controller)
         ≡ register worker (diary_seen (seen_at events machine.now) controller) }
 {
     let all = machine.history().events.as_slice();
