@@ -10,11 +10,11 @@ use Rattle.jc_types.specs.declared.runs.Past.{Past}
 use Rattle.jc_types.specs.declared.runs.Sys.{Sys}
 use Rattle.jc_types.specs.declared.runs.Sys.TheVariants as sys
 use Rattle.jc_history.specs.Available.{available}
-use Rattle.jc_history.specs.Legal.{AreUsed, ComesNext, lane_count, next_place, places_from}
+use Rattle.jc_history.specs.Legal.{AreUsed, lane_count, next_place, places_from}
 use Rattle.jc_history.specs.Play.{first_event}
 use Rattle.jc_runs.specs.Seen.{Seen, deeds_seen, log_seen}
 use Rattle.jc_core.specs.Places.{AreUsedUp, most_lanes}
-use Rattle.jc_play.specs.Actors.{CanCome, IsOfActor}
+use Rattle.jc_play.specs.Actors.{IsOfActor}
 use Rattle.jc_play.specs.declared.actors.Actor.TheVariants as actor
 use Rattle.jc_play.specs.declared.slots.Slot.{Slot}
 use Rattle.jc_play.specs.Slots.{has_holder, is_slot_of, is_unheld, unheld_seen}
@@ -23,7 +23,7 @@ use Rattle.jc_play.proofs.SystemFacts.{quiet}
 use Rattle.jc_seats.specs.declared.seats.Seat.{Seat}
 use Rattle.jc_seats.specs.Names.{AreLanes, AreLanesBelow}
 use Rattle.jc_core.specs.Shared.{Shared}
-use Rattle.jc_seats.specs.SeatTurns.{HasHappened, HasLeft, IsLaneOf, IsOfLanes, IsOwnEvent}
+use Rattle.jc_seats.specs.SeatTurns.{HasHappened, IsLaneOf, IsOfLanes, IsOwnEvent}
 
 -- ---- nobody holds a register
 
@@ -62,7 +62,8 @@ went-own seat between old new event e happened own = (event, subst (λ (s : Shar
 
 -- ---- lanes
 
-lane-below : (bound lane p : ℕ) (commands : List Command) (k n : ℕ) → AreLanesBelow bound commands → slice_get (places_from lane p commands) k ≡ Some n → lane < bound
+-- The place of a lane's command is there only where the lane is below the bound of all.
+pub lane-below : (bound lane p : ℕ) (commands : List Command) (k n : ℕ) → AreLanesBelow bound commands → slice_get (places_from lane p commands) k ≡ Some n → lane < bound
 lane-below bound lane p [] k n all e = absurd (true≢false (sym (ap is_some e)))
 lane-below bound lane p (command ∷ commands) k n all e = by (command.lane == lane) refl k e (λ k e. lane-below bound lane (p + 1) commands k n all.1 e)
   where
@@ -78,14 +79,6 @@ used-of commands pasts lanes up lane = by (next_place commands lane pasts) refl
     by : (o : Option ℕ) → next_place commands lane pasts ≡ o → next_place commands lane pasts ≡ None
     by None e = e
     by (Some n) e = up lane (lane-below most_lanes lane 0 commands (lane_count lane pasts) n lanes e)
-
--- Where no command of its lanes may come, as far as the script has lanes, none is left to the seat.
-pub none-left : (seat : Seat) (seen : Seen) (bound : ℕ) → AreLanesBelow bound seen.script.commands
-    → ((lane : ℕ) → lane < bound → IsLaneOf seat lane → (event : Event) → IsOfActor (actor.Lane lane) event → CanCome seen event → ⊥) → HasLeft seat seen → ⊥
-none-left seat seen bound lanes none left =
-    none left.lane
-    (lane-below bound left.lane 0 seen.script.commands (lane_count left.lane seen.pasts) left.command.0 lanes (subst (ComesNext seen.script.commands seen.pasts) left.command.1 left.can_come.admits.next))
-    left.own left.event left.command left.can_come
 
 -- Whose lane the next one is.
 pub owner-next : (threads number owner next : ℕ) → owner ≡ number % threads → next ≡ (owner + 1) % threads → next ≡ (number + 1) % threads

@@ -6,8 +6,9 @@
 --     named_seen script shape g       a cluster of this script and shape with the history g
 --     AreLanesBelow bound commands    their lanes are below the bound
 --     AreLanes commands    their lanes are bytes
+--     AreUsedFrom bound seen    each lane from the bound on is used up
 --     KeepsRun lanes seen      what the type of what is shared keeps of its cluster
-use Rattle.std.specs.Prelude.{◌≡◌, ◌<◌, ◌≤◌, ℕ, List, [], reverse}
+use Rattle.std.specs.Prelude.{◌≡◌, ◌<◌, ◌≤◌, ℕ, List, [], None, reverse}
 use Rattle.std.specs.List.{AllByRecursion as Each}
 use Rattle.atomic_table.specs.Seated.{TableId}
 use Rattle.jc_types.specs.declared.actions.Command.{Command}
@@ -15,6 +16,7 @@ use Rattle.jc_types.specs.declared.actions.Script.{Script}
 use Rattle.jc_types.specs.declared.runs.Past.{Past}
 use Rattle.jc_types.specs.declared.runs.Shape.{Shape}
 use Rattle.jc_history.specs.Available.{IsOrderly}
+use Rattle.jc_history.specs.Legal.{next_place}
 use Rattle.jc_runs.specs.Seen.{Seen, deeds_seen}
 use Rattle.jc_core.specs.Places.{most_lanes}
 
@@ -55,9 +57,14 @@ AreLanesBelow bound commands = Each (λ (command : Command). command.lane < boun
 abbrev pub AreLanes : List Command → Type 0
 AreLanes commands = AreLanesBelow most_lanes commands
 
--- What the type keeps: the history is orderly, and the commands are of the first lanes, so many as it
--- keeps and no more than there can be.
+-- Each lane from the bound on is used up.
+abbrev pub AreUsedFrom : ℕ → Seen → Type 0
+AreUsedFrom bound seen =
+    (lane : ℕ) → bound ≤ lane → next_place seen.script.commands lane seen.pasts ≡ None
+
+-- What the type keeps: the history is orderly, and only lanes below the number that it keeps have commands
+-- left, which is no more than there can be.
 pub record KeepsRun (lanes : ℕ) (seen : Seen) : Type 0 where
   pub orderly : IsOrderly seen.shape (deeds_seen seen)
-  pub below : AreLanesBelow lanes seen.script.commands
+  pub used : AreUsedFrom lanes seen
   pub few : lanes ≤ most_lanes

@@ -2,6 +2,7 @@
 
 ghost use Rattle.std.specs.Prelude.{◌≡◌, ◌<◌, ◌≤◌, [], Err, IfOk, IsSome, None, OnErr, is_ok, length, reverse, true};
 ghost use mathlib.Core.List.{IsPrefix};
+ghost use Rattle.jc_types.specs.declared.runs.Event.{Event};
 ghost use Rattle.jc_runs.specs.Bases.{CanPlan};
 ghost use Rattle.jc_history.specs.Play.{first_event};
 ghost use Rattle.jc_core.specs.ApplyFault.TheVariants.{HistoryFull};
@@ -9,8 +10,8 @@ ghost use Rattle.jc_core.specs.Shared.{has_holders};
 ghost use Rattle.jc_core.specs.declared.holding.Work.{Work};
 ghost use Rattle.jc_play.specs.Slots.{unheld_seen};
 ghost use Rattle.jc_play.specs.Turns.{has_rest};
-ghost use Rattle.jc_seats.specs.Hands.{IsHandedIn, WasTaken};
-ghost use Rattle.jc_seats.specs.SeatTurns.{HasLeft};
+ghost use Rattle.jc_seats.specs.Hands.{IsHandedIn, WasTaken, offered};
+ghost use Rattle.jc_seats.specs.SeatTurns.{HasHappened, HasLeft, IsOwnEvent};
 
 use crate::hands::hand_in;
 use crate::kept::Kept;
@@ -167,6 +168,9 @@ impl<J: Naming, L: Logged> Desk<J, L> {
     // One turn of the seat, as `Kept::turn`. Where it is to make a plan, what has happened is marked.
     fn turn(&mut self, seat: &mut Seat) -> Result<Step<J, L>, ApplyFault>
         requires { seat.old.number < seat.old.threads }
+        ensures went { IfOk result (λ step. step ≡ Step.Went
+            → (event : Event) × HasHappened event self.old self.new
+            × IsOwnEvent seat.old self.old event) }
         ensures waits { IfOk result (λ step. step ≡ Step.Wait → (self.new ≡ self.old)
             × (has_holders self.old.slots ≡ true)
             × (first_event (unheld_seen self.old.slots self.old.seen) ≡ None)
@@ -195,7 +199,15 @@ impl<J: Naming, L: Logged> Desk<J, L> {
     /// memory. What happened before stands.
     pub fn turns(&mut self, seat: &mut Seat) -> Result<Step<J, L>, ApplyFault>
         requires { seat.old.number < seat.old.threads }
-        ensures { (seat.new.number ≡ seat.old.number) × (seat.new.threads ≡ seat.old.threads) }
+        ensures waits { IfOk result (λ step. step ≡ Step.Wait
+            → (has_holders self.new.slots ≡ true)
+            × (first_event (unheld_seen self.new.slots self.new.seen) ≡ None)
+            × ¬ HasLeft seat.old self.new.seen) }
+        ensures ends { IfOk result (λ step. step ≡ Step.End
+            → (has_rest self.new.seen ≡ true) × ¬ HasLeft seat.old self.new.seen) }
+        ensures room { result ≡ Err HistoryFull
+            → self.new.seen.shape.events ≤ length self.new.seen.pasts }
+        ensures seat { (seat.new.number ≡ seat.old.number) × (seat.new.threads ≡ seat.old.threads) }
     {
         for _ in 0..MOST_TURNS {
             match self.turn(seat)? {
@@ -210,7 +222,8 @@ impl<J: Naming, L: Logged> Desk<J, L> {
     pub fn hand_in(&mut self, seat: u32, errand: Errand<J, L>, made: Result<Plan, Want>) -> bool
         requires of { IfOk made (λ plan. plan.basis ≡ errand.basis) }
         ensures made { result ≡ is_ok made }
-        ensures hands { IsHandedIn seat errand.controller errand.worker self.old self.new }
+        ensures hands { IsHandedIn seat errand.controller errand.worker (offered made)
+            self.old self.new }
     {
         let Errand {
             work,

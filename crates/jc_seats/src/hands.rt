@@ -4,7 +4,7 @@ ghost use Rattle.std.specs.Prelude.{◌≡◌, IfOk, Some, is_ok};
 ghost use Rattle.jc_history.specs.Registers.{register};
 ghost use Rattle.jc_core.specs.Diaries.{diary_seen};
 ghost use Rattle.jc_core.specs.Since.{seen_at};
-ghost use Rattle.jc_seats.specs.Hands.{IsHandedIn};
+ghost use Rattle.jc_seats.specs.Hands.{IsHandedIn, offered};
 
 use crate::kept::Kept;
 use crate::naming::Naming;
@@ -25,7 +25,8 @@ pub fn hand_in<J: Naming>(
     requires begun { IfOk made (λ plan. register work.now.worker
         (diary_seen (seen_at events kept.old.seen) work.now.controller) ≡ Some plan.basis) }
     ensures made { result ≡ is_ok made }
-    ensures hands { IsHandedIn seat work.now.controller work.now.worker kept.old kept.new }
+    ensures hands { IsHandedIn seat work.now.controller work.now.worker (offered made)
+        kept.old kept.new }
 {
     let Ok(plan) = made else {
         kept.put_back(seat, work.controller, work.worker);

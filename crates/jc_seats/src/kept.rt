@@ -1,6 +1,6 @@
 //! The cluster of a threaded run, as it stands behind the lock.
 
-ghost use Rattle.std.specs.Prelude.{◌≡◌, ◌≤◌, Err, IfOk, OnErr, OnOk, Some, length};
+ghost use Rattle.std.specs.Prelude.{◌≡◌, ◌↔◌, ◌≤◌, Err, IfOk, IsTrue, OnErr, OnOk, Some, length};
 ghost use Rattle.jc_types.specs.declared.runs.Event.{Event};
 ghost use Rattle.jc_history.specs.Available.{IsOrderly};
 ghost use Rattle.jc_runs.specs.Seen.{act_seen, deeds_seen, happened, reply_seen};
@@ -10,10 +10,11 @@ ghost use Rattle.jc_history.specs.Registers.{register};
 ghost use Rattle.jc_core.specs.Diaries.{diary_seen};
 ghost use Rattle.jc_core.specs.Shared.{put_back_by, slots_after, submitted_by};
 ghost use Rattle.jc_core.specs.Since.{seen_at};
-ghost use Rattle.jc_seats.specs.Names.{AreLanesBelow, IsOfName};
+ghost use Rattle.jc_seats.specs.Hands.{IsAwaited};
+ghost use Rattle.jc_seats.specs.Names.{AreUsedFrom, IsOfName};
 ghost use Rattle.jc_core.specs.Places.{most_lanes};
 
-use crate::lanes::lanes_of;
+use crate::lanes::{lanes_left, lanes_of};
 use crate::naming::Naming;
 use jc_core::{ApplyFault, Cluster};
 use jc_plan::Plan;
@@ -27,7 +28,7 @@ use std::marker::{Model, PhantomData};
 #[derive(Drop)]
 pub struct Kept<J: Naming> {
     pub(crate) cluster: Cluster,
-    // How many lanes there are up to the greatest one of the script: a seat asks no others.
+    // Each lane from this one on is used up: a seat asks none of them.
     lanes: u32,
     of: PhantomData<J>,
 }
@@ -111,7 +112,9 @@ impl<J: Naming> Kept<J> {
             → self.old.seen.shape.events ≤ length self.old.seen.pasts }
     {
         available_events_keep_the_order();
-        self.cluster.apply(event)
+        let reply = self.cluster.apply(event)?;
+        self.lanes = lanes_left(&self.cluster, self.lanes);
+        Ok(reply)
     }
 
     // Hands in a plan, as `Cluster::submit_since`, and answers whether it was kept.
@@ -125,6 +128,8 @@ impl<J: Naming> Kept<J> {
     ) -> bool
         requires begun { register worker (diary_seen (seen_at events self.old.seen) controller)
             ≡ Some plan.basis }
+        ensures exactly { IsTrue result
+            ↔ IsAwaited seat controller worker (Some plan.basis) self.old }
         ensures slots { self.new.slots
             ≡ submitted_by seat controller worker result self.old.slots }
         ensures seen { self.new.seen ≡ self.old.seen }
@@ -141,9 +146,9 @@ impl<J: Naming> Kept<J> {
         self.cluster.put_back(seat, controller, worker);
     }
 
-    // How many lanes there are up to the greatest one of its commands: its type keeps it.
+    // From which lane on each is used up: its type keeps it.
     pub(crate) fn lanes(&self) -> u32
-        ensures below { AreLanesBelow result self.now.seen.script.commands }
+        ensures used { AreUsedFrom result self.now.seen }
         ensures few { result ≤ most_lanes }
     {
         self.lanes

@@ -2,8 +2,9 @@
 
 ghost use Rattle.std.specs.Prelude.{◌<◌, ◌≤◌};
 ghost use Rattle.jc_core.specs.Places.{most_lanes};
-ghost use Rattle.jc_seats.specs.Names.{AreLanes, AreLanesBelow};
+ghost use Rattle.jc_seats.specs.Names.{AreLanes, AreLanesBelow, AreUsedFrom};
 
+use jc_core::Cluster;
 use jc_types::Command;
 
 // The lane of the command is a byte.
@@ -36,4 +37,19 @@ pub(crate) fn lanes_of(commands: &[Command]) -> u32
         }
     }
     lanes
+}
+
+// How many lanes there are up to the greatest one that has a command left; it is looked for from this many down.
+pub(crate) fn lanes_left(cluster: &Cluster, lanes: u32) -> u32
+    requires used { AreUsedFrom lanes cluster.now.seen }
+    requires few { lanes ≤ most_lanes }
+    ensures used { AreUsedFrom result cluster.now.seen }
+    ensures fewer { result ≤ lanes }
+{
+    for lane in (0..lanes).rev() {
+        if cluster.next_command(lane as u8).is_some() {
+            return lane + 1;
+        }
+    }
+    0
 }

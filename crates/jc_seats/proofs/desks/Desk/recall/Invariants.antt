@@ -1,4 +1,3 @@
-use Rattle.std.proofs.Common.{reverse}
 use Rattle.jc_seats.proofs.desks.Desk.recall.Given as goal
 
 -- The log is shown the history of the cluster.

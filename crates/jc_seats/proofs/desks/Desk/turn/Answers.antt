@@ -4,6 +4,9 @@ use Rattle.jc_turn.proofs.Prefixes.{prefix_trans}
 use Rattle.jc_seats.specs.Hands.{WasTaken}
 use Rattle.jc_seats.proofs.HandFacts.{taken-now}
 use Rattle.jc_seats.proofs.Beginnings.{happened_begins, same_begins}
+use Rattle.jc_types.specs.declared.runs.Event.{Event}
+use Rattle.jc_core.specs.Shared.{Shared}
+use Rattle.jc_seats.specs.SeatTurns.{HasHappened, IsOwnEvent}
 use Rattle.jc_seats.proofs.desks.Desk.turn.Goals as goal
 
 -- What the log has seen is a beginning still, since a turn leaves what had happened.
@@ -26,3 +29,7 @@ invariant_of-self-in-Went g c =
     let old = c.self.inside.kept.seen in
     let new = c.turn.new.self.seen in
     (c.self.invariant.0, prefix_trans c.self.inside.log.seen (reverse old.pasts) (reverse new.pasts) c.self.invariant.1 (happened_begins old new told.0 told.1.seen))
+
+pub returns-in-Went-clause-went : goal.returns-in-Went-clause-went
+returns-in-Went-clause-went g c = λ e.
+    subst (λ (s : Shared). (event : Event) × HasHappened event s c.turn.new.self × IsOwnEvent c.args.seat.now s event) c.self.view_is (c.in_ok-work.ensures.went c.in-Went.is)

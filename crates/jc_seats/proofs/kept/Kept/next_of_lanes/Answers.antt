@@ -5,7 +5,8 @@ use Rattle.jc_play.specs.Actors.{CanCome, IsOfActor}
 use Rattle.jc_play.specs.declared.actors.Actor.TheVariants as actor
 use Rattle.jc_core.specs.Shared.{Shared}
 use Rattle.jc_seats.specs.SeatTurns.{IsLaneOf}
-use Rattle.jc_seats.proofs.TurnFacts.{none-left, own-lanes, owner-next}
+use Rattle.jc_seats.proofs.TurnFacts.{own-lanes, owner-next}
+use Rattle.jc_seats.proofs.UsedFacts.{none-left}
 use Rattle.jc_seats.proofs.kept.Kept.next_of_lanes.Goals as goal
 use Rattle.jc_seats.proofs.kept.Kept.next_of_lanes.Goals.{then-owner-seat+else-is_some, else-owner-seat}
 
@@ -28,4 +29,4 @@ loop-number-preserved g c = (
 )
 
 pub returns-clause-none : goal.returns-clause-none
-returns-clause-none g c = λ e. none-left c.args.seat.now c.args.self.now.seen c.lanes-lanes.result c.lanes-lanes.ensures.below (λ lane lt. let test = c.loop-number-test.false in c.loop-number.invariant.1 lane (omega (arith, lt, test)))
+returns-clause-none g c = λ e. none-left c.args.seat.now c.args.self.now.seen c.lanes-lanes.result c.lanes-lanes.ensures.used (λ lane lt. let test = c.loop-number-test.false in c.loop-number.invariant.1 lane (omega (arith, lt, test)))
