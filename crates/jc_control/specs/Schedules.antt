@@ -76,12 +76,12 @@ abbrev pub AreKnown : List Key → List (Key × Known) → Type 0
 AreKnown keys known = (k : Key) → has_key k keys ≡ true → is_some (at same_key known k) ≡ true
 
 -- Each of the keys has a supply of its copies.
-abbrev pub AreSupplied : List Key → List (Key × Key) → Type 0
-AreSupplied keys supplies = (k : Key) → has_key k keys ≡ true → at same_key supplies k ≡ Some k
+abbrev pub AreSupplied : List Key → List Key → Type 0
+AreSupplied keys supplies = (k : Key) → has_key k keys ≡ true → has_key k supplies ≡ true
 
 -- Each processing key has a row and a supply. The delays have room for each of them, and the queue for each
 -- of them beside each key that has a moment.
-pub record IsProvided (q : RoomedQueue) (d : RoomedDelays) (rows : List (Key × Known)) (supplies : List (Key × Key)) : Type 0 where
+pub record IsProvided (q : RoomedQueue) (d : RoomedDelays) (rows : List (Key × Known)) (supplies : List Key) : Type 0 where
   pub known : AreKnown q.queue.processing rows
   pub supplied : AreSupplied q.queue.processing supplies
   pub for_delays : length q.queue.processing ≤ d.room

@@ -1,6 +1,6 @@
 //! The controller.
 
-ghost use Rattle.std.specs.Prelude.{◌≡◌, [], IfOk, OnErr, OnOk, Some, slice_get, true, unwrap_or};
+ghost use Rattle.std.specs.Prelude.{◌≡◌, ◌↔◌, [], IfOk, IsTrue, OnErr, OnOk, Some, slice_get, true, unwrap_or};
 ghost use Rattle.std.specs.Option.{option_copied, option_map};
 ghost use Rattle.jc_cache.specs.Caches.{AreApart, HasFewPods, HoldsByOwner, IsNext, job_rows};
 ghost use Rattle.jc_control.specs.Schedules.{backoff_of, idle, number_of, unknown};
@@ -9,7 +9,7 @@ ghost use Rattle.jc_queue.specs.Delayed.{HasOneMoment, first_of};
 ghost use Rattle.jc_queue.specs.Queued.{IsQueue, has_key};
 ghost use Rattle.jc_types.specs.Keys.{same_key};
 ghost use Rattle.jc_states.specs.PodLists.{IsRising};
-ghost use Rattle.jc_log.specs.Tables.{Sets, at};
+ghost use Rattle.jc_log.specs.Tables.{at};
 
 use crate::begins::{Begin, Lag, first_lag, later};
 use crate::ends::{Ending, SyncEnd, delay, is_lost, take_ending};
@@ -19,7 +19,7 @@ use jc_moment::Moment;
 use jc_queue::{Delays, Queue};
 use jc_states::{Basis, Pods};
 use jc_table::Table;
-use jc_types::{Arc, Backoff, Copied, Entry, Job, Jobs, Key, Kind, Version, Want};
+use jc_types::{Arc, Backoff, Copied, Entry, Job, Jobs, Key, Kind, Same, Version, Want};
 use std::alloc::Global;
 use std::marker::Model;
 
@@ -43,7 +43,7 @@ pub struct Controller {
     // A row for each key of which a sync has begun.
     known: Table<Key, Known>,
     // The copies of each processing key that the end of its sync needs.
-    supplies: Table<Key, Ending>,
+    supplies: Vec<Ending>,
 }
 
 impl Model for Controller {
@@ -64,7 +64,7 @@ impl Model for Controller {
     } };
 
     // What an answer brings is kept with no memory. So end the syncs, and so come the keys that are due.
-    ghost invariant = { λ c. IsProvided c.queue c.delays c.known c.supplies };
+    ghost invariant = { λ c. IsProvided c.queue c.delays c.known c.supplies.items };
 }
 
 impl Controller {
@@ -81,7 +81,7 @@ impl Controller {
             queue: Queue::new(alloc),
             delays: Delays::new(alloc),
             known: Table::new(alloc),
-            supplies: Table::new(alloc),
+            supplies: Vec::new(alloc),
         }
     }
 
@@ -320,8 +320,13 @@ impl Controller {
         ensures jobs { self.new.jobs ≡ self.old.jobs }
         ensures rows { self.new.rows ≡ self.old.rows }
     {
+        let known = known_of(&self.known, key);
+        // Most syncs leave it as it was.
+        if is_same_backoff(&known.backoff, &backoff) {
+            return;
+        }
         let known = Known {
-            floor: known_of(&self.known, key).floor,
+            floor: known.floor,
             backoff,
         };
         self.known.replace(key, known);
@@ -395,8 +400,10 @@ impl Controller {
         let syncs = self.queue.processing() + 1;
         self.queue.reserve(self.delays.len() + syncs)?;
         self.delays.reserve(syncs)?;
-        supply(&mut self.supplies, key)?;
+        let ending = Ending::of(key)?;
+        self.supplies.reserve(1)?;
         note(&mut self.known, key)?;
+        self.supplies.push_reserved(ending);
         self.queue.get();
         Ok(())
     }
@@ -468,6 +475,13 @@ fn no_failures() -> Backoff
     }
 }
 
+// Whether both are the same backoff.
+fn is_same_backoff(one: &Backoff, other: &Backoff) -> bool
+    ensures { IsTrue result ↔ (one.now ≡ other.now) }
+{
+    one.failures == other.failures && one.last.is_same(&other.last)
+}
+
 // What is known of the key.
 fn known_of(rows: &Table<Key, Known>, key: &Key) -> Known
     ensures { result ≡ unwrap_or (at same_key rows.now key.now) unknown }
@@ -499,16 +513,4 @@ fn note(rows: &mut Table<Key, Known>, key: &Key) -> Result<(), Want>
         backoff: no_failures(),
     };
     rows.put(key.copy()?, unknown)
-}
-
-// Puts a supply of the key, in place of an older one.
-//
-// `Want` where there is no memory for it; the supplies are then as before.
-fn supply(supplies: &mut Table<Key, Ending>, key: &Key) -> Result<(), Want>
-    ensures supplied { OnOk result
-        (Sets same_key supplies.old supplies.new key.now (Some key.now)) }
-    ensures kept { OnErr result (supplies.new ≡ supplies.old) }
-{
-    let ending = Ending::of(key)?;
-    supplies.put(key.copy()?, ending)
 }

@@ -1,13 +1,13 @@
 //! The end of a sync.
 
-ghost use Rattle.std.specs.Prelude.{◌≡◌, ◌+◌, ◌<◌, ◌≤◌, IfOk, None, Some};
-ghost use Rattle.jc_log.specs.Tables.{Sets, at};
+ghost use Rattle.std.specs.Prelude.{◌≡◌, ◌+◌, ◌<◌, ◌≤◌, IfOk, true};
+ghost use Rattle.std.specs.List.{position};
+ghost use Rattle.jc_queue.specs.Queued.{has_key, without};
 ghost use Rattle.jc_types.specs.Keys.{same_key};
 ghost use Rattle.jc_control.specs.ControllerCalls.{delays_after, forgets_caches};
 
 use jc_moment::Moment;
 use jc_queue::{Delays, Supply};
-use jc_table::Table;
 use jc_types::{Copied, Key, Want};
 use std::marker::Model;
 
@@ -55,6 +55,13 @@ impl Ending {
         })
     }
 
+    // Whether they are copies of the key.
+    fn is_of(&self, key: &Key) -> bool
+        ensures { result ≡ same_key key.now self.now }
+    {
+        *key == self.done
+    }
+
     // The copy that is done, and the supply.
     fn into_parts(self) -> (Key, Supply)
         ensures done { result.0 ≡ self }
@@ -64,17 +71,25 @@ impl Ending {
     }
 }
 
-// Takes the copies of the key out of the table: the one that is done, and the supply.
-pub(crate) fn take_ending(endings: &mut Table<Key, Ending>, key: &Key) -> (Key, Supply)
-    requires there { at same_key endings.old key.now ≡ Some key.now }
+// The place of the copies of the key.
+fn place_of(endings: &[Ending], key: &Key) -> Option<usize>
+    ensures { result ≡ position (same_key key.now) endings.now }
+{
+    endings.iter().position(|ending| ending.is_of(key))
+}
+
+// Takes the copies of the key out of the list, in which there are as many as syncs: the one that is done, and
+// the supply.
+pub(crate) fn take_ending(endings: &mut Vec<Ending>, key: &Key) -> (Key, Supply)
+    requires there { has_key key.now endings.old.items ≡ true }
     ensures done { result.0 ≡ key.now }
     ensures supply { result.1 ≡ key.now }
-    ensures sets { Sets same_key endings.old endings.new key.now None }
+    ensures left { endings.new.items ≡ without key.now endings.old.items }
 {
-    let Some(ending) = endings.take(key) else {
+    let Some(place) = place_of(endings.as_slice(), key) else {
         unreachable!()
     };
-    ending.into_parts()
+    endings.remove(place).into_parts()
 }
 
 // Whether the end forgets both caches.
