@@ -25,8 +25,10 @@ use Rattle.jc_ledger.specs.declared.counts.Verdicts.{Verdicts}
 use Rattle.jc_account.specs.declared.judgements.Judgement.{Judgement as Row}
 use Rattle.jc_verdicts.specs.Books.{AreCounts, AreFew, AreSound, IsSoundBook, Knows, done_at, rows_at, totals_of, verdicts_at}
 use Rattle.jc_ledger.specs.Ledger.{kept, Judging, Ledger, Record, entered, judged_by, ledger_of}
-use Rattle.jc_verdicts.specs.Verdicts.{IsCount, done_once_seen, done_by, fresh_rows, new_rows, outcome_in, rows_for, success_indexes}
+use Rattle.jc_verdicts.specs.Places.{touching_places}
+use Rattle.jc_verdicts.specs.Verdicts.{HasSeen, IsCount, before_place, done_once_seen, done_by, fresh_rows, new_rows, outcome_in, rows_for, success_indexes}
 use Rattle.jc_ledger.specs.Ledger.{verdicts_of}
+use Rattle.jc_verdicts.proofs.StayFacts.{judged-stay, rows-staying}
 use Rattle.jc_verdicts.proofs.VerdictFacts.{few_rows, few_kept, verdicts_are}
 use Rattle.jc_verdicts.proofs.VerdictRows.{outcomes-append, count_entered}
 
@@ -42,6 +44,20 @@ rows-known spec known rows pods knows = ap (λ f. rows_for spec f pods) (λ i u.
 -- The pods of a Job rise.
 pub owned-rise : (j : Uid) (log : List Entry) (pods : List Pod) → pods ≡ pods_of j log → IsRising pods
 owned-rise j log pods are = subst IsRising (sym are) (rises_filter 0 (λ pod. same_uid pod.owner_uid j) (pods_in log) (pods_in-rises log))
+
+-- The pods that were seen are those that stay after new rows are noted too.
+pub seen-judged : (known more : List (Uid × Outcome)) (j : Uid) (log : List Entry) (pods : List Pod) (number : ℕ) (spec : JobSpec) (new : List Row) → HasSeen j log known pods number
+    → new ≡ rows_for spec (at same_uid known) pods → ((u : Uid) → at same_uid more u ≡ option_or (at same_uid known u) (outcome_in new u)) → HasSeen j log more pods number
+seen-judged known more j log pods number spec new seen are notes =
+    let older : List Entry = reverse (take (before_place (touching_places j log) number log) log) in
+    record {
+      within = seen.within;
+      pods_are =
+          seen.pods_are
+          ∙ sym
+          (judged-stay known (pods_of j older) (owned-rise j older (pods_of j older) refl) spec more new
+          (are ∙ ap (rows_for spec (at same_uid known)) seen.pods_are ∙ rows-staying known spec (pods_of j older)) notes);
+    }
 
 -- The rows of what is judged are those that the write judges.
 pub new-is : (job : Job) (spec : JobSpec) (log : List Entry) (seen : ℕ) (known : List (Uid × Outcome)) (rows new : List Row) (pods : List Pod) → spec ≡ job.spec → pods ≡ pods_of job.uid (reverse (take seen log)) → Knows known rows
@@ -98,6 +114,31 @@ books-counted job log seen version ledgers old mid new book others sets more joi
     by true s =
         subst (λ x. IsCount book.rows.items book.done.items (entered job (pods_of x (upto seen (reverse log))) seen version (ledgers x))) (same_uid-eq job.uid j s) own
     by false s = subst (λ o. IsCount (items o) (indexes o) (ledgers j)) (sym (others j s)) (counts j)
+
+-- So it does where the book is what the Job's book became.
+pub book-judged : (job : Job) (log : List Entry) (seen version : ℕ) (ledgers : Uid → Ledger) (old mid new : List (Uid × Book)) (before after : Book)
+    → ((j : Uid) → same_uid job.uid j ≡ false → at same_uid mid j ≡ at same_uid old j)
+    → Sets same_uid mid new job.uid (Some after)
+    → before.rows.items ≡ rows_at job.uid old
+    → before.done.items ≡ done_at job.uid old
+    → after.rows.items ≡ before.rows.items ++ fresh_rows job before.rows.items log seen
+    → after.done.items ≡ done_once_seen job before.rows.items before.done.items log seen
+    → AreCounts ledgers old
+    → AreCounts (λ j. judged_by j (reverse log) (Some (record { job = job; seen = seen; at = version })) (ledgers j)) new
+book-judged job log seen version ledgers old mid new before after others sets rows done more joins counts =
+    books-counted job log seen version ledgers old mid new after others sets
+    (more ∙ ap (λ rs. rs ++ fresh_rows job rs log seen) rows)
+    (joins
+    ∙ ap (λ rs. done_once_seen job rs before.done.items log seen) rows
+    ∙ ap (λ ds. done_once_seen job (rows_at job.uid old) ds log seen) done)
+    counts
+
+-- The rows and the indexes of a book that is there, and of none.
+pub rows-of : (u : Uid) (books : List (Uid × Book)) (found : Option Book) → at same_uid books u ≡ found → option_map_or (λ (b : Book). b.rows.items) found [] ≡ rows_at u books
+rows-of u books found there = sym (ap (λ o. option_map_or (λ (b : Book). b.rows.items) o []) there)
+
+pub done-of : (u : Uid) (books : List (Uid × Book)) (found : Option Book) → at same_uid books u ≡ found → option_map_or (λ (b : Book). b.done.items) found [] ≡ done_at u books
+done-of u books found there = sym (ap (λ o. option_map_or (λ (b : Book). b.done.items) o []) there)
 
 -- So it does after the event that is the write.
 pub counts-after : (log : List Entry) (judging judged : Option Judging) → judging ≡ judged → (ledgers : Uid → Ledger) (books : List (Uid × Book)) → AreCounts (λ j. judged_by j log judging (ledgers j)) books

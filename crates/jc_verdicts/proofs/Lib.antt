@@ -3,7 +3,7 @@ pub mod VerdictSteps
 pub mod VerdictRows
 pub mod VerdictEvents
 pub mod VerdictFacts
-pub mod BackFacts
+pub mod StayFacts
 pub mod BookFacts
 pub mod PlaceLists
 pub mod TouchFacts

@@ -1,5 +1,5 @@
 -- Entries that the lists of a Job don't have leave its pods, and the Job of a key, as they were.
-use Rattle.std.proofs.Common.{◌≡◌, ℕ, zero, suc, ◌+◌, ◌-◌, ◌<◌, ◌≤◌, ◌^◌, Bool, true, false, cond, not, ◌||◌, List, [], ◌∷◌, ◌++◌, length, get_or, reverse, take, Some, None, refl, sym, ap, ◌∙◌, subst, arith}
+use Rattle.std.proofs.Common.{◌≡◌, ℕ, zero, suc, ◌+◌, ◌<◌, ◌≤◌, Bool, true, false, cond, not, ◌||◌, List, [], ◌∷◌, ◌++◌, filter, length, get_or, reverse, take, Some, None, refl, sym, ap, ◌∙◌, subst, arith}
 use Rattle.std.specs.List.{AllByRecursion as Each}
 use Rattle.std.specs.List.Sorted.{IsNonDecreasingBy}
 use Rattle.std.specs.Option.{option_map_or}
@@ -12,15 +12,17 @@ use Rattle.jc_types.specs.declared.objects.Key.{Key}
 use Rattle.jc_types.specs.declared.objects.Pod.{Pod}
 use Rattle.jc_types.specs.Keys.{same_key, same_uid}
 use Rattle.jc_types.proofs.KeyFacts.{same_uid-eq, same_uid-itself}
-use Rattle.jc_states.specs.PodLists.{drop_pod}
-use Rattle.jc_states.proofs.PodListFacts.{length-filter-le}
+use Rattle.jc_states.specs.PodLists.{IsRising, drop_pod}
+use Rattle.jc_types.proofs.ListFacts.{filter_within}
+use Rattle.jc_states.proofs.PodListFacts.{rises_filter}
 use Rattle.jc_log.specs.Log.{Live, job_in, life, living, pods_in, pods_of}
 use Rattle.jc_log.specs.PlainReadings.{is_about_job, job_put}
-use Rattle.jc_log.proofs.PodFacts.{pods_in-few, pods_in-rises, pods_of-live, pods_of-owned}
+use Rattle.jc_log.proofs.PodFacts.{pods_in-rises, pods_of-live, pods_of-owned}
 use Rattle.jc_verdicts.specs.Places.{IsCut, owns, places_where, job_places, touching_places, touches}
-use Rattle.jc_verdicts.specs.Verdicts.{HasSeen, before_place}
+use Rattle.jc_failpol.specs.declared.outcomes.Outcome.{Outcome}
+use Rattle.jc_verdicts.specs.Verdicts.{HasSeen, before_place, staying, stays}
 use Rattle.jc_verdicts.proofs.PlaceLists.{Changes, changes-cut, changes-first, changes-more, changes-next, changes-place, changes-rise}
-use Rattle.jc_verdicts.proofs.VerdictPods.{owned-drop, owned-put}
+use Rattle.jc_verdicts.proofs.VerdictPods.{passing-drop, passing-put}
 
 -- A UID that none of the pods has is not taken out.
 drop_none : (u : Uid) (pods : List Pod) → Each (λ pod. same_uid pod.uid u ≡ false) pods → drop_pod u pods ≡ pods
@@ -56,10 +58,14 @@ untouched j (PodPut pod) older h = by (same_uid pod.owner_uid j) refl h
     by : (b : Bool) → same_uid pod.owner_uid j ≡ b → (b || owns j pod.uid older) ≡ false → pods_of j (PodPut pod ∷ older) ≡ pods_of j older
     by true s k = absurd (both_ways true k refl)
     by false s k =
-        owned-put j pod 0 (pods_in older) (pods_in-rises older)
+        passing-put (λ p. same_uid p.owner_uid j) pod 0 (pods_in older) (pods_in-rises older)
         ∙ cond-false (same_uid pod.owner_uid j) _ (drop_pod pod.uid (pods_of j older)) s
         ∙ drop_other j pod.uid older k
-untouched j (PodGone pod) older h = owned-drop j pod.uid (pods_in older) ∙ drop_other j pod.uid older h
+untouched j (PodGone pod) older h = passing-drop (λ p. same_uid p.owner_uid j) pod.uid (pods_in older) ∙ drop_other j pod.uid older h
+
+-- It does not touch those of them that stay.
+pub untouched-staying : (known : List (Uid × Outcome)) (j : Uid) (e : Entry) (older : List Entry) → touches j e older ≡ false → staying known j (e ∷ older) ≡ staying known j older
+untouched-staying known j e older h = ap (filter (stays known)) (untouched j e older h)
 
 -- An entry that is not about the Job of the key.
 pub not_about : (k : Key) (e : Entry) (older : List Entry) → is_about_job k e ≡ false → job_in k (e ∷ older) ≡ job_in k older
@@ -158,55 +164,58 @@ module _ {X : Type 0} (f : List Entry → X) (test : Entry → List Entry → Bo
     pub places-cut : (end count : ℕ) → end ≤ length log → IsCut end places count → f (reverse (take (before_place places count log) log)) ≡ f (reverse (take end log))
     places-cut end count high cut = changes-cut (said log) (Passes log) (length log) end places count changes high cut
 
-module _ (owner : Uid) (log : List Entry) (places : List ℕ) (are : places ≡ touching_places owner log) where
+module _ (known : List (Uid × Outcome)) (owner : Uid) (log : List Entry) (places : List ℕ) (are : places ≡ touching_places owner log) where
   -- What is said of a list that has its places, is said of those of the Job.
-  seen_as : (pods : List Pod) (at : ℕ) → (at ≤ length places) → pods ≡ pods_of owner (reverse (take (before_place places at log) log)) → HasSeen owner log pods at
+  seen_as : (pods : List Pod) (at : ℕ) → (at ≤ length places) → pods ≡ staying known owner (reverse (take (before_place places at log) log)) → HasSeen owner log known pods at
   seen_as pods at within is =
       let long = ap length are in
       record {
         within = omega (arith, within, long);
-        pods_are = is ∙ ap (λ ps. pods_of owner (reverse (take (before_place ps at log) log))) are;
+        pods_are = is ∙ ap (λ ps. staying known owner (reverse (take (before_place ps at log) log))) are;
       }
 
   -- And back.
-  seen_by : (pods : List Pod) (at : ℕ) → HasSeen owner log pods at → pods ≡ pods_of owner (reverse (take (before_place places at log) log))
-  seen_by pods at seen = seen.pods_are ∙ ap (λ ps. pods_of owner (reverse (take (before_place ps at log) log))) (sym are)
+  seen_by : (pods : List Pod) (at : ℕ) → HasSeen owner log known pods at → pods ≡ staying known owner (reverse (take (before_place places at log) log))
+  seen_by pods at seen = seen.pods_are ∙ ap (λ ps. staying known owner (reverse (take (before_place ps at log) log))) (sym are)
 
   -- The entry at a place is taken in.
-  pub seen-next : (at : ℕ) (pods new : List Pod) → at < length places → HasSeen owner log pods at
-      → (pods ≡ pods_of owner (reverse (take (get_or places at 0) log)) → new ≡ pods_of owner (reverse (take (get_or places at 0 + 1) log)))
-      → HasSeen owner log new (at + 1)
+  pub seen-next : (at : ℕ) (pods new : List Pod) → at < length places → HasSeen owner log known pods at
+      → (pods ≡ staying known owner (reverse (take (get_or places at 0) log)) → new ≡ staying known owner (reverse (take (get_or places at 0 + 1) log)))
+      → HasSeen owner log known new (at + 1)
   seen-next at pods new within seen more =
       seen_as new (at + 1) (omega (arith, within))
-      (more (seen_by pods at seen ∙ ap (λ n. pods_of owner (reverse (take n log))) (get_or_default places at (length log) 0 within))
-      ∙ sym (places-next (pods_of owner) (touches owner) (untouched owner) log places are at within))
-
-  -- Before an entry that touches them there are fewer pods than entries.
-  pub seen-few : (at : ℕ) (pods : List Pod) → at < length places → HasSeen owner log pods at → length log < 2 ^ 32 → length pods < 2 ^ 32 - 1
-  seen-few at pods within seen few =
-      let place = get_or places at 0 in
-      let low = places-within (pods_of owner) (touches owner) (untouched owner) log places are at within in
-      let is = seen_by pods at seen ∙ ap (λ n. pods_of owner (reverse (take n log))) (get_or_default places at (length log) 0 within) in
-      let owned = length-filter-le (λ pod. same_uid pod.owner_uid owner) (pods_in (reverse (take place log))) in
-      let all = pods_in-few (reverse (take place log)) in
-      let long = length-reverse (take place log) ∙ length-take-le place log (omega (arith, low)) in
-      omega (arith, ap length is, owned, all, long, low, few)
+      (more (seen_by pods at seen ∙ ap (λ n. staying known owner (reverse (take n log))) (get_or_default places at (length log) 0 within))
+      ∙ sym (places-next (staying known owner) (touches owner) (untouched-staying known owner) log places are at within))
 
   -- What a sync saw: those at the places that it saw.
-  pub seen-cut : (pods : List Pod) (count end seen : ℕ) → HasSeen owner log pods count → IsCut end places count → end ≤ length log → take end log ≡ take seen log → pods ≡ pods_of owner (reverse (take seen log))
+  pub seen-cut : (pods : List Pod) (count end seen : ℕ) → HasSeen owner log known pods count → IsCut end places count → end ≤ length log → take end log ≡ take seen log → pods ≡ staying known owner (reverse (take seen log))
   seen-cut pods count end seen has cut high same =
       seen_by pods count has
-      ∙ places-cut (pods_of owner) (touches owner) (untouched owner) log places are end count high cut
-      ∙ ap (λ es. pods_of owner (reverse es)) same
+      ∙ places-cut (staying known owner) (touches owner) (untouched-staying known owner) log places are end count high cut
+      ∙ ap (λ es. staying known owner (reverse es)) same
 
 -- At the first place there are no pods yet.
-pub seen-first : (owner : Uid) (log : List Entry) (pods : List Pod) (at : ℕ) → pods ≡ [] → at ≡ 0 → HasSeen owner log pods at
-seen-first owner log pods at none first =
-    subst (HasSeen owner log pods) (sym first)
+pub seen-first : (known : List (Uid × Outcome)) (owner : Uid) (log : List Entry) (pods : List Pod) (at : ℕ) → pods ≡ [] → at ≡ 0 → HasSeen owner log known pods at
+seen-first known owner log pods at none first =
+    subst (HasSeen owner log known pods) (sym first)
     (record {
       within = omega arith;
-      pods_are = none ∙ sym (places-first (pods_of owner) (touches owner) (untouched owner) log (touching_places owner log) refl);
+      pods_are = none ∙ sym (places-first (staying known owner) (touches owner) (untouched-staying known owner) log (touching_places owner log) refl);
     })
+
+-- The pods that were seen stay.
+pub seen-stay : (known : List (Uid × Outcome)) (owner : Uid) (log : List Entry) (pods : List Pod) (at : ℕ) → HasSeen owner log known pods at → HasSeen owner log known (filter (stays known) pods) at
+seen-stay known owner log pods at seen =
+    subst (λ ps. HasSeen owner log known ps at)
+    (seen.pods_are
+    ∙ sym (filter_within (stays known) (stays known) (λ pod s. s) (pods_of owner (reverse (take (before_place (touching_places owner log) at log) log))))
+    ∙ ap (filter (stays known)) (sym seen.pods_are)) seen
+
+-- The pods that were seen rise.
+pub seen-rise : (known : List (Uid × Outcome)) (owner : Uid) (log : List Entry) (pods : List Pod) (at : ℕ) → HasSeen owner log known pods at → IsRising pods
+seen-rise known owner log pods at seen =
+    let older = reverse (take (before_place (touching_places owner log) at log) log) in
+    subst IsRising (sym seen.pods_are) (rises_filter 0 (stays known) (pods_of owner older) (rises_filter 0 (λ pod. same_uid pod.owner_uid owner) (pods_in older) (pods_in-rises older)))
 
 module _ (k : Key) (log : List Entry) (places : List ℕ) (are : places ≡ job_places k log) where
   -- Where no place is below the end, there was no Job.

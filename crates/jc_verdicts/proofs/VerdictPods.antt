@@ -1,17 +1,20 @@
 -- The pods of one Job by steps: what one more entry does to them, in any log.
-use Rattle.std.proofs.Common.{◌≡◌, ℕ, ◌+◌, ◌<◌, ◌==◌, nat_lt, Bool, true, false, cond, not, ◌&&◌, List, [], ◌∷◌, filter, refl, sym, ap, ◌∙◌, arith, eq-eqb, ltb-true, eqb-true, ne_eqb}
-use Rattle.std.proofs.lemmas.Bool.{cond-true, cond-false, eqb-false}
+use Rattle.std.proofs.Common.{◌≡◌, ℕ, ◌+◌, ◌<◌, ◌==◌, nat_lt, Bool, true, false, cond, not, ◌&&◌, List, [], ◌∷◌, filter, length, set, None, is_some, refl, sym, ap, subst, ◌∙◌, ◌≤◌, arith, eq-eqb, ltb-true, eqb-true, ne_eqb}
+use Rattle.std.specs.List.{insert}
+use Rattle.std.proofs.lemmas.Bool.{cond-false, eqb-false}
 use Rattle.jc_types.specs.declared.numbers.Uid.{Uid}
 use Rattle.jc_types.specs.declared.objects.Entry.{Entry}
 use Rattle.jc_types.specs.declared.objects.Entry.TheVariants.{PodPut, PodGone}
 use Rattle.jc_types.specs.declared.objects.Pod.{Pod}
 use Rattle.jc_types.specs.Keys.{same_uid}
-use Rattle.jc_states.specs.PodLists.{put_pod, drop_pod, RisesFrom}
-use Rattle.jc_log.specs.Log.{pods_in, pods_of}
-use Rattle.jc_types.proofs.ListFacts.{filter_filter, filter_same}
+use Rattle.jc_states.specs.PodLists.{IsRising, put_pod, drop_pod, place_from, RisesFrom}
+use Rattle.jc_log.specs.Log.{pods_in}
+use Rattle.jc_failpol.specs.declared.outcomes.Outcome.{Outcome}
+use Rattle.jc_verdicts.specs.Verdicts.{staying, stays}
+use Rattle.jc_types.proofs.ListFacts.{filter_filter, filter_swap}
 use Rattle.jc_log.proofs.PodFacts.{pods_in-rises}
-use Rattle.jc_states.proofs.PodListFacts.{put_pod-above, put_pod-below, put_pod-there, rises_filter}
-use Rattle.jc_account.proofs.ListedFacts.{each}
+use Rattle.jc_states.proofs.PodListFacts.{drop-absent, pod_among, put_pod-above, put_pod-below, put_pod-there, rises_filter, rises_put}
+use Rattle.jc_states.proofs.PodPlaceFacts.{insert-place, none_from_false, place-there, place-within, set-place}
 
 -- A UID below all others is not among them.
 drop_pod-below : (u : Uid) (low : ℕ) (pods : List Pod) → u.0 < low → RisesFrom low pods → drop_pod u pods ≡ pods
@@ -20,84 +23,139 @@ drop_pod-below u low (q ∷ pods) h r =
     ap (λ b. cond (not b) (q ∷ drop_pod u pods) (drop_pod u pods)) (ne_eqb q.uid.0 u.0 (λ e. omega (arith, e, h, r.0)))
     ∙ ap (λ rest. q ∷ rest) (drop_pod-below u (q.uid.0 + 1) pods (omega (arith, h, r.0)) r.1)
 
-module _ (j : Uid) where
-  -- Those that were made for the Job.
-  abbrev pub owned : List Pod → List Pod
-  owned pods = filter (λ pod. same_uid pod.owner_uid j) pods
+module _ (test : Pod → Bool) where
+  -- Those that pass.
+  abbrev pub passing : List Pod → List Pod
+  passing pods = filter test pods
 
-  -- A pod that is put: it joins those of its owner, and its UID leaves those of every other.
-  pub owned-put : (pod : Pod) (low : ℕ) (pods : List Pod) → RisesFrom low pods → owned (put_pod pod pods) ≡ cond (same_uid pod.owner_uid j) (put_pod pod (owned pods)) (drop_pod pod.uid (owned pods))
-  owned-put pod low [] r = refl
-  owned-put pod low (q ∷ pods) r =
-      by (nat_lt pod.uid.0 q.uid.0) refl (pod.uid.0 == q.uid.0) refl (owned-put pod (q.uid.0 + 1) pods r.1)
+  -- A pod that is put: it joins those that pass where it does, and else its UID leaves them.
+  pub passing-put : (pod : Pod) (low : ℕ) (pods : List Pod) → RisesFrom low pods → passing (put_pod pod pods) ≡ cond (test pod) (put_pod pod (passing pods)) (drop_pod pod.uid (passing pods))
+  passing-put pod low [] r = refl
+  passing-put pod low (q ∷ pods) r =
+      by (nat_lt pod.uid.0 q.uid.0) refl (pod.uid.0 == q.uid.0) refl (passing-put pod (q.uid.0 + 1) pods r.1)
     where
-      above : RisesFrom (q.uid.0 + 1) (owned pods)
-      above = rises_filter (q.uid.0 + 1) (λ p. same_uid p.owner_uid j) pods r.1
+      above : RisesFrom (q.uid.0 + 1) (passing pods)
+      above = rises_filter (q.uid.0 + 1) test pods r.1
 
-      less : nat_lt pod.uid.0 q.uid.0 ≡ true → (a : Bool) → cond a (pod ∷ owned (q ∷ pods)) (owned (q ∷ pods)) ≡ cond a (put_pod pod (owned (q ∷ pods))) (drop_pod pod.uid (owned (q ∷ pods)))
+      less : nat_lt pod.uid.0 q.uid.0 ≡ true → (a : Bool) → cond a (pod ∷ passing (q ∷ pods)) (passing (q ∷ pods)) ≡ cond a (put_pod pod (passing (q ∷ pods))) (drop_pod pod.uid (passing (q ∷ pods)))
       less l true =
-          sym (put_pod-below pod q.uid.0 (owned (q ∷ pods)) (ltb-true pod.uid.0 q.uid.0 l) (rises_filter q.uid.0 (λ p. same_uid p.owner_uid j) (q ∷ pods) (omega arith, r.1)))
+          sym (put_pod-below pod q.uid.0 (passing (q ∷ pods)) (ltb-true pod.uid.0 q.uid.0 l) (rises_filter q.uid.0 test (q ∷ pods) (omega arith, r.1)))
       less l false =
-          sym (drop_pod-below pod.uid q.uid.0 (owned (q ∷ pods)) (ltb-true pod.uid.0 q.uid.0 l) (rises_filter q.uid.0 (λ p. same_uid p.owner_uid j) (q ∷ pods) (omega arith, r.1)))
+          sym (drop_pod-below pod.uid q.uid.0 (passing (q ∷ pods)) (ltb-true pod.uid.0 q.uid.0 l) (rises_filter q.uid.0 test (q ∷ pods) (omega arith, r.1)))
 
       there : nat_lt pod.uid.0 q.uid.0 ≡ false → (pod.uid.0 == q.uid.0) ≡ true → (a b : Bool)
-          → cond a (pod ∷ owned pods) (owned pods) ≡ cond a (put_pod pod (cond b (q ∷ owned pods) (owned pods))) (drop_pod pod.uid (cond b (q ∷ owned pods) (owned pods)))
-      there l e true true = sym (put_pod-there pod q (owned pods) l e)
-      there l e true false = let is = eqb-true pod.uid.0 q.uid.0 e in sym (put_pod-below pod (q.uid.0 + 1) (owned pods) (omega (arith, is)) above)
+          → cond a (pod ∷ passing pods) (passing pods) ≡ cond a (put_pod pod (cond b (q ∷ passing pods) (passing pods))) (drop_pod pod.uid (cond b (q ∷ passing pods) (passing pods)))
+      there l e true true = sym (put_pod-there pod q (passing pods) l e)
+      there l e true false = let is = eqb-true pod.uid.0 q.uid.0 e in sym (put_pod-below pod (q.uid.0 + 1) (passing pods) (omega (arith, is)) above)
       there l e false true =
           let is = eqb-true pod.uid.0 q.uid.0 e in
-          sym (ap (λ b. cond (not b) (q ∷ drop_pod pod.uid (owned pods)) (drop_pod pod.uid (owned pods))) (eq-eqb q.uid.0 pod.uid.0 (sym is)) ∙ drop_pod-below pod.uid (q.uid.0 + 1) (owned pods) (omega (arith, is)) above)
-      there l e false false = let is = eqb-true pod.uid.0 q.uid.0 e in sym (drop_pod-below pod.uid (q.uid.0 + 1) (owned pods) (omega (arith, is)) above)
+          sym (ap (λ b. cond (not b) (q ∷ drop_pod pod.uid (passing pods)) (drop_pod pod.uid (passing pods))) (eq-eqb q.uid.0 pod.uid.0 (sym is)) ∙ drop_pod-below pod.uid (q.uid.0 + 1) (passing pods) (omega (arith, is)) above)
+      there l e false false = let is = eqb-true pod.uid.0 q.uid.0 e in sym (drop_pod-below pod.uid (q.uid.0 + 1) (passing pods) (omega (arith, is)) above)
 
-      more : nat_lt pod.uid.0 q.uid.0 ≡ false → (pod.uid.0 == q.uid.0) ≡ false → (a b : Bool) (next : List Pod) → next ≡ cond a (put_pod pod (owned pods)) (drop_pod pod.uid (owned pods))
-          → cond b (q ∷ next) next ≡ cond a (put_pod pod (cond b (q ∷ owned pods) (owned pods))) (drop_pod pod.uid (cond b (q ∷ owned pods) (owned pods)))
-      more l e true true next ih = ap (λ rest. q ∷ rest) ih ∙ sym (put_pod-above pod q (owned pods) l e)
+      more : nat_lt pod.uid.0 q.uid.0 ≡ false → (pod.uid.0 == q.uid.0) ≡ false → (a b : Bool) (next : List Pod) → next ≡ cond a (put_pod pod (passing pods)) (drop_pod pod.uid (passing pods))
+          → cond b (q ∷ next) next ≡ cond a (put_pod pod (cond b (q ∷ passing pods) (passing pods))) (drop_pod pod.uid (cond b (q ∷ passing pods) (passing pods)))
+      more l e true true next ih = ap (λ rest. q ∷ rest) ih ∙ sym (put_pod-above pod q (passing pods) l e)
       more l e true false next ih = ih
       more l e false true next ih =
           ap (λ rest. q ∷ rest) ih
-          ∙ sym (ap (λ b. cond (not b) (q ∷ drop_pod pod.uid (owned pods)) (drop_pod pod.uid (owned pods))) (ne_eqb q.uid.0 pod.uid.0 (λ s. eqb-false pod.uid.0 q.uid.0 e (sym s))))
+          ∙ sym (ap (λ b. cond (not b) (q ∷ drop_pod pod.uid (passing pods)) (drop_pod pod.uid (passing pods))) (ne_eqb q.uid.0 pod.uid.0 (λ s. eqb-false pod.uid.0 q.uid.0 e (sym s))))
       more l e false false next ih = ih
 
       by : (lt : Bool) → nat_lt pod.uid.0 q.uid.0 ≡ lt → (eq : Bool) → (pod.uid.0 == q.uid.0) ≡ eq
-          → owned (put_pod pod pods) ≡ cond (same_uid pod.owner_uid j) (put_pod pod (owned pods)) (drop_pod pod.uid (owned pods))
-          → owned (cond lt (pod ∷ q ∷ pods) (cond eq (pod ∷ pods) (q ∷ put_pod pod pods)))
-          ≡ cond (same_uid pod.owner_uid j) (put_pod pod (owned (q ∷ pods))) (drop_pod pod.uid (owned (q ∷ pods)))
-      by true l eq e ih = less l (same_uid pod.owner_uid j)
-      by false l true e ih = there l e (same_uid pod.owner_uid j) (same_uid q.owner_uid j)
-      by false l false e ih = more l e (same_uid pod.owner_uid j) (same_uid q.owner_uid j) (owned (put_pod pod pods)) ih
+          → passing (put_pod pod pods) ≡ cond (test pod) (put_pod pod (passing pods)) (drop_pod pod.uid (passing pods))
+          → passing (cond lt (pod ∷ q ∷ pods) (cond eq (pod ∷ pods) (q ∷ put_pod pod pods)))
+          ≡ cond (test pod) (put_pod pod (passing (q ∷ pods))) (drop_pod pod.uid (passing (q ∷ pods)))
+      by true l eq e ih = less l (test pod)
+      by false l true e ih = there l e (test pod) (test q)
+      by false l false e ih = more l e (test pod) (test q) (passing (put_pod pod pods)) ih
 
   -- A UID that is dropped.
-  pub owned-drop : (u : Uid) (pods : List Pod) → owned (drop_pod u pods) ≡ drop_pod u (owned pods)
-  owned-drop u pods =
-      filter_filter (λ pod. same_uid pod.owner_uid j) (λ pod. not (same_uid pod.uid u)) pods
-      ∙ filter_same (λ pod. not (same_uid pod.uid u) && same_uid pod.owner_uid j) (λ pod. same_uid pod.owner_uid j && not (same_uid pod.uid u)) pods
-      (each (λ pod. (not (same_uid pod.uid u) && same_uid pod.owner_uid j) ≡ (same_uid pod.owner_uid j && not (same_uid pod.uid u)))
-      (λ pod. swap (not (same_uid pod.uid u)) (same_uid pod.owner_uid j)) pods)
-      ∙ sym (filter_filter (λ pod. not (same_uid pod.uid u)) (λ pod. same_uid pod.owner_uid j) pods)
-    where
-      swap : (a b : Bool) → (a && b) ≡ (b && a)
-      swap true true = refl
-      swap true false = refl
-      swap false true = refl
-      swap false false = refl
+  pub passing-drop : (u : Uid) (pods : List Pod) → passing (drop_pod u pods) ≡ drop_pod u (passing pods)
+  passing-drop u pods = filter_swap test (λ pod. not (same_uid pod.uid u)) pods
+
+module _ (known : List (Uid × Outcome)) (j : Uid) where
+  -- The pod was made for the Job, and stays.
+  abbrev pub stays_of : Pod → Bool
+  stays_of pod = same_uid pod.owner_uid j && stays known pod
+
+  -- The pods that stay are those of which this is so.
+  staying-are : (older : List Entry) → staying known j older ≡ filter stays_of (pods_in older)
+  staying-are older = filter_filter (stays known) (λ pod. same_uid pod.owner_uid j) (pods_in older)
 
   -- A pod of the Job is put.
-  pub seen_put : (entry : Entry) (pod again : Pod) (pods new : List Pod) (older : List Entry) → entry ≡ PodPut pod → same_uid pod.owner_uid j ≡ true → again ≡ pod → new ≡ put_pod again pods → pods ≡ pods_of j older → new ≡ pods_of j (entry ∷ older)
-  seen_put entry pod again pods new older is own same put before =
-      put ∙ ap (λ p. put_pod p pods) same ∙ ap (put_pod pod) before
-      ∙ sym (cond-true (same_uid pod.owner_uid j) (put_pod pod (pods_of j older)) (drop_pod pod.uid (pods_of j older)) own)
-      ∙ sym (owned-put pod 0 (pods_in older) (pods_in-rises older))
-      ∙ ap (λ e. pods_of j (e ∷ older)) (sym is)
+  pub seen_put : (entry : Entry) (pod : Pod) (pods new : List Pod) (older : List Entry) → entry ≡ PodPut pod → same_uid pod.owner_uid j ≡ true
+      → new ≡ cond (stays known pod) (put_pod pod pods) (drop_pod pod.uid pods) → pods ≡ staying known j older → new ≡ staying known j (entry ∷ older)
+  seen_put entry pod pods new older is own put before =
+      put ∙ ap (λ ps. cond (stays known pod) (put_pod pod ps) (drop_pod pod.uid ps)) (before ∙ staying-are older)
+      ∙ sym (ap (λ b. cond (b && stays known pod) (put_pod pod (filter stays_of (pods_in older))) (drop_pod pod.uid (filter stays_of (pods_in older)))) own)
+      ∙ sym (passing-put stays_of pod 0 (pods_in older) (pods_in-rises older))
+      ∙ sym (staying-are (PodPut pod ∷ older))
+      ∙ ap (λ e. staying known j (e ∷ older)) (sym is)
 
   -- A pod of another Job is put.
-  pub seen_other : (entry : Entry) (pod : Pod) (pods new : List Pod) (older : List Entry) → entry ≡ PodPut pod → same_uid pod.owner_uid j ≡ false → new ≡ drop_pod pod.uid pods → pods ≡ pods_of j older → new ≡ pods_of j (entry ∷ older)
+  pub seen_other : (entry : Entry) (pod : Pod) (pods new : List Pod) (older : List Entry) → entry ≡ PodPut pod → same_uid pod.owner_uid j ≡ false → new ≡ drop_pod pod.uid pods → filter (stays known) pods ≡ staying known j older
+      → filter (stays known) new ≡ staying known j (entry ∷ older)
   seen_other entry pod pods new older is own drops before =
-      drops ∙ ap (drop_pod pod.uid) before
-      ∙ sym (cond-false (same_uid pod.owner_uid j) (put_pod pod (pods_of j older)) (drop_pod pod.uid (pods_of j older)) own)
-      ∙ sym (owned-put pod 0 (pods_in older) (pods_in-rises older))
-      ∙ ap (λ e. pods_of j (e ∷ older)) (sym is)
+      ap (filter (stays known)) drops ∙ passing-drop (stays known) pod.uid pods ∙ ap (drop_pod pod.uid) (before ∙ staying-are older)
+      ∙ sym (ap (λ b. cond (b && stays known pod) (put_pod pod (filter stays_of (pods_in older))) (drop_pod pod.uid (filter stays_of (pods_in older)))) own)
+      ∙ sym (passing-put stays_of pod 0 (pods_in older) (pods_in-rises older))
+      ∙ sym (staying-are (PodPut pod ∷ older))
+      ∙ ap (λ e. staying known j (e ∷ older)) (sym is)
 
   -- A pod goes.
-  pub seen_gone : (entry : Entry) (pod : Pod) (pods new : List Pod) (older : List Entry) → entry ≡ PodGone pod → new ≡ drop_pod pod.uid pods → pods ≡ pods_of j older → new ≡ pods_of j (entry ∷ older)
+  pub seen_gone : (entry : Entry) (pod : Pod) (pods new : List Pod) (older : List Entry) → entry ≡ PodGone pod → new ≡ drop_pod pod.uid pods → filter (stays known) pods ≡ staying known j older
+      → filter (stays known) new ≡ staying known j (entry ∷ older)
   seen_gone entry pod pods new older is drops before =
-      drops ∙ ap (drop_pod pod.uid) before ∙ sym (owned-drop pod.uid (pods_in older)) ∙ ap (λ e. pods_of j (e ∷ older)) (sym is)
+      ap (filter (stays known)) drops ∙ passing-drop (stays known) pod.uid pods ∙ ap (drop_pod pod.uid) (before ∙ staying-are older)
+      ∙ sym (passing-drop stays_of pod.uid (pods_in older))
+      ∙ sym (staying-are (PodGone pod ∷ older))
+      ∙ ap (λ e. staying known j (e ∷ older)) (sym is)
+
+-- They rise without the pod of a UID.
+pub rises-dropped : (u : Uid) (pods new : List Pod) → IsRising pods → new ≡ drop_pod u pods → IsRising new
+rises-dropped u pods new rises drops = subst IsRising (sym drops) (rises_filter 0 (λ pod. not (same_uid pod.uid u)) pods rises)
+
+-- A pod is written over that of its UID, or put in front of the first of a greater one, or is not there and does not stay.
+module _ (known : List (Uid × Outcome)) (items slice slice2 : List Pod) (pod again here here2 : Pod) (i : ℕ) (rises : IsRising items)
+    (shown : slice ≡ items) (shown2 : slice2 ≡ items) (copied : again ≡ pod) (is : here ≡ again) (is2 : here2 ≡ again) (at : i ≡ place_from here.uid slice)
+    (there : Bool) (tells : there ≡ is_some (pod_among here2.uid slice2)) where
+  -- The place is that of its UID.
+  place : i ≡ place_from again.uid items
+  place = at ∙ ap (λ (p : Pod). place_from p.uid slice) is ∙ ap (place_from again.uid) shown
+
+  -- Whether there is one of its UID.
+  told : there ≡ is_some (pod_among again.uid items)
+  told = tells ∙ ap (λ (p : Pod). is_some (pod_among p.uid slice2)) is2 ∙ ap (λ ps. is_some (pod_among again.uid ps)) shown2
+
+  none : there ≡ false → pod_among again.uid items ≡ None
+  none not_so = none_from_false (pod_among again.uid items) (sym told ∙ not_so)
+
+  -- The place lies within the pods where there is one, and else at their end at most.
+  pub put-within : there ≡ true → i < length items
+  put-within is_so = place-there again.uid items i place (sym told ∙ is_so)
+
+  pub put-fits : i ≤ length items
+  put-fits = let fits = place-within again.uid items in omega (arith, fits, place)
+
+  -- It is put.
+  pub put-over : there ≡ true → set items i again ≡ put_pod pod items
+  put-over is_so = ap (λ n. set items n again) place ∙ set-place 0 again items rises (sym told ∙ is_so) ∙ ap (λ p. put_pod p items) copied
+
+  pub put-new : there ≡ false → (new : List Pod) → new ≡ insert items i again → new ≡ put_pod pod items
+  put-new not_so new inserts = inserts ∙ ap (λ n. insert items n again) place ∙ insert-place again items (none not_so) ∙ ap (λ p. put_pod p items) copied
+
+  -- The pods rise still, and those that stay are as they are to be.
+  pub put-rises : (new : List Pod) → new ≡ put_pod pod items → IsRising new
+  put-rises new puts = subst IsRising (sym puts) (rises_put 0 pod items (omega arith) rises)
+
+  pub put-stays : (new : List Pod) → new ≡ put_pod pod items
+      → filter (stays known) new ≡ cond (stays known pod) (put_pod pod (filter (stays known) items)) (drop_pod pod.uid (filter (stays known) items))
+  put-stays new puts = ap (filter (stays known)) puts ∙ passing-put (stays known) pod 0 items rises
+
+  -- So they are where it is not there and does not stay.
+  pub put-none : (here3 : Pod) → here3 ≡ again → there ≡ false → stays known here3 ≡ false
+      → filter (stays known) items ≡ cond (stays known pod) (put_pod pod (filter (stays known) items)) (drop_pod pod.uid (filter (stays known) items))
+  put-none here3 is3 not_so leaves =
+      sym (ap (filter (stays known)) (ap (λ (p : Pod). drop_pod p.uid items) (sym copied) ∙ drop-absent again.uid items (none not_so)))
+      ∙ passing-drop (stays known) pod.uid items
+      ∙ sym (cond-false (stays known pod) (put_pod pod (filter (stays known) items)) (drop_pod pod.uid (filter (stays known) items)) (ap (stays known) (sym (is3 ∙ copied)) ∙ leaves))

@@ -1,8 +1,6 @@
 -- The books of all Jobs, as a pass over a history keeps them, and what they come to.
 --     Knows known rows         the outcomes under UIDs are those of the rows
---     runs_among pods u        a pod of the UID is among them that is active and has the finalizer
---     HasBack known pods back  the UIDs of those of such pods that were judged are in the list
---     IsSoundBook j log book       the book has the pods of the Job of the UID, and is in order
+--     IsSoundBook j log book   the book has pods of the Job of the UID, and is in order
 --     AreSound log books       so it is of each book
 --     rows_at j books          the rows of the Job's book; none where it has no book
 --     done_at j books          the indexes of the Job's book; none where it has no book
@@ -10,16 +8,13 @@
 --     totals_of book           how many rows have each outcome, and how many indexes there are
 --     AreFew books             no book has more rows or indexes than a total can say
 --     verdicts_at job rows     the verdicts in the row of the UID; none where it has no row
-use Rattle.std.specs.Prelude.{◌≡◌, ℕ, ◌<◌, ◌^◌, Bool, false, true, IfSome, List, [], filter, find, is_some, length, Some}
+use Rattle.std.specs.Prelude.{◌≡◌, ℕ, ◌<◌, ◌^◌, IfSome, List, [], filter, length, Some}
 use Rattle.std.specs.Option.{option_map_or}
 use Rattle.jc_ranges.specs.Sets.{IsIncreasing}
 use Rattle.jc_types.specs.declared.numbers.Uid.{Uid}
 use Rattle.jc_types.specs.declared.objects.Entry.{Entry}
-use Rattle.jc_types.specs.declared.objects.Pod.{Pod}
 use Rattle.jc_types.specs.Keys.{same_uid}
 use Rattle.jc_log.specs.Tables.{at}
-use Rattle.jc_states.specs.Pods.{is_tracked_active}
-use Rattle.jc_states.specs.UidLists.{is_in}
 use Rattle.jc_failpol.specs.declared.outcomes.Outcome.{Outcome}
 use Rattle.jc_failpol.specs.declared.outcomes.Outcome.TheVariants.{Succeeded, Failed}
 use Rattle.jc_failpol.specs.Outcomes.{same_outcome}
@@ -33,22 +28,12 @@ use Rattle.jc_verdicts.specs.Verdicts.{HasSeen, IsCount, outcome_in}
 abbrev pub Knows : List (Uid × Outcome) → List Row → Type 0
 Knows known rows = (u : Uid) → at same_uid known u ≡ outcome_in rows u
 
--- A pod of the UID is among them that is active and has the finalizer.
-abbrev pub runs_among : List Pod → Uid → Bool
-runs_among pods u = option_map_or is_tracked_active (find (λ pod. same_uid pod.uid u) pods) false
-
--- The UIDs of those of the pods that were judged, and are active and have the finalizer all the same, are in the list.
-abbrev pub HasBack : List (Uid × Outcome) → List Pod → List Uid → Type 0
-HasBack known pods back =
-    (u : Uid) → is_some (at same_uid known u) ≡ true → runs_among pods u ≡ true → is_in u back ≡ true
-
--- The book of the Job of the UID has the Job's pods among the first entries; its indexes rise, its
--- outcomes are those of its rows, and it knows which judged pods are active.
+-- The book of the Job of the UID has those of the Job's pods among the first entries that stay; its
+-- indexes rise, and its outcomes are those of its rows.
 pub record IsSoundBook (j : Uid) (log : List Entry) (book : Book) : Type 0 where
-  pub seen : HasSeen j log book.sight.pods book.at
+  pub seen : HasSeen j log book.known.entries book.pods.items book.at
   pub order : IsIncreasing book.done.items
   pub known : Knows book.known.entries book.rows.items
-  pub back : HasBack book.known.entries book.sight.pods book.sight.back.items
 
 -- So it is of each book.
 abbrev pub AreSound : List Entry → List (Uid × Book) → Type 0

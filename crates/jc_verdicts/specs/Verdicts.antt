@@ -18,8 +18,11 @@
 --     judging_as past job seen       the write of the event judges the pods of the Job so
 --     ledger_after ..                the ledger after one more event
 --     before_place places at log     how many entries come before the one at the place of this number
---     HasSeen j log pods at          so many places were taken, and the pods are those of the Job then
-use Rattle.std.specs.Prelude.{◌≡◌, ℕ, ◌-◌, ◌<◌, ◌≤◌, ◌&&◌, Bool, false, All, List, map, filter, find, get_or, reverse, take, length, if◌then◌else◌, Option, Some, None, is_some, not, option_and_then, option_map}
+--     stays known pod                a write may have to look at the pod
+--     staying known j log            the pods of the Job for which that is so
+--     HasSeen j log known pods n     so many places were taken, and the pods are those of the Job
+--                                    then that stay
+use Rattle.std.specs.Prelude.{◌≡◌, ℕ, ◌-◌, ◌<◌, ◌≤◌, ◌&&◌, ◌||◌, Bool, false, All, List, map, filter, find, get_or, reverse, take, length, if◌then◌else◌, Option, Some, None, is_some, not, option_and_then, option_map}
 use Rattle.std.specs.List.{filter_map}
 use Rattle.std.specs.Option.{option_map_or}
 use Rattle.jc_types.specs.declared.actions.Command.{Command}
@@ -37,7 +40,8 @@ use Rattle.jc_types.specs.declared.specifications.JobSpec.{JobSpec}
 use Rattle.jc_log.specs.Deeds.{Deed, deed}
 use Rattle.jc_types.specs.Keys.{same_uid}
 use Rattle.jc_log.specs.Log.{pods_of}
-use Rattle.jc_states.specs.Pods.{is_tracked}
+use Rattle.jc_log.specs.Tables.{at}
+use Rattle.jc_states.specs.Pods.{is_active, is_tracked}
 use Rattle.jc_failpol.specs.declared.outcomes.Outcome.{Outcome}
 use Rattle.jc_states.specs.UidLists.{join}
 use Rattle.jc_failpol.specs.declared.outcomes.Outcome.TheVariants.{Failed, Succeeded}
@@ -160,8 +164,17 @@ ledger_after script before past j log ledger =
 abbrev pub before_place : List ℕ → ℕ → List Entry → ℕ
 before_place places at log = get_or places at (length log)
 
+-- The pod has the finalizer, and is not active or was judged: where that is not so, a write does
+-- not judge it, and it takes no room.
+abbrev pub stays : List (Uid × Outcome) → Pod → Bool
+stays known pod = is_tracked pod && (not (is_active pod) || is_some (at same_uid known pod.uid))
+
+-- The pods of the Job for which that is so.
+abbrev pub staying : List (Uid × Outcome) → Uid → List Entry → List Pod
+staying known j log = filter (stays known) (pods_of j log)
+
 -- So many of the places at which the pods of the Job change were taken, and the pods are those of
--- the Job after the entries before the next one.
-pub record HasSeen (j : Uid) (log : List Entry) (pods : List Pod) (at : ℕ) : Type 0 where
-  pub within : at ≤ length (touching_places j log)
-  pub pods_are : pods ≡ pods_of j (reverse (take (before_place (touching_places j log) at log) log))
+-- the Job after the entries before the next one that stay.
+pub record HasSeen (j : Uid) (log : List Entry) (known : List (Uid × Outcome)) (pods : List Pod) (n : ℕ) : Type 0 where
+  pub within : n ≤ length (touching_places j log)
+  pub pods_are : pods ≡ staying known j (reverse (take (before_place (touching_places j log) n log) log))

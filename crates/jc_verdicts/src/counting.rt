@@ -64,7 +64,6 @@ fn take_in(
 ) -> Result<(), Want>
     requires starts { HasStarts (deeds_of script.now before.now) starts.now }
     requires event { IsPlace script.now.commands past.now.event }
-    requires few { length log.now < 2 ^ 32 }
     requires places { ArePlaces (reverse log.now) places.now }
     requires sound { AreSound log.now books.old.entries }
     ensures sound { OnOk result (AreSound log.now books.new.entries) }
@@ -88,7 +87,6 @@ fn filled(
     places: &Places,
 ) -> Result<IndexMap<Uid, Book>, Want>
     requires events { All (λ (past : Past). IsPlace script.now.commands past.event) events.now }
-    requires few { length log.now < 2 ^ 32 }
     requires places { ArePlaces (reverse log.now) places.now }
     ensures { IfOk result (λ books. AreCounts
         (λ j. ledger_of j (deeds_of script.now events.now) (reverse log.now)) books.entries) }

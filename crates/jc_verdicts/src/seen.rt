@@ -1,46 +1,22 @@
 //! What a sync saw: the Job and its pods, as the first entries of the log have them.
 
-ghost use Rattle.std.specs.Prelude.{◌≡◌, ◌+◌, ◌-◌, ◌<◌, ◌≤◌, ◌^◌, ◌∷◌, ◌&&◌, [], List, IfOk, OnOk, filter, is_some, length, not, reverse, take};
+ghost use Rattle.std.specs.Prelude.{◌≡◌, ◌+◌, ◌<◌, ◌≤◌, ◌∷◌, List, IfOk, OnOk, filter, find, if◌then◌else◌, is_some, length, reverse, take};
 ghost use Rattle.std.specs.Option.{option_copied};
 ghost use Rattle.jc_types.specs.declared.numbers.Uid.{Uid};
 ghost use Rattle.jc_types.specs.declared.objects.Entry.{Entry};
-ghost use Rattle.jc_types.specs.declared.objects.Pod.{Pod};
 ghost use Rattle.jc_types.specs.Keys.{same_uid};
-ghost use Rattle.jc_log.specs.Log.{job_in, pods_of};
+ghost use Rattle.jc_log.specs.Log.{job_in};
 ghost use Rattle.jc_log.specs.PlainReadings.{job_put};
-ghost use Rattle.jc_log.specs.Tables.{at as outcome_at};
-ghost use Rattle.jc_states.specs.PodLists.{put_pod};
-ghost use Rattle.jc_states.specs.Pods.{is_tracked_active};
+ghost use Rattle.jc_states.specs.PodLists.{IsRising, drop_pod, place_from, put_pod};
 ghost use Rattle.jc_failpol.specs.declared.outcomes.Outcome.{Outcome};
-ghost use Rattle.jc_verdicts.specs.Books.{HasBack, runs_among};
 ghost use Rattle.jc_verdicts.specs.Places.{ArePlaces, touching_places};
-ghost use Rattle.jc_verdicts.specs.Verdicts.{HasSeen};
+ghost use Rattle.jc_verdicts.specs.Verdicts.{HasSeen, staying, stays};
 
 use crate::places::{Places, count_below, places_at};
 use indexmap::IndexMap;
 use jc_failpol::Outcome;
-use jc_states::{Pods, is_tracked_active};
+use jc_states::is_active;
 use jc_types::{Arc, Copied, Entry, Job, Key, Pod, Uid, Want};
-use std::alloc::Global;
-
-/// The pods of a Job among the first entries of the log.
-#[derive(Drop)]
-pub struct Sight {
-    pub pods: Pods,
-    /// The UIDs of the pods that were judged, and are active with the finalizer all the same, and
-    /// maybe of others. In a run there are some only where a sync saw fewer entries than one before.
-    pub back: Vec<Uid>,
-}
-
-/// The pods among no entries.
-pub fn no_sight(alloc: Global) -> Sight
-    ensures { result.pods ≡ [] }
-{
-    Sight {
-        pods: Pods::new(alloc),
-        back: Vec::new(alloc),
-    }
-}
 
 /// How many of the first n entries there are.
 pub fn end_of(log: &[Entry], n: u64) -> usize
@@ -79,87 +55,96 @@ pub fn job_among<'a>(log: &'a [Entry], places: &Places, end: usize, key: &Key) -
     put_job(&log[place])
 }
 
-/// Whether a pod of the UID is among them that is active and has the finalizer.
-fn runs(pods: &Pods, uid: Uid) -> bool
-    ensures { result ≡ runs_among pods.now uid }
+/// Whether a write of the Job may have to look at the pod: it has the finalizer, and is not active
+/// or was judged. Of the others none is judged, and none takes room.
+fn stays(known: &IndexMap<Uid, Outcome>, pod: &Pod) -> bool
+    ensures { result ≡ stays known.now.entries pod.now }
 {
-    match pods.get(uid) {
-        Some(pod) => is_tracked_active(pod),
-        None => false,
+    pod.tracked && (!is_active(pod) || known.contains_key(&pod.uid))
+}
+
+/// The place of the first pod whose UID is at least this one, found by halving, where not all are
+/// below it.
+fn place_from(pods: &[Arc<Pod>], uid: Uid) -> usize
+    requires { IsRising pods.now }
+    ensures { result ≡ place_from uid pods.now }
+{
+    let count = pods.len();
+    if count > 0 && pods[count - 1].uid.0 < uid.0 {
+        return count;
     }
+    pods.partition_point(|pod| pod.uid.0 < uid.0)
 }
 
-/// Whether the pod was judged, and is active with the finalizer all the same, and was not so before.
-fn comes_back(known: &IndexMap<Uid, Outcome>, pods: &Pods, pod: &Pod) -> bool
-    ensures { result
-        ≡ ((is_tracked_active pod.now
-        && is_some (outcome_at same_uid known.now.entries pod.now.uid))
-        && not (runs_among pods.now pod.now.uid)) }
+/// Whether there is a pod of the UID, whose place this is.
+fn is_there(pods: &[Arc<Pod>], uid: Uid, place: usize) -> bool
+    requires rising { IsRising pods.now }
+    requires place { place ≡ place_from uid pods.now }
+    ensures { result ≡ is_some (find (λ pod. same_uid pod.uid uid) pods.now) }
 {
-    is_tracked_active(pod) && known.contains_key(&pod.uid) && !runs(pods, pod.uid)
+    place < pods.len() && pods[place].uid == uid
 }
 
-/// Notes the UID of a pod that is to be put, where the pod was judged and is active.
-fn note_back(
-    back: &mut Vec<Uid>,
-    known: &IndexMap<Uid, Outcome>,
-    pods: &Pods,
-    pod: &Pod,
-) -> Result<(), Want>
-    ensures { OnOk result (HasBack known.now.entries pods.now back.old.items
-        → HasBack known.now.entries (put_pod pod.now pods.now) back.new.items) }
+/// Puts a pod of the Job in its place. One that does not stay is written only over that of its UID:
+/// to take each out alone would move all that come after it.
+fn put(pods: &mut Vec<Arc<Pod>>, known: &IndexMap<Uid, Outcome>, pod: &Arc<Pod>) -> Result<(), Want>
+    requires { IsRising pods.old.items }
+    ensures rising { OnOk result (IsRising pods.new.items) }
+    ensures puts { OnOk result (filter (stays known.now.entries) pods.new.items
+        ≡ (if stays known.now.entries pod.now
+        then put_pod pod.now (filter (stays known.now.entries) pods.old.items)
+        else drop_pod pod.now.uid (filter (stays known.now.entries) pods.old.items))) }
 {
-    if comes_back(known, pods, pod) {
-        back.push(pod.uid)?;
+    let again = pod.copy()?;
+    let place = place_from(pods.as_slice(), again.uid);
+    if is_there(pods.as_slice(), again.uid, place) {
+        pods[place] = again;
+        return Ok(());
+    }
+    if stays(known, &again) {
+        pods.insert(place, again)?;
     }
     Ok(())
 }
 
-/// Leaves out the UIDs of the pods that are active no longer: while such are listed, each write has
-/// to look at all pods.
-fn forget_ended(back: &mut Vec<Uid>, pods: &Pods)
-    ensures { back.new.items ≡ filter (runs_among pods.now) back.old.items }
+/// Takes the pod of the UID out, if there is one.
+fn take_out(pods: &mut Vec<Arc<Pod>>, uid: Uid)
+    requires { IsRising pods.old.items }
+    ensures { pods.new.items ≡ drop_pod uid pods.old.items }
 {
-    back.retain(|uid| runs(pods, *uid));
+    let place = place_from(pods.as_slice(), uid);
+    if is_there(pods.as_slice(), uid, place) {
+        pods.remove(place);
+    }
 }
 
-/// Puts a pod of the Job.
-fn put(sight: &mut Sight, known: &IndexMap<Uid, Outcome>, pod: &Arc<Pod>) -> Result<(), Want>
-    requires few { length sight.old.pods < 2 ^ 32 - 1 }
-    ensures puts { OnOk result (sight.new.pods ≡ put_pod pod.now sight.old.pods) }
-    ensures back { OnOk result (HasBack known.now.entries sight.old.pods sight.old.back.items
-        → HasBack known.now.entries sight.new.pods sight.new.back.items) }
-{
-    note_back(&mut sight.back, known, &sight.pods, pod)?;
-    sight.pods.put(pod.copy()?)?;
-    Ok(())
-}
-
-/// Takes one more entry into the pods of a Job. One about a pod of another Job takes its UID out.
+/// Takes one more entry into the pods of a Job, so that those that stay are right. One about a pod of
+/// another Job takes its UID out.
 fn take_in(
-    sight: &mut Sight,
+    pods: &mut Vec<Arc<Pod>>,
     known: &IndexMap<Uid, Outcome>,
     owner: Uid,
     entry: &Entry,
 ) -> Result<(), Want>
-    requires few { length sight.old.pods < 2 ^ 32 - 1 }
+    requires { IsRising pods.old.items }
+    ensures rising { OnOk result (IsRising pods.new.items) }
     ensures pods { OnOk result ((older : List Entry)
-        → sight.old.pods ≡ pods_of owner older
-        → sight.new.pods ≡ pods_of owner (entry.now ∷ older)) }
-    ensures back { OnOk result (HasBack known.now.entries sight.old.pods sight.old.back.items
-        → HasBack known.now.entries sight.new.pods sight.new.back.items) }
+        → filter (stays known.now.entries) pods.old.items
+        ≡ staying known.now.entries owner older
+        → filter (stays known.now.entries) pods.new.items
+        ≡ staying known.now.entries owner (entry.now ∷ older)) }
 {
     match entry {
         Entry::PodPut(pod) => {
             if pod.owner_uid.0 == owner.0 {
-                put(sight, known, pod)?;
+                put(pods, known, pod)?;
             } else {
-                sight.pods.take(pod.uid);
+                take_out(pods, pod.uid);
             }
             Ok(())
         }
         Entry::PodGone(pod) => {
-            sight.pods.take(pod.uid);
+            take_out(pods, pod.uid);
             Ok(())
         }
         Entry::JobPut(_) | Entry::JobGone(_) => Ok(()),
@@ -168,42 +153,48 @@ fn take_in(
 
 /// Takes the entry at a place into the pods of a Job.
 fn take_at(
-    sight: &mut Sight,
+    pods: &mut Vec<Arc<Pod>>,
     known: &IndexMap<Uid, Outcome>,
     owner: Uid,
     log: &[Entry],
     place: usize,
 ) -> Result<(), Want>
     requires place { place < length log.now }
-    requires few { length sight.old.pods < 2 ^ 32 - 1 }
-    ensures pods { OnOk result (sight.old.pods ≡ pods_of owner (reverse (take place log.now))
-        → sight.new.pods ≡ pods_of owner (reverse (take (place + 1) log.now))) }
-    ensures back { OnOk result (HasBack known.now.entries sight.old.pods sight.old.back.items
-        → HasBack known.now.entries sight.new.pods sight.new.back.items) }
+    requires pods { IsRising pods.old.items }
+    ensures rising { OnOk result (IsRising pods.new.items) }
+    ensures pods { OnOk result (filter (stays known.now.entries) pods.old.items
+        ≡ staying known.now.entries owner (reverse (take place log.now))
+        → filter (stays known.now.entries) pods.new.items
+        ≡ staying known.now.entries owner (reverse (take (place + 1) log.now))) }
 {
-    take_in(sight, known, owner, &log[place])
+    take_in(pods, known, owner, &log[place])
 }
 
 /// From where in a list of places the pods go on to the first so many of them. Where that is fewer
 /// than they were taken from, they are dropped, and taken from the first place on again.
-fn begin_of(alloc: Global, sight: &mut Sight, at: usize, count: usize) -> usize
+fn begin_of(pods: &mut Vec<Arc<Pod>>, at: usize, count: usize) -> usize
     ensures before { result ≤ count }
-    ensures seen { (owner : Uid) (log : List Entry) → HasSeen owner log sight.old.pods at
-        → HasSeen owner log sight.new.pods result }
-    ensures back { (known : List (Uid × Outcome))
-        → HasBack known sight.old.pods sight.old.back.items
-        → HasBack known sight.new.pods sight.new.back.items }
+    ensures seen { (owner : Uid) (log : List Entry) (known : List (Uid × Outcome))
+        → HasSeen owner log known pods.old.items at
+        → HasSeen owner log known pods.new.items result }
 {
     if count < at {
-        *sight = no_sight(alloc);
+        pods.clear();
         return 0;
     }
     at
 }
 
-/// Takes the entries at some of the places into the pods of a Job.
+/// Leaves out the pods that do not stay.
+fn keep_staying(pods: &mut Vec<Arc<Pod>>, known: &IndexMap<Uid, Outcome>)
+    ensures { pods.new.items ≡ filter (stays known.now.entries) pods.old.items }
+{
+    pods.retain(|pod| stays(known, pod));
+}
+
+/// Takes the entries at some of the places into the pods of a Job, with such as do not stay.
 fn go_on(
-    sight: &mut Sight,
+    pods: &mut Vec<Arc<Pod>>,
     known: &IndexMap<Uid, Outcome>,
     owner: Uid,
     log: &[Entry],
@@ -211,17 +202,15 @@ fn go_on(
     from: usize,
     to: usize,
 ) -> Result<(), Want>
-    requires few { length log.now < 2 ^ 32 }
     requires places { places.now ≡ touching_places owner log.now }
     requires order { from ≤ to }
     requires within { to ≤ length places.now }
-    requires seen { HasSeen owner log.now sight.old.pods from }
-    requires back { HasBack known.now.entries sight.old.pods sight.old.back.items }
-    ensures seen { OnOk result (HasSeen owner log.now sight.new.pods to) }
-    ensures back { OnOk result (HasBack known.now.entries sight.new.pods sight.new.back.items) }
+    requires seen { HasSeen owner log.now known.now.entries pods.old.items from }
+    ensures { OnOk result (HasSeen owner log.now known.now.entries
+        (filter (stays known.now.entries) pods.new.items) to) }
 {
     for at in from..to {
-        take_at(sight, known, owner, log, places[at])?;
+        take_at(pods, known, owner, log, places[at])?;
     }
     Ok(())
 }
@@ -229,8 +218,7 @@ fn go_on(
 /// Moves the pods of a Job on to the first entries that a sync saw, from those at the first places
 /// of its list. It returns at how many places they are then.
 pub fn look(
-    alloc: Global,
-    sight: &mut Sight,
+    pods: &mut Vec<Arc<Pod>>,
     known: &IndexMap<Uid, Outcome>,
     at: usize,
     owner: Uid,
@@ -238,17 +226,15 @@ pub fn look(
     places: &[usize],
     seen: u64,
 ) -> Result<usize, Want>
-    requires few { length log.now < 2 ^ 32 }
     requires places { places.now ≡ touching_places owner log.now }
-    requires seen { HasSeen owner log.now sight.old.pods at }
-    requires back { HasBack known.now.entries sight.old.pods sight.old.back.items }
-    ensures pods { OnOk result (sight.new.pods ≡ pods_of owner (reverse (take seen log.now))) }
-    ensures seen { IfOk result (λ now. HasSeen owner log.now sight.new.pods now) }
-    ensures back { OnOk result (HasBack known.now.entries sight.new.pods sight.new.back.items) }
+    requires seen { HasSeen owner log.now known.now.entries pods.old.items at }
+    ensures pods { OnOk result
+        (pods.new.items ≡ staying known.now.entries owner (reverse (take seen log.now))) }
+    ensures seen { IfOk result (λ now. HasSeen owner log.now known.now.entries pods.new.items now) }
 {
     let count = count_below(places, end_of(log, seen));
-    let from = begin_of(alloc, sight, at, count);
-    go_on(sight, known, owner, log, places, from, count)?;
-    forget_ended(&mut sight.back, &sight.pods);
+    let from = begin_of(pods, at, count);
+    go_on(pods, known, owner, log, places, from, count)?;
+    keep_staying(pods, known);
     Ok(count)
 }
