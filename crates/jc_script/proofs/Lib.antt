@@ -1,3 +1,4 @@
+pub mod FirstByte
 pub mod FirstLine
 pub mod FitFacts
 pub mod Reading

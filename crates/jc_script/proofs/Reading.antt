@@ -5,7 +5,6 @@ use Rattle.std.proofs.lemmas.Bool.{leb-true}
 use Rattle.std.proofs.lemmas.List.{append-nil, length-append, length-replicate}
 use Rattle.jc_types.specs.declared.actions.Command.{Command}
 use Rattle.jc_types.specs.declared.runs.Shape.{Shape}
-use Rattle.jc_members.specs.declared.causes.Cause.{Cause}
 use Rattle.jc_members.specs.declared.causes.Cause.TheVariants.{TooMany}
 use Rattle.jc_script.specs.declared.commands.Said.{Said}
 use Rattle.jc_script.specs.declared.scripts.ScriptFault.{ScriptFault}

@@ -3,11 +3,13 @@ ghost use Rattle.std.specs.Prelude.{◌≡◌, ◌<◌, ◌+◌, ◌∷◌, ◌=
 ghost use Rattle.std.specs.Str.Lines.{strip_carriage_return};
 ghost use Rattle.jc_script.specs.Lines.{lines_of, lines_left};
 
+use memchr::memchr;
+
 // Where the text's first line feed stands.
 fn line_end(text: &[u8]) -> Option<usize>
     ensures { result ≡ position (λ b. b == 10) text.now }
 {
-    text.iter().position(|b| *b == b'\n')
+    memchr(b'\n', text)
 }
 
 /// The first line of a text, and what stands behind its line feed, where it has one.
