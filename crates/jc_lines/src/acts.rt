@@ -8,8 +8,8 @@ ghost use Rattle.jc_lines.specs.Words.{key_text, objects_word};
 
 use crate::changes::{print_ends, print_phase_change};
 use crate::keys::{print_key, print_pod, print_version};
-use crate::words::{fault_word, kind_word};
-use jc_print::{print_change, print_spec, put_decimal};
+use crate::words::fault_word;
+use jc_print::{print_change, print_spec, put_decimal, put_small};
 use jc_types::{
     Action1, Ends, Fault, JobSpec, Key, Kind, PhaseChange, SpecChange, Sys, Uid, Version, Want,
 };
@@ -104,26 +104,34 @@ fn print_clock(out: &mut String, add: u64) -> Result<(), Want>
     put_decimal(out, add)
 }
 
-// What befalls a controller's cache of a kind, in words.
-fn print_cache(out: &mut String, words: &str, controller: u32, kind: Kind) -> Result<(), Want>
-    ensures { OnOk result (string_bytes out.new ≡ string_bytes out.old
-        ++ (words.now ++ (decimal controller ++ (codes " " ++ objects_word kind)))) }
+// A kind's word behind a blank.
+fn print_kind(out: &mut String, kind: Kind) -> Result<(), Want>
+    ensures { OnOk result (string_bytes out.new
+        ≡ string_bytes out.old ++ (codes " " ++ objects_word kind)) }
 {
-    out.push_str(words)?;
-    put_decimal(out, controller)?;
-    out.push_str(" ")?;
-    out.push_str(kind_word(kind))
+    match kind {
+        Kind::Jobs => out.push_str(" jobs"),
+        Kind::Pods => out.push_str(" pods"),
+    }
 }
 
-// What a controller's worker does, in words.
-fn print_worker(out: &mut String, words: &str, controller: u32, worker: u32) -> Result<(), Want>
-    ensures { OnOk result (string_bytes out.new
-        ≡ string_bytes out.old ++ (words.now ++ worker_text controller worker)) }
+// A controller's cache of a kind.
+fn print_cache(out: &mut String, controller: u32, kind: Kind) -> Result<(), Want>
+    ensures { OnOk result (string_bytes out.new ≡ string_bytes out.old
+        ++ (decimal controller ++ (codes " " ++ objects_word kind))) }
 {
-    out.push_str(words)?;
-    put_decimal(out, controller)?;
+    put_small(out, controller)?;
+    print_kind(out, kind)
+}
+
+// A controller's worker.
+fn print_worker(out: &mut String, controller: u32, worker: u32) -> Result<(), Want>
+    ensures { OnOk result (string_bytes out.new
+        ≡ string_bytes out.old ++ worker_text controller worker) }
+{
+    put_small(out, controller)?;
     out.push_str(" ")?;
-    put_decimal(out, worker)
+    put_small(out, worker)
 }
 
 fn print_restart(out: &mut String, controller: u32) -> Result<(), Want>
@@ -131,14 +139,15 @@ fn print_restart(out: &mut String, controller: u32) -> Result<(), Want>
         ≡ string_bytes out.old ++ act_text (does.Restart controller)) }
 {
     out.push_str("restart ")?;
-    put_decimal(out, controller)
+    put_small(out, controller)
 }
 
 fn print_fault(out: &mut String, controller: u32, worker: u32, fault: Fault) -> Result<(), Want>
     ensures { OnOk result (string_bytes out.new
         ≡ string_bytes out.old ++ act_text (does.PutFault controller worker fault)) }
 {
-    print_worker(out, "fault ", controller, worker)?;
+    out.push_str("fault ")?;
+    print_worker(out, controller, worker)?;
     out.push_str(" ")?;
     out.push_str(fault_word(fault))
 }
@@ -166,11 +175,26 @@ pub fn print_action(out: &mut String, alloc: Global, action: &Action1) -> Result
         Action1::Report { pod, change } => print_report(out, alloc, *pod, change),
         Action1::Fate { key, ends } => print_fate(out, alloc, key, ends),
         Action1::Clock { add } => print_clock(out, *add),
-        Action1::List { controller, kind } => print_cache(out, "list ", *controller, *kind),
-        Action1::Deliver { controller, kind } => print_cache(out, "deliver ", *controller, *kind),
-        Action1::Begin { controller, worker } => print_worker(out, "begin ", *controller, *worker),
-        Action1::Sync { controller, worker } => print_worker(out, "begin ", *controller, *worker),
-        Action1::Step { controller, worker } => print_worker(out, "step ", *controller, *worker),
+        Action1::List { controller, kind } => {
+            out.push_str("list ")?;
+            print_cache(out, *controller, *kind)
+        }
+        Action1::Deliver { controller, kind } => {
+            out.push_str("deliver ")?;
+            print_cache(out, *controller, *kind)
+        }
+        Action1::Begin { controller, worker } => {
+            out.push_str("begin ")?;
+            print_worker(out, *controller, *worker)
+        }
+        Action1::Sync { controller, worker } => {
+            out.push_str("begin ")?;
+            print_worker(out, *controller, *worker)
+        }
+        Action1::Step { controller, worker } => {
+            out.push_str("step ")?;
+            print_worker(out, *controller, *worker)
+        }
         Action1::Node => out.push_str("node"),
         Action1::Restart { controller } => print_restart(out, *controller),
         Action1::PutFault {
@@ -192,11 +216,58 @@ pub fn print_system(out: &mut String, system: &Sys) -> Result<(), Want>
         ≡ string_bytes out.old ++ act_text (act_of_system system.now)) }
 {
     match system {
-        Sys::List { controller, kind } => print_cache(out, "list ", *controller, *kind),
-        Sys::Deliver { controller, kind } => print_cache(out, "deliver ", *controller, *kind),
-        Sys::Begin { controller, worker } => print_worker(out, "begin ", *controller, *worker),
-        Sys::Step { controller, worker } => print_worker(out, "step ", *controller, *worker),
+        Sys::List { controller, kind } => {
+            out.push_str("list ")?;
+            print_cache(out, *controller, *kind)
+        }
+        Sys::Deliver { controller, kind } => {
+            out.push_str("deliver ")?;
+            print_cache(out, *controller, *kind)
+        }
+        Sys::Begin { controller, worker } => {
+            out.push_str("begin ")?;
+            print_worker(out, *controller, *worker)
+        }
+        Sys::Step { controller, worker } => {
+            out.push_str("step ")?;
+            print_worker(out, *controller, *worker)
+        }
         Sys::Node => out.push_str("node"),
         Sys::Clock { add } => print_clock(out, *add),
+    }
+}
+
+/// Puts what an event of the system does behind the text, and before it, between blanks, the dash that
+/// stands for the lane of a command.
+///
+/// # Errors
+///
+/// Want of memory.
+pub fn print_system_deed(out: &mut String, system: &Sys) -> Result<(), Want>
+    ensures { OnOk result (string_bytes out.new
+        ≡ string_bytes out.old ++ (codes " - " ++ act_text (act_of_system system.now))) }
+{
+    match system {
+        Sys::List { controller, kind } => {
+            out.push_str(" - list ")?;
+            print_cache(out, *controller, *kind)
+        }
+        Sys::Deliver { controller, kind } => {
+            out.push_str(" - deliver ")?;
+            print_cache(out, *controller, *kind)
+        }
+        Sys::Begin { controller, worker } => {
+            out.push_str(" - begin ")?;
+            print_worker(out, *controller, *worker)
+        }
+        Sys::Step { controller, worker } => {
+            out.push_str(" - step ")?;
+            print_worker(out, *controller, *worker)
+        }
+        Sys::Node => out.push_str(" - node"),
+        Sys::Clock { add } => {
+            out.push_str(" - ")?;
+            print_clock(out, *add)
+        }
     }
 }

@@ -6,9 +6,9 @@ ghost use Rattle.jc_lines.specs.Acts.{act_text};
 ghost use Rattle.jc_verdicts.specs.Verdicts.{IsPlace};
 ghost use Rattle.jc_lines.specs.Events.{event_line, tag_text};
 
-use crate::acts::{print_action, print_system};
+use crate::acts::{print_action, print_system_deed};
 use crate::replies::print_reply;
-use jc_print::put_decimal;
+use jc_print::{put_long, put_small};
 use jc_types::{Command, Event, Past, Script, Want};
 use std::alloc::Global;
 
@@ -35,7 +35,7 @@ fn print_command(
 {
     let command = command_at(script, number);
     out.push_str(" @")?;
-    put_decimal(out, lane)?;
+    put_small(out, u32::from(lane))?;
     out.push_str(" ")?;
     print_action(out, alloc, &command.action)?;
     Ok(())
@@ -50,10 +50,7 @@ fn print_deed(out: &mut String, alloc: Global, script: &Script, event: &Event) -
 {
     match event {
         Event::Command { lane, number } => print_command(out, alloc, script, *lane, *number),
-        Event::System(system) => {
-            out.push_str(" - ")?;
-            print_system(out, system)
-        }
+        Event::System(system) => print_system_deed(out, system),
     }
 }
 
@@ -74,7 +71,7 @@ pub fn put_event(
     ensures { OnOk result (string_bytes out.new
         ≡ string_bytes out.old ++ event_line number (deed script.now past.now)) }
 {
-    put_decimal(out, number)?;
+    put_long(out, number)?;
     print_deed(out, alloc, script, &past.event)?;
     out.push_str(" -> ")?;
     print_reply(out, alloc, &past.reply)?;

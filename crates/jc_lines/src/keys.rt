@@ -3,7 +3,7 @@
 ghost use Rattle.std.specs.Prelude.{◌≡◌, ◌++◌, OnOk, decimal, string_bytes};
 ghost use Rattle.jc_lines.specs.Words.{key_text};
 
-use jc_print::put_decimal;
+use jc_print::put_long;
 use jc_types::{Key, Uid, Version, Want};
 
 /// Puts a key behind the text, as `default/pi`.
@@ -30,7 +30,7 @@ pub fn print_version(out: &mut String, words: &str, version: Version) -> Result<
         ≡ string_bytes out.old ++ (words.now ++ decimal version.0)) }
 {
     out.push_str(words)?;
-    put_decimal(out, version.0)
+    put_long(out, version.0)
 }
 
 /// Puts words behind the text, and the pod that they are said of.
@@ -43,5 +43,5 @@ pub fn print_pod(out: &mut String, words: &str, pod: Uid) -> Result<(), Want>
         ≡ string_bytes out.old ++ (words.now ++ decimal pod.0)) }
 {
     out.push_str(words)?;
-    put_decimal(out, pod.0)
+    put_long(out, pod.0)
 }

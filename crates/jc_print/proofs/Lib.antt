@@ -1,4 +1,5 @@
 pub mod CleanMembers
+mod Four
 mod InOrder
 pub mod NoFloats
 pub mod Puts

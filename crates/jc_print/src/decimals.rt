@@ -1,9 +1,19 @@
 //! Numbers in decimal digits.
 
-ghost use Rattle.std.specs.Prelude.{◌≡◌, ◌++◌, OnErr, OnOk, string_bytes};
+ghost use Rattle.std.specs.Prelude.{◌≡◌, ◌+◌, ◌<◌, ◌++◌, OnErr, OnOk, decimal, drop, string_bytes};
 
 use itoa::{Buffer, Integer};
 use jc_types::Want;
+
+// Put in where it is called, so that what is known of the number there is known of the count of its digits.
+#[inline(always)]
+fn put_digits<I: Integer>(out: &mut String, number: I) -> Result<(), Want>
+    ensures digits { OnOk result (string_bytes out.new ≡ string_bytes out.old ++ I.text number) }
+    ensures kept { OnErr result (string_bytes out.new ≡ string_bytes out.old) }
+{
+    let mut buffer = Buffer::new();
+    out.push_str(buffer.format(number))
+}
 
 /// Puts the digits of a number behind the text, with a minus where it is negative, as `{}` prints it.
 ///
@@ -14,6 +24,67 @@ pub fn put_decimal<I: Integer>(out: &mut String, number: I) -> Result<(), Want>
     ensures digits { OnOk result (string_bytes out.new ≡ string_bytes out.old ++ I.text number) }
     ensures kept { OnErr result (string_bytes out.new ≡ string_bytes out.old) }
 {
+    put_digits(out, number)
+}
+
+// One digit.
+fn put_digit(out: &mut String, digit: u8) -> Result<(), Want>
+    requires { digit < 10 }
+    ensures digits { OnOk result (string_bytes out.new ≡ string_bytes out.old ++ decimal digit) }
+    ensures kept { OnErr result (string_bytes out.new ≡ string_bytes out.old) }
+{
+    out.push(char::from(b'0' + digit))
+}
+
+// The digits of a number: one, two or four are copied with no call.
+fn put_head(out: &mut String, number: u64) -> Result<(), Want>
+    ensures { OnOk result (string_bytes out.new ≡ string_bytes out.old ++ decimal number) }
+{
+    match number {
+        0..=9 => put_digit(out, number as u8),
+        10..=99 => put_digits(out, number),
+        1_000..=9_999 => put_digits(out, number),
+        _ => put_decimal(out, number),
+    }
+}
+
+// The last four digits of a number from 10,000 on: those behind the 1.
+fn put_four(out: &mut String, number: u64) -> Result<(), Want>
+    requires { number < 10000 }
+    ensures { OnOk result (string_bytes out.new
+        ≡ string_bytes out.old ++ drop 1 (decimal (10000 + number))) }
+{
     let mut buffer = Buffer::new();
-    out.push_str(buffer.format(number))
+    out.push_str(&buffer.format(10_000 + number)[1..])
+}
+
+/// Puts the digits of a number behind the text, as `put_decimal`: for numbers that mostly have five digits
+/// or six. Pieces of one, two and four digits are copied with no call.
+///
+/// # Errors
+///
+/// Want of memory; some of the digits may then stand there.
+pub fn put_long(out: &mut String, number: u64) -> Result<(), Want>
+    ensures { OnOk result (string_bytes out.new ≡ string_bytes out.old ++ decimal number) }
+{
+    if number < 10_000 {
+        return put_head(out, number);
+    }
+    put_head(out, number / 10_000)?;
+    put_four(out, number % 10_000)
+}
+
+/// Puts the digits of a number behind the text, as `put_decimal`: for numbers that mostly have one digit.
+///
+/// # Errors
+///
+/// Want of memory; the text is then as before.
+pub fn put_small(out: &mut String, number: u32) -> Result<(), Want>
+    ensures digits { OnOk result (string_bytes out.new ≡ string_bytes out.old ++ decimal number) }
+    ensures kept { OnErr result (string_bytes out.new ≡ string_bytes out.old) }
+{
+    if number < 10 {
+        return put_digit(out, number as u8);
+    }
+    put_decimal(out, number)
 }

@@ -8,7 +8,7 @@ mod printed_specs;
 mod printed_statuses;
 mod writes;
 
-pub use decimals::put_decimal;
+pub use decimals::{put_decimal, put_long, put_small};
 pub use members::{Members, put_text, put_value};
 pub use printed_specs::{print_change, print_spec};
 pub use printed_statuses::print_status;
