@@ -36,14 +36,14 @@ fn put_digit(out: &mut String, digit: u8) -> Result<(), Want>
     out.push(char::from(b'0' + digit))
 }
 
-// The digits of a number: one, two or four are copied with no call.
+// The digits of a number: one or two are copied with no call.
+#[inline(always)]
 fn put_head(out: &mut String, number: u64) -> Result<(), Want>
     ensures { OnOk result (string_bytes out.new ≡ string_bytes out.old ++ decimal number) }
 {
     match number {
         0..=9 => put_digit(out, number as u8),
         10..=99 => put_digits(out, number),
-        1_000..=9_999 => put_digits(out, number),
         _ => put_decimal(out, number),
     }
 }
@@ -64,11 +64,13 @@ fn put_four(out: &mut String, number: u64) -> Result<(), Want>
 /// # Errors
 ///
 /// Want of memory; some of the digits may then stand there.
+// Called, so that what calls it stays short, and goes where its words are known.
+#[inline(never)]
 pub fn put_long(out: &mut String, number: u64) -> Result<(), Want>
     ensures { OnOk result (string_bytes out.new ≡ string_bytes out.old ++ decimal number) }
 {
     if number < 10_000 {
-        return put_head(out, number);
+        return put_decimal(out, number);
     }
     put_head(out, number / 10_000)?;
     put_four(out, number % 10_000)
