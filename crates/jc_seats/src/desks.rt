@@ -1,6 +1,6 @@
 //! What lies under the lock of a threaded run: the cluster, and a log of what its seats have marked.
 
-ghost use Rattle.std.specs.Prelude.{◌≡◌, ◌<◌, ◌≤◌, [], Err, IfOk, IsSome, None, OnErr, is_ok, length, reverse, true};
+ghost use Rattle.std.specs.Prelude.{◌≡◌, ◌+◌, ◌<◌, ◌≤◌, [], Err, IfOk, IsSome, None, OnErr, is_ok, length, reverse, true};
 ghost use mathlib.Core.List.{IsPrefix};
 ghost use Rattle.jc_types.specs.declared.runs.Event.{Event};
 ghost use Rattle.jc_runs.specs.Bases.{CanPlan};
@@ -199,6 +199,8 @@ impl<J: Naming, L: Logged> Desk<J, L> {
     /// memory. What happened before stands.
     pub fn turns(&mut self, seat: &mut Seat) -> Result<Step<J, L>, ApplyFault>
         requires { seat.old.number < seat.old.threads }
+        ensures went { IfOk result (λ step. step ≡ Step.Went
+            → length self.new.seen.pasts ≡ length self.old.seen.pasts + 64) }
         ensures waits { IfOk result (λ step. step ≡ Step.Wait
             → (has_holders self.new.slots ≡ true)
             × (first_event (unheld_seen self.new.slots self.new.seen) ≡ None)
@@ -209,7 +211,7 @@ impl<J: Naming, L: Logged> Desk<J, L> {
             → self.new.seen.shape.events ≤ length self.new.seen.pasts }
         ensures seat { (seat.new.number ≡ seat.old.number) × (seat.new.threads ≡ seat.old.threads) }
     {
-        for _ in 0..MOST_TURNS {
+        for _turn in 0..MOST_TURNS {
             match self.turn(seat)? {
                 Step::Went => {}
                 step => return Ok(step),

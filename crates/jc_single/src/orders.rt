@@ -24,6 +24,7 @@ use jc_script::{Cause, ScriptFault, read_script, scripts_fit_their_shape};
 use jc_types::{Script, Shape, Want};
 use jc_words::{Order, default_shape, orders_fit};
 use std::alloc::Global;
+use std::mem;
 
 /// What a run writes.
 #[derive(Drop)]
@@ -61,7 +62,8 @@ fn print_summary(alloc: Global, played: &Played) -> Result<Output, Want>
     })
 }
 
-/// The report of the play of a script.
+/// The report of the play of a script. What was played is not given back piece by piece, which takes a tenth of the
+/// time: the program prints the report and ends.
 pub(crate) fn script_answer(alloc: Global, script: Script, shape: Shape) -> Result<Output, Want>
     requires fine { Each (λ (command : Command). IsValidAction command.action) script.commands }
     requires proper { IsProper script shape }
@@ -70,7 +72,9 @@ pub(crate) fn script_answer(alloc: Global, script: Script, shape: Shape) -> Resu
     ensures { IfOk result (λ output. printed_by output ≡ report_printed script shape) }
 {
     let played = play_whole(alloc, script, shape)?;
-    print_report(alloc, &played)
+    let output = print_report(alloc, &played)?;
+    mem::forget(played);
+    Ok(output)
 }
 
 // The report of the play of the script in the input.

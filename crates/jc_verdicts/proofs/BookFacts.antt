@@ -28,7 +28,7 @@ use Rattle.jc_ledger.specs.Ledger.{kept, Judging, Ledger, Record, entered, judge
 use Rattle.jc_verdicts.specs.Places.{touching_places}
 use Rattle.jc_verdicts.specs.Verdicts.{HasSeen, IsCount, before_place, done_once_seen, done_by, fresh_rows, new_rows, outcome_in, rows_for, success_indexes}
 use Rattle.jc_ledger.specs.Ledger.{verdicts_of}
-use Rattle.jc_verdicts.proofs.StayFacts.{judged-stay, rows-staying}
+use Rattle.jc_verdicts.proofs.StayFacts.{judged-stay, rows-kept_pods}
 use Rattle.jc_verdicts.proofs.VerdictFacts.{few_rows, few_kept, verdicts_are}
 use Rattle.jc_verdicts.proofs.VerdictRows.{outcomes-append, count_entered}
 
@@ -56,7 +56,7 @@ seen-judged known more j log pods number spec new seen are notes =
           seen.pods_are
           ∙ sym
           (judged-stay known (pods_of j older) (owned-rise j older (pods_of j older) refl) spec more new
-          (are ∙ ap (rows_for spec (at same_uid known)) seen.pods_are ∙ rows-staying known spec (pods_of j older)) notes);
+          (are ∙ ap (rows_for spec (at same_uid known)) seen.pods_are ∙ rows-kept_pods known spec (pods_of j older)) notes);
     }
 
 -- The rows of what is judged are those that the write judges.

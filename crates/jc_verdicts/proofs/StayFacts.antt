@@ -92,16 +92,16 @@ module _ (known : List (Uid × Outcome)) where
       (or_left (same_outcome (outcome_of job.spec pod) Succeeded) (same_outcome (outcome_of job.spec pod) Failed) parts.1)))
 
   -- The rows of what is judged of those that stay are those of what is judged of all.
-  pub rows-staying : (spec : JobSpec) (pods : List Pod) → rows_for spec (at same_uid known) (filter (stays known) pods) ≡ rows_for spec (at same_uid known) pods
-  rows-staying spec pods =
+  pub rows-kept_pods : (spec : JobSpec) (pods : List Pod) → rows_for spec (at same_uid known) (filter (stays known) pods) ≡ rows_for spec (at same_uid known) pods
+  rows-kept_pods spec pods =
       ap (λ (ps : List Pod). map (row_for spec) (judged_within spec (space_by spec (at same_uid known) (filter (stays known) pods)) ps))
       (filter_within (is_fresh spec (λ u. is_some (at same_uid known u))) (stays known) (fresh-stays spec) pods)
       ∙ ap (λ (ps : List Pod). map (row_for spec) (judged_within spec (MOST_UNCOUNTED - length ps) (waiting spec (at same_uid known) pods)))
       (filter_within (is_held_by spec (at same_uid known)) (stays known) (held-stays spec) pods)
 
   -- So are the indexes of the successes.
-  pub indexes-staying : (job : Job) (pods : List Pod) → success_indexes job (at same_uid known) (filter (stays known) pods) ≡ success_indexes job (at same_uid known) pods
-  indexes-staying job pods =
+  pub indexes-kept_pods : (job : Job) (pods : List Pod) → success_indexes job (at same_uid known) (filter (stays known) pods) ≡ success_indexes job (at same_uid known) pods
+  indexes-kept_pods job pods =
       sym (indexes_are job (at same_uid known) (filter (stays known) pods))
       ∙ ap (λ ps. within job.spec (indexes_of ps)) (filter_within (is_success_by job (at same_uid known)) (stays known) (success-stays job) pods)
       ∙ indexes_are job (at same_uid known) pods

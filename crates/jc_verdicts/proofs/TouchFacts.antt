@@ -20,7 +20,7 @@ use Rattle.jc_log.specs.PlainReadings.{is_about_job, job_put}
 use Rattle.jc_log.proofs.PodFacts.{pods_in-rises, pods_of-live, pods_of-owned}
 use Rattle.jc_verdicts.specs.Places.{IsCut, owns, places_where, job_places, touching_places, touches}
 use Rattle.jc_failpol.specs.declared.outcomes.Outcome.{Outcome}
-use Rattle.jc_verdicts.specs.Verdicts.{HasSeen, before_place, staying, stays}
+use Rattle.jc_verdicts.specs.Verdicts.{HasSeen, before_place, kept_pods, stays}
 use Rattle.jc_verdicts.proofs.PlaceLists.{Changes, changes-cut, changes-first, changes-more, changes-next, changes-place, changes-rise}
 use Rattle.jc_verdicts.proofs.VerdictPods.{passing-drop, passing-put}
 
@@ -64,8 +64,8 @@ untouched j (PodPut pod) older h = by (same_uid pod.owner_uid j) refl h
 untouched j (PodGone pod) older h = passing-drop (λ p. same_uid p.owner_uid j) pod.uid (pods_in older) ∙ drop_other j pod.uid older h
 
 -- It does not touch those of them that stay.
-pub untouched-staying : (known : List (Uid × Outcome)) (j : Uid) (e : Entry) (older : List Entry) → touches j e older ≡ false → staying known j (e ∷ older) ≡ staying known j older
-untouched-staying known j e older h = ap (filter (stays known)) (untouched j e older h)
+pub untouched-kept_pods : (known : List (Uid × Outcome)) (j : Uid) (e : Entry) (older : List Entry) → touches j e older ≡ false → kept_pods known j (e ∷ older) ≡ kept_pods known j older
+untouched-kept_pods known j e older h = ap (filter (stays known)) (untouched j e older h)
 
 -- An entry that is not about the Job of the key.
 pub not_about : (k : Key) (e : Entry) (older : List Entry) → is_about_job k e ≡ false → job_in k (e ∷ older) ≡ job_in k older
@@ -166,33 +166,33 @@ module _ {X : Type 0} (f : List Entry → X) (test : Entry → List Entry → Bo
 
 module _ (known : List (Uid × Outcome)) (owner : Uid) (log : List Entry) (places : List ℕ) (are : places ≡ touching_places owner log) where
   -- What is said of a list that has its places, is said of those of the Job.
-  seen_as : (pods : List Pod) (at : ℕ) → (at ≤ length places) → pods ≡ staying known owner (reverse (take (before_place places at log) log)) → HasSeen owner log known pods at
+  seen_as : (pods : List Pod) (at : ℕ) → (at ≤ length places) → pods ≡ kept_pods known owner (reverse (take (before_place places at log) log)) → HasSeen owner log known pods at
   seen_as pods at within is =
       let long = ap length are in
       record {
         within = omega (arith, within, long);
-        pods_are = is ∙ ap (λ ps. staying known owner (reverse (take (before_place ps at log) log))) are;
+        pods_are = is ∙ ap (λ ps. kept_pods known owner (reverse (take (before_place ps at log) log))) are;
       }
 
   -- And back.
-  seen_by : (pods : List Pod) (at : ℕ) → HasSeen owner log known pods at → pods ≡ staying known owner (reverse (take (before_place places at log) log))
-  seen_by pods at seen = seen.pods_are ∙ ap (λ ps. staying known owner (reverse (take (before_place ps at log) log))) (sym are)
+  seen_by : (pods : List Pod) (at : ℕ) → HasSeen owner log known pods at → pods ≡ kept_pods known owner (reverse (take (before_place places at log) log))
+  seen_by pods at seen = seen.pods_are ∙ ap (λ ps. kept_pods known owner (reverse (take (before_place ps at log) log))) (sym are)
 
   -- The entry at a place is taken in.
   pub seen-next : (at : ℕ) (pods new : List Pod) → at < length places → HasSeen owner log known pods at
-      → (pods ≡ staying known owner (reverse (take (get_or places at 0) log)) → new ≡ staying known owner (reverse (take (get_or places at 0 + 1) log)))
+      → (pods ≡ kept_pods known owner (reverse (take (get_or places at 0) log)) → new ≡ kept_pods known owner (reverse (take (get_or places at 0 + 1) log)))
       → HasSeen owner log known new (at + 1)
   seen-next at pods new within seen more =
       seen_as new (at + 1) (omega (arith, within))
-      (more (seen_by pods at seen ∙ ap (λ n. staying known owner (reverse (take n log))) (get_or_default places at (length log) 0 within))
-      ∙ sym (places-next (staying known owner) (touches owner) (untouched-staying known owner) log places are at within))
+      (more (seen_by pods at seen ∙ ap (λ n. kept_pods known owner (reverse (take n log))) (get_or_default places at (length log) 0 within))
+      ∙ sym (places-next (kept_pods known owner) (touches owner) (untouched-kept_pods known owner) log places are at within))
 
   -- What a sync saw: those at the places that it saw.
-  pub seen-cut : (pods : List Pod) (count end seen : ℕ) → HasSeen owner log known pods count → IsCut end places count → end ≤ length log → take end log ≡ take seen log → pods ≡ staying known owner (reverse (take seen log))
+  pub seen-cut : (pods : List Pod) (count end seen : ℕ) → HasSeen owner log known pods count → IsCut end places count → end ≤ length log → take end log ≡ take seen log → pods ≡ kept_pods known owner (reverse (take seen log))
   seen-cut pods count end seen has cut high same =
       seen_by pods count has
-      ∙ places-cut (staying known owner) (touches owner) (untouched-staying known owner) log places are end count high cut
-      ∙ ap (λ es. staying known owner (reverse es)) same
+      ∙ places-cut (kept_pods known owner) (touches owner) (untouched-kept_pods known owner) log places are end count high cut
+      ∙ ap (λ es. kept_pods known owner (reverse es)) same
 
 -- At the first place there are no pods yet.
 pub seen-first : (known : List (Uid × Outcome)) (owner : Uid) (log : List Entry) (pods : List Pod) (at : ℕ) → pods ≡ [] → at ≡ 0 → HasSeen owner log known pods at
@@ -200,7 +200,7 @@ seen-first known owner log pods at none first =
     subst (HasSeen owner log known pods) (sym first)
     (record {
       within = omega arith;
-      pods_are = none ∙ sym (places-first (staying known owner) (touches owner) (untouched-staying known owner) log (touching_places owner log) refl);
+      pods_are = none ∙ sym (places-first (kept_pods known owner) (touches owner) (untouched-kept_pods known owner) log (touching_places owner log) refl);
     })
 
 -- The pods that were seen stay.

@@ -10,7 +10,7 @@ use Rattle.jc_types.specs.Keys.{same_uid}
 use Rattle.jc_states.specs.PodLists.{IsRising, put_pod, drop_pod, place_from, RisesFrom}
 use Rattle.jc_log.specs.Log.{pods_in}
 use Rattle.jc_failpol.specs.declared.outcomes.Outcome.{Outcome}
-use Rattle.jc_verdicts.specs.Verdicts.{staying, stays}
+use Rattle.jc_verdicts.specs.Verdicts.{kept_pods, stays}
 use Rattle.jc_types.proofs.ListFacts.{filter_filter, filter_swap}
 use Rattle.jc_log.proofs.PodFacts.{pods_in-rises}
 use Rattle.jc_states.proofs.PodListFacts.{drop-absent, pod_among, put_pod-above, put_pod-below, put_pod-there, rises_filter, rises_put}
@@ -79,37 +79,37 @@ module _ (known : List (Uid × Outcome)) (j : Uid) where
   stays_of pod = same_uid pod.owner_uid j && stays known pod
 
   -- The pods that stay are those of which this is so.
-  staying-are : (older : List Entry) → staying known j older ≡ filter stays_of (pods_in older)
-  staying-are older = filter_filter (stays known) (λ pod. same_uid pod.owner_uid j) (pods_in older)
+  kept_pods-are : (older : List Entry) → kept_pods known j older ≡ filter stays_of (pods_in older)
+  kept_pods-are older = filter_filter (stays known) (λ pod. same_uid pod.owner_uid j) (pods_in older)
 
   -- A pod of the Job is put.
   pub seen_put : (entry : Entry) (pod : Pod) (pods new : List Pod) (older : List Entry) → entry ≡ PodPut pod → same_uid pod.owner_uid j ≡ true
-      → new ≡ cond (stays known pod) (put_pod pod pods) (drop_pod pod.uid pods) → pods ≡ staying known j older → new ≡ staying known j (entry ∷ older)
+      → new ≡ cond (stays known pod) (put_pod pod pods) (drop_pod pod.uid pods) → pods ≡ kept_pods known j older → new ≡ kept_pods known j (entry ∷ older)
   seen_put entry pod pods new older is own put before =
-      put ∙ ap (λ ps. cond (stays known pod) (put_pod pod ps) (drop_pod pod.uid ps)) (before ∙ staying-are older)
+      put ∙ ap (λ ps. cond (stays known pod) (put_pod pod ps) (drop_pod pod.uid ps)) (before ∙ kept_pods-are older)
       ∙ sym (ap (λ b. cond (b && stays known pod) (put_pod pod (filter stays_of (pods_in older))) (drop_pod pod.uid (filter stays_of (pods_in older)))) own)
       ∙ sym (passing-put stays_of pod 0 (pods_in older) (pods_in-rises older))
-      ∙ sym (staying-are (PodPut pod ∷ older))
-      ∙ ap (λ e. staying known j (e ∷ older)) (sym is)
+      ∙ sym (kept_pods-are (PodPut pod ∷ older))
+      ∙ ap (λ e. kept_pods known j (e ∷ older)) (sym is)
 
   -- A pod of another Job is put.
-  pub seen_other : (entry : Entry) (pod : Pod) (pods new : List Pod) (older : List Entry) → entry ≡ PodPut pod → same_uid pod.owner_uid j ≡ false → new ≡ drop_pod pod.uid pods → filter (stays known) pods ≡ staying known j older
-      → filter (stays known) new ≡ staying known j (entry ∷ older)
+  pub seen_other : (entry : Entry) (pod : Pod) (pods new : List Pod) (older : List Entry) → entry ≡ PodPut pod → same_uid pod.owner_uid j ≡ false → new ≡ drop_pod pod.uid pods → filter (stays known) pods ≡ kept_pods known j older
+      → filter (stays known) new ≡ kept_pods known j (entry ∷ older)
   seen_other entry pod pods new older is own drops before =
-      ap (filter (stays known)) drops ∙ passing-drop (stays known) pod.uid pods ∙ ap (drop_pod pod.uid) (before ∙ staying-are older)
+      ap (filter (stays known)) drops ∙ passing-drop (stays known) pod.uid pods ∙ ap (drop_pod pod.uid) (before ∙ kept_pods-are older)
       ∙ sym (ap (λ b. cond (b && stays known pod) (put_pod pod (filter stays_of (pods_in older))) (drop_pod pod.uid (filter stays_of (pods_in older)))) own)
       ∙ sym (passing-put stays_of pod 0 (pods_in older) (pods_in-rises older))
-      ∙ sym (staying-are (PodPut pod ∷ older))
-      ∙ ap (λ e. staying known j (e ∷ older)) (sym is)
+      ∙ sym (kept_pods-are (PodPut pod ∷ older))
+      ∙ ap (λ e. kept_pods known j (e ∷ older)) (sym is)
 
   -- A pod goes.
-  pub seen_gone : (entry : Entry) (pod : Pod) (pods new : List Pod) (older : List Entry) → entry ≡ PodGone pod → new ≡ drop_pod pod.uid pods → filter (stays known) pods ≡ staying known j older
-      → filter (stays known) new ≡ staying known j (entry ∷ older)
+  pub seen_gone : (entry : Entry) (pod : Pod) (pods new : List Pod) (older : List Entry) → entry ≡ PodGone pod → new ≡ drop_pod pod.uid pods → filter (stays known) pods ≡ kept_pods known j older
+      → filter (stays known) new ≡ kept_pods known j (entry ∷ older)
   seen_gone entry pod pods new older is drops before =
-      ap (filter (stays known)) drops ∙ passing-drop (stays known) pod.uid pods ∙ ap (drop_pod pod.uid) (before ∙ staying-are older)
+      ap (filter (stays known)) drops ∙ passing-drop (stays known) pod.uid pods ∙ ap (drop_pod pod.uid) (before ∙ kept_pods-are older)
       ∙ sym (passing-drop stays_of pod.uid (pods_in older))
-      ∙ sym (staying-are (PodGone pod ∷ older))
-      ∙ ap (λ e. staying known j (e ∷ older)) (sym is)
+      ∙ sym (kept_pods-are (PodGone pod ∷ older))
+      ∙ ap (λ e. kept_pods known j (e ∷ older)) (sym is)
 
 -- They rise without the pod of a UID.
 pub rises-dropped : (u : Uid) (pods new : List Pod) → IsRising pods → new ≡ drop_pod u pods → IsRising new

@@ -19,7 +19,7 @@
 --     ledger_after ..                the ledger after one more event
 --     before_place places at log     how many entries come before the one at the place of this number
 --     stays known pod                a write may have to look at the pod
---     staying known j log            the pods of the Job for which that is so
+--     kept_pods known j log            the pods of the Job for which that is so
 --     HasSeen j log known pods n     so many places were taken, and the pods are those of the Job
 --                                    then that stay
 use Rattle.std.specs.Prelude.{◌≡◌, ℕ, ◌-◌, ◌<◌, ◌≤◌, ◌&&◌, ◌||◌, Bool, false, All, List, map, filter, find, get_or, reverse, take, length, if◌then◌else◌, Option, Some, None, is_some, not, option_and_then, option_map}
@@ -170,11 +170,11 @@ abbrev pub stays : List (Uid × Outcome) → Pod → Bool
 stays known pod = is_tracked pod && (not (is_active pod) || is_some (at same_uid known pod.uid))
 
 -- The pods of the Job for which that is so.
-abbrev pub staying : List (Uid × Outcome) → Uid → List Entry → List Pod
-staying known j log = filter (stays known) (pods_of j log)
+abbrev pub kept_pods : List (Uid × Outcome) → Uid → List Entry → List Pod
+kept_pods known j log = filter (stays known) (pods_of j log)
 
 -- So many of the places at which the pods of the Job change were taken, and the pods are those of
 -- the Job after the entries before the next one that stay.
 pub record HasSeen (j : Uid) (log : List Entry) (known : List (Uid × Outcome)) (pods : List Pod) (n : ℕ) : Type 0 where
   pub within : n ≤ length (touching_places j log)
-  pub pods_are : pods ≡ staying known j (reverse (take (before_place (touching_places j log) n log) log))
+  pub pods_are : pods ≡ kept_pods known j (reverse (take (before_place (touching_places j log) n log) log))

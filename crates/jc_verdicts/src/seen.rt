@@ -10,7 +10,7 @@ ghost use Rattle.jc_log.specs.PlainReadings.{job_put};
 ghost use Rattle.jc_states.specs.PodLists.{IsRising, drop_pod, place_from, put_pod};
 ghost use Rattle.jc_failpol.specs.declared.outcomes.Outcome.{Outcome};
 ghost use Rattle.jc_verdicts.specs.Places.{ArePlaces, touching_places};
-ghost use Rattle.jc_verdicts.specs.Verdicts.{HasSeen, staying, stays};
+ghost use Rattle.jc_verdicts.specs.Verdicts.{HasSeen, kept_pods, stays};
 
 use crate::places::{Places, count_below, places_at};
 use indexmap::IndexMap;
@@ -130,9 +130,9 @@ fn take_in(
     ensures rising { OnOk result (IsRising pods.new.items) }
     ensures pods { OnOk result ((older : List Entry)
         → filter (stays known.now.entries) pods.old.items
-        ≡ staying known.now.entries owner older
+        ≡ kept_pods known.now.entries owner older
         → filter (stays known.now.entries) pods.new.items
-        ≡ staying known.now.entries owner (entry.now ∷ older)) }
+        ≡ kept_pods known.now.entries owner (entry.now ∷ older)) }
 {
     match entry {
         Entry::PodPut(pod) => {
@@ -163,9 +163,9 @@ fn take_at(
     requires pods { IsRising pods.old.items }
     ensures rising { OnOk result (IsRising pods.new.items) }
     ensures pods { OnOk result (filter (stays known.now.entries) pods.old.items
-        ≡ staying known.now.entries owner (reverse (take place log.now))
+        ≡ kept_pods known.now.entries owner (reverse (take place log.now))
         → filter (stays known.now.entries) pods.new.items
-        ≡ staying known.now.entries owner (reverse (take (place + 1) log.now))) }
+        ≡ kept_pods known.now.entries owner (reverse (take (place + 1) log.now))) }
 {
     take_in(pods, known, owner, &log[place])
 }
@@ -229,7 +229,7 @@ pub fn look(
     requires places { places.now ≡ touching_places owner log.now }
     requires seen { HasSeen owner log.now known.now.entries pods.old.items at }
     ensures pods { OnOk result
-        (pods.new.items ≡ staying known.now.entries owner (reverse (take seen log.now))) }
+        (pods.new.items ≡ kept_pods known.now.entries owner (reverse (take seen log.now))) }
     ensures seen { IfOk result (λ now. HasSeen owner log.now known.now.entries pods.new.items now) }
 {
     let count = count_below(places, end_of(log, seen));

@@ -5,7 +5,7 @@ use Rattle.jc_log.specs.Tables.{at}
 use Rattle.jc_states.specs.PodLists.{IsRising}
 use Rattle.jc_verdicts.specs.Verdicts.{rows_for, success_indexes}
 use Rattle.jc_verdicts.proofs.BookFacts.{done-known, knows-more, new-is, seen-judged}
-use Rattle.jc_verdicts.proofs.StayFacts.{indexes-staying, rows-staying}
+use Rattle.jc_verdicts.proofs.StayFacts.{indexes-kept_pods, rows-kept_pods}
 use Rattle.jc_verdicts.proofs.TouchFacts.{seen-rise}
 use Rattle.jc_verdicts.proofs.books.judge.Goals as goal
 
@@ -38,7 +38,7 @@ returns-clause-rows c =
     (new-is c.args.job.now c.deref.result.now c.args.log.now c.args.seen c.args.book.now.known.entries c.args.book.now.rows.items c.as_slice-fresh.result.now (pods_of c.args.job.now.uid (reverse (take c.args.seen c.args.log.now))) c.deref.ensures refl
     c.requires.sound.known
     (c.as_slice-fresh.ensures.value ∙ c.in_ok-new.ensures ∙ ap (rows_for c.deref.result.now (at same_uid c.args.book.now.known.entries)) (c.as_slice-pods.ensures.value ∙ c.in_ok-book.ensures.pods)
-    ∙ rows-staying c.args.book.now.known.entries c.deref.result.now (pods_of c.args.job.now.uid (reverse (take c.args.seen c.args.log.now)))))
+    ∙ rows-kept_pods c.args.book.now.known.entries c.deref.result.now (pods_of c.args.job.now.uid (reverse (take c.args.seen c.args.log.now)))))
 
 -- The indexes are those that are done after it.
 pub returns-clause-done : goal.returns-clause-done
@@ -47,4 +47,4 @@ returns-clause-done c =
     ∙ done-known c.args.job.now c.args.log.now c.args.seen c.args.book.now.known.entries c.args.book.now.rows.items c.args.book.now.done.items c.as_slice.result.now (pods_of c.args.job.now.uid (reverse (take c.args.seen c.args.log.now))) refl
     c.requires.sound.known
     (c.as_slice.ensures.value ∙ c.in_ok-more.ensures ∙ ap (success_indexes c.args.job.now (at same_uid c.args.book.now.known.entries)) (c.as_slice-pods.ensures.value ∙ c.in_ok-book.ensures.pods)
-    ∙ indexes-staying c.args.book.now.known.entries c.args.job.now (pods_of c.args.job.now.uid (reverse (take c.args.seen c.args.log.now))))
+    ∙ indexes-kept_pods c.args.book.now.known.entries c.args.job.now (pods_of c.args.job.now.uid (reverse (take c.args.seen c.args.log.now))))

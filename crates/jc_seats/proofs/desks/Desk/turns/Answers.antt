@@ -2,4 +2,4 @@ use Rattle.std.proofs.Common.{arith}
 use Rattle.jc_seats.proofs.desks.Desk.turns.Goals as goal
 
 pub turn-requires : goal.turn-requires
-turn-requires g c = omega (arith, c.requires, c.loop.invariant.0, c.loop.invariant.1)
+turn-requires g c = omega (arith, c.requires, c.loop-turn.invariant.0, c.loop-turn.invariant.1)
