@@ -236,38 +236,3 @@ pub fn print_system(out: &mut String, system: &Sys) -> Result<(), Want>
         Sys::Clock { add } => print_clock(out, *add),
     }
 }
-
-/// Puts what an event of the system does behind the text, and before it, between blanks, the dash that
-/// stands for the lane of a command.
-///
-/// # Errors
-///
-/// Want of memory.
-pub fn print_system_deed(out: &mut String, system: &Sys) -> Result<(), Want>
-    ensures { OnOk result (string_bytes out.new
-        ≡ string_bytes out.old ++ (codes " - " ++ act_text (act_of_system system.now))) }
-{
-    match system {
-        Sys::List { controller, kind } => {
-            out.push_str(" - list ")?;
-            print_cache(out, *controller, *kind)
-        }
-        Sys::Deliver { controller, kind } => {
-            out.push_str(" - deliver ")?;
-            print_cache(out, *controller, *kind)
-        }
-        Sys::Begin { controller, worker } => {
-            out.push_str(" - begin ")?;
-            print_worker(out, *controller, *worker)
-        }
-        Sys::Step { controller, worker } => {
-            out.push_str(" - step ")?;
-            print_worker(out, *controller, *worker)
-        }
-        Sys::Node => out.push_str(" - node"),
-        Sys::Clock { add } => {
-            out.push_str(" - ")?;
-            print_clock(out, *add)
-        }
-    }
-}

@@ -6,7 +6,7 @@ ghost use Rattle.jc_lines.specs.Acts.{act_text};
 ghost use Rattle.jc_verdicts.specs.Verdicts.{IsPlace};
 ghost use Rattle.jc_lines.specs.Events.{event_line, tag_text};
 
-use crate::acts::{print_action, print_system_deed};
+use crate::acts::{print_action, print_system};
 use crate::replies::print_reply;
 use jc_print::{put_long, put_small};
 use jc_types::{Command, Event, Past, Script, Want};
@@ -50,7 +50,10 @@ fn print_deed(out: &mut String, alloc: Global, script: &Script, event: &Event) -
 {
     match event {
         Event::Command { lane, number } => print_command(out, alloc, script, *lane, *number),
-        Event::System(system) => print_system_deed(out, system),
+        Event::System(system) => {
+            out.push_str(" - ")?;
+            print_system(out, system)
+        }
     }
 }
 
