@@ -35,6 +35,8 @@ def adopt(top):
     for crate in crates:
         if not all(below.name in given for below in crate.deps):
             continue
+        # What stands there beside the kept files makes rt take the kept ones for damaged, and drop them.
+        shutil.rmtree(f"{crate.folder}/out/rlib", ignore_errors=True)
         if not kept.give(crate, False, kept.key(crate)):
             continue
         kept.is_built(crate)
