@@ -6,6 +6,7 @@
 --     TellsVerdict shape input verdict old new    it is the verdict on the input, and was written
 --     TellsVerdictFront shape input old new       the front of a verdict on the input was
 --     IsPromised shape input           all promises hold of the history that the input tells
+--     PassesAudit shape old new        what the sink was given is what an audit says yes to
 use Rattle.std.specs.Prelude.{◌≡◌, ℕ, List, ◌++◌, Option, codes, decimal}
 use Rattle.std.specs.Io.KnownBytes.{Appends}
 use Rattle.jc_io.specs.Moved.{AppendsFront}
@@ -59,3 +60,9 @@ pub record IsPromised (shape : Shape) (input : List ℕ) : Type 0 where
   pub reported : IsReported shape input
   pub keeps : KeepsPromises reported.script shape reported.history
   pub events : AreEvents reported.history.events.items
+
+-- The sink was given a text of which an audit in the shape says yes.
+pub record PassesAudit (shape : Shape) (old new : Option (List ℕ)) : Type 0 where
+  pub text : List ℕ
+  pub says : VerdictHolds shape text Yes
+  pub written : Appends old new text
