@@ -11,13 +11,13 @@ use Rattle.jc_types.specs.declared.objects.Key.{Key}
 use Rattle.jc_types.specs.declared.runs.Shape.{Shape}
 use Rattle.jc_audit.specs.Allowed.{IsAllowedKey, is_allowed_key}
 use Rattle.jc_audit.specs.Proper.{IsProperAction, IsProperCommand}
-use Rattle.jc_promise.specs.Legal.{IsHistory}
-use Rattle.jc_promise.specs.Play.{whole_play}
-use Rattle.jc_promise.specs.Plays.{IsProper}
-use Rattle.jc_promise.specs.Seen.{Seen}
-use Rattle.jc_reap.specs.Finds.{seen_at_end}
-use Rattle.jc_reap.specs.Given.{Creates, IsGiven, IsSmallTtl}
-use Rattle.jc_reap.specs.Reaping.{command, reap_list}
+use Rattle.jc_single.specs.Legal.{IsHistory}
+use Rattle.jc_single.specs.Play.{whole_play}
+use Rattle.jc_single.specs.Plays.{IsProper}
+use Rattle.jc_single.specs.Seen.{Seen}
+use Rattle.jc_single.specs.Finds.{seen_at_end}
+use Rattle.jc_single.specs.Given.{Creates, IsGiven, IsSmallTtl}
+use Rattle.jc_single.specs.Reaping.{command, reap_list}
 use Rattle.jc_script.specs.Scripts.{BadLine}
 use Rattle.jc_single.proofs.ReapFacts.{both, history_of, last-holds}
 use Rattle.jc_single.specs.Played.{as_script, at_rest, reaped_of}

@@ -15,8 +15,8 @@ use Rattle.jc_audit.specs.Audits.{VerdictHolds}
 use Rattle.jc_audit.specs.Reported.{IsReported}
 use Rattle.jc_audit.specs.declared.verdicts.Verdict.{Verdict}
 use Rattle.jc_audit.specs.declared.verdicts.Verdict.TheVariants.{Yes, No}
-use Rattle.jc_promise.specs.Promises.{KeepsPromises}
-use Rattle.jc_report.specs.Told.{AreEvents}
+use Rattle.jc_single.specs.Promises.{KeepsPromises}
+use Rattle.jc_lines.specs.Told.{AreEvents}
 use Rattle.jc_words.specs.declared.words.Order.{Order}
 use Rattle.jc_words.specs.declared.words.Order.TheVariants as order
 use Rattle.jc_single.specs.declared.status.Status.{Status}

@@ -17,12 +17,11 @@ use jc_audit::{
     histories_print_reports, proper_actions_are_valid, read_scripts_are_proper,
     reports_are_of_histories,
 };
-use jc_promise::{
-    legal_histories_keep_the_promises, orderly_histories_have_small_numbers,
-    plays_are_orderly_histories,
-};
-use jc_reap::{reaped_commands_can_be_said, reaped_commands_fit};
 use jc_script::scripts_fit_their_shape;
+use jc_single::{
+    legal_histories_keep_the_promises, orderly_histories_have_small_numbers,
+    plays_are_orderly_histories, reaped_commands_can_be_said, reaped_commands_fit,
+};
 
 /// **Of what an audit says yes to, all promises hold (KEP-2307)**: it tells a legal and orderly history of a script, and
 /// they hold of that one, whoever printed it.

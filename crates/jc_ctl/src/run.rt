@@ -6,7 +6,7 @@ ghost use Rattle.jc_io.specs.Faults.{Rose};
 ghost use Rattle.jc_io.specs.Moved.{AppendsFront, TakesAtMost, TakesCount};
 ghost use Rattle.jc_types.specs.declared.runs.Shape.{Shape};
 ghost use Rattle.jc_types.specs.declared.actions.Command.{Command};
-ghost use Rattle.jc_reap.specs.TtlLines.{ttls_of};
+ghost use Rattle.jc_single.specs.TtlLines.{ttls_of};
 ghost use Rattle.jc_script.specs.Scripts.{BadLine, most_bytes, script_of};
 ghost use Rattle.jc_script.specs.Cause.{Cause};
 ghost use Rattle.jc_words.specs.Words.{order_of};

@@ -17,7 +17,7 @@ ghost use Rattle.jc_log.specs.Log.{jobs_in};
 ghost use Rattle.jc_runs.specs.ValidActions.{IsValidAction};
 ghost use Rattle.jc_runs.specs.Legal.{IsLegal, IsOfShape};
 ghost use Rattle.jc_runs.specs.Play.{Playing, deeds_played, is_command, rest_played, whole_play};
-ghost use Rattle.jc_machine.specs.Plays.{IsProper};
+ghost use Rattle.jc_core.specs.Plays.{IsProper};
 ghost use Rattle.jc_runs.specs.Runs.{AllAskValid};
 ghost use Rattle.jc_runs.specs.Seen.{Seen, deeds_seen, log_seen};
 ghost use Rattle.jc_script.specs.Scripts.{BadLine, script_of};

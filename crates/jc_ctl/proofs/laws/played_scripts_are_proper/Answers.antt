@@ -1,7 +1,7 @@
 -- A script that is played was read, or it is that with a settle and a reaper's commands behind it.
 use Rattle.std.proofs.Common.{refl}
 use Rattle.std.proofs.lemmas.Result.{IfOk-at_ok}
-use Rattle.jc_reap.specs.TtlLines.{ttls_of}
+use Rattle.jc_single.specs.TtlLines.{ttls_of}
 use Rattle.jc_script.specs.Scripts.{script_of}
 use Rattle.jc_audit.specs.Allowed.{is_allowed_key}
 use Rattle.jc_words.specs.declared.words.Order.TheVariants as order
