@@ -1,0 +1,96 @@
+#!/usr/bin/env python3
+"""check_cookbook.py [PROGRAM]: holds docs/COOKBOOK.md and docs/TUTORIAL.md to what they show. It says how much held.
+
+Each story of examples/cookbook/ has one part of the cookbook, with links to its script and its report, and stands in
+examples/README.md. Each line that a part shows stands in the script, where it is a command, or else in the report, and
+behind the one before it. Two dots in a shown line stand for what is left out. With a PROGRAM the commands of the tutorial
+are run in their order, with the program in the place of ./jobctl: each prints what the page shows.
+"""
+import glob
+import os
+import re
+import subprocess
+import sys
+import tempfile
+
+sys.dont_write_bytecode = True
+from checks import TOP, Checks, text_of
+
+FOLDER = "examples/cookbook"
+checks = Checks("cookbook")
+holds = checks.holds
+
+
+def shown(text):
+    """Returns the lines of a page that stand in blocks, without their four spaces."""
+    return [line[4:] for line in text.split("\n") if line.startswith("    ")]
+
+
+def like(line):
+    """Returns the pattern of a shown line: two dots stand for what is left out."""
+    return ".*".join(re.escape(piece.strip()) for piece in line.split("..")) if ".." in line else re.escape(line)
+
+
+def check_part(title, part):
+    """Checks one part of the cookbook, and returns the name of its story."""
+    links = re.findall(rf"\]\(\.\./{FOLDER}/(\w+)\.(script|report)\)", part)
+    name = links[0][0] if links else None
+    holds(f"{title}: no links to one script and its report", links == [(name, "script"), (name, "report")])
+    left, used = {}, set()
+    for kind in ("script", "report"):
+        is_there = os.path.exists(f"{TOP}/{FOLDER}/{name}.{kind}")
+        left[kind] = text_of(f"{FOLDER}/{name}.{kind}").split("\n") if is_there else []
+    for line in shown(part):
+        kind = "script" if line.startswith("{") else "report"
+        found = [at for at, it in enumerate(left[kind]) if re.fullmatch(like(line), it)]
+        holds(f"{title}: not in {name}.{kind}, or not there: {line}", bool(found) and line.strip(". ") != "")
+        left[kind] = left[kind][found[0] + 1:] if found else left[kind]
+        used.add(kind)
+    holds(f"{title}: it shows no line of the script, or none of the report", len(used) == 2)
+    return name
+
+
+def check_stories():
+    _, *parts = re.split(r"(?m)^### ", text_of("docs/COOKBOOK.md"))
+    told = [check_part(*part.partition("\n")[::2]) for part in parts]
+    there = sorted({os.path.basename(it).partition(".")[0] for it in glob.glob(f"{TOP}/{FOLDER}/*")})
+    holds(f"docs/COOKBOOK.md and {FOLDER}/ differ in {set(told) ^ set(there)}, or one is told twice", sorted(told, key=str) == there)
+    listed = re.findall(r"\]\(cookbook/(\w+)\.script\)", text_of("examples/README.md"))
+    holds(f"examples/README.md and {FOLDER}/ differ in {set(listed) ^ set(there)}", sorted(listed) == there)
+
+
+def commands(page):
+    """Returns the commands of a page, each with the lines that it prints. A command that ends in <<END goes on to that line."""
+    found, is_open = [], False
+    for line in shown(page):
+        if line.startswith("$ "):
+            found.append([line[2:], []])
+            is_open = line.endswith("<<END")
+        elif is_open:
+            found[-1][0] += "\n" + line
+            is_open = line != "END"
+        elif found:
+            found[-1][1].append(line)
+    return found
+
+
+def check_tutorial(program):
+    with tempfile.TemporaryDirectory() as room:
+        for name in ("docs", "examples", "tools"):
+            os.symlink(f"{TOP}/{name}", f"{room}/{name}")
+        os.symlink(os.path.abspath(program), f"{room}/jobctl")
+        how = {"cwd": room, "env": {**os.environ, "PYTHONDONTWRITEBYTECODE": "1"}, "text": True, "timeout": 60}
+        for command, lines in commands(text_of("docs/TUTORIAL.md")):
+            ran = subprocess.run(["bash", "-c", command], stdin=subprocess.DEVNULL, stdout=subprocess.PIPE, stderr=subprocess.STDOUT, **how)
+            want = "".join("(.*\n)*" if line == ".." else like(line) + "\n" for line in lines)
+            holds(f"docs/TUTORIAL.md: $ {command}\nprints\n{ran.stdout}", bool(re.fullmatch(want, ran.stdout)))
+
+
+def main():
+    check_stories()
+    if sys.argv[1:]:
+        check_tutorial(sys.argv[1])
+    checks.end(200)
+
+
+main()
