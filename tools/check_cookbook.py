@@ -4,7 +4,8 @@
 Each story of examples/cookbook/ has one part of the cookbook, with links to its script and its report, and stands in
 examples/README.md. Each line that a part shows stands in the script, where it is a command, or else in the report, and
 behind the one before it. Two dots in a shown line stand for what is left out. With a PROGRAM the commands of the tutorial
-are run in their order, with the program in the place of ./jobctl: each prints what the page shows.
+are run in their order, with the program in the place of ./jobctl: each prints what the page shows, and the picture is the
+one of the page.
 """
 import glob
 import os
@@ -75,6 +76,7 @@ def commands(page):
 
 
 def check_tutorial(program):
+    holds("docs/TUTORIAL.md has commands", len(commands(text_of("docs/TUTORIAL.md"))) > 9)
     with tempfile.TemporaryDirectory() as room:
         for name in ("docs", "examples", "tools"):
             os.symlink(f"{TOP}/{name}", f"{room}/{name}")
@@ -84,6 +86,8 @@ def check_tutorial(program):
             ran = subprocess.run(["bash", "-c", command], stdin=subprocess.DEVNULL, stdout=subprocess.PIPE, stderr=subprocess.STDOUT, **how)
             want = "".join("(.*\n)*" if line == ".." else like(line) + "\n" for line in lines)
             holds(f"docs/TUTORIAL.md: $ {command}\nprints\n{ran.stdout}", bool(re.fullmatch(want, ran.stdout)))
+        drawn = glob.glob(f"{room}/*.svg")
+        holds("docs/tutorial.svg is what the tutorial draws", len(drawn) == 1 and text_of(drawn[0]) == text_of("docs/tutorial.svg"))
 
 
 def main():
