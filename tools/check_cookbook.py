@@ -3,9 +3,9 @@
 
 Each story of examples/cookbook/ has one part of the cookbook, with links to its script and its report, and stands in
 examples/README.md. Each line that a part shows stands in the script, where it is a command, or else in the report, and
-behind the one before it. Two dots in a shown line stand for what is left out. With a PROGRAM the commands of the tutorial
-are run in their order, with the program in the place of ./jobctl: each prints what the page shows, and the picture is the
-one of the page.
+behind the one before it. Two dots in a shown line stand for what is left out, and `   # ..` at its end is a remark. With a
+PROGRAM the commands of the tutorial are run in their order, with the program in the place of ./jobctl: each prints what
+the page shows, and the picture is the one of the page.
 """
 import glob
 import os
@@ -23,8 +23,8 @@ holds = checks.holds
 
 
 def shown(text):
-    """Returns the lines of a page that stand in blocks, without their four spaces."""
-    return [line[4:] for line in text.split("\n") if line.startswith("    ")]
+    """Returns the lines of a page that stand in blocks, without their four spaces and their remarks."""
+    return [line[4:].partition("   # ")[0] for line in text.split("\n") if line.startswith("    ")]
 
 
 def like(line):
