@@ -1,11 +1,11 @@
 #!/usr/bin/env python3
-"""check_cookbook.py [PROGRAM]: holds docs/COOKBOOK.md and docs/TUTORIAL.md to what they show. It says how much held.
+"""check_cookbook.py [PROGRAM [--draw]]: holds docs/COOKBOOK.md and docs/TUTORIAL.md to what they show. It says how much held.
 
 Each story of examples/cookbook/ has one part of the cookbook, with links to its script and its report, and stands in
 examples/README.md. Each line that a part shows stands in the script, where it is a command, or else in the report, and
 behind the one before it. Two dots in a shown line stand for what is left out, and `   # ..` at its end is a remark. With a
 PROGRAM the commands of the tutorial are run in their order, with the program in the place of ./jobctl: each prints what
-the page shows, and the picture is the one of the page.
+the page shows, and the picture is the one of the page; --draw makes it so.
 """
 import glob
 import os
@@ -17,7 +17,6 @@ import tempfile
 sys.dont_write_bytecode = True
 from checks import TOP, Checks, text_of
 
-FOLDER = "examples/cookbook"
 checks = Checks("cookbook")
 holds = checks.holds
 
@@ -32,15 +31,15 @@ def like(line):
     return ".*".join(re.escape(piece.strip()) for piece in line.split("..")) if ".." in line else re.escape(line)
 
 
-def check_part(title, part):
-    """Checks one part of the cookbook, and returns the name of its story."""
-    links = re.findall(rf"\]\(\.\./{FOLDER}/(\w+)\.(script|report)\)", part)
+def check_part(folder, title, part):
+    """Checks one part of a page of stories, and returns the name of its story."""
+    links = re.findall(rf"\]\(\.\./{folder}/(\w+)\.(script|report)\)", part)
     name = links[0][0] if links else None
     holds(f"{title}: no links to one script and its report", links == [(name, "script"), (name, "report")])
     left, used = {}, set()
     for kind in ("script", "report"):
-        is_there = os.path.exists(f"{TOP}/{FOLDER}/{name}.{kind}")
-        left[kind] = text_of(f"{FOLDER}/{name}.{kind}").split("\n") if is_there else []
+        is_there = os.path.exists(f"{TOP}/{folder}/{name}.{kind}")
+        left[kind] = text_of(f"{folder}/{name}.{kind}").split("\n") if is_there else []
     for line in shown(part):
         kind = "script" if line.startswith("{") else "report"
         found = [at for at, it in enumerate(left[kind]) if re.fullmatch(like(line), it)]
@@ -51,13 +50,14 @@ def check_part(title, part):
     return name
 
 
-def check_stories():
-    _, *parts = re.split(r"(?m)^### ", text_of("docs/COOKBOOK.md"))
-    told = [check_part(*part.partition("\n")[::2]) for part in parts]
-    there = sorted({os.path.basename(it).partition(".")[0] for it in glob.glob(f"{TOP}/{FOLDER}/*")})
-    holds(f"docs/COOKBOOK.md and {FOLDER}/ differ in {set(told) ^ set(there)}, or one is told twice", sorted(told, key=str) == there)
-    listed = re.findall(r"\]\(cookbook/(\w+)\.script\)", text_of("examples/README.md"))
-    holds(f"examples/README.md and {FOLDER}/ differ in {set(listed) ^ set(there)}", sorted(listed) == there)
+def check_stories(page, folder):
+    """Checks a page of stories: a part for each story of a folder, which examples/README.md lists."""
+    _, *parts = re.split(r"(?m)^### ", text_of(page))
+    told = [check_part(folder, *part.partition("\n")[::2]) for part in parts]
+    there = sorted({os.path.basename(it).partition(".")[0] for it in glob.glob(f"{TOP}/{folder}/*")})
+    holds(f"{page} and {folder}/ differ in {set(told) ^ set(there)}, or one is told twice", sorted(told, key=str) == there)
+    listed = re.findall(rf"\]\({os.path.basename(folder)}/(\w+)\.script\)", text_of("examples/README.md"))
+    holds(f"examples/README.md and {folder}/ differ in {set(listed) ^ set(there)}", sorted(listed) == there)
 
 
 def commands(page):
@@ -75,7 +75,7 @@ def commands(page):
     return found
 
 
-def check_tutorial(program):
+def check_tutorial(program, draws):
     holds("docs/TUTORIAL.md has commands", len(commands(text_of("docs/TUTORIAL.md"))) > 9)
     with tempfile.TemporaryDirectory() as room:
         for name in ("docs", "examples", "tools"):
@@ -86,14 +86,17 @@ def check_tutorial(program):
             ran = subprocess.run(["bash", "-c", command], stdin=subprocess.DEVNULL, stdout=subprocess.PIPE, stderr=subprocess.STDOUT, **how)
             want = "".join("(.*\n)*" if line == ".." else like(line) + "\n" for line in lines)
             holds(f"docs/TUTORIAL.md: $ {command}\nprints\n{ran.stdout}", bool(re.fullmatch(want, ran.stdout)))
-        drawn = glob.glob(f"{room}/*.svg")
-        holds("docs/tutorial.svg is what the tutorial draws", len(drawn) == 1 and text_of(drawn[0]) == text_of("docs/tutorial.svg"))
+        drawn = "".join(text_of(it) for it in glob.glob(f"{room}/*.svg"))
+    if draws:
+        with open(f"{TOP}/docs/tutorial.svg", "w", encoding="utf-8") as it:
+            it.write(drawn)
+    holds("docs/tutorial.svg is what the tutorial draws", drawn == text_of("docs/tutorial.svg"))
 
 
 def main():
-    check_stories()
+    check_stories("docs/COOKBOOK.md", "examples/cookbook")
     if sys.argv[1:]:
-        check_tutorial(sys.argv[1])
+        check_tutorial(sys.argv[1], sys.argv[2:] == ["--draw"])
     checks.end(200)
 
 
