@@ -17,8 +17,8 @@ use Rattle.jc_history.specs.Replies.{log_given, next_deed}
 use Rattle.jc_lines.specs.Events.{event_lines}
 use Rattle.jc_reading.specs.Proper.{IsProperCommand}
 use Rattle.jc_runs.specs.Seen.{Admits, IsDoable, Seen, act_seen, deeds_seen, happened}
-use Rattle.jc_machine.specs.Longer.{extended}
-use Rattle.jc_machine.proofs.LongerScripts.{same_deeds}
+use Rattle.jc_play.specs.Longer.{extended}
+use Rattle.jc_play.proofs.LongerScripts.{same_deeds}
 use Rattle.jc_audit.specs.Walks.{TakesLine, Walks, Begins, GoesOn, at_first, begun_command, line_of_last}
 use Rattle.jc_audit.proofs.LastFacts.{begun_act, legal_is_next}
 use Rattle.jc_lines.proofs.PlaceFacts.{IsAt, lane_at}
@@ -26,7 +26,7 @@ use Rattle.jc_log.proofs.LogFacts.{slice_get-after as get_last}
 use Rattle.jc_audit.proofs.WalkFacts.{IsWalked, comes_next, line_more, walked}
 use Rattle.jc_play.proofs.WholeFacts.{all-doable as doable}
 use Rattle.jc_play.proofs.SystemFacts.{doable as system_doable}
-use Rattle.jc_machine.proofs.OrderFacts.{each-slice as each_at}
+use Rattle.jc_play.proofs.OrderFacts.{each-slice as each_at}
 
 -- A walk that has come to these deeds.
 pub record Comes (shape : Shape) (ds : List Deed) : Type 0 where

@@ -10,7 +10,7 @@ use Rattle.jc_reading.specs.Reads.{BeginsWith, IsProperRead, act_of_line, front_
 use Rattle.jc_reading.specs.declared.reads.LineRead.{LineRead}
 use Rattle.jc_lines.specs.Replies.{reply_text}
 use Rattle.jc_runs.specs.Seen.{Seen, deeds_seen, past_seen}
-use Rattle.jc_machine.specs.Longer.{extended}
+use Rattle.jc_play.specs.Longer.{extended}
 use Rattle.jc_audit.specs.Walks.{TakesCommand, TakesSystem, begun_command, last_line, read_of_command, read_of_system}
 use Rattle.jc_audit.proofs.LastFacts.{begun_act}
 use Rattle.jc_log.proofs.LogFacts.{slice_get-after as get_last}

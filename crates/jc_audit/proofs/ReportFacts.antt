@@ -23,7 +23,7 @@ use Rattle.jc_audit.specs.Reported.{IsReported}
 use Rattle.jc_audit.specs.Tails.{tail_text}
 use Rattle.jc_audit.proofs.BackFacts.{Comes, comes_back}
 use Rattle.jc_audit.proofs.WalkFacts.{IsWalked, walked}
-use Rattle.jc_machine.proofs.Starts.{map-reverse}
+use Rattle.jc_play.proofs.Starts.{map-reverse}
 
 -- The text of a report, by its deeds, newest first.
 text_is : (script : Script) (shape : Shape) (items : List Past) (full : Bool)

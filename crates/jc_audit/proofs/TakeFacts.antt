@@ -18,7 +18,7 @@ use Rattle.jc_reading.specs.declared.reads.LineAct.{LineAct}
 use Rattle.jc_reading.specs.declared.reads.LineAct.TheVariants as read
 use Rattle.jc_reading.specs.declared.reads.LineRead.{LineRead}
 use Rattle.jc_reading.proofs.CutFacts.{after_word, decimal_word, first_word}
-use Rattle.jc_machine.specs.Longer.{extended}
+use Rattle.jc_play.specs.Longer.{extended}
 use Rattle.jc_runs.specs.Seen.{Admits, Seen, deeds_seen, happened}
 use Rattle.jc_play.specs.Actors.{CanCome}
 use Rattle.jc_audit.specs.Limits.{IsSmallShape}

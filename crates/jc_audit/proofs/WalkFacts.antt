@@ -15,9 +15,9 @@ use Rattle.jc_types.specs.declared.runs.Sys.{Sys}
 use Rattle.jc_lines.specs.Events.{event_line, event_lines}
 use Rattle.jc_reading.specs.Proper.{IsProperCommand}
 use Rattle.jc_runs.specs.Seen.{Admits, Seen, deeds_seen, happened, log_seen, past_seen}
-use Rattle.jc_machine.specs.Longer.{extended}
-use Rattle.jc_machine.proofs.LaneFacts.{next_after, other_after}
-use Rattle.jc_machine.proofs.LongerScripts.{longer_next, same_deeds, still_in_lanes}
+use Rattle.jc_play.specs.Longer.{extended}
+use Rattle.jc_play.proofs.LaneFacts.{next_after, other_after}
+use Rattle.jc_play.proofs.LongerScripts.{longer_next, same_deeds, still_in_lanes}
 use Rattle.jc_audit.specs.Walks.{TakesLine, TakesCommand, TakesSystem, Walks, Begins, GoesOn, at_first, begun_command, last_line, line_of_last, with_command}
 use Rattle.jc_audit.proofs.LastFacts.{begun_proper, each_more, happened_is_legal}
 use Rattle.jc_lines.proofs.Texts.{event_lines-more as lines_more}

@@ -19,7 +19,7 @@ use Rattle.jc_reading.specs.Proper.{IsProperCommand, as_begin}
 use Rattle.jc_reading.specs.Reads.{BeginsWith, IsProperRead, begun_read}
 use Rattle.jc_reading.specs.declared.reads.LineAct.TheVariants as read
 use Rattle.jc_reading.specs.declared.reads.LineRead.{LineRead}
-use Rattle.jc_machine.specs.Longer.{extended}
+use Rattle.jc_play.specs.Longer.{extended}
 
 -- Nothing has happened, and the script has no command.
 abbrev pub at_first : Shape → Seen

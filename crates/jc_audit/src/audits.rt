@@ -8,7 +8,7 @@ ghost use Rattle.jc_audit.specs.Walks.{at_first};
 use crate::tails::{rest_at, tail_verdict};
 use crate::verdicts::Verdict;
 use crate::walking::take;
-use jc_machine::Machine;
+use jc_play::Machine;
 use jc_types::{Commands, Script, Shape, Want};
 use std::alloc::Global;
 

@@ -6,7 +6,7 @@ ghost use Rattle.jc_audit.specs.Tails.{at_end, lines_compared, line_len, whole_l
 
 use crate::verdicts::Verdict;
 use jc_lines::tail;
-use jc_machine::Machine;
+use jc_play::Machine;
 use jc_types::Want;
 use std::alloc::Global;
 

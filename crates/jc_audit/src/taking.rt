@@ -5,15 +5,14 @@ ghost use Rattle.std.specs.Prelude.{◌≡◌, ◌<◌, ◌+◌, ◌^◌, ◌↔
 ghost use Rattle.jc_types.specs.declared.runs.Event.TheVariants as event;
 ghost use Rattle.jc_types.specs.declared.runs.Sys.TheVariants as sys;
 ghost use Rattle.jc_runs.specs.ValidActions.{IsValidAction};
-ghost use Rattle.jc_machine.specs.Longer.{extended};
+ghost use Rattle.jc_play.specs.Longer.{extended};
 ghost use Rattle.jc_runs.specs.Seen.{Admits, happened};
 ghost use Rattle.jc_play.specs.Actors.{CanCome, IsOfActor};
 ghost use Rattle.jc_audit.specs.Clocks.{FitsClock, IsClock};
 ghost use Rattle.jc_audit.specs.Walks.{last_line, with_command};
 
 use jc_lines::put_event;
-use jc_machine::Machine;
-use jc_play::{Actor, available};
+use jc_play::{Actor, Machine, available};
 use jc_types::{Command, Event, Sys, Want};
 use std::alloc::{AllocError, Global};
 

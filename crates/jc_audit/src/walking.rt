@@ -7,7 +7,7 @@ ghost use Rattle.jc_audit.specs.Limits.{IsSmallShape};
 ghost use Rattle.jc_audit.specs.Walks.{HasTaken, IsLineLen, IsOnlyTaken, IsRead, NoneIsTaken, TakesLine};
 
 use crate::taking::{clock_fits, last_text, take_command, take_system};
-use jc_machine::Machine;
+use jc_play::Machine;
 use jc_reading::{LineAct, LineRead, proper_actions_are_valid, read_event};
 use jc_types::{Action1, Command, Sys, Want};
 use std::alloc::Global;

@@ -11,8 +11,8 @@ use Rattle.jc_types.specs.declared.runs.Shape.{Shape}
 use Rattle.jc_history.specs.Available.{below}
 use Rattle.jc_history.specs.Registers.{register}
 use Rattle.jc_runs.specs.Seen.{Seen}
-use Rattle.jc_machine.specs.Diaries.{diary_seen}
-use Rattle.jc_machine.specs.Plays.{IsProper}
+use Rattle.jc_play.specs.Diaries.{diary_seen}
+use Rattle.jc_play.specs.Plays.{IsProper}
 use Rattle.jc_play.specs.declared.slots.Slot.{Slot}
 use Rattle.jc_play.specs.Slots.{is_slot_of}
 use Rattle.jc_core.specs.declared.changes.Change.{Change}

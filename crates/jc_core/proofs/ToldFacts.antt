@@ -11,7 +11,7 @@ use Rattle.jc_types.specs.declared.runs.Past.{Past}
 use Rattle.jc_log.specs.Acts.{Act}
 use Rattle.jc_log.specs.Deeds.{act_of_event}
 use Rattle.jc_runs.specs.Seen.{Seen, past_seen}
-use Rattle.jc_machine.specs.Syncs.{IsSynced, Nothing, Began, begin_event}
+use Rattle.jc_play.specs.Syncs.{IsSynced, Nothing, Began, begin_event}
 use Rattle.jc_play.specs.declared.slots.Slot.{Slot}
 use Rattle.jc_play.specs.Slots.{is_slot_of}
 use Rattle.jc_core.specs.declared.touches.Touch.{Touch}

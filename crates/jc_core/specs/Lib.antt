@@ -2,10 +2,12 @@ pub mod Changes
 pub mod Shared
 pub mod Since
 -- Words of the crates below, handed on to those above.
-pub use Rattle.jc_machine.specs.declared.apply.ApplyFault
-pub use Rattle.jc_machine.specs.Diaries
-pub use Rattle.jc_machine.specs.Places
-pub use Rattle.jc_machine.specs.Plays
+pub use Rattle.jc_play.specs.ApplyFault
+pub use Rattle.jc_play.specs.Diaries
+pub use Rattle.jc_play.specs.Places
+pub use Rattle.jc_play.specs.Plays
 pub use Rattle.jc_play.specs.Actors
 pub use Rattle.jc_play.specs.Slots
 pub use Rattle.jc_play.specs.Turns
+pub use Rattle.jc_play.specs.declared.actors.Actor
+pub use Rattle.jc_play.specs.declared.slots.Slot

@@ -27,8 +27,8 @@ use Rattle.jc_log.specs.Deeds.{act_of_event}
 use Rattle.jc_history.specs.Available.{below}
 use Rattle.jc_history.specs.Registers.{register}
 use Rattle.jc_runs.specs.Seen.{Seen}
-use Rattle.jc_machine.specs.Diaries.{diary_seen}
-use Rattle.jc_machine.specs.Plays.{IsProper}
+use Rattle.jc_play.specs.Diaries.{diary_seen}
+use Rattle.jc_play.specs.Plays.{IsProper}
 use Rattle.jc_play.specs.declared.actors.Actor.{Actor}
 use Rattle.jc_play.specs.declared.actors.Actor.TheVariants as actor
 use Rattle.jc_play.specs.declared.slots.Slot.{Slot}

@@ -5,14 +5,13 @@ ghost use Rattle.std.specs.List.{AllByRecursion as Each};
 ghost use Rattle.jc_types.specs.declared.actions.Command.{Command};
 ghost use Rattle.jc_runs.specs.ValidActions.{IsValidAction};
 ghost use Rattle.jc_runs.specs.Seen.{Admits, act_seen, happened, reply_seen};
-ghost use Rattle.jc_machine.specs.Plays.{IsProper};
-ghost use Rattle.jc_machine.specs.declared.apply.ApplyFault.TheVariants.{HistoryFull};
+ghost use Rattle.jc_play.specs.Plays.{IsProper};
+ghost use Rattle.jc_play.specs.ApplyFault.TheVariants.{HistoryFull};
 ghost use Rattle.jc_core.specs.Shared.{all_registers, fresh_slot, has_holders, slots_after};
 
 use crate::registers::fresh_slots;
 use crate::touches::{touch_all, touch_of_event};
-use jc_machine::{ApplyFault, Machine};
-use jc_play::Slot;
+use jc_play::{ApplyFault, Machine, Slot};
 use jc_types::{Event, Reply, Script, Shape, Want};
 use std::alloc::Global;
 use std::marker::Model;

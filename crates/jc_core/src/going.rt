@@ -10,16 +10,15 @@ ghost use Rattle.jc_history.specs.Play.{rest_played, settled_down};
 ghost use Rattle.jc_history.specs.Registers.{backoff, register};
 ghost use Rattle.jc_runs.specs.QuietRuns.{IsAtNext};
 ghost use Rattle.jc_runs.specs.Seen.{deeds_seen, happened, log_seen, reply_seen};
-ghost use Rattle.jc_machine.specs.Diaries.{diary_seen};
-ghost use Rattle.jc_machine.specs.Syncs.{StartsCurrent, IsLast, IsSynced, StepsOn, StepsQuietly, begin_event, next_seen, tells_begin};
-ghost use Rattle.jc_machine.specs.declared.apply.ApplyFault.TheVariants.{HistoryFull};
+ghost use Rattle.jc_play.specs.Diaries.{diary_seen};
+ghost use Rattle.jc_play.specs.Syncs.{StartsCurrent, IsLast, IsSynced, StepsOn, StepsQuietly, begin_event, next_seen, tells_begin};
+ghost use Rattle.jc_play.specs.ApplyFault.TheVariants.{HistoryFull};
 ghost use Rattle.jc_play.specs.Turns.{HasGoneOn, HasGrown, Reaches, has_rest, next_to_settle, playing_of};
 ghost use Rattle.jc_core.specs.Shared.{HasKeptUp, all_registers, has_holders, numbers_of, slots_told};
 
 use crate::cluster::Cluster;
 use crate::touches::{touch_all, touch_of_event};
-use jc_machine::ApplyFault;
-use jc_play::{Slot, play, settle};
+use jc_play::{ApplyFault, Slot, play, settle};
 use jc_types::{Past, Reply, Script, Shape};
 
 // The registers, once these events have happened, in order.

@@ -9,11 +9,11 @@ ghost use Rattle.jc_history.specs.Legal.{InLanes, IsHistory, IsLegal, next_place
 ghost use Rattle.jc_bounds.specs.Histories.{HoldsBounds};
 ghost use Rattle.jc_runs.specs.Once.{AllJustified, OnceAtEach};
 ghost use Rattle.jc_runs.specs.Seen.{deeds_seen, log_seen};
-ghost use Rattle.jc_machine.specs.Places.{AreUsedUp};
-ghost use Rattle.jc_machine.specs.Plays.{IsProper};
+ghost use Rattle.jc_play.specs.Places.{AreUsedUp};
+ghost use Rattle.jc_play.specs.Plays.{IsProper};
 
 use crate::cluster::Cluster;
-use jc_machine::{Moment, Store};
+use jc_play::{Moment, Store};
 use jc_types::{History, Script, Shape};
 
 impl Cluster {

@@ -5,14 +5,13 @@ ghost use Rattle.std.specs.List.{list_any};
 ghost use Rattle.jc_runs.specs.Bases.{CanPlan};
 ghost use Rattle.jc_history.specs.Available.{below};
 ghost use Rattle.jc_history.specs.Registers.{register};
-ghost use Rattle.jc_machine.specs.Diaries.{diary_seen};
+ghost use Rattle.jc_play.specs.Diaries.{diary_seen};
 ghost use Rattle.jc_play.specs.Slots.{has_holder, is_slot_of};
 ghost use Rattle.jc_core.specs.Shared.{fresh_slot, holds_slot, is_held_actor, is_open_slot, numbers_of, all_registers};
 
 use crate::changes::{fresh_slot, holds};
-use jc_machine::{Basis, Machine};
 use jc_plan::Plan;
-use jc_play::{Actor, Slot};
+use jc_play::{Actor, Basis, Machine, Slot};
 use jc_types::{Arc, Copied, Same, Shape, Want};
 use std::alloc::Global;
 

@@ -3,13 +3,13 @@
 ghost use Rattle.std.specs.Prelude.{◌≡◌, ◌↔◌, ◌<◌, IsTrue, Some, drop, not, reverse};
 ghost use Rattle.std.specs.List.{list_any};
 ghost use Rattle.jc_history.specs.Registers.{register};
-ghost use Rattle.jc_machine.specs.Diaries.{diary_seen};
+ghost use Rattle.jc_play.specs.Diaries.{diary_seen};
 ghost use Rattle.jc_core.specs.Since.{is_past_of, is_touch_of, seen_at};
 
 use crate::registers::is_of_sync;
 use crate::touches::{Touch, touch_of_event};
-use jc_machine::Machine;
 use jc_plan::Plan;
+use jc_play::Machine;
 use jc_types::{Past, Script};
 
 // Whether the register is among those that are touched so.

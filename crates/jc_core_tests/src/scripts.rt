@@ -8,11 +8,11 @@ ghost use Rattle.jc_history.specs.Available.{IsOrderly};
 ghost use Rattle.jc_history.specs.Legal.{IsOfShape};
 ghost use Rattle.jc_runs.specs.Seen.{deeds_seen};
 ghost use Rattle.jc_runs.specs.ValidActions.{IsValidAction};
-ghost use Rattle.jc_core.specs.Plays.{IsProper};
+ghost use Rattle.jc_shared.specs.Plays.{IsProper};
 
-use jc_core::Cluster;
 use jc_moment::Moment;
 use jc_script::{read_script, scripts_fit_their_shape};
+use jc_shared::Cluster;
 use jc_types::{Action1, Script, Shape};
 use std::alloc::Global;
 use std::process::Abort;

@@ -5,8 +5,8 @@ ghost use Rattle.std.specs.Prelude.{◌≡◌, ◌<◌, ◌^◌, IsTrue, length}
 ghost use Rattle.jc_lines.specs.Verdicts.{IsPlace};
 
 use crate::scripts::cluster_of;
-use jc_core::{Actor, Cluster};
 use jc_lines::print_event;
+use jc_shared::{Actor, Cluster};
 use jc_types::{Event, Past, Reply, Script};
 use std::alloc::Global;
 use std::process::Abort;

@@ -18,13 +18,14 @@ use Rattle.jc_single.proofs.EndFacts.{EndsBad, EndsLong, all-written, bad-ends, 
 use Rattle.jc_single.proofs.RunFacts.{order_same, told_by}
 use Rattle.jc_single.proofs.WordFacts.{Tells, TellsAll, TellsSome, bad_script_is, bad_words_is, complete_bad_script_is, complete_generated_is, complete_is, complete_too_long_is, front_is, generates_is, generates_only_is, headline_front_is, headline_is, history_full_is, no_audit_is, not_too_long_is, nothing_read_is, nothing_written_is, ok_is, read_fault_is, too_long_is, write_fault_is}
 use Rattle.jc_single.specs.Ends.{Change, RunHasEnded, HasRun}
+use Rattle.jc_single.specs.Played.{Staging, script_played, staging_of}
 use Rattle.jc_single.specs.Runs.{EndsUnread, IsSingle, MayEnd, OfInput, Printed, answer_of, status_of}
 use Rattle.jc_single.specs.Told.{IsReport, TellsFront, TellsHistory, ends_full}
 use Rattle.jc_single.specs.declared.status.Status.{Status}
 use Rattle.jc_single.specs.declared.status.Status.TheVariants as status
 use Rattle.jc_ctl.proofs.AskedFacts.{none-bad, of-audit, promised-too, said-bad, same-shape}
 use Rattle.jc_ctl.proofs.AuditFacts.{audit_ends, audit_ends_long, audit_full, audit_kept, audit_line, audit_long, audit_most, audit_read, audit_words, audit_write, front_said, no_said, yes_said}
-use Rattle.jc_ctl.specs.Audited.{IsAudited, IsPromised, OfAudit, TellsVerdict, TellsVerdictFront}
+use Rattle.jc_ctl.specs.Audited.{IsAudited, IsPromised, OfAudit, PassesAudit, TellsVerdict, TellsVerdictFront}
 use Rattle.jc_ctl.specs.Done.{ByAudit, ByOne, ByThreads, HasDone, IsPlayedBy}
 
 -- ---- on threads
@@ -171,6 +172,29 @@ headline_front_of words source sink ended (ByAudit shape is h) tells e order ask
     subst (λ o. TellsSome o source sink) (order_same order (Audit shape) words is asks) tt
 headline_front_of words source sink ended (ByOne single h) tells e order asks =
     headline_front_is h single (λ order asks. tells order asks (single order asks)) e order asks
+
+-- What was written passes an audit, where the report of the script that was played last does.
+passing : (source sink : Change) (ended : Status) (order : Order) (o : Option Staging) (left : Option (List ℕ))
+    → ((input : List ℕ) → IfSome o (λ staging. IsOkAnd (script_played order input) (λ script.
+    TellsHistory staging.threads script staging.shape (ends_full ended) sink.old sink.new) → PassesAudit staging.shape sink.old sink.new))
+    → IfSome o (λ staging. IfSome left (λ input. IsOkAnd (script_played order input) (λ script.
+    TellsHistory staging.threads script staging.shape (ends_full ended) sink.old sink.new)))
+    → IfSome o (λ staging. IfSome left (λ input. PassesAudit staging.shape sink.old sink.new))
+passing source sink ended order None left law told = tt
+passing source sink ended order (Some staging) None law told = tt
+passing source sink ended order (Some staging) (Some input) law told = law input told
+
+pub passes_of : (words : Option Order) (source sink : Change) (ended : Status)
+    → HasDone words source sink ended
+    → ((order : Order) → words ≡ Some order → IsSingle order → Tells order)
+    → ((order : Order) → words ≡ Some order → (input : List ℕ) → IfSome (staging_of order) (λ staging.
+    IsOkAnd (script_played order input) (λ script. TellsHistory staging.threads script staging.shape (ends_full ended) sink.old sink.new)
+    → PassesAudit staging.shape sink.old sink.new))
+    → (ended ≡ status.Ok) ⊎ (ended ≡ status.HistoryFull)
+    → (order : Order) → words ≡ Some order
+    → IfSome (staging_of order) (λ staging. IfSome source.old (λ input. PassesAudit staging.shape sink.old sink.new))
+passes_of words source sink ended h tells law e order asks =
+    passing source sink ended order (staging_of order) source.old (law order asks) (headline_of words source sink ended h tells e order asks)
 
 pub bad_words_of : (words : Option Order) (source sink : Change) (ended : Status)
     → HasDone words source sink ended

@@ -6,15 +6,15 @@ use Rattle.jc_types.specs.declared.actions.Script.{Script}
 use Rattle.jc_types.specs.declared.runs.History.{History}
 use Rattle.jc_types.specs.declared.runs.Past.{Past}
 use Rattle.jc_types.specs.declared.runs.Shape.{Shape}
-use Rattle.jc_promise.specs.Deeds.{deeds}
-use Rattle.jc_promise.specs.Available.{IsOrderly, is_quiescent}
-use Rattle.jc_promise.specs.Legal.{AreUsed, IsHistory}
-use Rattle.jc_promise.specs.Replies.{log_given}
-use Rattle.jc_promise.specs.Seen.{Seen, deeds_in, deeds_seen, log_seen}
-use Rattle.jc_promise.specs.Promises.{KeepsPromises}
-use Rattle.jc_promise.proofs.DeedFacts.{deeds-are}
-use Rattle.jc_report.specs.Reports.{report_text}
-use Rattle.jc_report.specs.Told.{AreEvents}
+use Rattle.jc_single.specs.Deeds.{deeds}
+use Rattle.jc_single.specs.Available.{IsOrderly, is_quiescent}
+use Rattle.jc_single.specs.Legal.{AreUsed, IsHistory}
+use Rattle.jc_single.specs.Replies.{log_given}
+use Rattle.jc_single.specs.Seen.{Seen, deeds_in, deeds_seen, log_seen}
+use Rattle.jc_single.specs.Promises.{KeepsPromises}
+use Rattle.jc_single.proofs.DeedFacts.{deeds-are}
+use Rattle.jc_lines.specs.Reports.{report_text}
+use Rattle.jc_lines.specs.Told.{AreEvents}
 use Rattle.jc_shared.specs.Runs.{IsLeft, IsWhole}
 use Rattle.jc_single.specs.declared.orders.Output.{Output}
 use Rattle.jc_single.specs.Told.{IsReport}

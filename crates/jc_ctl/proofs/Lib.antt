@@ -2,3 +2,4 @@ mod AskedFacts
 mod AuditFacts
 mod DoneFacts
 mod LeftFacts
+mod PlayedFacts

@@ -6,6 +6,7 @@
 --     TellsVerdict shape input verdict old new    it is the verdict on the input, and was written
 --     TellsVerdictFront shape input old new       the front of a verdict on the input was
 --     IsPromised shape input           all promises hold of the history that the input tells
+--     PassesAudit shape old new        what the sink was given is what an audit says yes to
 use Rattle.std.specs.Prelude.{◌≡◌, ℕ, List, ◌++◌, Option, codes, decimal}
 use Rattle.std.specs.Io.KnownBytes.{Appends}
 use Rattle.jc_io.specs.Moved.{AppendsFront}
@@ -14,8 +15,8 @@ use Rattle.jc_audit.specs.Audits.{VerdictHolds}
 use Rattle.jc_audit.specs.Reported.{IsReported}
 use Rattle.jc_audit.specs.declared.verdicts.Verdict.{Verdict}
 use Rattle.jc_audit.specs.declared.verdicts.Verdict.TheVariants.{Yes, No}
-use Rattle.jc_promise.specs.Promises.{KeepsPromises}
-use Rattle.jc_report.specs.Told.{AreEvents}
+use Rattle.jc_single.specs.Promises.{KeepsPromises}
+use Rattle.jc_lines.specs.Told.{AreEvents}
 use Rattle.jc_words.specs.declared.words.Order.{Order}
 use Rattle.jc_words.specs.declared.words.Order.TheVariants as order
 use Rattle.jc_single.specs.declared.status.Status.{Status}
@@ -59,3 +60,9 @@ pub record IsPromised (shape : Shape) (input : List ℕ) : Type 0 where
   pub reported : IsReported shape input
   pub keeps : KeepsPromises reported.script shape reported.history
   pub events : AreEvents reported.history.events.items
+
+-- The sink was given a text of which an audit in the shape says yes.
+pub record PassesAudit (shape : Shape) (old new : Option (List ℕ)) : Type 0 where
+  pub text : List ℕ
+  pub says : VerdictHolds shape text Yes
+  pub written : Appends old new text

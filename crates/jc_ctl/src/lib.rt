@@ -12,5 +12,7 @@ pub use jc_single::{
     Status, plays_tell_their_history, reapers_collect_what_is_due, run_single,
     runs_tell_their_history,
 };
-pub use laws::audited_reports_keep_the_promises;
+pub use laws::{
+    audited_reports_keep_the_promises, played_scripts_are_proper, written_reports_pass_audits,
+};
 pub use run::{is_single, run_program};

@@ -6,7 +6,7 @@ ghost use Rattle.jc_io.specs.Faults.{Rose};
 ghost use Rattle.jc_io.specs.Moved.{AppendsFront, TakesAtMost, TakesCount};
 ghost use Rattle.jc_types.specs.declared.runs.Shape.{Shape};
 ghost use Rattle.jc_types.specs.declared.actions.Command.{Command};
-ghost use Rattle.jc_reap.specs.TtlLines.{ttls_of};
+ghost use Rattle.jc_single.specs.TtlLines.{ttls_of};
 ghost use Rattle.jc_script.specs.Scripts.{BadLine, most_bytes, script_of};
 ghost use Rattle.jc_script.specs.Cause.{Cause};
 ghost use Rattle.jc_words.specs.Words.{order_of};
@@ -14,7 +14,7 @@ ghost use Rattle.jc_words.specs.declared.words.LockKind.{LockKind};
 ghost use Rattle.jc_words.specs.declared.words.Order.{Order};
 ghost use Rattle.jc_words.specs.declared.words.Order.TheVariants.{Audit, Generate, Reap, Run};
 ghost use Rattle.jc_audit.specs.declared.verdicts.Verdict.TheVariants.{No, Yes};
-ghost use Rattle.jc_ctl.specs.Audited.{IsAudited, IsPromised, OfAudit, TellsVerdict, TellsVerdictFront};
+ghost use Rattle.jc_ctl.specs.Audited.{IsAudited, IsPromised, OfAudit, PassesAudit, TellsVerdict, TellsVerdictFront};
 ghost use Rattle.jc_single.specs.Played.{CollectsDue, at_rest, script_played, staging_of};
 ghost use Rattle.jc_ctl.specs.Done.{HasDone};
 ghost use Rattle.jc_ctl.specs.Asked.{HasThreads, order_asked};
@@ -22,7 +22,7 @@ ghost use Rattle.jc_single.specs.Runs.{EndsUnread, IsSingle, MayEnd, OfInput, an
 ghost use Rattle.jc_single.specs.Told.{TellsFront, TellsHistory, ends_full};
 
 use crate::audited::audit_report;
-use crate::laws::audited_reports_keep_the_promises;
+use crate::laws::{audited_reports_keep_the_promises, written_reports_pass_audits};
 use crate::threaded::run_threaded;
 use jc_io::{Sink, Source};
 use jc_shared::Gate;
@@ -135,7 +135,8 @@ fn run_asked<R: Threads + Wait + Sync, S: Source, K: Sink, G: Gate + Sync>(
 /// printed are those of its log. With one controller no more pods run at once than a Job allows, and a Job
 /// that has ended stays as it is. Where the script is played on threads or ends in a settle, and the history
 /// is not full, nothing is left to do and no ended pod is forgotten. With `WriteFault` what went out is the
-/// front of such a report.
+/// front of such a report. What `run` or `reap` has written whole is what `audit` with the same options
+/// says yes to, if it is no longer than an input may be.
 ///
 /// On one thread the history is that of the play. On threads it may wait, and what it promises holds if it
 /// returns; which of the possible histories it is, is not said.
@@ -167,6 +168,11 @@ pub fn run_program<R: Threads + Wait + Sync, S: Source, K: Sink, G: Gate + Sync>
         → IfSome (staging_of order) (λ staging. IfSome (S.left source.old) (λ input.
         IsOkAnd (script_played order input) (λ script.
         TellsFront staging.threads script staging.shape (K.held sink.old) (K.held sink.new)))) }
+    // What `run` or `reap` has written whole is what an audit in the same shape says yes to.
+    ensures passes { (result ≡ Status.Ok) ⊎ (result ≡ Status.HistoryFull)
+        → (order : Order) → order_of (map string_bytes words.now) ≡ Some order
+        → IfSome (staging_of order) (λ staging. IfSome (S.left source.old) (λ input.
+        PassesAudit staging.shape (K.held sink.old) (K.held sink.new))) }
     // What a reaper's commands have found: Jobs whose time was over, and pods whose Job was gone.
     ensures collected { (shape : Shape) (input : List ℕ) (commands : List Command)
         (ttls : List (Option ℕ)) → order_of (map string_bytes words.now) ≡ Some (Reap shape)
@@ -249,6 +255,7 @@ pub fn run_program<R: Threads + Wait + Sync, S: Source, K: Sink, G: Gate + Sync>
 {
     orders_fit();
     audited_reports_keep_the_promises();
+    written_reports_pass_audits();
     reapers_collect_what_is_due();
     runs_tell_their_history();
     run_asked(rt, alloc, words, source, sink, gate)

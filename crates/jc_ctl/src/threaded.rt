@@ -3,10 +3,10 @@
 ghost use Rattle.std.specs.Prelude.{◌≡◌, ◌<◌, ◌≤◌, ◌^◌, Err, IfOk, IfSome, IsErrOf, IsOkAnd, false, length, true, ℕ};
 ghost use Rattle.std.specs.List.{AllByRecursion as Each};
 ghost use Rattle.jc_types.specs.declared.actions.Command.{Command};
-ghost use Rattle.jc_promise.specs.ValidActions.{IsValidAction};
-ghost use Rattle.jc_promise.specs.Available.{IsOrderly};
-ghost use Rattle.jc_promise.specs.Plays.{IsProper};
-ghost use Rattle.jc_promise.specs.Seen.{deeds_seen};
+ghost use Rattle.jc_single.specs.ValidActions.{IsValidAction};
+ghost use Rattle.jc_single.specs.Available.{IsOrderly};
+ghost use Rattle.jc_single.specs.Plays.{IsProper};
+ghost use Rattle.jc_single.specs.Seen.{deeds_seen};
 ghost use Rattle.jc_shared.specs.Runs.{IsLeft, IsWhole};
 ghost use Rattle.jc_shared.specs.Shared.{Shared};
 ghost use Rattle.jc_shared.specs.declared.threads.ThreadsFault.{ThreadsFault};
@@ -19,11 +19,12 @@ ghost use Rattle.jc_ctl.specs.Done.{IsPlayedBy};
 ghost use Rattle.jc_single.specs.Told.{IsReport};
 
 use jc_io::{ReadEnd, Sink, Source, read_all};
-use jc_promise::{legal_histories_keep_the_promises, orderly_histories_have_small_numbers};
-use jc_report::report;
 use jc_script::{ScriptFault, read_script, scripts_fit_their_shape};
 use jc_shared::{Cluster, Gate, ThreadsFault, run_threads, run_turn};
-use jc_single::{MOST_BYTES, Output, Status, write_output};
+use jc_single::{
+    MOST_BYTES, Output, Status, legal_histories_keep_the_promises,
+    orderly_histories_have_small_numbers, report, write_output,
+};
 use jc_types::{Script, Shape, Want};
 use jc_words::LockKind;
 use std::alloc::{AllocError, Global};

@@ -169,7 +169,7 @@ mutual
 
 -- ---- a member put among others
 
-put_after : (l k : List ℕ) (d : Data) (ms : Members) → slice_cmp nat_cmp l k ≡ Less → IsAfter l ms → IsAfter l (put k d ms)
+pub put_after : (l k : List ℕ) (d : Data) (ms : Members) → slice_cmp nat_cmp l k ≡ Less → IsAfter l ms → IsAfter l (put k d ms)
 put_after l k d no_members less after = (less, tt)
 put_after l k d (member m e ms) less after = by (put_after l k d ms less after.1) (slice_cmp nat_cmp k m)
   where
@@ -178,10 +178,10 @@ put_after l k d (member m e ms) less after = by (put_after l k d ms less after.1
     by rest Equal = after
     by rest Greater = (after.0, rest)
 
-earlier : (k l : List ℕ) → slice_cmp nat_cmp k l ≡ Greater → slice_cmp nat_cmp l k ≡ Less
+pub earlier : (k l : List ℕ) → slice_cmp nat_cmp k l ≡ Greater → slice_cmp nat_cmp l k ≡ Less
 earlier k l e = nat_list_cmp_total.antisymm l k ∙ ap ordering_reverse e
 
-all_after : (k l : List ℕ) (ms : Members) → slice_cmp nat_cmp k l ≡ Less → IsAfter l ms → IsAfter k ms
+pub all_after : (k l : List ℕ) (ms : Members) → slice_cmp nat_cmp k l ≡ Less → IsAfter l ms → IsAfter k ms
 all_after k l no_members less after = tt
 all_after k l (member m e ms) less after = (nat_list_cmp_total.trans k l m less after.0, all_after k l ms less after.1)
 

@@ -116,13 +116,13 @@ exit_member : (path : List ℕ) (o : Option Data) → IfOk (read_as (may_be (bou
 exit_member path None = tt
 exit_member path (Some d) = exit_number path (option_and_then as_integer (as_number d))
 
-exit_is_code : (exits : Data) (name : List ℕ) → IfOk (exit_in exits name) IsExitCode
+pub exit_is_code : (exits : Data) (name : List ℕ) → IfOk (exit_in exits name) IsExitCode
 unfolding exit_in entry_in optional_number
 exit_is_code exits name =
     let at = path_to [] (codes "exitCodes") in
     whatever IsExitCode (tested (path_to at name) 11 is_label name) _ (λ label. exit_member (path_to at name) (member_of name exits))
 
-count_is_within : (restarts : Data) (name : List ℕ) → IfOk (container_count restarts name) (IsUpTo 2147483647)
+pub count_is_within : (restarts : Data) (name : List ℕ) → IfOk (container_count restarts name) (IsUpTo 2147483647)
 unfolding container_count container_restarts entry_in optional_number
 count_is_within restarts name = by (tested (path_to (path_to [] (codes "restartCounts")) name) 11 is_label name)
   where

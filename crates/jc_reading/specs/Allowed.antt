@@ -3,6 +3,7 @@
 --     IsAllowedRule, IsAllowedSuccess         one rule of a policy
 --     IsAllowedSpec spec                      the specification
 --     IsAllowedKey key                        the names of a Job
+--     is_allowed_key key                      a test for that
 use Rattle.std.specs.Prelude.{◌≡◌, ◌≤◌, ℕ, ℤ, pos, negsuc, int_le, ◌+◌, List, [], ◌∷◌, ◌++◌, length, Bool, true, false, not, ◌&&◌, ◌||◌, nat_lt, nat_le, IfSome, is_none, is_some, Some, Option, unwrap_or}
 use Rattle.std.specs.List.{AllByRecursion as Each}
 use Rattle.std.specs.Option.{option_map_or}
@@ -36,6 +37,10 @@ are_new_labels others earlier (name ∷ names) =
 pub record IsAllowedKey (key : Key) : Type 0 where
   pub name : is_subdomain key.name ≡ true
   pub namespace : is_label key.namespace ≡ true
+
+-- A test for that.
+abbrev pub is_allowed_key : Key → Bool
+is_allowed_key key = is_subdomain key.name && is_label key.namespace
 
 -- ---- a failure policy, where these are the names of all containers
 

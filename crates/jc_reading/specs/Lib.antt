@@ -5,3 +5,4 @@ pub mod Manifested
 pub mod Proper
 pub mod Readings
 pub mod Reads
+pub mod Spelled

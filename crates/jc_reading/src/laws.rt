@@ -1,26 +1,32 @@
 //! Laws on what is read back of the lines of events. Each function is empty: what it ensures holds of
 //! every line, and its callers may cite it.
 
-ghost use Rattle.std.specs.Prelude.{◌≡◌, ◌++◌, ◌<◌, ◌^◌, ◌∷◌, List, None, Some, ℕ, ◌≤◌, true};
+ghost use Rattle.std.specs.Prelude.{◌≡◌, ◌++◌, ◌<◌, ◌^◌, ◌∷◌, List, None, Ok, Some, ℕ, ◌≤◌, true};
+ghost use Rattle.std.specs.List.{AllByRecursion as Each};
 ghost use Rattle.std.specs.Str.{is_utf8};
 ghost use Rattle.serde_json.specs.Data.{Data, depth};
 ghost use Rattle.serde_json.specs.Read.{max_depth, read};
 ghost use Rattle.serde_json.specs.Written.{compact_text};
+ghost use Rattle.jc_json.specs.Line.{data_of};
 ghost use Rattle.jc_log.specs.Deeds.{act_of_action};
 ghost use Rattle.jc_manifest.specs.Manifests.{key_of, manifest_refusal, spec_of};
 ghost use Rattle.jc_print.specs.PrintedSpecs.{spec_data};
 ghost use Rattle.jc_states.specs.ValidActions.{IsValidAction};
+ghost use Rattle.jc_script.specs.Scripts.{script_of};
 ghost use Rattle.jc_types.specs.declared.actions.Action1.{Action1};
+ghost use Rattle.jc_types.specs.declared.actions.Command.{Command};
 ghost use Rattle.jc_types.specs.declared.objects.Key.{Key};
+ghost use Rattle.jc_types.specs.declared.runs.Shape.{Shape};
 ghost use Rattle.jc_types.specs.declared.specifications.JobSpec.{JobSpec};
 ghost use Rattle.jc_lines.specs.Acts.{act_text};
 ghost use Rattle.jc_reading.specs.Allowed.{IsAllowedKey, IsAllowedSpec};
 ghost use Rattle.jc_reading.specs.Compact.{IsTold};
 ghost use Rattle.jc_reading.specs.Cuts.{IsWord};
 ghost use Rattle.jc_reading.specs.Manifested.{manifest_data};
-ghost use Rattle.jc_reading.specs.Proper.{IsJob, IsProperAction, as_begin};
+ghost use Rattle.jc_reading.specs.Proper.{IsJob, IsProperAction, IsProperCommand, as_begin};
 ghost use Rattle.jc_reading.specs.Readings.{action_read};
 ghost use Rattle.jc_reading.specs.Reads.{IsProperRead, act_of_line, begun_read, event_said, front_text};
+ghost use Rattle.jc_reading.specs.Spelled.{IsSpelled};
 ghost use Rattle.jc_reading.specs.declared.reads.LineRead.{LineRead};
 
 /// The compact text of a value reads as the value.
@@ -83,4 +89,19 @@ pub fn accepted_jobs_are_proper()
 #[tactic(auto, using(crate::proofs::ValidFacts::proper_is_valid))]
 pub fn proper_actions_are_valid()
     ensures { (action : Action1) → IsProperAction action → IsValidAction action }
+{}
+
+/// The value that a line spells has texts in it that are Unicode, whatever escapes they are spelled with, and the members
+/// of its objects stand in ascending order of their names.
+#[tactic(auto, using(crate::proofs::ProperFacts::spelled_value))]
+pub fn lines_spell_texts()
+    ensures { (line : List ℕ) (d : Data) → data_of line ≡ Some d → IsSpelled d }
+{}
+
+/// **The commands of a script that was read are proper**, each in every part: so what they do is printed in lines that
+/// are read back.
+pub fn read_scripts_are_proper()
+    ensures { (shape : Shape) (text : List ℕ) (commands : List Command)
+        → 0 < shape.controllers → shape.controllers ≤ 4 → 0 < shape.workers → shape.workers ≤ 16
+        → script_of shape text ≡ Ok commands → Each IsProperCommand commands }
 {}

@@ -11,7 +11,8 @@ mod reads;
 
 pub use laws::{
     accepted_jobs_are_proper, accepted_manifests_are_allowed, compact_texts_are_words,
-    compact_texts_tell, printed_acts_are_read_back, printed_fronts_are_read_back,
-    printed_specs_are_read_back, proper_actions_are_valid,
+    compact_texts_tell, lines_spell_texts, printed_acts_are_read_back,
+    printed_fronts_are_read_back, printed_specs_are_read_back, proper_actions_are_valid,
+    read_scripts_are_proper,
 };
 pub use reads::{LineAct, LineRead, read_event};

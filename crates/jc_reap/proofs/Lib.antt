@@ -1,9 +1,11 @@
 mod ExpiredFacts
 mod FindFacts
+mod FineFacts
 mod Fits
 mod Lists
 mod LongerPlays
 mod PlayedFacts
+mod ReapedFacts
 mod RefusedTtls
 mod TtlReading
 mod Whole

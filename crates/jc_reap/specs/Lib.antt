@@ -1,5 +1,7 @@
 pub mod Expiries
 pub mod Finds
+pub mod Fine
+pub mod Given
 pub mod Makers
 pub mod Reaping
 pub mod TtlLines

@@ -1,7 +1,7 @@
 //! Laws on the commands of a reaper. Each function is empty: what it ensures holds of every list, and its callers may
 //! cite it.
 
-ghost use Rattle.std.specs.Prelude.{◌≡◌, ◌≤◌, ◌+◌, ◌++◌, ℕ, Err, List, Ok, Option, false, length, map, reverse, slice_get};
+ghost use Rattle.std.specs.Prelude.{◌≡◌, ◌<◌, ◌≤◌, ◌+◌, ◌^◌, ◌++◌, ℕ, Bool, Err, List, Ok, Option, false, length, map, reverse, slice_get, true};
 ghost use Rattle.std.specs.List.{AllByRecursion as Each, Contains, list_any};
 ghost use Rattle.std.specs.List.Sorted.{IsStrictlySortedBy};
 ghost use Rattle.std.specs.Map.{keys_of};
@@ -9,6 +9,7 @@ ghost use Rattle.jc_types.specs.declared.actions.Command.{Command};
 ghost use Rattle.jc_types.specs.declared.actions.Script.{Script};
 ghost use Rattle.jc_types.specs.declared.numbers.Uid.{Uid};
 ghost use Rattle.jc_types.specs.declared.objects.Entry.{Entry};
+ghost use Rattle.jc_types.specs.declared.objects.Key.{Key};
 ghost use Rattle.jc_types.specs.declared.runs.Shape.{Shape};
 ghost use Rattle.jc_log.specs.Acts.{Act};
 ghost use Rattle.jc_log.specs.Deeds.{Deed, act_of_action};
@@ -16,13 +17,14 @@ ghost use Rattle.jc_log.specs.Log.{jobs_in};
 ghost use Rattle.jc_runs.specs.ValidActions.{IsValidAction};
 ghost use Rattle.jc_runs.specs.Legal.{IsLegal, IsOfShape};
 ghost use Rattle.jc_runs.specs.Play.{Playing, deeds_played, is_command, rest_played, whole_play};
-ghost use Rattle.jc_machine.specs.Plays.{IsProper};
+ghost use Rattle.jc_core.specs.Plays.{IsProper};
 ghost use Rattle.jc_runs.specs.Runs.{AllAskValid};
 ghost use Rattle.jc_runs.specs.Seen.{Seen, deeds_seen, log_seen};
 ghost use Rattle.jc_script.specs.Scripts.{BadLine, script_of};
 ghost use Rattle.jc_reap.specs.declared.expiries.Expiry.{Expiry};
 ghost use Rattle.jc_reap.specs.Expiries.{MayGo, expired, expiry_order};
 ghost use Rattle.jc_reap.specs.Finds.{AreDue, IsCollected, seen_at_end};
+ghost use Rattle.jc_reap.specs.Given.{Creates, IsGiven, IsSmallTtl};
 ghost use Rattle.jc_reap.specs.Reaping.{reap_list, ttl_seen};
 ghost use Rattle.jc_reap.specs.TtlLines.{RefusesTtl, ttls_of};
 
@@ -38,6 +40,19 @@ pub fn reaped_commands_fit()
         (reap_list seen ttls) }
     ensures lane { (seen : Seen) (ttls : List (Option ℕ))
         → Each (λ (command : Command). command.lane ≡ 0) (reap_list seen ttls) }
+{}
+
+/// The commands of a reaper are such as a script may have: they delete Jobs by keys that create commands gave, mark
+/// pods by numbers of 32 bits, and wait for fewer seconds than 32 bits hold, since no Job has ended later than now and
+/// each TTL is a number of 31 bits.
+pub fn reaped_commands_can_be_said()
+    ensures given { (test : Key → Bool) (seen : Seen) (ttls : List (Option ℕ))
+        → Each (λ (command : Command). Creates (λ key. test key ≡ true) command.action) seen.script.commands
+        → length seen.pasts < 2 ^ 32 → Each IsSmallTtl ttls
+        → Each (λ (command : Command). IsGiven (λ key. test key ≡ true) command.action)
+        (reap_list seen ttls) }
+    ensures ttls { (shape : Shape) (text : List ℕ) (ttls : List (Option ℕ))
+        → ttls_of shape text ≡ Ok ttls → Each IsSmallTtl ttls }
 {}
 
 /// The list of the Jobs that may go is in order, by the moment and then by the key, and has exactly

@@ -13,7 +13,8 @@ mod ttls;
 pub use expiries::Expiry;
 pub use laws::{
     as_many_ttls_as_commands, collecting_plays_are_due, expired_jobs_are_listed,
-    longer_scripts_play_on, reaped_commands_fit, reaped_is_due, reaped_plays,
+    longer_scripts_play_on, reaped_commands_can_be_said, reaped_commands_fit, reaped_is_due,
+    reaped_plays,
 };
 pub use reaping::reap;
 pub use ttls::{Ttls, read_ttls};

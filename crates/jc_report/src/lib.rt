@@ -3,4 +3,5 @@
 
 mod reports;
 
+pub use jc_core::{ApplyFault, Cluster, new_machines_play_the_whole_script};
 pub use reports::{report, summary};

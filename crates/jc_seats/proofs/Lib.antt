@@ -3,3 +3,5 @@ pub mod HandFacts
 pub mod LeaveFacts
 pub mod TurnFacts
 pub mod UsedFacts
+-- Lemmas of the crates below, handed on to those above.
+pub use Rattle.jc_core.proofs.GoFacts

@@ -14,12 +14,12 @@ use Rattle.jc_history.specs.Legal.{AreUsed, lane_count, next_place, places_from}
 use Rattle.jc_history.specs.Play.{first_event}
 use Rattle.jc_runs.specs.Seen.{Seen, deeds_seen, log_seen}
 use Rattle.jc_core.specs.Places.{AreUsedUp, most_lanes}
-use Rattle.jc_play.specs.Actors.{IsOfActor}
-use Rattle.jc_play.specs.declared.actors.Actor.TheVariants as actor
-use Rattle.jc_play.specs.declared.slots.Slot.{Slot}
-use Rattle.jc_play.specs.Slots.{has_holder, is_slot_of, is_unheld, unheld_seen}
-use Rattle.jc_play.specs.Turns.{has_rest}
-use Rattle.jc_play.proofs.SystemFacts.{quiet}
+use Rattle.jc_core.specs.Actors.{IsOfActor}
+use Rattle.jc_core.specs.Actor.TheVariants as actor
+use Rattle.jc_core.specs.Slot.{Slot}
+use Rattle.jc_core.specs.Slots.{has_holder, is_slot_of, is_unheld, unheld_seen}
+use Rattle.jc_core.specs.Turns.{has_rest}
+use Rattle.jc_core.proofs.SystemFacts.{quiet}
 use Rattle.jc_seats.specs.declared.seats.Seat.{Seat}
 use Rattle.jc_seats.specs.Names.{AreLanes, AreLanesBelow}
 use Rattle.jc_core.specs.Shared.{Shared}

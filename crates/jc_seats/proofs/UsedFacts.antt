@@ -6,8 +6,8 @@ use Rattle.jc_types.specs.declared.runs.Event.{Event}
 use Rattle.jc_types.specs.declared.runs.Past.{Past}
 use Rattle.jc_history.specs.Legal.{ComesNext, is_of_lane, lane_count, lane_places, next_place}
 use Rattle.jc_runs.specs.Seen.{Seen, happened}
-use Rattle.jc_play.specs.Actors.{CanCome, IsOfActor}
-use Rattle.jc_play.specs.declared.actors.Actor.TheVariants as actor
+use Rattle.jc_core.specs.Actors.{CanCome, IsOfActor}
+use Rattle.jc_core.specs.Actor.TheVariants as actor
 use Rattle.jc_seats.specs.declared.seats.Seat.{Seat}
 use Rattle.jc_seats.specs.Names.{AreLanesBelow, AreUsedFrom}
 use Rattle.jc_seats.specs.SeatTurns.{HasLeft, IsLaneOf}

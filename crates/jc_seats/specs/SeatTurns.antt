@@ -7,9 +7,9 @@ use Rattle.std.specs.Prelude.{◌≡◌, ℕ, ◌%◌, ◌⊎◌, Some}
 use Rattle.jc_types.specs.declared.runs.Event.{Event}
 use Rattle.jc_runs.specs.Seen.{Seen, act_seen, happened, reply_seen}
 use Rattle.jc_history.specs.Play.{first_event}
-use Rattle.jc_play.specs.Actors.{CanCome, IsOfActor}
-use Rattle.jc_play.specs.Slots.{unheld_seen}
-use Rattle.jc_play.specs.declared.actors.Actor.TheVariants as actor
+use Rattle.jc_core.specs.Actors.{CanCome, IsOfActor}
+use Rattle.jc_core.specs.Slots.{unheld_seen}
+use Rattle.jc_core.specs.Actor.TheVariants as actor
 use Rattle.jc_core.specs.Shared.{Shared, slots_after}
 use Rattle.jc_seats.specs.declared.seats.Seat.{Seat}
 

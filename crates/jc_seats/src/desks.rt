@@ -8,8 +8,8 @@ ghost use Rattle.jc_history.specs.Play.{first_event};
 ghost use Rattle.jc_core.specs.ApplyFault.TheVariants.{HistoryFull};
 ghost use Rattle.jc_core.specs.Shared.{has_holders};
 ghost use Rattle.jc_core.specs.declared.holding.Work.{Work};
-ghost use Rattle.jc_play.specs.Slots.{unheld_seen};
-ghost use Rattle.jc_play.specs.Turns.{has_rest};
+ghost use Rattle.jc_core.specs.Slots.{unheld_seen};
+ghost use Rattle.jc_core.specs.Turns.{has_rest};
 ghost use Rattle.jc_seats.specs.Hands.{IsHandedIn, WasTaken, offered};
 ghost use Rattle.jc_seats.specs.SeatTurns.{HasHappened, HasLeft, IsOwnEvent};
 

@@ -4,7 +4,7 @@ ghost use Rattle.std.specs.Prelude.{◌≡◌, ◌↔◌, ◌≤◌, Err, IfOk, 
 ghost use Rattle.jc_types.specs.declared.runs.Event.{Event};
 ghost use Rattle.jc_history.specs.Available.{IsOrderly};
 ghost use Rattle.jc_runs.specs.Seen.{act_seen, deeds_seen, happened, reply_seen};
-ghost use Rattle.jc_play.specs.Actors.{CanCome};
+ghost use Rattle.jc_core.specs.Actors.{CanCome};
 ghost use Rattle.jc_core.specs.ApplyFault.TheVariants.{HistoryFull};
 ghost use Rattle.jc_history.specs.Registers.{register};
 ghost use Rattle.jc_core.specs.Diaries.{diary_seen};
@@ -16,9 +16,8 @@ ghost use Rattle.jc_core.specs.Places.{most_lanes};
 
 use crate::lanes::{lanes_left, lanes_of};
 use crate::naming::Naming;
-use jc_core::{ApplyFault, Cluster};
+use jc_core::{ApplyFault, Cluster, available_events_keep_the_order};
 use jc_plan::Plan;
-use jc_play::available_events_keep_the_order;
 use jc_turn::Booked;
 use jc_types::{Event, History, Reply};
 use std::marker::{Model, PhantomData};

@@ -12,6 +12,7 @@ mod turns;
 
 pub use desks::{Desk, Errand, Step};
 pub use hands::hand_in;
+pub use jc_core::{Actor, ApplyFault, Cluster, Work};
 pub use kept::{Kept, keep};
 pub use lanes::lanes_are_bytes;
 pub use naming::{Logged, Naming};

@@ -14,9 +14,9 @@ use Rattle.jc_runs.specs.Once.{OnceAtEach}
 use Rattle.jc_history.specs.Available.{IsOrderly}
 use Rattle.jc_history.specs.Legal.{InLanes, IsLegal}
 use Rattle.jc_runs.specs.Seen.{Seen, deeds_seen, happened, log_seen, past_seen, reply_seen}
-use Rattle.jc_core.specs.ApplyFault.{ApplyFault}
-use Rattle.jc_core.specs.ApplyFault.TheVariants.{HistoryFull, Want}
-use Rattle.jc_play.specs.Actors.{CanCome}
+use Rattle.jc_seats.specs.ApplyFault.{ApplyFault}
+use Rattle.jc_seats.specs.ApplyFault.TheVariants.{HistoryFull, Want}
+use Rattle.jc_seats.specs.Actors.{CanCome}
 use Rattle.jc_seats.specs.Names.{named_seen}
 use Rattle.jc_shared.specs.declared.seen.SeenReply.{SeenReply}
 use Rattle.jc_shared.specs.declared.seen.SeenReply.TheVariants as seen

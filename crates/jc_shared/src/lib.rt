@@ -10,8 +10,7 @@ mod threads;
 mod turning;
 
 pub use gate::{FreeGate, Gate};
-pub use jc_core::{ApplyFault, Cluster};
-pub use jc_seats::{Kept, Naming, keep};
+pub use jc_seats::{Actor, ApplyFault, Cluster, Kept, Naming, keep};
 pub use seen::{SeenReply, apply_seen};
 pub use threads::{ThreadsFault, run_threads};
 pub use turning::run_turn;

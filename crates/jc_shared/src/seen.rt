@@ -5,8 +5,7 @@ ghost use Rattle.jc_seats.specs.Names.{IsOfName};
 ghost use Rattle.jc_turn.specs.Seats.{IsSameSeat};
 ghost use Rattle.jc_shared.specs.Turning.{SeatIsAnswered, IsDone, IsOutAnswer, IsSeenHistory};
 
-use jc_core::ApplyFault;
-use jc_seats::{Kept, Naming};
+use jc_seats::{ApplyFault, Kept, Naming};
 use jc_turn::{Seat, Taken, Turn};
 use jc_types::{Event, Reply};
 

@@ -4,3 +4,5 @@ pub mod RunFacts
 pub mod EndFacts
 pub mod WordFacts
 pub mod ReapFacts
+-- Lemmas of the crates below, handed on to those above.
+pub use Rattle.jc_promise.proofs.DeedFacts

@@ -21,7 +21,7 @@ use Rattle.jc_reap.specs.Finds.{seen_at_end}
 use Rattle.jc_reap.specs.Reaping.{command, reap_list}
 use Rattle.jc_promise.specs.Seen.{Seen, deeds_in, deeds_seen, log_seen}
 use Rattle.jc_script.specs.Scripts.{BadLine}
-use Rattle.jc_core.specs.Turns.{playing_of}
+use Rattle.jc_report.specs.Turns.{playing_of}
 use Rattle.jc_single.specs.Played.{at_rest, reaped_of, then_reaped}
 use Rattle.jc_single.specs.Runs.{Printed, printed_by, report_printed, reported}
 use Rattle.jc_single.specs.declared.orders.Output.{Output}

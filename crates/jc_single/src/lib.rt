@@ -9,6 +9,12 @@ mod reaps;
 mod single;
 mod status;
 
+pub use jc_promise::{
+    legal_histories_keep_the_promises, orderly_histories_have_small_numbers,
+    plays_are_orderly_histories,
+};
+pub use jc_reap::{reaped_commands_can_be_said, reaped_commands_fit};
+pub use jc_report::report;
 pub use laws::{plays_tell_their_history, reapers_collect_what_is_due, runs_tell_their_history};
 pub use orders::Output;
 pub use single::{MOST_BYTES, ended, run_single, run_words, write_output};

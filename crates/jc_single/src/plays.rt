@@ -6,9 +6,9 @@ ghost use Rattle.jc_types.specs.declared.actions.Command.{Command};
 ghost use Rattle.jc_promise.specs.ValidActions.{IsValidAction};
 ghost use Rattle.jc_promise.specs.Play.{rest_played, whole_play};
 ghost use Rattle.jc_promise.specs.Plays.{IsProper};
-ghost use Rattle.jc_core.specs.Turns.{playing_of};
+ghost use Rattle.jc_report.specs.Turns.{playing_of};
 
-use jc_core::{ApplyFault, Cluster, new_machines_play_the_whole_script};
+use jc_report::{ApplyFault, Cluster, new_machines_play_the_whole_script};
 use jc_types::{Script, Shape, Want};
 use std::alloc::{AllocError, Global};
 

@@ -18,9 +18,9 @@ ghost use Rattle.jc_single.specs.Runs.{printed_by, report_printed, reported};
 
 use crate::orders::{Output, script_answer};
 use crate::plays::{Played, play_whole};
-use jc_core::Cluster;
 use jc_promise::settled_plays_are_at_rest;
 use jc_reap::{Ttls, as_many_ttls_as_commands, read_ttls, reap, reaped_commands_fit};
+use jc_report::Cluster;
 use jc_script::{Cause, ScriptFault, read_script, scripts_fit_their_shape};
 use jc_types::{Action1, Command, Commands, Copied, Script, Shape, Want};
 use std::alloc::{AllocError, Global};

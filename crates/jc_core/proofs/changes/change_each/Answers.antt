@@ -1,6 +1,6 @@
 use Rattle.std.proofs.Common.{◌<◌, length, set, ap, ◌∙◌, arith}
 use Rattle.std.proofs.lemmas.List.{length-set}
-use Rattle.jc_machine.proofs.Clocks.{put_next}
+use Rattle.jc_play.proofs.Clocks.{put_next}
 use Rattle.jc_core.specs.Changes.{changed_slot}
 use Rattle.jc_core.proofs.changes.change_each.Goals as goal
 

@@ -1,5 +1,5 @@
 use Rattle.std.proofs.Common.{take}
-use Rattle.jc_core.specs.Plays.{AreWithin}
+use Rattle.jc_shared.specs.Plays.{AreWithin}
 use Rattle.jc_core_tests.proofs.scripts.is_proper.Given as goal
 
 -- The commands before this one are of the shape.

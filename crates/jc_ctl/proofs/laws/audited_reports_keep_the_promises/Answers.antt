@@ -3,7 +3,7 @@ use Rattle.std.proofs.Common.{List, [], ◌∷◌, ◌<◌, ◌^◌, arith}
 use Rattle.std.specs.List.{AllByRecursion as Each}
 use Rattle.jc_types.specs.declared.actions.Action1.{Action1}
 use Rattle.jc_types.specs.declared.actions.Command.{Command}
-use Rattle.jc_promise.specs.ValidActions.{IsValidAction}
+use Rattle.jc_single.specs.ValidActions.{IsValidAction}
 use Rattle.jc_audit.specs.Proper.{IsProperAction, IsProperCommand}
 use Rattle.jc_ctl.proofs.laws.audited_reports_keep_the_promises.Goals as goal
 

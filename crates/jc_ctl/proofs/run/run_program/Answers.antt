@@ -1,6 +1,6 @@
 -- All that is promised is told by how the run has ended.
 use Rattle.jc_words.specs.declared.words.Order.TheVariants.{Audit}
-use Rattle.jc_ctl.proofs.DoneFacts.{audit_no_script_of, audit_not_full_of, bad_script_of, bad_words_of, complete_audit_of, complete_bad_script_of, complete_generated_of, complete_of, complete_on_threads_of, complete_too_long_of, front_of, generates_of, generates_only_of, headline_front_of, headline_of, history_full_of, no_of, not_too_long_of, nothing_read_of, nothing_written_of, ok_of, read_fault_of, too_long_of, verdict_front_of, write_fault_of, yes_of}
+use Rattle.jc_ctl.proofs.DoneFacts.{audit_no_script_of, audit_not_full_of, bad_script_of, bad_words_of, complete_audit_of, complete_bad_script_of, complete_generated_of, complete_of, complete_on_threads_of, complete_too_long_of, front_of, generates_of, generates_only_of, headline_front_of, headline_of, history_full_of, no_of, not_too_long_of, nothing_read_of, nothing_written_of, ok_of, passes_of, read_fault_of, too_long_of, verdict_front_of, write_fault_of, yes_of}
 use Rattle.jc_ctl.proofs.run.run_program.Goals as goal
 
 pub returns-clause-ok : goal.returns-clause-ok
@@ -18,6 +18,12 @@ pub returns-clause-headline_front : goal.returns-clause-headline_front
 returns-clause-headline_front g c =
     headline_front_of _ _ _ _ c.run_asked.ensures
     (λ order is single input printed. c.runs_tell_their_history.ensures order input printed (c.orders_fit.ensures.orders _ order is))
+
+pub returns-clause-passes : goal.returns-clause-passes
+returns-clause-passes g c =
+    passes_of _ _ _ _ c.run_asked.ensures
+    (λ order is single input printed. c.runs_tell_their_history.ensures order input printed (c.orders_fit.ensures.orders _ order is))
+    (λ order is input. c.written_reports_pass_audits.ensures order input _ _ _ (c.orders_fit.ensures.orders _ order is))
 
 pub returns-clause-bad_words : goal.returns-clause-bad_words
 returns-clause-bad_words g c = bad_words_of _ _ _ _ c.run_asked.ensures

@@ -4,7 +4,7 @@ use Rattle.std.specs.List.{AllByRecursion as Each}
 use Rattle.jc_types.specs.declared.actions.Command.{Command}
 use Rattle.jc_types.specs.declared.actions.Script.{Script}
 use Rattle.jc_types.specs.declared.runs.Shape.{Shape}
-use Rattle.jc_promise.specs.ValidActions.{IsValidAction}
+use Rattle.jc_single.specs.ValidActions.{IsValidAction}
 use Rattle.jc_ctl.proofs.LeftFacts.{report_of}
 use Rattle.jc_ctl.proofs.threaded.threaded_report.Goals as goal
 

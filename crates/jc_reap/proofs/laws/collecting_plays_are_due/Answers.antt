@@ -6,7 +6,7 @@ use Rattle.jc_log.specs.Writes.{Stored}
 use Rattle.jc_log.proofs.WriteFacts.{Stored-from_legal}
 use Rattle.jc_runs.specs.Play.{Playing, deeds_played, whole_play}
 use Rattle.jc_runs.specs.Replies.{log_given}
-use Rattle.jc_machine.proofs.PlayFacts.{plays-whole}
+use Rattle.jc_order.proofs.PlayFacts.{plays-whole}
 use Rattle.jc_runs.specs.Seen.{deeds_seen}
 use Rattle.jc_runs.proofs.LegalRuns.{legal_run}
 use Rattle.jc_reap.specs.Finds.{IsCollected, seen_at_end}

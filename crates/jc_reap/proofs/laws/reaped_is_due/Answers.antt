@@ -10,7 +10,7 @@ use Rattle.jc_reap.specs.Reaping.{ttl_seen}
 use Rattle.jc_reap.proofs.FindFacts.{acts_of, front-due, listed-good}
 use Rattle.jc_reap.specs.Reaping.{reap_list}
 use Rattle.jc_reap.proofs.laws.reaped_is_due.Goals as goal
-use Rattle.jc_machine.proofs.QuietSyncs.{legal-before as before}
+use Rattle.jc_core.proofs.QuietSyncs.{legal-before as before}
 
 pub returns : goal.returns
 returns c = λ seen ttls more left valid legal is.

@@ -3,7 +3,7 @@ use Rattle.jc_types.specs.declared.objects.Job.{Job}
 use Rattle.jc_types.specs.declared.objects.Key.{Key}
 use Rattle.jc_types.specs.declared.replies.Reply.TheVariants.{Ended}
 use Rattle.jc_runs.specs.Seen.{Seen, happened}
-use Rattle.jc_machine.specs.Syncs.{StartsCurrent, StepsQuietly, begin_event, next_seen}
+use Rattle.jc_play.specs.Syncs.{StartsCurrent, StepsQuietly, begin_event, next_seen}
 use Rattle.jc_core.specs.Shared.{Shared}
 use Rattle.jc_core.proofs.ToldFacts.{synced-up}
 use Rattle.jc_core.proofs.cluster.Cluster.sync.Goals as goal

@@ -1,8 +1,8 @@
 use Rattle.std.proofs.Common.{ℕ, ◌<◌, is_some, refl, sym, ap, ◌∙◌, subst, true≢false, arith, below_more}
 use Rattle.std.proofs.Math.Nat.{mod-lt}
 use Rattle.jc_types.specs.declared.runs.Event.{Event}
-use Rattle.jc_play.specs.Actors.{CanCome, IsOfActor}
-use Rattle.jc_play.specs.declared.actors.Actor.TheVariants as actor
+use Rattle.jc_core.specs.Actors.{CanCome, IsOfActor}
+use Rattle.jc_core.specs.Actor.TheVariants as actor
 use Rattle.jc_core.specs.Shared.{Shared}
 use Rattle.jc_seats.specs.SeatTurns.{IsLaneOf}
 use Rattle.jc_seats.proofs.TurnFacts.{own-lanes, owner-next}

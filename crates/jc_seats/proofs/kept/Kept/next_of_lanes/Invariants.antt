@@ -1,7 +1,7 @@
 use Rattle.std.proofs.Common.{◌≡◌, ◌<◌, ◌%◌, ℕ}
 use Rattle.jc_types.specs.declared.runs.Event.{Event}
-use Rattle.jc_play.specs.Actors.{CanCome, IsOfActor}
-use Rattle.jc_play.specs.declared.actors.Actor.TheVariants as actor
+use Rattle.jc_core.specs.Actors.{CanCome, IsOfActor}
+use Rattle.jc_core.specs.Actor.TheVariants as actor
 use Rattle.jc_seats.specs.SeatTurns.{IsLaneOf}
 use Rattle.jc_seats.proofs.kept.Kept.next_of_lanes.Given as goal
 

@@ -1,5 +1,5 @@
 use Rattle.std.proofs.Common.{◌≡◌, ◌∙◌, true, refl, sym, subst}
-use Rattle.jc_play.specs.Turns.{has_rest}
+use Rattle.jc_core.specs.Turns.{has_rest}
 use Rattle.jc_core.specs.Shared.{Shared}
 use Rattle.jc_seats.specs.SeatTurns.{HasLeft}
 use Rattle.jc_seats.proofs.TurnFacts.{rests, went-own}

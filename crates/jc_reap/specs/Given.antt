@@ -1,0 +1,27 @@
+-- What the commands of a reaper say: such numbers as a script may, and keys that a create command gave.
+--     IsSmallTtl ttl            the TTL, if there is one, is a number of 31 bits
+--     Creates P action          of the key of a Job that the action creates it holds
+--     IsGiven P action          what the action of a reaper says is so
+use Rattle.std.specs.Prelude.{ℕ, ◌≤◌, ◌<◌, ◌^◌, Option, IfSome}
+use Rattle.jc_types.specs.declared.actions.Action1.{Action1}
+use Rattle.jc_types.specs.declared.actions.Action1.TheVariants as act
+use Rattle.jc_types.specs.declared.objects.Key.{Key}
+use Rattle.jc_reap.specs.TtlLines.{greatest_ttl}
+
+-- The TTL, if there is one, is a number of 31 bits.
+abbrev pub IsSmallTtl : Option ℕ → Type 0
+IsSmallTtl ttl = IfSome ttl (λ seconds. seconds ≤ greatest_ttl)
+
+-- Of the key of a Job that the action creates it holds.
+abbrev pub Creates : (Key → Type 0) → Action1 → Type 0
+Creates P (act.Create key spec) = P key
+Creates P other = Unit {0}
+
+-- It deletes a Job of such a key, marks a pod by a number of 32 bits, waits for no more seconds than 32 bits hold, or
+-- settles.
+abbrev pub IsGiven : (Key → Type 0) → Action1 → Type 0
+IsGiven P (act.Delete key) = P key
+IsGiven P (act.Mark pod) = (1 ≤ pod.0) × (pod.0 < 2 ^ 32)
+IsGiven P (act.Clock add) = add < 2 ^ 32
+IsGiven P act.Settle = Unit {0}
+IsGiven P other = ⊥
