@@ -83,7 +83,7 @@ def check_row(name, heads, row):
 
 def check_promises():
     """The promises and the clauses that the page names are there."""
-    promises = re.findall(r"(?m)^- \*\*([^*]+)\.\*\*", text_of("README.md"))
+    promises = re.findall(r"(?m)^- \*\*([^*]+?)\.?\*\*", text_of("README.md"))
     for promise in re.findall(r"\[([^\]`]+)\]\[readme\]", text_of(PAGE)):
         holds(f"{PAGE}: README.md has no promise '{promise}'", promise in promises)
     clauses = "\n".join(it for it in text_of("docs/PROVED.md").split("\n") if it.startswith("| [`"))
