@@ -3,7 +3,8 @@
 
 Each link leads to a file, and to a heading where it names one. Each path in backquotes is there. MAP.md and PROVED.md have the
 crates in the order of crates.txt, MAP.md all of them, and PROVED.md no call or clause that its crate does not have. The
-table of what is proved again in CHANGING.md is the one of crates.txt. Prose is at most 120 wide.
+table of what is proved again in CHANGING.md is the one of crates.txt, and its recipes name each file that has the word of their
+change. Prose is at most 120 wide.
 """
 import glob
 import os
@@ -15,6 +16,12 @@ from checks import TOP, Checks, text_of
 
 PAGES = ["README.md", "bench/README.md", "tools/README.md", "examples/README.md"]
 WIDTH = 120
+# The recipes of CHANGING.md, each with the words of the change that it follows.
+RECIPES = {
+    "A new command of a script": r"PutFault|put_fault|\b[Vv]erb(?:::|\.)Fault\b",
+    "A new field of a status": r"\bfailed_indexes\b",
+    "A new member of a specification": r"\bmax_failed\b",
+}
 checks = Checks("documents")
 holds = checks.holds
 
@@ -69,10 +76,10 @@ def check_width(page):
     holds(page, True)
 
 
-def rows(page):
-    """Returns the cells of each table row of a page that begins with a crate."""
+def rows(text):
+    """Returns the cells of each table row that begins with a crate."""
     found = []
-    for line in text_of(page).split("\n"):
+    for line in text.split("\n"):
         first = re.match(r"\| \[?`(jc_\w+|jobctl)`", line)
         if first:
             found.append((first[1], [cell.strip() for cell in line.strip().strip("|").split(" | ")]))
@@ -80,7 +87,7 @@ def rows(page):
 
 
 def check_map():
-    named = [name for name, _ in rows("docs/MAP.md")]
+    named = [name for name, _ in rows(text_of("docs/MAP.md"))]
     holds(f"docs/MAP.md: its table has other crates than crates.txt, or another order: {set(named) ^ set(crates())}", named == [*crates()])
     layers = text_of("docs/MAP.md").partition("## The layers")[2].partition("## The crates")[0]
     picture = re.findall(r"\bjc_\w+|\bjobctl\b", "\n".join(it[27:] for it in layers.split("\n") if it.startswith("    ")))
@@ -88,7 +95,7 @@ def check_map():
     holds("docs/MAP.md: its picture has another order than crates.txt", picture == ordered)
     missing = [it for it in crates() if it not in picture and not it.endswith("_tests")]
     holds(f"docs/MAP.md: its picture lacks {missing}", not missing)
-    for name, cells in rows("docs/MAP.md"):
+    for name, cells in rows(text_of("docs/MAP.md")):
         # (a law may cite other laws)
         has_code = any(not re.fullmatch(r"(\s*\w+\(\);)*\s*", body) for body in bodies(name))
         kinds = ("code", "tests", "stories") if has_code else ("laws",)
@@ -106,13 +113,13 @@ def bodies(name):
 
 def check_proved():
     order = [*crates()]
-    named = [name for name, _ in rows("docs/PROVED.md")]
+    named = [name for name, _ in rows(text_of("docs/PROVED.md"))]
     places = [order.index(it) for it in named if it in order]
     holds(f"docs/PROVED.md: crates that are not there: {set(named) - set(order)}", len(places) == len(named))
     holds("docs/PROVED.md: its crates have another order than crates.txt", places == sorted(places))
     without = {it for it in order if it not in named and not it.endswith("_tests")} - {"jobctl", "jc_stories"}
     holds(f"docs/PROVED.md: nothing on {sorted(without)}", not without)
-    for name, cells in rows("docs/PROVED.md"):
+    for name, cells in rows(text_of("docs/PROVED.md")):
         source = "".join(text_of(it) for it in glob.glob(f"{TOP}/crates/{name}/src/*.rt"))
         for word in re.findall(r"`(?:\w+::)?(\w+)`", cells[1]):
             holds(f"docs/PROVED.md: {name} has no {word}", bool(re.search(rf"\b{word}\b", source)))
@@ -140,6 +147,39 @@ def check_again():
     holds("docs/CHANGING.md: the table of crates above is not that of crates.txt: tools/check_documents.py --again prints it", found == again())
 
 
+def files_with(words, crate):
+    """Returns the crate's files of code, definitions and lemmas that have one of the words."""
+    found = []
+    for kind in ("src", "specs", "proofs"):
+        paths = [os.path.relpath(it, TOP) for it in sorted(glob.glob(f"{TOP}/crates/{crate}/{kind}/**/*.*t", recursive=True))]
+        found += [os.path.relpath(it, f"crates/{crate}") for it in paths if re.search(words, text_of(it))]
+    return found
+
+
+def open_matches():
+    """Returns the functions that match on commands or their words and end in `_ =>`, which no compiler names."""
+    found = set()
+    for file in glob.glob(f"{TOP}/crates/*/src/*.rt"):
+        for body in re.split(r"\bfn (?=\w+[(<])", text_of(os.path.relpath(file, TOP)))[1:]:
+            is_on_commands = re.search(r"(?m)^ +(?:\| )?(?:Action1|Verb)::[^;]*? =>|=> Some\(Verb::", body)
+            if is_on_commands and re.search(r"(?m)^ +_ =>", body) and "_tests" not in file:
+                found.add(re.match(r"\w+", body)[0])
+    return found
+
+
+def check_recipes():
+    """Each recipe's table names, in the order of crates.txt, exactly the files that have its words."""
+    for heading, words in RECIPES.items():
+        table = rows(text_of("docs/CHANGING.md").partition(f"\n## {heading}\n")[2].partition("\n## ")[0])
+        named = {name: re.findall("`([^`]+)`", cells[-1]) for name, cells in table}
+        holds(f"docs/CHANGING.md: {heading}: other crates than in crates.txt, or in another order", [*named] == [it for it in crates() if it in named])
+        for crate in crates():
+            found = files_with(words, crate)
+            holds(f"docs/CHANGING.md: {heading}: {crate} has: {', '.join(f'`{it}`' for it in found)}", named.get(crate, []) == found)
+    for name in open_matches():
+        holds(f"docs/CHANGING.md: the compiler does not name the match of {name}, nor does the page", f"`{name}`" in text_of("docs/CHANGING.md"))
+
+
 def main():
     if sys.argv[1:] == ["--again"]:
         print(*again(), sep="\n")
@@ -151,6 +191,7 @@ def main():
     check_map()
     check_proved()
     check_again()
+    check_recipes()
     checks.end(300)
 
 
