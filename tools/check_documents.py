@@ -2,10 +2,12 @@
 """check_documents.py: holds the documents to the repository. Each failure is a line; the last line says how many held.
 
 Each link leads to a file, and to a heading where it names one. Each path in backquotes is there. MAP.md and PROVED.md have the
-crates in the order of crates.txt, MAP.md all of them, and PROVED.md no call or clause that its crate does not have. The
+crates in the order of crates.txt, MAP.md all of them, and PROVED.md no call or clause that its crate does not have. No crate stands
+on one that MAP.md keeps it apart from. The
 table of what is proved again in CHANGING.md is the one of crates.txt, and its recipes name each file that has the word of their
 change. Prose is at most 120 wide.
 """
+import functools
 import glob
 import os
 import re
@@ -87,19 +89,66 @@ def rows(text):
 
 
 def check_map():
-    named = [name for name, _ in rows(text_of("docs/MAP.md"))]
+    named = [name for name, _ in rows(section("docs/MAP.md", "The crates"))]
     holds(f"docs/MAP.md: its table has other crates than crates.txt, or another order: {set(named) ^ set(crates())}", named == [*crates()])
-    layers = text_of("docs/MAP.md").partition("## The layers")[2].partition("## The crates")[0]
-    picture = re.findall(r"\bjc_\w+|\bjobctl\b", "\n".join(it[27:] for it in layers.split("\n") if it.startswith("    ")))
+    picture = [it for layer, names in layers().items() if layer != "laws" for it in names]
     ordered = [it for it in crates() if it in picture]
     holds("docs/MAP.md: its picture has another order than crates.txt", picture == ordered)
     missing = [it for it in crates() if it not in picture and not it.endswith("_tests")]
     holds(f"docs/MAP.md: its picture lacks {missing}", not missing)
-    for name, cells in rows(text_of("docs/MAP.md")):
+    chain = re.findall(r"jc_\w+|jobctl", section("docs/MAP.md", "The layers").partition("longest chain")[2])
+    holds("docs/MAP.md: its longest chain is none, or another is longer", len(chain) == max(heights().values()) == len(set(heights()[it] for it in chain)))
+    for name, cells in rows(section("docs/MAP.md", "The crates")):
         # (a law may cite other laws)
         has_code = any(not re.fullmatch(r"(\s*\w+\(\);)*\s*", body) for body in bodies(name))
         kinds = ("code", "tests", "stories") if has_code else ("laws",)
         holds(f"docs/MAP.md: {name} is no crate of {cells[1]}", cells[1] in kinds)
+
+
+def section(page, heading):
+    """Returns what stands below a heading of a page, up to the next one of its kind."""
+    return text_of(page).partition(f"\n## {heading}\n")[2].partition("\n## ")[0]
+
+
+def layers():
+    """Returns the crates of each layer of the map's picture, and those of laws."""
+    found = {"laws": [name for name, cells in rows(section("docs/MAP.md", "The crates")) if cells[1] == "laws"]}
+    for line in section("docs/MAP.md", "The layers").split("\n"):
+        if line.startswith("    "):
+            found[line[:27].strip()] = re.findall(r"\bjc_\w+|\bjobctl\b", line[27:])
+    return found
+
+
+def heights():
+    """Returns how many crates stand on one another up to each one."""
+    found = {}
+    for name, below in crates().items():
+        found[name] = 1 + max([found[it] for it in below if it in found], default=0)
+    return found
+
+
+def named_by(what, below):
+    """Returns the crates that name a library of the kit, or have the path in their code."""
+    if "::" not in what:
+        return {it for it in below if what in below[it]}
+    return {it for it in below if any(file.startswith("src/") and what in text for file, text in files_of(it))}
+
+
+def check_layers():
+    below, of_layer, under = crates(), layers(), {}
+    for name in below:
+        under[name] = {name}.union(*(under.get(it, {it}) for it in below[name]))
+    for line in section("docs/MAP.md", "What a layer does not know").split("\n"):
+        cells = [it.strip() for it in line.strip("|").split(" | ")]
+        names = [re.findall("`([^`]+)`", it) for it in cells]
+        if len(cells) == 3 and names[2]:
+            for crate in names[0] or [it for layer in cells[0].split(", ") for it in of_layer[layer]]:
+                holds(f"docs/MAP.md: {crate} stands on {under[crate] & set(names[2])}", not under[crate] & set(names[2]))
+            holds(f"docs/MAP.md: what is named beside {cells[0]} is not there", set(names[2]) <= set(below).union(*below.values()))
+        elif len(cells) == 2 and names[1]:
+            users = set().union(*(named_by(what, below) for what in names[0]))
+            found = [it for it in below if it in users]
+            holds(f"docs/MAP.md: {cells[0]}: it is {' '.join(f'`{it}`' for it in found)} that name it", names[1] == found)
 
 
 def bodies(name):
@@ -147,30 +196,33 @@ def check_again():
     holds("docs/CHANGING.md: the table of crates above is not that of crates.txt: tools/check_documents.py --again prints it", found == again())
 
 
+@functools.cache
+def files_of(crate):
+    """Returns the crate's files of code, definitions and lemmas, each with its text."""
+    found = [it for kind in ("src", "specs", "proofs") for it in sorted(glob.glob(f"{TOP}/crates/{crate}/{kind}/**/*.*t", recursive=True))]
+    return [(os.path.relpath(it, f"{TOP}/crates/{crate}"), text_of(os.path.relpath(it, TOP))) for it in found]
+
+
 def files_with(words, crate):
-    """Returns the crate's files of code, definitions and lemmas that have one of the words."""
-    found = []
-    for kind in ("src", "specs", "proofs"):
-        paths = [os.path.relpath(it, TOP) for it in sorted(glob.glob(f"{TOP}/crates/{crate}/{kind}/**/*.*t", recursive=True))]
-        found += [os.path.relpath(it, f"crates/{crate}") for it in paths if re.search(words, text_of(it))]
-    return found
+    """Returns the crate's files that have one of the words."""
+    return [file for file, text in files_of(crate) if re.search(words, text)]
 
 
 def open_matches():
     """Returns the functions that match on commands or their words and end in `_ =>`, which no compiler names."""
     found = set()
-    for file in glob.glob(f"{TOP}/crates/*/src/*.rt"):
-        for body in re.split(r"\bfn (?=\w+[(<])", text_of(os.path.relpath(file, TOP)))[1:]:
-            is_on_commands = re.search(r"(?m)^ +(?:\| )?(?:Action1|Verb)::[^;]*? =>|=> Some\(Verb::", body)
-            if is_on_commands and re.search(r"(?m)^ +_ =>", body) and "_tests" not in file:
-                found.add(re.match(r"\w+", body)[0])
+    texts = [text for crate in crates() if not crate.endswith("_tests") for file, text in files_of(crate) if file.endswith(".rt")]
+    for body in [it for text in texts for it in re.split(r"\bfn (?=\w+[(<])", text)[1:]]:
+        is_on_commands = re.search(r"(?m)^ +(?:\| )?(?:Action1|Verb)::[^;]*? =>|=> Some\(Verb::", body)
+        if is_on_commands and re.search(r"(?m)^ +_ =>", body):
+            found.add(re.match(r"\w+", body)[0])
     return found
 
 
 def check_recipes():
     """Each recipe's table names, in the order of crates.txt, exactly the files that have its words."""
     for heading, words in RECIPES.items():
-        table = rows(text_of("docs/CHANGING.md").partition(f"\n## {heading}\n")[2].partition("\n## ")[0])
+        table = rows(section("docs/CHANGING.md", heading))
         named = {name: re.findall("`([^`]+)`", cells[-1]) for name, cells in table}
         holds(f"docs/CHANGING.md: {heading}: other crates than in crates.txt, or in another order", [*named] == [it for it in crates() if it in named])
         for crate in crates():
@@ -189,6 +241,7 @@ def main():
         check_paths(page)
         check_width(page)
     check_map()
+    check_layers()
     check_proved()
     check_again()
     check_recipes()
