@@ -2,10 +2,10 @@
 """check_documents.py: holds the documents to the repository. Each failure is a line; the last line says how many held.
 
 Each link leads to a file, and to a heading where it names one. Each path in backquotes is there. MAP.md and PROVED.md have the
-crates in the order of crates.txt, MAP.md all of them, and PROVED.md no call or clause that its crate does not have. No crate stands
-on one that MAP.md keeps it apart from. The
-table of what is proved again in CHANGING.md is the one of crates.txt, and its recipes name each file that has the word of their
-change. Prose is at most 120 wide.
+crates in the order of crates.txt, MAP.md all of them, and PROVED.md no call or clause that its crate does not have. No crate
+stands on one that MAP.md keeps it apart from. The table of what is proved again in CHANGING.md is the one of crates.txt, and its
+recipes name each file that has the word of their change. GLOSSARY.md names of each word a file that has it. Prose is at most 120
+wide.
 """
 import functools
 import glob
@@ -174,6 +174,18 @@ def check_proved():
             holds(f"docs/PROVED.md: {name} has no {word}", bool(re.search(rf"\b{word}\b", source)))
 
 
+def check_glossary():
+    """Each word of the code stands in one of the files that its row names."""
+    for line in text_of("docs/GLOSSARY.md").split("\n"):
+        cells = line.strip("|").split(" | ") if line.startswith("| ") else [""]
+        paths = [os.path.normpath(f"{TOP}/docs/{it}") for it in re.findall(r"\]\(([^)#]+)", cells[-1])]
+        files = [file for it in paths for file in ([it] if os.path.isfile(it) else glob.glob(f"{it}/*.*t"))]
+        texts = "".join(text_of(os.path.relpath(it, TOP)) for it in files)
+        # (the words of the code stand in front, but for proof engineers)
+        for word in re.findall(r"`(?:\w+::)?(\w+)`", cells[0] if "`" in cells[0] or len(cells) > 3 else cells[1] if len(cells) > 1 else ""):
+            holds(f"docs/GLOSSARY.md: {word} stands in none of {cells[-1].strip()}", bool(re.search(rf"\b{word}\b", texts)))
+
+
 def above(name, below):
     """Returns how many crates stand on this one."""
     found, last = {name}, 0
@@ -243,6 +255,7 @@ def main():
     check_map()
     check_layers()
     check_proved()
+    check_glossary()
     check_again()
     check_recipes()
     checks.end(300)
