@@ -168,6 +168,11 @@ def check_proved():
     holds("docs/PROVED.md: its crates have another order than crates.txt", places == sorted(places))
     without = {it for it in order if it not in named and not it.endswith("_tests")} - {"jobctl", "jc_stories"}
     holds(f"docs/PROVED.md: nothing on {sorted(without)}", not without)
+    with open(f"{TOP}/crates/jc_stories/stdin", "rb") as it:
+        stories = it.read()
+    runs, questions = len(re.findall(rb"(?m)^== ", stories)), len(re.findall(rb"(?m)^\? ", stories))
+    said = f"{runs + questions:,} cases, {runs:,} runs and {questions:,} questions"
+    holds(f"docs/PROVED.md: it is {said}", said in " ".join(text_of("docs/PROVED.md").split()))
     for name, cells in rows(text_of("docs/PROVED.md")):
         source = "".join(text_of(it) for it in glob.glob(f"{TOP}/crates/{name}/src/*.rt"))
         for word in re.findall(r"`(?:\w+::)?(\w+)`", cells[1]):
