@@ -16,7 +16,7 @@ import sys
 sys.dont_write_bytecode = True
 from checks import TOP, Checks, text_of
 
-PAGES = ["README.md", "bench/README.md", "tools/README.md", "examples/README.md"]
+PAGES = ["README.md", "bench/README.md", "crates/README.md", "tools/README.md", "examples/README.md"]
 WIDTH = 120
 # The recipes of CHANGING.md, each with the words of the change that it follows.
 RECIPES = {
@@ -125,6 +125,19 @@ def heights():
     for name, below in crates().items():
         found[name] = 1 + max([found[it] for it in below if it in found], default=0)
     return found
+
+
+def check_folder():
+    """crates/README.md has the crates of each layer of the map, in its order."""
+    found, layer, laws = [], "", []
+    for first, name, said in re.findall(r"(?m)^\| (.*?) ?\| \[`(\w+)`\]\(\2\) \| (\S.*)", text_of("crates/README.md")):
+        layer = first or layer
+        found.append((layer, name))
+        laws += [name] if said.startswith("laws: ") else []
+    wanted = [(layer, it) for layer, names in layers().items() if layer != "laws" for it in names]
+    holds(f"crates/README.md: other layers or crates than in docs/MAP.md: {set(found) ^ set(wanted)}", found == wanted)
+    holds("crates/README.md: other crates of laws than in docs/MAP.md", laws == layers()["laws"])
+    holds(f"crates/README.md: other crates than crates.txt: {set(crates()) ^ {it for _, it in found}}", [it for _, it in found] == [*crates()])
 
 
 def named_by(what, below):
@@ -259,6 +272,7 @@ def main():
         check_width(page)
     check_map()
     check_layers()
+    check_folder()
     check_proved()
     check_glossary()
     check_again()
