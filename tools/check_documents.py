@@ -192,6 +192,14 @@ def check_proved():
             holds(f"docs/PROVED.md: {name} has no {word}", bool(re.search(rf"\b{word}\b", source)))
 
 
+def check_counts():
+    """bench/README.md says how many crates and edits there are."""
+    edits = [it.split("/")[-3] for it in glob.glob(f"{TOP}/crates/*/must-fail/*.edit")]
+    tests = [it for it in crates() if it == "jc_stories" or it.endswith("_tests")]
+    said = f"There are {len(crates()) - len(tests)} crates, beside four of tests, and {len(edits)} edits in {len(set(edits))} crates."
+    holds(f"bench/README.md: it is so: {said}", len(tests) == 4 and said in " ".join(text_of("bench/README.md").split()))
+
+
 def check_glossary():
     """Each word of the code stands in one of the files that its row names."""
     for line in text_of("docs/GLOSSARY.md").split("\n"):
@@ -274,6 +282,7 @@ def main():
     check_layers()
     check_folder()
     check_proved()
+    check_counts()
     check_glossary()
     check_again()
     check_recipes()
