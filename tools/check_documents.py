@@ -1,11 +1,11 @@
 #!/usr/bin/env python3
 """check_documents.py: holds the documents to the repository. Each failure is a line; the last line says how many held.
 
-Each link leads to a file, and to a heading where it names one. Each path in backquotes is there. MAP.md and PROVED.md have the
-crates in the order of crates.txt, MAP.md all of them, and PROVED.md no call or clause that its crate does not have. No crate
-stands on one that MAP.md keeps it apart from. The table of what is proved again in CHANGING.md is the one of crates.txt, and its
-recipes name each file that has the word of their change. GLOSSARY.md names of each word a file that has it. Prose is at most 120
-wide.
+Each link leads to a file, and to a heading where it names one. Each path in backquotes is there, and each name of code. MAP.md
+and PROVED.md have the crates in the order of crates.txt, MAP.md all of them, and PROVED.md no call or clause that its crate
+does not have. No crate stands on one that MAP.md keeps it apart from. The table of what is proved again in CHANGING.md is the
+one of crates.txt, and its recipes name each file that has the word of their change. GLOSSARY.md names of each word a file that
+has it. Prose is at most 120 wide.
 """
 import functools
 import glob
@@ -18,6 +18,8 @@ from checks import TOP, Checks, text_of
 
 PAGES = ["README.md", "bench/README.md", "crates/README.md", "tools/README.md", "examples/README.md"]
 WIDTH = 120
+# Those whose names with a `_` or `::` are all names of the code or of a tool.
+NAMING = [f"docs/{it}.md" for it in ("CHANGING", "DECISIONS", "DEFINITIONS", "EVENTS", "MAP", "PROVED")]
 # The recipes of CHANGING.md, each with the words of the change that it follows.
 RECIPES = {
     "A new command of a script": r"PutFault|put_fault|\b[Vv]erb(?:::|\.)Fault\b",
@@ -192,6 +194,18 @@ def check_proved():
             holds(f"docs/PROVED.md: {name} has no {word}", bool(re.search(rf"\b{word}\b", source)))
 
 
+def check_names():
+    """What looks like a name of the code stands in the code, in definitions, in a tool, or names an example."""
+    texts = [text for crate in crates() for file, text in files_of(crate) if not file.startswith("proofs/")]
+    paths = ["crates.txt"] + [os.path.relpath(it, TOP) for it in glob.glob(f"{TOP}/tools/*.*") + glob.glob(f"{TOP}/bench/*.py")]
+    known = {word for text in texts + [text_of(it) for it in paths if not it.endswith(".md")] for word in re.findall(r"\w+", text)}
+    known |= {os.path.basename(it).split(".")[0] for it in glob.glob(f"{TOP}/examples/*.script")} | set(crates())
+    for page in NAMING:
+        for name in sorted(set(re.findall(r"`((?:\w+::)*\w+)`", text_of(page)))):
+            if "_" in name or "::" in name:
+                holds(f"{page}: there is no {name}", name.split("::")[-1] in known)
+
+
 def check_counts():
     """bench/README.md says how many crates and edits there are."""
     edits = [it.split("/")[-3] for it in glob.glob(f"{TOP}/crates/*/must-fail/*.edit")]
@@ -282,6 +296,7 @@ def main():
     check_layers()
     check_folder()
     check_proved()
+    check_names()
     check_counts()
     check_glossary()
     check_again()
