@@ -196,7 +196,10 @@ fn see_full_history<R: Threads + Wait + Sync + Abort>(
     };
     let words = asked.words(alloc)?;
     let (told, status) = written(rt, alloc, &words, script, &FreeGate)?;
-    assert!(rt; matches!(status, Status::HistoryFull), "the history is full");
+    assert!(rt;
+        matches!(status, Status::HistoryFull),
+        "the history is full"
+    );
     assert_eq!(rt; times(&told, " -> "), FEW_EVENTS as usize);
     see_audit(rt, alloc, asked, &told)
 }
