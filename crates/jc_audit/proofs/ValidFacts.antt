@@ -1,5 +1,5 @@
 -- A proper act of a command is valid.
-use Rattle.std.proofs.Common.{◌≡◌, ◌≢◌, ◌≤◌, List, [], length, subst, arith}
+use Rattle.std.proofs.Common.{◌≢◌, ◌≤◌, List, [], length, subst, arith}
 use Rattle.jc_runs.specs.ValidActions.{IsValidAction}
 use Rattle.jc_types.specs.declared.actions.Action1.{Action1}
 use Rattle.jc_types.specs.declared.actions.Action1.TheVariants as act
@@ -8,7 +8,7 @@ use Rattle.jc_reading.specs.Proper.{IsProperAction}
 use Rattle.jc_reading.proofs.ValidFacts.{spec_valid}
 
 some_ends : (ends : List End) → 1 ≤ length ends → ends ≢ []
-some_ends ends some none = let few : 1 ≤ length {A = End} [] = subst (λ es. 1 ≤ length es) none some in omega (arith, few)
+some_ends ends some none = let few : 1 ≤ 0 = subst (λ (es : List End). 1 ≤ length es) none some in omega (arith, few)
 
 pub proper_is_valid : (action : Action1) → IsProperAction action → IsValidAction action
 proper_is_valid (act.Create key spec) proper = spec_valid key spec proper.0 proper.1

@@ -13,7 +13,7 @@ use Rattle.serde_json.specs.Find.{of_integer}
 use Rattle.serde_json.specs.View.{items_of}
 use Rattle.jc_json.specs.Field.{Refusal, needed_list, needed_object, needed_text, optional_object}
 use Rattle.jc_json.specs.Place.{path_at, path_to}
-use Rattle.jc_manifest.specs.FailurePolicies.{exit_codes_in, failure_in, failure_rule_in, failure_rules_from, failure_rules_in, has_exit_codes, pattern_in, patterns_from, requirement_in, type_in}
+use Rattle.jc_manifest.specs.FailurePolicies.{codes_in, container_in, exit_codes_in, operator_in, failure_in, failure_rule_in, failure_rules_from, failure_rules_in, has_exit_codes, pattern_in, patterns_from, requirement_in, type_in}
 use Rattle.jc_manifest.specs.Manifests.{head_in, policies_in, spec_in, spec_of}
 use Rattle.jc_print.specs.Members.{number_data, texts_data, with_json_member}
 use Rattle.jc_print.specs.PrintedSpecs.{action_word, exit_codes_data, failure_data, failure_rule_data, mode_word, operator_word, pattern_data, replacement_word, restart_word, rules_data, spec_data, success_data, success_rule_data, template_data, truth_word, with_counts, with_index_limits, with_limits, with_policies, with_requirement, with_success_rule, with_template}
@@ -267,13 +267,16 @@ patterns_read path place [] all = tt
 patterns_read path place (d ∷ ds) all = (text_read (path_at path place) (codes "type") d all.0, patterns_read path (place + 1) ds all.1)
 
 requirement_read : (path : List ℕ) (rule : Data) → IsSpelled rule → HasUnicode (requirement_in path rule)
-unfolding requirement_in
+unfolding requirement_in exit_codes_in
 requirement_read path rule h = by (has_exit_codes rule)
   where
     at : List ℕ
     at = path_to path (codes "onExitCodes")
 
-    by : (b : Bool) → HasUnicode (cond b (exit_codes_in at (object_in path rule (codes "onExitCodes")))
+    inner : Data
+    inner = object_in path rule (codes "onExitCodes")
+
+    by : (b : Bool) → HasUnicode (cond b (ExitCodes (container_in at inner) (operator_in at inner) (codes_in (path_to at (codes "values")) (list_in at inner (codes "values"))))
         (Conditions (patterns_from (path_to path (codes "onPodConditions")) 0 (list_in path rule (codes "onPodConditions")))))
     by true = tt
     by false = patterns_read (path_to path (codes "onPodConditions")) 0 (list_in path rule (codes "onPodConditions")) (list_read path (codes "onPodConditions") rule h)
