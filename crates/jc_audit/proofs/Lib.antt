@@ -8,3 +8,4 @@ pub mod TakeFacts
 pub mod TailFacts
 pub mod AuditFacts
 pub mod UniqueFacts
+mod ValidFacts

@@ -5,9 +5,11 @@ ghost use Rattle.std.specs.List.{AllByRecursion as Each};
 ghost use Rattle.jc_history.specs.Available.{IsOrderly};
 ghost use Rattle.jc_history.specs.Legal.{IsHistory};
 ghost use Rattle.jc_history.specs.Replies.{log_given};
-ghost use Rattle.jc_reading.specs.Proper.{IsProperCommand};
+ghost use Rattle.jc_reading.specs.Proper.{IsProperAction, IsProperCommand};
 ghost use Rattle.jc_log.specs.Deeds.{deeds};
 ghost use Rattle.jc_lines.specs.Reports.{report_text};
+ghost use Rattle.jc_runs.specs.ValidActions.{IsValidAction};
+ghost use Rattle.jc_types.specs.declared.actions.Action1.{Action1};
 ghost use Rattle.jc_types.specs.declared.actions.Script.{Script};
 ghost use Rattle.jc_types.specs.declared.runs.History.{History};
 ghost use Rattle.jc_types.specs.declared.runs.Shape.{Shape};
@@ -41,3 +43,9 @@ pub fn verdicts_are_unique()
 {
     printed_fronts_are_read_back();
 }
+
+/// A proper act of a command is valid: so a script of such commands can be played.
+#[tactic(auto, using(crate::proofs::ValidFacts::proper_is_valid))]
+pub fn proper_actions_are_valid()
+    ensures { (action : Action1) → IsProperAction action → IsValidAction action }
+{}

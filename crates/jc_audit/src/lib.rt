@@ -9,6 +9,9 @@ mod verdicts;
 mod walking;
 
 pub use audits::audit;
-pub use jc_reading::{proper_actions_are_valid, read_scripts_are_proper};
-pub use laws::{histories_print_reports, reports_are_of_histories, verdicts_are_unique};
+pub use jc_reading::read_scripts_are_proper;
+pub use laws::{
+    histories_print_reports, proper_actions_are_valid, reports_are_of_histories,
+    verdicts_are_unique,
+};
 pub use verdicts::Verdict;

@@ -6,9 +6,10 @@ ghost use Rattle.jc_reading.specs.declared.reads.LineAct.TheVariants as read;
 ghost use Rattle.jc_audit.specs.Limits.{IsSmallShape};
 ghost use Rattle.jc_audit.specs.Walks.{HasTaken, IsLineLen, IsOnlyTaken, IsRead, NoneIsTaken, TakesLine};
 
+use crate::laws::proper_actions_are_valid;
 use crate::taking::{clock_fits, last_text, take_command, take_system};
 use jc_play::Machine;
-use jc_reading::{LineAct, LineRead, proper_actions_are_valid, read_event};
+use jc_reading::{LineAct, LineRead, read_event};
 use jc_types::{Action1, Command, Sys, Want};
 use std::alloc::Global;
 

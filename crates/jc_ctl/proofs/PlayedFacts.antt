@@ -1,7 +1,8 @@
 -- The scripts that are played have proper commands: those that were read, and those with a reaper's commands behind them.
-use Rattle.std.proofs.Common.{◌≡◌, ℕ, ◌<◌, ◌≤◌, ◌^◌, ◌&&◌, Bool, true, false, List, [], ◌∷◌, length, Option, Result, Ok, Err, arith, refl, sym, true≢false}
+use Rattle.std.proofs.Common.{◌≡◌, ℕ, ◌<◌, ◌≤◌, ◌^◌, ◌&&◌, true, List, [], ◌∷◌, length, Option, Result, Ok, Err, ap₂, arith, refl}
 use Rattle.std.specs.Prelude.{IfOk}
 use Rattle.std.specs.List.{AllByRecursion as Each}
+use Rattle.std.proofs.lemmas.Bool.{and_parts}
 use Rattle.std.proofs.lemmas.List.{length-reverse}
 use Rattle.jc_types.specs.declared.actions.Action1.{Action1}
 use Rattle.jc_types.specs.declared.actions.Action1.TheVariants as act
@@ -24,27 +25,17 @@ use Rattle.jc_single.specs.Played.{as_script, at_rest, reaped_of}
 
 -- ---- keys
 
-and-is : (a b : Bool) → a ≡ true → b ≡ true → (a && b) ≡ true
-and-is true b one other = other
-and-is false b one other = one
-
-and-first : (a b : Bool) → (a && b) ≡ true → a ≡ true
-and-first true b h = refl
-and-first false b h = h
-
-and-second : (a b : Bool) → (a && b) ≡ true → b ≡ true
-and-second true b h = h
-and-second false b h = absurd (true≢false (sym h))
-
 -- The test says of the key that it is allowed.
 abbrev IsTested : Key → Type 0
 IsTested key = is_allowed_key key ≡ true
 
 tested : (key : Key) → IsAllowedKey key → IsTested key
-tested key h = and-is _ _ h.name h.namespace
+tested key h = ap₂ (λ a b. a && b) h.name h.namespace
 
 allowed : (key : Key) → IsTested key → IsAllowedKey key
-allowed key h = record { name = and-first _ _ h; namespace = and-second _ _ h }
+allowed key h =
+    let both = and_parts _ _ h in
+    record { name = both.0; namespace = both.1 }
 
 -- ---- commands
 

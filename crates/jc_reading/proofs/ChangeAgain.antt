@@ -10,12 +10,12 @@ use Rattle.jc_members.specs.Members.{given_number_in, only_known}
 use Rattle.jc_script.specs.Updates.{change_at, change_in, change_members, counts_of, limits_of}
 use Rattle.jc_types.specs.declared.actions.SpecChange.{SpecChange}
 use Rattle.jc_types.specs.declared.limits.TheConstants.{GREATEST_COMPLETIONS, GREATEST_LIMIT, GREATEST_PARALLELISM}
-use Rattle.jc_reading.specs.Proper.{of_member}
+use Rattle.jc_reading.specs.Proper.{IsAllowedChange}
+use Rattle.jc_reading.specs.Turned.{of_member}
 use Rattle.jc_reading.proofs.AgainHead.{whole}
 use Rattle.jc_reading.proofs.AgainTemplate.{object_needed}
 use Rattle.jc_reading.proofs.Found.{member_found, puts}
 use Rattle.jc_reading.proofs.MemberFacts.{given_in, rows_known, whole_given}
-use Rattle.jc_reading.proofs.SaidFacts.{IsSmallChange}
 
 module _ (change : SpecChange) where
   abbrev rows : List (List ℕ × Option Data)
@@ -47,22 +47,22 @@ module _ (change : SpecChange) where
       by None = refl
       by (Some b) = refl
 
-  module _ (small : IsSmallChange change) where
+  module _ (allowed : IsAllowedChange change) where
     counts_again : (path : List ℕ) → counts_of path made ≡ Ok (record { parallelism = change.parallelism; completions = change.completions })
     unfolding counts_of
     counts_again path =
         ap (λ r. r >>= λ parallelism. given_number_in path (codes "completions") 0 GREATEST_COMPLETIONS made >>= λ completions. Ok (record { parallelism = parallelism; completions = completions }))
-        (given_in path (codes "parallelism") GREATEST_PARALLELISM made change.parallelism (member_found (codes "parallelism") rows ∙ whole change.parallelism) small.parallelism)
+        (given_in path (codes "parallelism") GREATEST_PARALLELISM made change.parallelism (member_found (codes "parallelism") rows ∙ whole change.parallelism) allowed.parallelism)
         ∙ ap (λ r. r >>= λ completions. Ok (record { parallelism = change.parallelism; completions = completions }))
-        (given_in path (codes "completions") GREATEST_COMPLETIONS made change.completions (member_found (codes "completions") rows ∙ whole change.completions) small.completions)
+        (given_in path (codes "completions") GREATEST_COMPLETIONS made change.completions (member_found (codes "completions") rows ∙ whole change.completions) allowed.completions)
 
     limits_again : (path : List ℕ) → limits_of path made ≡ Ok (record { deadline = change.deadline; backoff_limit = change.backoff_limit })
     unfolding limits_of
     limits_again path =
         ap (λ r. r >>= λ deadline. given_number_in path (codes "backoffLimit") 0 GREATEST_LIMIT made >>= λ backoff_limit. Ok (record { deadline = deadline; backoff_limit = backoff_limit }))
-        (given_in path (codes "activeDeadlineSeconds") GREATEST_LIMIT made change.deadline (member_found (codes "activeDeadlineSeconds") rows ∙ whole change.deadline) small.deadline)
+        (given_in path (codes "activeDeadlineSeconds") GREATEST_LIMIT made change.deadline (member_found (codes "activeDeadlineSeconds") rows ∙ whole change.deadline) allowed.deadline)
         ∙ ap (λ r. r >>= λ backoff_limit. Ok (record { deadline = change.deadline; backoff_limit = backoff_limit }))
-        (given_in path (codes "backoffLimit") GREATEST_LIMIT made change.backoff_limit (member_found (codes "backoffLimit") rows ∙ whole change.backoff_limit) small.backoff_limit)
+        (given_in path (codes "backoffLimit") GREATEST_LIMIT made change.backoff_limit (member_found (codes "backoffLimit") rows ∙ whole change.backoff_limit) allowed.backoff_limit)
 
     at_again : (path : List ℕ) → change_at path made ≡ Ok change
     unfolding change_at

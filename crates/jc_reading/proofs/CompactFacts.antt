@@ -73,7 +73,7 @@ abbrev AreBefore : Members → Members → Type 0
 AreBefore found no_members = Unit {0}
 AreBefore found (member k d ms) = IsBefore k found × AreBefore found ms
 
-later : (k l : List ℕ) → slice_cmp nat_cmp k l ≡ Less → slice_cmp nat_cmp l k ≡ Greater
+pub later : (k l : List ℕ) → slice_cmp nat_cmp k l ≡ Less → slice_cmp nat_cmp l k ≡ Greater
 later k l e = nat_list_cmp_total.antisymm l k ∙ ap ordering_reverse e
 
 put_last : (k : List ℕ) (d : Data) (found : Members) → IsBefore k found → put k d found ≡ join found (member k d no_members)

@@ -1,5 +1,5 @@
 -- Printed ends of pods are read back.
-use Rattle.std.proofs.Common.{◌≡◌, ℕ, ◌+◌, pos, ◌≤◌, List, [], ◌∷◌, length, map, Bool, true, ◌&&◌, cond, codes, Option, Some, None, option_map, IfSome, Result, Ok, Err, nat_lt, nat_le, refl, sym, ap, ap₂, ◌∙◌, le-leb, lt-ltb, arith}
+use Rattle.std.proofs.Common.{◌≡◌, ℕ, ◌+◌, pos, ◌≤◌, List, [], ◌∷◌, length, map, true, ◌&&◌, cond, codes, Option, Some, None, option_map, IfSome, Result, Ok, Err, nat_lt, nat_le, refl, sym, ap, ap₂, ◌∙◌, le-leb, lt-ltb, arith}
 use Rattle.std.specs.List.{AllByRecursion as Each}
 use Rattle.std.specs.Prelude.{ok_or, unwrap_or}
 use Rattle.std.proofs.lemmas.List.{length-map}
@@ -19,28 +19,22 @@ use Rattle.jc_manifest.specs.FailurePolicies.{is_type}
 use Rattle.jc_print.specs.Members.{list_data, number_data, with_json_member}
 use Rattle.jc_types.specs.declared.actions.End.{End}
 use Rattle.jc_types.specs.declared.limits.TheConstants.{GREATEST_LIMIT}
-use Rattle.jc_reading.specs.Proper.{IsExit, of_member}
+use Rattle.jc_reading.specs.Proper.{AreAllowedEnds, IsAllowedEnd, IsAllowedType}
+use Rattle.jc_reading.specs.Turned.{of_member}
 use Rattle.jc_reading.proofs.AgainHead.{given_text, no_text}
 use Rattle.jc_reading.proofs.AgainTemplate.{list_needed}
 use Rattle.jc_reading.proofs.Found.{member_found, puts}
 use Rattle.jc_reading.proofs.MemberFacts.{given_in, rows_known, whole_given}
 
--- ---- an end as a script gives it
+-- ---- a type that may be given, and a number that must be
 
-pub record IsRightEnd (end : End) : Type 0 where
-  pub exit : IsExit end.exit
-  pub restarts : end.restarts ≤ GREATEST_LIMIT
-  pub condition : IfSome end.condition (λ kind. is_type kind ≡ true)
-
--- ---- a text that may be given, and a number that must be
-
-given_text_again : (path name : List ℕ) (rule : ℕ) (test : List ℕ → Bool) (d : Data) (o : Option (List ℕ)) → member_of name d ≡ option_map string o
-    → IfSome o (λ s. test s ≡ true) → given_text_in path name rule test d ≡ Ok o
+type_again : (path name : List ℕ) (d : Data) (o : Option (List ℕ)) → member_of name d ≡ option_map string o → IfSome o IsAllowedType
+    → given_text_in path name 30 is_type d ≡ Ok o
 unfolding given_text_in
-given_text_again path name rule test d None is good = ap (λ r. read_as r >>= given_tested (path_to path name) rule test) (no_text path name d is)
-given_text_again path name rule test d (Some s) is good =
-    ap (λ r. read_as r >>= given_tested (path_to path name) rule test) (given_text path name d s is)
-    ∙ ap (λ b. cond b (Ok (Some s)) (Err (Invalid (path_to path name) rule))) good
+type_again path name d None is allowed = ap (λ r. read_as r >>= given_tested (path_to path name) 30 is_type) (no_text path name d is)
+type_again path name d (Some s) is allowed =
+    ap (λ r. read_as r >>= given_tested (path_to path name) 30 is_type) (given_text path name d s is)
+    ∙ ap (λ b. cond b (Ok (Some s)) (Err (Invalid (path_to path name) 30))) allowed.0
 
 exit_again : (path name : List ℕ) (d : Data) (n : ℕ) → member_of name d ≡ Some (exit_data (pos n)) → n ≤ 255 → needed_number path name (pos 0) (pos 255) d ≡ Ok (pos n)
 unfolding needed_number
@@ -63,20 +57,20 @@ module _ (end : End) where
   unfolding end_data with_json_member
   end_puts = refl
 
-  module _ (right : IsRightEnd end) where
+  module _ (allowed : IsAllowedEnd end) where
     code_again : (path : List ℕ) → needed_number path (codes "exitCode") (pos 0) (pos 255) made ≡ Ok end.exit
     code_again path =
-        exit_again path (codes "exitCode") made right.exit.code (member_found (codes "exitCode") rows ∙ ap (λ z. Some (exit_data z)) right.exit.is) right.exit.few
-        ∙ ap Ok (sym right.exit.is)
+        exit_again path (codes "exitCode") made allowed.exit.code (member_found (codes "exitCode") rows ∙ ap (λ z. Some (exit_data z)) allowed.exit.is) allowed.exit.few
+        ∙ ap Ok (sym allowed.exit.is)
 
     said_again : (path : List ℕ) → end_said path made ≡ Ok end
     unfolding end_said
     said_again path =
         ap (λ r. read_as r >>= λ exit. given_number_in path (codes "restarts") 0 GREATEST_LIMIT made >>= λ restarts. given_text_in path (codes "condition") 30 is_type made >>= λ condition. Ok (record { exit = exit; restarts = unwrap_or restarts 0; condition = condition })) (code_again path)
         ∙ ap (λ r. r >>= λ restarts. given_text_in path (codes "condition") 30 is_type made >>= λ condition. Ok (record { exit = end.exit; restarts = unwrap_or restarts 0; condition = condition }))
-        (given_in path (codes "restarts") GREATEST_LIMIT made (Some end.restarts) (member_found (codes "restarts") rows) right.restarts)
+        (given_in path (codes "restarts") GREATEST_LIMIT made (Some end.restarts) (member_found (codes "restarts") rows) allowed.restarts)
         ∙ ap (λ r. r >>= λ condition. Ok (record { exit = end.exit; restarts = end.restarts; condition = condition }))
-        (given_text_again path (codes "condition") 30 is_type made end.condition (member_found (codes "condition") rows ∙ whole_given string (λ s. refl) end.condition) right.condition)
+        (type_again path (codes "condition") made end.condition (member_found (codes "condition") rows ∙ whole_given string (λ s. refl) end.condition) allowed.condition)
 
     pub end_again : (list : List ℕ) (place : ℕ) → end_said_at list place (end_data end) ≡ Ok end
     unfolding end_said_at item_object
@@ -98,15 +92,16 @@ ends_given : (ends : List End) → member_of (codes "ends") (of_member (codes "e
 unfolding member_of ends_data
 ends_given ends = refl
 
-pub ends_again : (ends : List End) → Each IsRightEnd ends → 1 ≤ length ends → length ends ≤ 100 → ends_said (of_member (codes "ends") (ends_data ends)) ≡ Ok ends
+pub ends_again : (ends : List End) → AreAllowedEnds ends → ends_said (of_member (codes "ends") (ends_data ends)) ≡ Ok ends
 unfolding ends_said rightly_many
-ends_again ends right some few =
+ends_again ends allowed =
     let path : List ℕ = path_to [] (codes "ends") in
     let many : length (map end_data ends) ≡ length ends = length-map ends end_data in
+    let some = allowed.some in
     let more : nat_lt 0 (length ends) ≡ true = lt-ltb 0 (length ends) (omega (arith, some)) in
-    let less : nat_le (length ends) 100 ≡ true = le-leb (length ends) 100 few in
+    let less : nat_le (length ends) 100 ≡ true = le-leb (length ends) 100 allowed.few in
     ap (λ r. read_as r >>= λ items. rightly_many path items >>= λ many. each_said (end_said_at path) 0 items)
     (list_needed [] (codes "ends") (of_member (codes "ends") (ends_data ends)) (items_of (map end_data ends)) (ends_given ends) ∙ ap Ok (listed (map end_data ends)))
     ∙ ap (λ n. cond (nat_lt 0 n && nat_le n 100) (Ok tt) (Err (Invalid path 30)) >>= λ many. each_said (end_said_at path) 0 (map end_data ends)) many
     ∙ ap₂ (λ a b. cond (a && b) (Ok tt) (Err (Invalid path 30)) >>= λ many. each_said (end_said_at path) 0 (map end_data ends)) more less
-    ∙ each_again (end_said_at path) end_data IsRightEnd (λ place end right. end_again end right path place) 0 ends right
+    ∙ each_again (end_said_at path) end_data IsAllowedEnd (λ place end allowed. end_again end allowed path place) 0 ends allowed.each

@@ -1,6 +1,9 @@
--- The texts of a specification that a spelled manifest says are Unicode, and so is its printed text.
-use Rattle.std.proofs.Common.{◌≡◌, ℕ, ℤ, ◌+◌, List, [], ◌∷◌, map, Bool, true, false, cond, codes, Option, Some, None, option_map, IfSome, Result, Ok, Err, IsUtf8, refl}
+-- The texts of an allowed specification are Unicode, so its printed value is spelled; and so are the types of conditions
+-- that a spelled manifest says.
+use Rattle.std.proofs.Common.{◌≡◌, ℕ, ℤ, ◌+◌, List, [], ◌∷◌, ◌++◌, map, Bool, true, false, cond, ◌||◌, bytes_eq, codes, Option, Some, None, option_map, is_some, IfSome, Result, Ok, Err, IsUtf8, refl, sym, subst, true≢false}
+use Rattle.std.proofs.lemmas.Bool.{and_parts}
 use Rattle.std.proofs.lemmas.Str.{IsUtf8-nil}
+use Rattle.std.specs.Cmp.Lexicographic.{bytes_decides}
 use Rattle.std.specs.List.{AllByRecursion as Each}
 use Rattle.std.specs.Prelude.{IfOk, unwrap_or}
 use Rattle.std.specs.Result.{result_unwrap_or}
@@ -8,15 +11,17 @@ use Rattle.json.proofs.Printed.Utf8.{IsUtf8-are_ascii, are_ascii}
 use Rattle.serde_json.specs.Data.{Data, null, number, string, Members}
 use Rattle.serde_json.specs.Find.{of_integer}
 use Rattle.serde_json.specs.View.{items_of}
-use Rattle.jc_json.specs.Field.{Refusal, needed_list, needed_object, needed_text, optional_list, optional_object, optional_text}
+use Rattle.jc_json.specs.Field.{Refusal, needed_list, needed_object, needed_text, optional_object}
 use Rattle.jc_json.specs.Place.{path_at, path_to}
-use Rattle.jc_manifest.specs.FailurePolicies.{codes_in, container_in, exit_codes_in, failure_in, failure_rule_in, failure_rules_from, failure_rules_in, has_exit_codes, operator_in, pattern_in, patterns_from, requirement_in, type_in}
+use Rattle.jc_manifest.specs.FailurePolicies.{codes_in, container_in, exit_codes_in, operator_in, failure_in, failure_rule_in, failure_rules_from, failure_rules_in, has_exit_codes, pattern_in, patterns_from, requirement_in, type_in}
 use Rattle.jc_manifest.specs.Manifests.{head_in, policies_in, spec_in, spec_of}
 use Rattle.jc_print.specs.Members.{number_data, texts_data, with_json_member}
 use Rattle.jc_print.specs.PrintedSpecs.{action_word, exit_codes_data, failure_data, failure_rule_data, mode_word, operator_word, pattern_data, replacement_word, restart_word, rules_data, spec_data, success_data, success_rule_data, template_data, truth_word, with_counts, with_index_limits, with_limits, with_policies, with_requirement, with_success_rule, with_template}
 use Rattle.jc_ranges.specs.Texts.{ranges_text}
 use Rattle.jc_rows.specs.Rows.{object_in}
-use Rattle.jc_rows.specs.Templates.{all_names_in, container_name, given_list_in, list_in, names_in, names_of_both, pod_path, pod_spec_in, template_in, template_in_pod}
+use Rattle.jc_rows.specs.Templates.{is_among, is_new_label, list_in}
+use Rattle.jc_rows.specs.Words.{is_label}
+use Rattle.jc_types.specs.declared.objects.Key.{Key}
 use Rattle.jc_types.specs.declared.policies.Action.{Action}
 use Rattle.jc_types.specs.declared.policies.Action.TheVariants.{FailJob, Ignore, Count, FailIndex}
 use Rattle.jc_types.specs.declared.policies.FailurePolicy.{FailurePolicy}
@@ -38,9 +43,11 @@ use Rattle.jc_types.specs.declared.specifications.Replacement.TheVariants.{Termi
 use Rattle.jc_types.specs.declared.specifications.Restart.{Restart}
 use Rattle.jc_types.specs.declared.specifications.Restart.TheVariants.{Never, OnFailure}
 use Rattle.jc_types.specs.declared.specifications.Template.{Template}
+use Rattle.jc_reading.specs.Allowed.{are_new_labels, IsAllowedFailure, IsAllowedKey, IsAllowedRequirement, IsAllowedRule, IsAllowedSpec}
+use Rattle.jc_reading.specs.Proper.{HasUnicode, HasUnicodeTypes}
 use Rattle.jc_reading.specs.Spelled.{AreSpelled, HasSpelled, IsSpelled}
-use Rattle.jc_reading.proofs.AsciiFacts.{ascii_text, ranges_ascii}
-use Rattle.jc_reading.proofs.RightFacts.{needed_list_spelled, needed_object_spelled, needed_text_spelled, optional_list_spelled, optional_object_spelled, optional_text_spelled}
+use Rattle.jc_reading.proofs.AsciiFacts.{ascii_text, label_ascii, ranges_ascii}
+use Rattle.jc_reading.proofs.SpelledMembers.{needed_list_spelled, needed_object_spelled, needed_text_spelled, optional_object_spelled}
 use Rattle.jc_reading.proofs.SpelledFacts.{put_spelled}
 use Rattle.jc_reading.proofs.ToldFacts.{each}
 
@@ -100,7 +107,7 @@ truth_text True = named _ refl
 truth_text False = named _ refl
 truth_text Unknown = named _ refl
 
--- ---- specifications whose texts are Unicode
+-- ---- the texts of an allowed specification are Unicode
 
 abbrev pub HasTextsIn : Requirement → Type 0
 HasTextsIn (ExitCodes container operator values) = IfSome container IsUtf8
@@ -110,6 +117,54 @@ pub record HasTexts (spec : JobSpec) : Type 0 where
   pub containers : Each IsUtf8 spec.template.containers
   pub inits : Each IsUtf8 spec.template.inits
   pub failure : IfSome spec.failure (λ (policy : FailurePolicy). Each (λ (rule : FailureRule). HasTextsIn rule.requirement) policy.rules)
+
+labels_text : (others earlier names : List (List ℕ)) → are_new_labels others earlier names ≡ true → Each IsUtf8 names
+labels_text others earlier [] all = tt
+labels_text others earlier (name ∷ names) all =
+    let both = and_parts (is_new_label others earlier name) (are_new_labels others (earlier ++ name ∷ []) names) all in
+    let label = (and_parts (is_label name) _ both.0).0 in
+    (ascii_text name (label_ascii name label), labels_text others (earlier ++ name ∷ []) names both.1)
+
+both_texts : (names more : List (List ℕ)) → Each IsUtf8 names → Each IsUtf8 more → Each IsUtf8 (names ++ more)
+both_texts [] more first second = second
+both_texts (name ∷ names) more first second = (first.0, both_texts names more first.1 second)
+
+-- one of the names is a text as they are
+among_text : (names : List (List ℕ)) (name : List ℕ) → Each IsUtf8 names → is_among names name ≡ true → IsUtf8 name
+among_text [] name all is = absurd (true≢false (sym is))
+among_text (other ∷ names) name all is = by (bytes_eq other name) refl is
+  where
+    by : (b : Bool) → bytes_eq other name ≡ b → (b || is_among names name) ≡ true → IsUtf8 name
+    by true same e = subst IsUtf8 ((bytes_decides other name).0 same) all.0
+    by false other e = among_text names name all.1 e
+
+requirement_texts : (names : List (List ℕ)) → Each IsUtf8 names → (r : Requirement) → IsAllowedRequirement names r → HasUnicode r → HasTextsIn r
+requirement_texts names all (ExitCodes None operator values) allowed types = tt
+requirement_texts names all (ExitCodes (Some container) operator values) allowed types = among_text names container all allowed.0
+requirement_texts names all (Conditions patterns) allowed types = types
+
+rules_texts : (by_index : Bool) (names : List (List ℕ)) → Each IsUtf8 names → (rules : List FailureRule) → Each (IsAllowedRule by_index names) rules
+    → Each (λ (rule : FailureRule). HasUnicode rule.requirement) rules → Each (λ (rule : FailureRule). HasTextsIn rule.requirement) rules
+rules_texts by_index names all [] allowed types = tt
+rules_texts by_index names all (rule ∷ rules) allowed types =
+    (requirement_texts names all rule.requirement allowed.0.requirement types.0, rules_texts by_index names all rules allowed.1 types.1)
+
+pub allowed_texts : (spec : JobSpec) → IsAllowedSpec spec → HasUnicodeTypes spec → HasTexts spec
+allowed_texts spec allowed types =
+    let containers = labels_text [] [] spec.template.containers allowed.containers in
+    let inits = labels_text spec.template.containers [] spec.template.inits allowed.inits in
+    record { containers = containers; inits = inits; failure = by (both_texts spec.template.containers spec.template.inits containers inits) spec.failure allowed.failure types }
+  where
+    by : Each IsUtf8 (spec.template.containers ++ spec.template.inits) → (o : Option FailurePolicy) → IfSome o (IsAllowedFailure (is_some spec.per_index) spec.template)
+        → IfSome o (λ (policy : FailurePolicy). Each (λ (rule : FailureRule). HasUnicode rule.requirement) policy.rules)
+        → IfSome o (λ (policy : FailurePolicy). Each (λ (rule : FailureRule). HasTextsIn rule.requirement) policy.rules)
+    by all None allowed types = tt
+    by all (Some policy) allowed types = rules_texts (is_some spec.per_index) (spec.template.containers ++ spec.template.inits) all policy.rules allowed.rules types
+
+-- ---- a Job as a script may create it
+
+abbrev pub IsAllowedJob : Key × JobSpec → Type 0
+IsAllowedJob job = IsAllowedKey job.0 × IsAllowedSpec job.1 × HasUnicodeTypes job.1
 
 -- ---- the printed value
 
@@ -199,14 +254,6 @@ list_read path name d h = by (needed_list path name d) (needed_list_spelled path
     by (Ok e) h = h
     by (Err refusal) h = tt
 
-given_list_read : (path name : List ℕ) (d : Data) → IsSpelled d → Each IsSpelled (given_list_in path d name)
-unfolding given_list_in
-given_list_read path name d h = by (optional_list path name d) (optional_list_spelled path name d h)
-  where
-    by : (r : Result (Option (List Data)) Refusal) → IfOk r (λ o. Each IsSpelled (unwrap_or o [])) → Each IsSpelled (unwrap_or (result_unwrap_or r None) [])
-    by (Ok e) h = h
-    by (Err refusal) h = tt
-
 text_read : (path name : List ℕ) (d : Data) → IsSpelled d → IsUtf8 (result_unwrap_or (needed_text path name d) [])
 text_read path name d h = by (needed_text path name d) (needed_text_spelled path name d h)
   where
@@ -214,43 +261,33 @@ text_read path name d h = by (needed_text path name d) (needed_text_spelled path
     by (Ok e) h = h
     by (Err refusal) h = IsUtf8-nil
 
-given_text_read : (path name : List ℕ) (d : Data) → IsSpelled d → IfSome (result_unwrap_or (optional_text path name d) None) IsUtf8
-given_text_read path name d h = by (optional_text path name d) (optional_text_spelled path name d h)
-  where
-    by : (r : Result (Option (List ℕ)) Refusal) → IfOk r (λ o. IfSome o IsUtf8) → IfSome (result_unwrap_or r None) IsUtf8
-    by (Ok e) h = h
-    by (Err refusal) h = tt
-
-names_read : (path : List ℕ) (place : ℕ) (ds : List Data) → Each IsSpelled ds → Each IsUtf8 (names_in path place ds)
-unfolding container_name
-names_read path place [] all = tt
-names_read path place (d ∷ ds) all = (text_read (path_at path place) (codes "name") d all.0, names_read path (place + 1) ds all.1)
-
 patterns_read : (path : List ℕ) (place : ℕ) (ds : List Data) → Each IsSpelled ds → Each (λ (p : Pattern). IsUtf8 p.kind) (patterns_from path place ds)
 unfolding pattern_in type_in
 patterns_read path place [] all = tt
 patterns_read path place (d ∷ ds) all = (text_read (path_at path place) (codes "type") d all.0, patterns_read path (place + 1) ds all.1)
 
-requirement_read : (path : List ℕ) (rule : Data) → IsSpelled rule → HasTextsIn (requirement_in path rule)
-unfolding requirement_in exit_codes_in container_in
+requirement_read : (path : List ℕ) (rule : Data) → IsSpelled rule → HasUnicode (requirement_in path rule)
+unfolding requirement_in exit_codes_in
 requirement_read path rule h = by (has_exit_codes rule)
   where
     at : List ℕ
     at = path_to path (codes "onExitCodes")
 
-    by : (b : Bool) → HasTextsIn (cond b (ExitCodes (result_unwrap_or (optional_text at (codes "containerName") (object_in path rule (codes "onExitCodes"))) None)
-        (operator_in at (object_in path rule (codes "onExitCodes"))) (codes_in (path_to at (codes "values")) (list_in at (object_in path rule (codes "onExitCodes")) (codes "values"))))
+    inner : Data
+    inner = object_in path rule (codes "onExitCodes")
+
+    by : (b : Bool) → HasUnicode (cond b (ExitCodes (container_in at inner) (operator_in at inner) (codes_in (path_to at (codes "values")) (list_in at inner (codes "values"))))
         (Conditions (patterns_from (path_to path (codes "onPodConditions")) 0 (list_in path rule (codes "onPodConditions")))))
-    by true = given_text_read at (codes "containerName") (object_in path rule (codes "onExitCodes")) (object_read path (codes "onExitCodes") rule h)
+    by true = tt
     by false = patterns_read (path_to path (codes "onPodConditions")) 0 (list_in path rule (codes "onPodConditions")) (list_read path (codes "onPodConditions") rule h)
 
-rules_read : (path : List ℕ) (place : ℕ) (ds : List Data) → Each IsSpelled ds → Each (λ (rule : FailureRule). HasTextsIn rule.requirement) (failure_rules_from path place ds)
+rules_read : (path : List ℕ) (place : ℕ) (ds : List Data) → Each IsSpelled ds → Each (λ (rule : FailureRule). HasUnicode rule.requirement) (failure_rules_from path place ds)
 unfolding failure_rule_in
 rules_read path place [] all = tt
 rules_read path place (d ∷ ds) all = (requirement_read (path_at path place) d all.0, rules_read path (place + 1) ds all.1)
 
 failure_read : (path : List ℕ) (spec : Data) → IsSpelled spec
-    → IfSome (failure_in path spec) (λ (policy : FailurePolicy). Each (λ (rule : FailureRule). HasTextsIn rule.requirement) policy.rules)
+    → IfSome (failure_in path spec) (λ (policy : FailurePolicy). Each (λ (rule : FailureRule). HasUnicode rule.requirement) policy.rules)
 unfolding failure_in failure_rules_in
 failure_read path spec h = by (optional_object path (codes "podFailurePolicy") spec) (optional_object_spelled path (codes "podFailurePolicy") spec h)
   where
@@ -258,21 +295,14 @@ failure_read path spec h = by (optional_object path (codes "podFailurePolicy") s
     at = path_to path (codes "podFailurePolicy")
 
     by : (r : Result (Option Data) Refusal) → IfOk r (λ o. IsSpelled (unwrap_or o null))
-        → IfSome (option_map (failure_rules_in at) (result_unwrap_or r None)) (λ (policy : FailurePolicy). Each (λ (rule : FailureRule). HasTextsIn rule.requirement) policy.rules)
+        → IfSome (option_map (failure_rules_in at) (result_unwrap_or r None)) (λ (policy : FailurePolicy). Each (λ (rule : FailureRule). HasUnicode rule.requirement) policy.rules)
     by (Ok None) h = tt
     by (Ok (Some d)) h = rules_read (path_to at (codes "rules")) 0 (list_in at d (codes "rules")) (list_read at (codes "rules") d h)
     by (Err refusal) h = tt
 
-pub spec_texts : (path : List ℕ) (job : Data) → IsSpelled job → HasTexts (spec_of path job)
-unfolding spec_of spec_in template_in template_in_pod all_names_in names_of_both policies_in head_in
-spec_texts path job h =
-    let spec : Data = object_in path job (codes "spec") in
-    let at : List ℕ = path_to path (codes "spec") in
-    let spelled : IsSpelled spec = object_read path (codes "spec") job h in
-    let pod : Data = pod_spec_in at spec in
-    let inner : IsSpelled pod = object_read (path_to at (codes "template")) (codes "spec") (object_in at spec (codes "template")) (object_read at (codes "template") spec spelled) in
-    record {
-      containers = names_read (path_to (pod_path at) (codes "containers")) 0 (list_in (pod_path at) pod (codes "containers")) (list_read (pod_path at) (codes "containers") pod inner);
-      inits = names_read (path_to (pod_path at) (codes "initContainers")) 0 (given_list_in (pod_path at) pod (codes "initContainers")) (given_list_read (pod_path at) (codes "initContainers") pod inner);
-      failure = failure_read at spec spelled;
-    }
+pub types_in : (path : List ℕ) (job : Data) → IsSpelled (object_in path job (codes "spec")) → HasUnicodeTypes (spec_of path job)
+unfolding spec_of spec_in policies_in head_in
+types_in path job h = failure_read (path_to path (codes "spec")) (object_in path job (codes "spec")) h
+
+pub spec_types : (path : List ℕ) (job : Data) → IsSpelled job → HasUnicodeTypes (spec_of path job)
+spec_types path job h = types_in path job (object_read path (codes "spec") job h)

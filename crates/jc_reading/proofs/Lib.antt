@@ -16,8 +16,8 @@ mod FoundFacts
 mod ItemFacts
 mod KeyFacts
 mod NumberFacts
-mod SaidFacts
-mod ValidFacts
+mod RangeFacts
+pub mod ValidFacts
 mod ContentFacts
 mod SpelledFacts
 mod TextFacts
@@ -28,8 +28,10 @@ mod EndsAgain
 mod RisingFacts
 mod NamedFacts
 mod ReportAgain
-mod RightFacts
-mod RightReports
+mod SpelledMembers
+mod AllowedEnds
+mod AllowedReports
 mod JobTexts
-mod PartFacts
-mod ProperFacts
+mod TurnedFacts
+mod PartsAgain
+mod ProperScripts

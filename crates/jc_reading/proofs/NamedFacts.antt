@@ -7,7 +7,8 @@ use Rattle.jc_json.specs.Field.{unless_null}
 use Rattle.jc_members.specs.Phases.{given_names, member_names, names_in_either, put_names}
 use Rattle.jc_print.specs.Members.{put_given}
 use Rattle.jc_reading.specs.Compact.{IsAfter}
-use Rattle.jc_reading.proofs.RisingFacts.{AreLater, AreRising, found_first, found_later, names_after, names_behind, none_found, put_behind, put_front, put_same}
+use Rattle.jc_reading.specs.Proper.{AreLater, AreAscending}
+use Rattle.jc_reading.proofs.RisingFacts.{found_first, found_later, names_after, names_behind, none_found, put_behind, put_front, put_same}
 
 -- ---- rows of names and what may stand there
 
@@ -38,7 +39,7 @@ all_behind k d ((l, None) ∷ rows) ms later = all_behind k d rows ms later.1
 all_behind k d ((l, Some e) ∷ rows) ms later =
     ap (put_all rows) (put_behind k l d e ms later.0) ∙ all_behind k d rows (put l e ms) later.1
 
-pub put_built : (rows : Rows) → AreRising (names_of rows) → put_all rows no_members ≡ built rows
+pub put_built : (rows : Rows) → AreAscending (names_of rows) → put_all rows no_members ≡ built rows
 put_built [] rising = refl
 put_built ((k, None) ∷ rows) rising = put_built rows rising.1
 put_built ((k, Some d) ∷ rows) rising = all_behind k d rows no_members rising.0 ∙ ap (member k d) (put_built rows rising.1)
@@ -57,7 +58,7 @@ more_found : (k : List ℕ) (d : Data) (ms : Members) (rows : Rows) → AreLater
 more_found k d ms [] later all = tt
 more_found k d ms (row ∷ rows) later all = (found_later k row.0 d ms later.0 ∙ all.0, more_found k d ms rows later.1 all.1)
 
-pub built_found : (rows : Rows) → AreRising (names_of rows) → AreFound (built rows) rows
+pub built_found : (rows : Rows) → AreAscending (names_of rows) → AreFound (built rows) rows
 built_found [] rising = tt
 built_found ((k, None) ∷ rows) rising = (none_found k (built rows) (built_after k rows rising.0), built_found rows rising.1)
 built_found ((k, Some d) ∷ rows) rising = (found_first k d (built rows), more_found k d (built rows) rows rising.0 (built_found rows rising.1))
@@ -116,11 +117,11 @@ second_later : (k : List ℕ) (pairs : Pairs) → AreLater k (keys pairs) → Ar
 second_later k [] later = tt
 second_later k (pair ∷ pairs) later = (later.0, second_later k pairs later.1)
 
-pub first_rise : (pairs : Pairs) → AreRising (keys pairs) → AreRising (names_of (firsts pairs))
+pub first_rise : (pairs : Pairs) → AreAscending (keys pairs) → AreAscending (names_of (firsts pairs))
 first_rise [] rising = tt
 first_rise (pair ∷ pairs) rising = (first_later pair.0 pairs rising.0, first_rise pairs rising.1)
 
-pub second_rise : (pairs : Pairs) → AreRising (keys pairs) → AreRising (names_of (seconds pairs))
+pub second_rise : (pairs : Pairs) → AreAscending (keys pairs) → AreAscending (names_of (seconds pairs))
 second_rise [] rising = tt
 second_rise (pair ∷ pairs) rising = (second_later pair.0 pairs rising.0, second_rise pairs rising.1)
 
@@ -161,14 +162,14 @@ module _ (k : List ℕ) (pairs : Pairs) (later : AreLater k (keys pairs)) where
       ap (put_names B) (put_front k (boolean true) (put_names A no_members) (names_after k A no_members a_later tt))
       ∙ names_behind k (boolean true) B (put_names A no_members) b_later
 
-merged : (pairs : Pairs) → AreRising (keys pairs) → HaveSome pairs → put_names (given_in (seconds pairs)) (put_names (given_in (firsts pairs)) no_members) ≡ trues (keys pairs)
+merged : (pairs : Pairs) → AreAscending (keys pairs) → HaveSome pairs → put_names (given_in (seconds pairs)) (put_names (given_in (firsts pairs)) no_members) ≡ trues (keys pairs)
 merged [] rising some = refl
 merged ((k, None, None) ∷ pairs) rising some = absurd (true≢false (sym some.0))
 merged ((k, Some d, None) ∷ pairs) rising some = by_first k pairs rising.0 ∙ ap (member k (boolean true)) (merged pairs rising.1 some.1)
 merged ((k, Some d, Some e) ∷ pairs) rising some = by_both k pairs rising.0 ∙ ap (member k (boolean true)) (merged pairs rising.1 some.1)
 merged ((k, None, Some e) ∷ pairs) rising some = by_second k pairs rising.0 ∙ ap (member k (boolean true)) (merged pairs rising.1 some.1)
 
-pub either_again : (pairs : Pairs) → AreRising (keys pairs) → HaveSome pairs → AreWhole (firsts pairs) → AreWhole (seconds pairs)
+pub either_again : (pairs : Pairs) → AreAscending (keys pairs) → HaveSome pairs → AreWhole (firsts pairs) → AreWhole (seconds pairs)
     → names_in_either (object (built (firsts pairs))) (object (built (seconds pairs))) ≡ keys pairs
 unfolding member_names
 either_again pairs rising some first second =

@@ -36,8 +36,9 @@ use Rattle.jc_reading.specs.Allowed.{IsAllowedKey}
 use Rattle.jc_lines.specs.Changes.{ends_data, phase_change_data}
 use Rattle.jc_reading.specs.Cuts.{IsWord, behind_word, first_word_in}
 use Rattle.jc_reading.specs.Manifested.{manifest_data}
-use Rattle.jc_reading.specs.Proper.{of_member, report_of, IsJob, IsChange, IsReportedChange, AreEnds, IsPod, IsPossibleSeat, IsExit, IsProperAction, IsProperSystem, as_begin}
+use Rattle.jc_reading.specs.Proper.{IsPod, IsPossibleSeat, IsExit, IsProperAction, IsProperSystem, as_begin}
 use Rattle.jc_reading.specs.Readings.{action_read, act_said, number_below, change_said, digits_from, ends_printed, fault_said, is_digit, job_if, printed_job, key_if, key_said, kind_said, digits_said, parted, onto_front, pod_said, report_said, subdomain_if, system_said, tag_said, uid_at, verb_named, verb_said, version_from, version_printed}
+use Rattle.jc_reading.specs.Turned.{of_member, report_of, ReadAsEnds, ReadsAsChange, ReadsAsJob, ReadsAsReport}
 use Rattle.jc_lines.specs.Events.{tag_text}
 use Rattle.jc_reading.specs.Reads.{IsProperOf, IsProperRead, act_of_line, begun_act, begun_read, event_said, front_text, if_printed, read_by, starts, system_read}
 use Rattle.jc_reading.specs.declared.reads.LineAct.{LineAct}
@@ -49,6 +50,7 @@ use Rattle.jc_lines.specs.Words.{fault_word, key_text, objects_word}
 use Rattle.jc_reading.specs.declared.reading.Verb.{Verb}
 use Rattle.jc_reading.specs.declared.reading.Verb.TheVariants as verb
 use Rattle.jc_reading.proofs.CutFacts.{ArePlain, IsPlain, after_word, decimal_word, first_word, plain_word, text_word}
+use Rattle.jc_reading.proofs.PartsAgain.{change_reads, ends_read, job_reads, report_reads}
 use Rattle.std.proofs.Math.Seq.{take-append_seam as take_front}
 
 -- ---- numbers
@@ -183,22 +185,22 @@ module _ (key : Key) (allowed : IsAllowedKey key) where
 
 -- ---- JSON
 
-job_again : (key : Key) (spec : JobSpec) → IsJob key spec → printed_job key (compact_text (spec_data spec)) ≡ Some (key, spec)
+job_again : (key : Key) (spec : JobSpec) → ReadsAsJob key spec → printed_job key (compact_text (spec_data spec)) ≡ Some (key, spec)
 unfolding printed_job
 job_again key spec job =
     ap (option_and_then (λ d. job_if (manifest_data key d))) job.reads
     ∙ ap (λ row. cond (is_none row) (Some (key_of [] (manifest_data key (spec_data spec)), spec_of [] (manifest_data key (spec_data spec)))) None) job.accepted
     ∙ ap₂ (λ k s. Some (k, s)) job.names job.says
 
-change_again : (change : SpecChange) → IsChange change → change_said (compact_text (change_data change)) ≡ Some change
+change_again : (change : SpecChange) → ReadsAsChange change → change_said (compact_text (change_data change)) ≡ Some change
 unfolding change_said
 change_again change is = ap (option_and_then (λ d. result_ok (change_in (of_member (codes "spec") d)))) is.reads ∙ ap result_ok is.said
 
-report_again : (change : PhaseChange) → IsReportedChange change → report_said (compact_text (phase_change_data change)) ≡ Some change
+report_again : (change : PhaseChange) → ReadsAsReport change → report_said (compact_text (phase_change_data change)) ≡ Some change
 unfolding report_said
 report_again change is = ap (option_and_then (λ d. result_ok (report_in (report_of d)))) is.reads ∙ ap result_ok is.said
 
-ends_again : (ends : List End) → AreEnds ends → ends_printed (compact_text (ends_data ends)) ≡ Some ends
+ends_again : (ends : List End) → ReadAsEnds ends → ends_printed (compact_text (ends_data ends)) ≡ Some ends
 unfolding ends_printed
 ends_again ends is = ap (option_and_then (λ d. result_ok (ends_said (of_member (codes "ends") d)))) is.reads ∙ ap result_ok is.said
 
@@ -269,13 +271,13 @@ action_again (act.Create key spec) more proper =
     ap (λ l. action_read (codes "create" ++ 32 ∷ l)) (two_parts (key_text key) (compact_text (spec_data spec)) more)
     ∙ read_two (codes "create") verb.Create refl (verb_is _ verb.Create refl refl) (key_text key) (compact_text (spec_data spec)) more (key_word key proper.0) (text_word (spec_data spec))
     ∙ ap (option_and_then (λ k. option_and_then (λ (j : Key × JobSpec). Some (act.Create j.0 j.1)) (printed_job k (compact_text (spec_data spec))))) (key_again key proper.0)
-    ∙ ap (option_and_then (λ (j : Key × JobSpec). Some (act.Create j.0 j.1))) (job_again key spec proper.1)
+    ∙ ap (option_and_then (λ (j : Key × JobSpec). Some (act.Create j.0 j.1))) (job_again key spec (job_reads key spec proper.0 proper.1 proper.2))
 action_again (act.Update key version change) more proper =
     ap (λ l. action_read (codes "update" ++ 32 ∷ l)) (three_parts (key_text key) (wanted_text version) (compact_text (change_data change)) more)
     ∙ read_three (codes "update") verb.Update refl (verb_is _ verb.Update refl refl) (key_text key) (wanted_text version) (compact_text (change_data change)) more (key_word key proper.0) (wanted_word version) (text_word (change_data change))
     ∙ ap (option_and_then (λ k. option_and_then (λ v. option_and_then (λ c. Some (act.Update k v c)) (change_said (compact_text (change_data change)))) (version_printed (wanted_text version)))) (key_again key proper.0)
     ∙ ap (option_and_then (λ v. option_and_then (λ c. Some (act.Update key v c)) (change_said (compact_text (change_data change))))) (version_again version proper.1)
-    ∙ ap (option_and_then (λ c. Some (act.Update key version c))) (change_again change proper.2)
+    ∙ ap (option_and_then (λ c. Some (act.Update key version c))) (change_again change (change_reads change proper.2))
 action_again (act.Delete key) more proper =
     read_one (codes "delete") verb.Delete refl (verb_is _ verb.Delete refl refl) (key_text key) more (key_word key proper)
     ∙ ap (option_and_then (λ k. Some (act.Delete k))) (key_again key proper)
@@ -295,12 +297,12 @@ action_again (act.Report pod change) more proper =
     ap (λ l. action_read (codes "report" ++ 32 ∷ l)) (two_parts (decimal pod.0) (compact_text (phase_change_data change)) more)
     ∙ read_two (codes "report") verb.Report refl (verb_is _ verb.Report refl refl) (decimal pod.0) (compact_text (phase_change_data change)) more (decimal_word pod.0) (text_word (phase_change_data change))
     ∙ ap (option_and_then (λ p. option_and_then (λ c. Some (act.Report p c)) (report_said (compact_text (phase_change_data change))))) (pod_again pod proper.0)
-    ∙ ap (option_and_then (λ c. Some (act.Report pod c))) (report_again change proper.1)
+    ∙ ap (option_and_then (λ c. Some (act.Report pod c))) (report_again change (report_reads change proper.1))
 action_again (act.Fate key ends) more proper =
     ap (λ l. action_read (codes "fate" ++ 32 ∷ l)) (two_parts (key_text key) (compact_text (ends_data ends)) more)
     ∙ read_two (codes "fate") verb.Fate refl (verb_is _ verb.Fate refl refl) (key_text key) (compact_text (ends_data ends)) more (key_word key proper.0) (text_word (ends_data ends))
     ∙ ap (option_and_then (λ k. option_and_then (λ e. Some (act.Fate k e)) (ends_printed (compact_text (ends_data ends))))) (key_again key proper.0)
-    ∙ ap (option_and_then (λ e. Some (act.Fate key e))) (ends_again ends proper.1)
+    ∙ ap (option_and_then (λ e. Some (act.Fate key e))) (ends_again ends (ends_read ends proper.1))
 action_again (act.Clock add) more proper =
     read_one (codes "clock") verb.Clock refl (verb_is _ verb.Clock refl refl) (decimal add) more (decimal_word add)
     ∙ ap (option_and_then (λ n. Some (act.Clock n))) (below_again add 4294967296 (omega (arith, proper)) (omega arith))

@@ -29,16 +29,16 @@ use Rattle.jc_types.specs.declared.policies.Pattern.{Pattern}
 use Rattle.jc_types.specs.declared.policies.Truth.{Truth}
 use Rattle.jc_types.specs.declared.policies.Truth.TheVariants.{True, False, Unknown}
 use Rattle.jc_reading.specs.Allowed.{IsCode}
-use Rattle.jc_reading.specs.Proper.{numbers_by_name, put_named, report_of, with_numbers}
+use Rattle.jc_reading.specs.Proper.{AreAscending, IsAllowedContainer, IsAllowedReport, IsAllowedType}
+use Rattle.jc_reading.specs.Turned.{numbers_by_name, put_named, report_of, with_numbers}
 use Rattle.jc_reading.proofs.AgainHead.{given_number, given_text}
 use Rattle.jc_reading.proofs.AgainTemplate.{list_given, text_needed}
 use Rattle.jc_reading.proofs.EndsAgain.{each_again}
 use Rattle.jc_reading.proofs.Found.{get_found, member_found, puts}
 use Rattle.jc_reading.proofs.MemberFacts.{rows_known}
 use Rattle.jc_reading.proofs.NamedFacts.{AreFound, AreWhole, HaveSome, Pairs, Rows, built, built_found, built_names, either_again, first_rise, firsts, given_in, keys, name_if, put_all, put_built, second_rise, seconds}
-use Rattle.jc_reading.proofs.RisingFacts.{AreRising}
 
--- ---- a report as a script gives it
+-- ---- what is reported, under the names of the containers
 
 abbrev pub pair_of : ContainerChange → List ℕ × Option Data × Option Data
 pair_of change = (change.name, option_map exit_data change.exit, option_map number_data change.restarts)
@@ -46,16 +46,13 @@ pair_of change = (change.name, option_map exit_data change.exit, option_map numb
 abbrev pub pairs_of : List ContainerChange → Pairs
 pairs_of changes = map pair_of changes
 
-pub record IsRightContainer (change : ContainerChange) : Type 0 where
-  pub label : is_label change.name ≡ true
-  pub exit : IfSome change.exit IsCode
-  pub restarts : IfSome change.restarts (λ n. n ≤ 2147483647)
-  pub some : (is_some change.exit || is_some change.restarts) ≡ true
+-- the names of the containers
+abbrev pub names_in_change : List ContainerChange → List (List ℕ)
+names_in_change changes = map (λ (change : ContainerChange). change.name) changes
 
-pub record IsRightReport (change : PhaseChange) : Type 0 where
-  pub rising : AreRising (keys (pairs_of change.containers))
-  pub containers : Each IsRightContainer change.containers
-  pub conditions : Each (λ (condition : Pattern). is_type condition.kind ≡ true) change.conditions
+pub same_names : (changes : List ContainerChange) → names_in_change changes ≡ keys (pairs_of changes)
+same_names [] = refl
+same_names (change ∷ changes) = ap (λ names. change.name ∷ names) (same_names changes)
 
 -- ---- the phase
 
@@ -115,13 +112,13 @@ module _ (condition : Pattern) where
       ∙ of_again (path_at list place) good
 
 conditions_again : (d : Data) (conditions : List Pattern) → member_of (codes "conditions") d ≡ Some (list_data (map pod_condition_data conditions))
-    → Each (λ (condition : Pattern). is_type condition.kind ≡ true) conditions → conditions_in d ≡ Ok conditions
+    → Each (λ (condition : Pattern). IsAllowedType condition.kind) conditions → conditions_in d ≡ Ok conditions
 unfolding conditions_in
 conditions_again d conditions is good =
     let path : List ℕ = path_to [] (codes "conditions") in
     ap (λ r. read_as r >>= λ o. each_said (condition_at path) 0 (unwrap_or o []))
     (list_given [] (codes "conditions") d (items_of (map pod_condition_data conditions)) is ∙ ap (λ ds. Ok (Some ds)) (listed (map pod_condition_data conditions)))
-    ∙ each_again (condition_at path) pod_condition_data (λ condition. is_type condition.kind ≡ true) (λ place condition good. condition_again condition path place good) 0 conditions good
+    ∙ each_again (condition_at path) pod_condition_data (λ condition. IsAllowedType condition.kind) (λ place condition good. condition_again condition path place good.0) 0 conditions good
 
 -- ---- containers
 
@@ -232,49 +229,49 @@ module _ (exits restarts : Data) where
   abbrev HasCount : ContainerChange → Type 0
   HasCount change = member_of change.name restarts ≡ option_map number_data change.restarts
 
-  count_again : (change : ContainerChange) → IsRightContainer change → HasCount change → container_count restarts change.name ≡ Ok change.restarts
+  count_again : (change : ContainerChange) → IsAllowedContainer change → HasCount change → container_count restarts change.name ≡ Ok change.restarts
   unfolding container_count container_restarts
-  count_again change right is =
-      ap counted (count_entry restarts change.name change.restarts right.label is right.restarts) ∙ by change.restarts
+  count_again change allowed is =
+      ap counted (count_entry restarts change.name change.restarts allowed.name is allowed.restarts) ∙ by change.restarts
     where
       by : (o : Option ℕ) → counted (Ok (option_map pos o)) ≡ Ok o
       by None = refl
       by (Some n) = refl
 
-  container_again : (change : ContainerChange) → IsRightContainer change → HasExit change → HasCount change → container_change exits restarts change.name ≡ Ok change
+  container_again : (change : ContainerChange) → IsAllowedContainer change → HasExit change → HasCount change → container_change exits restarts change.name ≡ Ok change
   unfolding container_change exit_in
-  container_again change right exit count =
+  container_again change allowed exit count =
       ap (λ r. r >>= λ exit. container_count restarts change.name >>= λ count. Ok (record { name = change.name; exit = exit; restarts = count }))
-      (exit_entry exits change.name change.exit right.label exit right.exit)
-      ∙ ap (λ r. r >>= λ count. Ok (record { name = change.name; exit = change.exit; restarts = count })) (count_again change right count)
+      (exit_entry exits change.name change.exit allowed.name exit allowed.exit)
+      ∙ ap (λ r. r >>= λ count. Ok (record { name = change.name; exit = change.exit; restarts = count })) (count_again change allowed count)
 
-  all_again : (changes : List ContainerChange) → Each IsRightContainer changes → Each HasExit changes → Each HasCount changes
+  all_again : (changes : List ContainerChange) → Each IsAllowedContainer changes → Each HasExit changes → Each HasCount changes
       → all_said (container_change exits restarts) (keys (pairs_of changes)) ≡ Ok changes
-  all_again [] right exit count = refl
-  all_again (change ∷ changes) right exit count =
-      ap (λ r. then_each r (all_said (container_change exits restarts) (keys (pairs_of changes)))) (container_again change right.0 exit.0 count.0)
-      ∙ ap (with_front (change ∷ [])) (all_again changes right.1 exit.1 count.1)
+  all_again [] allowed exit count = refl
+  all_again (change ∷ changes) allowed exit count =
+      ap (λ r. then_each r (all_said (container_change exits restarts) (keys (pairs_of changes)))) (container_again change allowed.0 exit.0 count.0)
+      ∙ ap (with_front (change ∷ [])) (all_again changes allowed.1 exit.1 count.1)
 
-  -- the names that are given have a right number
+  -- the names that are given have a number in its range
   abbrev ExitFits : List ℕ → Type 0
   ExitFits name = (o : Option ℤ) × (entry_in (path_to [] (codes "exitCodes")) (negsuc 2147483647) (pos 2147483647) exits name ≡ Ok o)
 
   abbrev CountFits : List ℕ → Type 0
   CountFits name = (o : Option ℤ) × (entry_in (path_to [] (codes "restartCounts")) (pos 0) (pos 2147483647) restarts name ≡ Ok o)
 
-  exits_fit : (changes : List ContainerChange) → Each IsRightContainer changes → Each HasExit changes → Each ExitFits (given_in (firsts (pairs_of changes)))
-  exits_fit [] right exit = tt
-  exits_fit (change ∷ changes) right exit =
-      by (change.exit, exit_entry exits change.name change.exit right.0.label exit.0 right.0.exit) (exits_fit changes right.1 exit.1) (option_map exit_data change.exit)
+  exits_fit : (changes : List ContainerChange) → Each IsAllowedContainer changes → Each HasExit changes → Each ExitFits (given_in (firsts (pairs_of changes)))
+  exits_fit [] allowed exit = tt
+  exits_fit (change ∷ changes) allowed exit =
+      by (change.exit, exit_entry exits change.name change.exit allowed.0.name exit.0 allowed.0.exit) (exits_fit changes allowed.1 exit.1) (option_map exit_data change.exit)
     where
       by : ExitFits change.name → Each ExitFits (given_in (firsts (pairs_of changes))) → (o : Option Data) → Each ExitFits (name_if o change.name (given_in (firsts (pairs_of changes))))
       by one rest None = rest
       by one rest (Some d) = (one, rest)
 
-  counts_fit : (changes : List ContainerChange) → Each IsRightContainer changes → Each HasCount changes → Each CountFits (given_in (seconds (pairs_of changes)))
-  counts_fit [] right count = tt
-  counts_fit (change ∷ changes) right count =
-      by (option_map pos change.restarts, count_entry restarts change.name change.restarts right.0.label count.0 right.0.restarts) (counts_fit changes right.1 count.1)
+  counts_fit : (changes : List ContainerChange) → Each IsAllowedContainer changes → Each HasCount changes → Each CountFits (given_in (seconds (pairs_of changes)))
+  counts_fit [] allowed count = tt
+  counts_fit (change ∷ changes) allowed count =
+      by (option_map pos change.restarts, count_entry restarts change.name change.restarts allowed.0.name count.0 allowed.0.restarts) (counts_fit changes allowed.1 count.1)
       (option_map number_data change.restarts)
     where
       by : CountFits change.name → Each CountFits (given_in (seconds (pairs_of changes))) → (o : Option Data) → Each CountFits (name_if o change.name (given_in (seconds (pairs_of changes))))
@@ -308,9 +305,9 @@ unfolding member_of
 counts_found ms [] all = tt
 counts_found ms (change ∷ changes) all = (ap (option_and_then unless_null) all.0 ∙ (restarts_whole (change ∷ changes)).0, counts_found ms changes all.1)
 
-have_some : (changes : List ContainerChange) → Each IsRightContainer changes → HaveSome (pairs_of changes)
-have_some [] right = tt
-have_some (change ∷ changes) right = (by change.exit change.restarts right.0.some, have_some changes right.1)
+have_some : (changes : List ContainerChange) → Each IsAllowedContainer changes → HaveSome (pairs_of changes)
+have_some [] allowed = tt
+have_some (change ∷ changes) allowed = (by change.exit change.restarts allowed.0.some, have_some changes allowed.1)
   where
     by : (o : Option ℤ) (p : Option ℕ) → (is_some o || is_some p) ≡ true → (is_some (option_map exit_data o) || is_some (option_map number_data p)) ≡ true
     by None None e = e
@@ -319,9 +316,9 @@ have_some (change ∷ changes) right = (by change.exit change.restarts right.0.s
     by (Some z) (Some n) e = refl
 
 containers_again : (d : Data) (changes : List ContainerChange) → member_of (codes "exitCodes") d ≡ Some (exits_of changes) → member_of (codes "restartCounts") d ≡ Some (restarts_of changes)
-    → AreRising (keys (pairs_of changes)) → Each IsRightContainer changes → containers_in d ≡ Ok changes
+    → AreAscending (keys (pairs_of changes)) → Each IsAllowedContainer changes → containers_in d ≡ Ok changes
 unfolding containers_in
-containers_again d changes exits_at restarts_at rising right =
+containers_again d changes exits_at restarts_at rising allowed =
     let pairs : Pairs = pairs_of changes in
     let E : Members = built (firsts pairs) in
     let R : Members = built (seconds pairs) in
@@ -329,12 +326,12 @@ containers_again d changes exits_at restarts_at rising right =
     let counts = counts_found R changes (built_found (seconds pairs) (second_rise pairs rising)) in
     ap (λ r. r >>= λ exits. container_numbers (codes "restartCounts") (pos 0) (pos 2147483647) d >>= λ restarts. all_said (container_change exits restarts) (names_in_either exits restarts))
     (numbers_again (codes "exitCodes") (negsuc 2147483647) (pos 2147483647) d E exits_at
-    (subst (λ names. Each (ExitFits (object E) null) names) (sym (built_names (firsts pairs) (exits_whole changes))) (exits_fit (object E) null changes right exits)))
+    (subst (λ names. Each (ExitFits (object E) null) names) (sym (built_names (firsts pairs) (exits_whole changes))) (exits_fit (object E) null changes allowed exits)))
     ∙ ap (λ r. r >>= λ restarts. all_said (container_change (object E) restarts) (names_in_either (object E) restarts))
     (numbers_again (codes "restartCounts") (pos 0) (pos 2147483647) d R restarts_at
-    (subst (λ names. Each (CountFits null (object R)) names) (sym (built_names (seconds pairs) (restarts_whole changes))) (counts_fit null (object R) changes right counts)))
-    ∙ ap (all_said (container_change (object E) (object R))) (either_again pairs rising (have_some changes right) (exits_whole changes) (restarts_whole changes))
-    ∙ all_again (object E) (object R) changes right exits counts
+    (subst (λ names. Each (CountFits null (object R)) names) (sym (built_names (seconds pairs) (restarts_whole changes))) (counts_fit null (object R) changes allowed counts)))
+    ∙ ap (all_said (container_change (object E) (object R))) (either_again pairs rising (have_some changes allowed) (exits_whole changes) (restarts_whole changes))
+    ∙ all_again (object E) (object R) changes allowed exits counts
 
 -- ---- the whole report
 
@@ -356,7 +353,7 @@ module _ (change : PhaseChange) where
   abbrev line : Data
   line = object (puts line_rows)
 
-  line_puts : AreRising (keys (pairs_of change.containers)) → report_of (phase_change_data change) ≡ line
+  line_puts : AreAscending (keys (pairs_of change.containers)) → report_of (phase_change_data change) ≡ line
   unfolding report_of
   line_puts rising =
       let pairs : Pairs = pairs_of change.containers in
@@ -371,13 +368,14 @@ module _ (change : PhaseChange) where
       (exits_put change.containers no_members ∙ put_built (firsts pairs) (first_rise pairs rising))
       (restarts_put change.containers no_members ∙ put_built (seconds pairs) (second_rise pairs rising))
 
-  pub report_again : IsRightReport change → report_in (report_of (phase_change_data change)) ≡ Ok change
+  pub report_again : IsAllowedReport change → report_in (report_of (phase_change_data change)) ≡ Ok change
   unfolding report_in
-  report_again right =
-      ap report_in (line_puts right.rising)
+  report_again allowed =
+      let rising : AreAscending (keys (pairs_of change.containers)) = subst AreAscending (same_names change.containers) allowed.rising in
+      ap report_in (line_puts rising)
       ∙ ap (λ r. r >>= λ phase. containers_in line >>= λ containers. conditions_in line >>= λ conditions. Ok (record { phase = phase; containers = containers; conditions = conditions }))
       (word_again (codes "phase") line change.phase (member_found (codes "phase") line_rows))
       ∙ ap (λ r. r >>= λ containers. conditions_in line >>= λ conditions. Ok (record { phase = change.phase; containers = containers; conditions = conditions }))
-      (containers_again line change.containers (member_found (codes "exitCodes") line_rows) (member_found (codes "restartCounts") line_rows) right.rising right.containers)
+      (containers_again line change.containers (member_found (codes "exitCodes") line_rows) (member_found (codes "restartCounts") line_rows) rising allowed.containers)
       ∙ ap (λ r. r >>= λ conditions. Ok (record { phase = change.phase; containers = change.containers; conditions = conditions }))
-      (conditions_again line change.conditions (member_found (codes "conditions") line_rows) right.conditions)
+      (conditions_again line change.conditions (member_found (codes "conditions") line_rows) allowed.conditions)

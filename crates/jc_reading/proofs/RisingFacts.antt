@@ -9,19 +9,10 @@ use Rattle.serde_json.specs.Find.{get_member}
 use Rattle.jc_json.specs.Field.{member_of, unless_null}
 use Rattle.jc_members.specs.Phases.{given_names, member_names, names_in_either, put_names}
 use Rattle.jc_reading.specs.Compact.{IsAfter}
-use Rattle.jc_reading.proofs.CompactFacts.{all_after, earlier, put_after}
+use Rattle.jc_reading.specs.Proper.{AreLater, AreAscending}
+use Rattle.jc_reading.proofs.CompactFacts.{all_after, earlier, later, put_after}
 
--- ---- names in ascending order
-
-abbrev pub AreLater : List ℕ → List (List ℕ) → Type 0
-AreLater k names = Each (λ l. slice_cmp nat_cmp k l ≡ Less) names
-
-abbrev pub AreRising : List (List ℕ) → Type 0
-AreRising [] = Unit {0}
-AreRising (k ∷ names) = AreLater k names × AreRising names
-
-pub greater : (k l : List ℕ) → slice_cmp nat_cmp k l ≡ Less → slice_cmp nat_cmp l k ≡ Greater
-greater k l e = nat_list_cmp_total.antisymm l k ∙ ap ordering_reverse e
+-- ---- a name beside itself
 
 pub equal : (k : List ℕ) → slice_cmp nat_cmp k k ≡ Equal
 equal k = by (slice_cmp nat_cmp k k) (nat_list_cmp_total.antisymm k k)
@@ -41,7 +32,7 @@ pub put_same : (k : List ℕ) (d e : Data) (ms : Members) → put k d (member k 
 put_same k d e ms = ap (λ o. match_ordering o (member k d (member k e ms)) (member k d ms) (member k e (put k d ms))) (equal k)
 
 pub put_behind : (k l : List ℕ) (d e : Data) (ms : Members) → slice_cmp nat_cmp k l ≡ Less → put l e (member k d ms) ≡ member k d (put l e ms)
-put_behind k l d e ms less = ap (λ o. match_ordering o (member l e (member k d ms)) (member k e ms) (member k d (put l e ms))) (greater k l less)
+put_behind k l d e ms less = ap (λ o. match_ordering o (member l e (member k d ms)) (member k e ms) (member k d (put l e ms))) (later k l less)
 
 -- ---- names put one after another
 
@@ -64,7 +55,7 @@ pub found_first : (k : List ℕ) (d : Data) (ms : Members) → get_member k (mem
 found_first k d ms = ap (λ o. match_ordering o (get_member k ms) (Some d) (get_member k ms)) (equal k)
 
 pub found_later : (k l : List ℕ) (d : Data) (ms : Members) → slice_cmp nat_cmp k l ≡ Less → get_member l (member k d ms) ≡ get_member l ms
-found_later k l d ms less = ap (λ o. match_ordering o (get_member l ms) (Some d) (get_member l ms)) (greater k l less)
+found_later k l d ms less = ap (λ o. match_ordering o (get_member l ms) (Some d) (get_member l ms)) (later k l less)
 
 -- ---- members of an object in that order
 
@@ -80,11 +71,11 @@ given_later k (member l d ms) after = by (given_later k ms after.1) (is_some (un
     by rest true = (after.0, rest)
     by rest false = rest
 
-pub given_rise : (ms : Members) → IsInOrder ms → AreRising (given_names ms)
+pub given_rise : (ms : Members) → IsInOrder ms → AreAscending (given_names ms)
 given_rise no_members order = tt
 given_rise (member k d ms) order = by (given_rise ms order.1) (is_some (unless_null d))
   where
-    by : AreRising (given_names ms) → (b : Bool) → AreRising (cond b (k ∷ given_names ms) (given_names ms))
+    by : AreAscending (given_names ms) → (b : Bool) → AreAscending (cond b (k ∷ given_names ms) (given_names ms))
     by rest true = (given_later k ms order.0, rest)
     by rest false = rest
 
@@ -101,7 +92,7 @@ pub names_order : (names : List (List ℕ)) (ms : Members) → IsInOrder ms → 
 names_order [] ms order = order
 names_order (k ∷ names) ms order = names_order names (put k (boolean true) ms) (put_order k (boolean true) ms order)
 
-pub either_rise : (exits restarts : Data) → AreRising (names_in_either exits restarts)
+pub either_rise : (exits restarts : Data) → AreAscending (names_in_either exits restarts)
 unfolding member_names
 either_rise exits restarts =
     given_rise (put_names (member_names restarts) (put_names (member_names exits) no_members))

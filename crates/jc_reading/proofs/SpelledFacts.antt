@@ -3,7 +3,8 @@ use Rattle.std.proofs.Common.{◌≡◌, ℕ, zero, suc, ◌+◌, ◌<◌, Bool,
 use Rattle.std.specs.Cmp.Lexicographic.{slice_cmp}
 use Rattle.std.specs.List.{starts_with}
 use Rattle.std.specs.Ordering.{match_ordering}
-use Rattle.std.proofs.lemmas.Str.{IsCharBoundary-after_ascii, IsUtf8-drop}
+use Rattle.std.specs.Str.{is_utf8}
+use Rattle.std.proofs.lemmas.Str.{IsCharBoundary-after_ascii, IsUtf8-drop, IsUtf8-from_is_utf8}
 use lib.ListN.{length-append}
 use lib.Seq.{drop_at}
 use Rattle.json.specs.Ascii as ascii
@@ -14,6 +15,7 @@ use Rattle.json.specs.Token.{Token}
 use Rattle.json.specs.Word.{after_number, ends_word, head, is_operator, is_space, literal, number_before, word}
 use Rattle.serde_json.specs.Data.{Data, Num, number, array, object, Items, item, Members, no_members, member, put}
 use Rattle.serde_json.specs.Read.{max_depth, number_of, of_items, of_json, of_members, read}
+use Rattle.jc_json.specs.Line.{data_of}
 use Rattle.jc_reading.specs.Spelled.{AreSpelled, HasSpelled, IsSpelled}
 use Rattle.jc_reading.proofs.CompactFacts.{all_after, earlier, put_after}
 use Rattle.jc_reading.proofs.ContentFacts.{content_text}
@@ -369,5 +371,13 @@ value_spelled text u = by (json.value max_depth (tokens text)) (value_good max_d
     by None good = tt
     by (Some p) good = last (json.if_last p.0 p.1) (last_good p.0 p.1 good.0)
 
-pub read_spelled : (text : List ℕ) (d : Data) → IsUtf8 text → read text ≡ Some d → IsSpelled d
-read_spelled text d u e = subst (λ o. IfSome o IsSpelled) e (value_spelled text u)
+pub line_spelled : (text : List ℕ) → IfSome (data_of text) IsSpelled
+unfolding data_of
+line_spelled text = by (is_utf8 text) refl
+  where
+    by : (b : Bool) → is_utf8 text ≡ b → IfSome (cond b (read text) None) IsSpelled
+    by true e = value_spelled text (IsUtf8-from_is_utf8 text e)
+    by false e = tt
+
+pub spelled_value : (line : List ℕ) (d : Data) → data_of line ≡ Some d → IsSpelled d
+spelled_value line d e = subst (λ o. IfSome o IsSpelled) e (line_spelled line)

@@ -6,3 +6,4 @@ pub mod Proper
 pub mod Readings
 pub mod Reads
 pub mod Spelled
+pub mod Turned

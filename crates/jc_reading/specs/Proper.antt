@@ -1,88 +1,99 @@
--- What a script may say, part by part. A part that is printed as JSON is proper where its text reads as its value, and
--- where a script that has this value in the part's place says the part.
---     IsReadAs d                              the text of the value reads as the value
---     IsJob, IsChange, IsReportedChange, AreEnds     parts that are printed as JSON
---     IsProperAction, IsProperCommand         the parts of a command
---     as_begin action                         a sync's own event is its begin
-use Rattle.std.specs.Prelude.{◌≡◌, ℕ, ℤ, pos, ◌<◌, ◌≤◌, ◌^◌, List, [], codes, IfSome, Option, Some, None, Ok, option_and_then, unwrap_or}
-use Rattle.serde_json.specs.Data.{Data, null, object, Items, no_items, item, Members, no_members, put}
-use Rattle.serde_json.specs.Find.{as_array, as_str, get}
-use Rattle.serde_json.specs.Written.{compact_text}
-use Rattle.jc_json.specs.Line.{data_of}
-use Rattle.jc_manifest.specs.Manifests.{key_of, manifest_refusal, spec_of}
-use Rattle.jc_print.specs.PrintedSpecs.{change_data, spec_data}
-use Rattle.jc_script.specs.Ends.{ends_said}
-use Rattle.jc_script.specs.Phases.{report_in}
-use Rattle.jc_script.specs.Updates.{change_in}
+-- What a script may say, part by part: what its formats allow.
+--     IsAllowedType kind          the type of a condition
+--     HasUnicodeTypes spec        the types of conditions that a specification's rules name are Unicode
+--     IsAllowedChange change      what an update may change of a specification
+--     IsAllowedReport change      what may be reported of a pod
+--     AreAllowedEnds ends         how the pods of a Job may be said to end
+--     IsProperAction, IsProperCommand     the parts of a command
+--     as_begin action             a sync's own event is its begin
+use Rattle.std.specs.Prelude.{◌≡◌, ◌||◌, true, ℕ, ℤ, pos, ◌<◌, ◌≤◌, ◌^◌, List, [], ◌∷◌, map, length, is_some, IfSome}
+use Rattle.std.specs.Cmp.Lexicographic.{slice_cmp}
+use Rattle.std.specs.List.{AllByRecursion as Each}
+use Rattle.std.specs.Ordering.{nat_cmp}
+use Rattle.std.specs.Str.{IsUtf8}
+use Rattle.std.specs.declared.cmp.Ordering.TheVariants.{Less}
+use Rattle.jc_manifest.specs.FailurePolicies.{is_type}
+use Rattle.jc_rows.specs.Words.{is_label}
 use Rattle.jc_types.specs.declared.actions.Action1.{Action1}
 use Rattle.jc_types.specs.declared.actions.Action1.TheVariants as act
 use Rattle.jc_types.specs.declared.actions.Command.{Command}
+use Rattle.jc_types.specs.declared.actions.ContainerChange.{ContainerChange}
 use Rattle.jc_types.specs.declared.actions.End.{End}
 use Rattle.jc_types.specs.declared.actions.PhaseChange.{PhaseChange}
 use Rattle.jc_types.specs.declared.actions.SpecChange.{SpecChange}
+use Rattle.jc_types.specs.declared.limits.TheConstants.{GREATEST_COMPLETIONS, GREATEST_LIMIT, GREATEST_PARALLELISM}
 use Rattle.jc_types.specs.declared.numbers.Uid.{Uid}
 use Rattle.jc_types.specs.declared.numbers.Version.{Version}
-use Rattle.jc_types.specs.declared.objects.Key.{Key}
+use Rattle.jc_types.specs.declared.policies.FailurePolicy.{FailurePolicy}
+use Rattle.jc_types.specs.declared.policies.FailureRule.{FailureRule}
+use Rattle.jc_types.specs.declared.policies.Pattern.{Pattern}
+use Rattle.jc_types.specs.declared.policies.Requirement.{Requirement}
+use Rattle.jc_types.specs.declared.policies.Requirement.TheVariants.{ExitCodes, Conditions}
 use Rattle.jc_types.specs.declared.runs.Sys.{Sys}
 use Rattle.jc_types.specs.declared.runs.Sys.TheVariants as sys
 use Rattle.jc_types.specs.declared.specifications.JobSpec.{JobSpec}
-use Rattle.jc_reading.specs.Allowed.{IsAllowedKey}
-use Rattle.jc_lines.specs.Changes.{ends_data, phase_change_data}
-use Rattle.jc_reading.specs.Manifested.{manifest_data}
+use Rattle.jc_reading.specs.Allowed.{IsAllowedKey, IsAllowedSpec, IsCode}
 
--- ---- parts that are printed as JSON
+-- ---- types of conditions, the one text that is free
 
--- The text of the value reads as the value: it is Unicode, and its numbers are of 64 bits.
-abbrev pub IsReadAs : Data → Type 0
-IsReadAs d = data_of (compact_text d) ≡ Some d
+-- of 1 to 316 bytes, and Unicode
+abbrev pub IsAllowedType : List ℕ → Type 0
+IsAllowedType kind = (is_type kind ≡ true) × IsUtf8 kind
 
--- An object of one member.
-abbrev pub of_member : List ℕ → Data → Data
-of_member name d = object (put name d no_members)
+abbrev pub HasUnicode : Requirement → Type 0
+HasUnicode (ExitCodes container operator values) = Unit {0}
+HasUnicode (Conditions patterns) = Each (λ (pattern : Pattern). IsUtf8 pattern.kind) patterns
 
--- The manifest of that key and printed specification is accepted, and says both.
-pub record IsJob (key : Key) (spec : JobSpec) : Type 0 where
-  pub reads : IsReadAs (spec_data spec)
-  pub accepted : manifest_refusal [] (manifest_data key (spec_data spec)) ≡ None
-  pub names : key_of [] (manifest_data key (spec_data spec)) ≡ key
-  pub says : spec_of [] (manifest_data key (spec_data spec)) ≡ spec
+abbrev pub HasUnicodeTypes : JobSpec → Type 0
+HasUnicodeTypes spec =
+    IfSome spec.failure (λ (policy : FailurePolicy). Each (λ (rule : FailureRule). HasUnicode rule.requirement) policy.rules)
 
-pub record IsChange (change : SpecChange) : Type 0 where
-  pub reads : IsReadAs (change_data change)
-  pub said : change_in (of_member (codes "spec") (change_data change)) ≡ Ok change
+-- ---- the change of a specification
 
--- The members of a script's line that the printed report of a pod is turned into: the numbers of each kind by name.
-abbrev pub put_named : Option (List ℕ) → Option Data → Members → Members
-put_named None given ms = ms
-put_named (Some name) None ms = ms
-put_named (Some name) (Some d) ms = put name d ms
+pub record IsAllowedChange (change : SpecChange) : Type 0 where
+  pub parallelism : IfSome change.parallelism (λ n. n ≤ GREATEST_PARALLELISM)
+  pub completions : IfSome change.completions (λ n. n ≤ GREATEST_COMPLETIONS)
+  pub deadline : IfSome change.deadline (λ n. n ≤ GREATEST_LIMIT)
+  pub backoff_limit : IfSome change.backoff_limit (λ n. n ≤ GREATEST_LIMIT)
 
-abbrev pub numbers_by_name : List ℕ → Items → Members → Members
-numbers_by_name field no_items ms = ms
-numbers_by_name field (item d ds) ms =
-    numbers_by_name field ds (put_named (option_and_then as_str (get (codes "name") d)) (get field d) ms)
+-- ---- the report of a pod
 
-abbrev pub items_at : List ℕ → Data → Items
-items_at name d = unwrap_or (option_and_then as_array (get name d)) no_items
+-- The names stand in ascending order.
+abbrev pub AreLater : List ℕ → List (List ℕ) → Type 0
+AreLater name names = Each (λ other. slice_cmp nat_cmp name other ≡ Less) names
 
-abbrev pub with_numbers : Items → Members → Members
-with_numbers containers ms =
-    put (codes "exitCodes") (object (numbers_by_name (codes "exitCode") containers no_members))
-    (put (codes "restartCounts") (object (numbers_by_name (codes "restartCount") containers no_members)) ms)
+abbrev pub AreAscending : List (List ℕ) → Type 0
+AreAscending [] = Unit {0}
+AreAscending (name ∷ names) = AreLater name names × AreAscending names
 
-unfoldable pub report_of : Data → Data
-report_of d =
-    object (put (codes "conditions") (unwrap_or (get (codes "conditions") d) null)
-    (with_numbers (items_at (codes "containers") d)
-    (put (codes "phase") (unwrap_or (get (codes "phase") d) null) no_members)))
+-- Of a container its exit code is reported, or how often it was started again, or both.
+pub record IsAllowedContainer (change : ContainerChange) : Type 0 where
+  pub name : is_label change.name ≡ true
+  pub exit : IfSome change.exit IsCode
+  pub restarts : IfSome change.restarts (λ n. n ≤ GREATEST_LIMIT)
+  pub some : (is_some change.exit || is_some change.restarts) ≡ true
 
-pub record IsReportedChange (change : PhaseChange) : Type 0 where
-  pub reads : IsReadAs (phase_change_data change)
-  pub said : report_in (report_of (phase_change_data change)) ≡ Ok change
+pub record IsAllowedReport (change : PhaseChange) : Type 0 where
+  pub rising : AreAscending (map (λ (container : ContainerChange). container.name) change.containers)
+  pub containers : Each IsAllowedContainer change.containers
+  pub conditions : Each (λ (condition : Pattern). IsAllowedType condition.kind) change.conditions
 
-pub record AreEnds (ends : List End) : Type 0 where
-  pub reads : IsReadAs (ends_data ends)
-  pub said : ends_said (of_member (codes "ends") (ends_data ends)) ≡ Ok ends
+-- ---- how pods end
+
+pub record IsExit (exit : ℤ) : Type 0 where
+  pub code : ℕ
+  pub few : code ≤ 255
+  pub is : exit ≡ pos code
+
+pub record IsAllowedEnd (end : End) : Type 0 where
+  pub exit : IsExit end.exit
+  pub restarts : end.restarts ≤ GREATEST_LIMIT
+  pub condition : IfSome end.condition IsAllowedType
+
+pub record AreAllowedEnds (ends : List End) : Type 0 where
+  pub each : Each IsAllowedEnd ends
+  pub some : 1 ≤ length ends
+  pub few : length ends ≤ 100
 
 -- ---- all parts
 
@@ -95,21 +106,16 @@ pub record IsPossibleSeat (controller worker : ℕ) : Type 0 where
   pub controllers : controller < 4
   pub workers : worker < 16
 
-pub record IsExit (exit : ℤ) : Type 0 where
-  pub code : ℕ
-  pub few : code ≤ 255
-  pub is : exit ≡ pos code
-
 abbrev pub IsProperAction : Action1 → Type 0
-IsProperAction (act.Create key spec) = IsAllowedKey key × IsJob key spec
+IsProperAction (act.Create key spec) = IsAllowedKey key × IsAllowedSpec spec × HasUnicodeTypes spec
 IsProperAction (act.Update key version change) =
-    IsAllowedKey key × IfSome version (λ (v : Version). v.0 < 2 ^ 32) × IsChange change
+    IsAllowedKey key × IfSome version (λ (v : Version). v.0 < 2 ^ 32) × IsAllowedChange change
 IsProperAction (act.Delete key) = IsAllowedKey key
 IsProperAction (act.Mark pod) = IsPod pod
 IsProperAction (act.Strip pod) = IsPod pod
 IsProperAction (act.Finish pod exit) = IsPod pod × IsExit exit
-IsProperAction (act.Report pod change) = IsPod pod × IsReportedChange change
-IsProperAction (act.Fate key ends) = IsAllowedKey key × AreEnds ends
+IsProperAction (act.Report pod change) = IsPod pod × IsAllowedReport change
+IsProperAction (act.Fate key ends) = IsAllowedKey key × AreAllowedEnds ends
 IsProperAction (act.Clock add) = add < 2 ^ 32
 IsProperAction (act.List controller kind) = controller < 4
 IsProperAction (act.Deliver controller kind) = controller < 4

@@ -32,7 +32,7 @@ use Rattle.jc_types.specs.declared.runs.Sys.TheVariants as sys
 use Rattle.jc_types.specs.declared.specifications.JobSpec.{JobSpec}
 use Rattle.jc_reading.specs.Cuts.{behind_word, first_word_in}
 use Rattle.jc_reading.specs.Manifested.{manifest_data}
-use Rattle.jc_reading.specs.Proper.{of_member, report_of}
+use Rattle.jc_reading.specs.Turned.{of_member, report_of}
 use Rattle.jc_reading.specs.declared.reading.Verb.{Verb}
 use Rattle.jc_reading.specs.declared.reading.Verb.TheVariants as verb
 

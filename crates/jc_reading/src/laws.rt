@@ -11,10 +11,13 @@ ghost use Rattle.jc_json.specs.Line.{data_of};
 ghost use Rattle.jc_log.specs.Deeds.{act_of_action};
 ghost use Rattle.jc_manifest.specs.Manifests.{key_of, manifest_refusal, spec_of};
 ghost use Rattle.jc_print.specs.PrintedSpecs.{spec_data};
-ghost use Rattle.jc_states.specs.ValidActions.{IsValidAction};
 ghost use Rattle.jc_script.specs.Scripts.{script_of};
 ghost use Rattle.jc_types.specs.declared.actions.Action1.{Action1};
+ghost use Rattle.jc_types.specs.declared.actions.Action1.TheVariants.{Create};
 ghost use Rattle.jc_types.specs.declared.actions.Command.{Command};
+ghost use Rattle.jc_types.specs.declared.actions.End.{End};
+ghost use Rattle.jc_types.specs.declared.actions.PhaseChange.{PhaseChange};
+ghost use Rattle.jc_types.specs.declared.actions.SpecChange.{SpecChange};
 ghost use Rattle.jc_types.specs.declared.objects.Key.{Key};
 ghost use Rattle.jc_types.specs.declared.runs.Shape.{Shape};
 ghost use Rattle.jc_types.specs.declared.specifications.JobSpec.{JobSpec};
@@ -23,10 +26,11 @@ ghost use Rattle.jc_reading.specs.Allowed.{IsAllowedKey, IsAllowedSpec};
 ghost use Rattle.jc_reading.specs.Compact.{IsTold};
 ghost use Rattle.jc_reading.specs.Cuts.{IsWord};
 ghost use Rattle.jc_reading.specs.Manifested.{manifest_data};
-ghost use Rattle.jc_reading.specs.Proper.{IsJob, IsProperAction, IsProperCommand, as_begin};
+ghost use Rattle.jc_reading.specs.Proper.{AreAllowedEnds, HasUnicodeTypes, IsAllowedChange, IsAllowedReport, IsProperAction, IsProperCommand, as_begin};
 ghost use Rattle.jc_reading.specs.Readings.{action_read};
 ghost use Rattle.jc_reading.specs.Reads.{IsProperRead, act_of_line, begun_read, event_said, front_text};
 ghost use Rattle.jc_reading.specs.Spelled.{IsSpelled};
+ghost use Rattle.jc_reading.specs.Turned.{ReadAsEnds, ReadsAsChange, ReadsAsJob, ReadsAsReport};
 ghost use Rattle.jc_reading.specs.declared.reads.LineRead.{LineRead};
 
 /// The compact text of a value reads as the value.
@@ -50,6 +54,16 @@ pub fn printed_specs_are_read_back()
 #[tactic(auto, using(crate::proofs::CutFacts::text_word))]
 pub fn compact_texts_are_words()
     ensures { (d : Data) → IsWord (compact_text d) }
+{}
+
+/// What is printed of an allowed part of a command says that part again, where it stands in a script:
+/// its text reads as the printed value, and the reader of scripts gives the part of it.
+pub fn printed_parts_are_read_back()
+    ensures job { (key : Key) (spec : JobSpec) → IsAllowedKey key → IsAllowedSpec spec
+        → HasUnicodeTypes spec → ReadsAsJob key spec }
+    ensures change { (change : SpecChange) → IsAllowedChange change → ReadsAsChange change }
+    ensures report { (change : PhaseChange) → IsAllowedReport change → ReadsAsReport change }
+    ensures ends { (ends : List End) → AreAllowedEnds ends → ReadAsEnds ends }
 {}
 
 /// What is printed of a proper command's act is read back, with the begin in a sync's place.
@@ -77,23 +91,25 @@ pub fn accepted_manifests_are_allowed()
         → IsAllowedKey (key_of path job) }
 {}
 
-/// What an accepted manifest says is proper: the text of the specification, where it is Unicode,
-/// reads as its value, and the manifest that this value is turned into says the same.
+/// A Job that is created as an accepted manifest says is proper, where the texts of the manifest are
+/// Unicode, as those of a line are.
+#[tactic(auto, using(crate::proofs::ProperScripts::job_proper))]
 pub fn accepted_jobs_are_proper()
-    ensures { (path : List ℕ) (job : Data) → manifest_refusal path job ≡ None
-        → is_utf8 (compact_text (spec_data (spec_of path job))) ≡ true
-        → IsJob (key_of path job) (spec_of path job) }
+    ensures { (path : List ℕ) (job : Data) → IsSpelled job → manifest_refusal path job ≡ None
+        → IsProperAction (Create (key_of path job) (spec_of path job)) }
 {}
 
-/// A proper act of a command is valid: so a script of such commands can be played.
-#[tactic(auto, using(crate::proofs::ValidFacts::proper_is_valid))]
-pub fn proper_actions_are_valid()
-    ensures { (action : Action1) → IsProperAction action → IsValidAction action }
+/// What an accepted manifest says is read back, where its printed text is Unicode: the text of the
+/// specification reads as its value, and the manifest that this value is turned into says the same.
+pub fn accepted_jobs_are_read_back()
+    ensures { (path : List ℕ) (job : Data) → manifest_refusal path job ≡ None
+        → is_utf8 (compact_text (spec_data (spec_of path job))) ≡ true
+        → ReadsAsJob (key_of path job) (spec_of path job) }
 {}
 
 /// The value that a line spells has texts in it that are Unicode, whatever escapes they are spelled with, and the members
 /// of its objects stand in ascending order of their names.
-#[tactic(auto, using(crate::proofs::ProperFacts::spelled_value))]
+#[tactic(auto, using(crate::proofs::SpelledFacts::spelled_value))]
 pub fn lines_spell_texts()
     ensures { (line : List ℕ) (d : Data) → data_of line ≡ Some d → IsSpelled d }
 {}

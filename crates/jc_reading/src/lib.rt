@@ -10,9 +10,9 @@ mod reading;
 mod reads;
 
 pub use laws::{
-    accepted_jobs_are_proper, accepted_manifests_are_allowed, compact_texts_are_words,
-    compact_texts_tell, lines_spell_texts, printed_acts_are_read_back,
-    printed_fronts_are_read_back, printed_specs_are_read_back, proper_actions_are_valid,
+    accepted_jobs_are_proper, accepted_jobs_are_read_back, accepted_manifests_are_allowed,
+    compact_texts_are_words, compact_texts_tell, lines_spell_texts, printed_acts_are_read_back,
+    printed_fronts_are_read_back, printed_parts_are_read_back, printed_specs_are_read_back,
     read_scripts_are_proper,
 };
 pub use reads::{LineAct, LineRead, read_event};

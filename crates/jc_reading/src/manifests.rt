@@ -5,7 +5,7 @@ ghost use Rattle.serde_json.specs.Data.{array, put, string};
 ghost use Rattle.serde_json.specs.Find.{get};
 ghost use Rattle.serde_json.specs.View.{items_view, members_view, view};
 ghost use Rattle.jc_reading.specs.Manifested.{all_named, items_named, manifest_data, manifest_spec, members_in, metadata_data, pod_spec_of};
-ghost use Rattle.jc_reading.specs.Proper.{of_member};
+ghost use Rattle.jc_reading.specs.Turned.{of_member};
 
 use jc_print::{Members, put_text, put_value};
 use jc_types::{Key, Want};

@@ -4,7 +4,7 @@ ghost use Rattle.std.specs.Prelude.{◌≡◌, IfOk, OnOk, codes, map, option_ma
 ghost use Rattle.serde_json.specs.Data.{null, no_items, no_members, object};
 ghost use Rattle.serde_json.specs.Find.{as_array, as_str, get};
 ghost use Rattle.serde_json.specs.View.{items_view, members_view, view};
-ghost use Rattle.jc_reading.specs.Proper.{items_at, numbers_by_name, put_named, report_of, with_numbers};
+ghost use Rattle.jc_reading.specs.Turned.{items_at, numbers_by_name, put_named, report_of, with_numbers};
 
 use jc_print::{Members, put_value};
 use jc_types::Want;
@@ -91,7 +91,7 @@ fn put_numbers(members: &mut Members, alloc: Global, report: &Value) -> Result<(
 }
 
 /// The line of a script, by the printed value of a report.
-#[tactic(auto, unfolding(crate::specs::Proper::report_of, jc_print::specs::Members::with_json_member))]
+#[tactic(auto, unfolding(crate::specs::Turned::report_of, jc_print::specs::Members::with_json_member))]
 pub fn report_of(alloc: Global, report: &Value) -> Result<Value, Want>
     ensures { IfOk result (λ v. view v ≡ report_of (view report.now)) }
 {

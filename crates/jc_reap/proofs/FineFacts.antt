@@ -5,8 +5,9 @@ use Rattle.std.specs.Option.{option_or, option_to_list, unwrap_or}
 use Rattle.jc_log.specs.Acts as does
 use Rattle.jc_log.specs.Acts.{Act}
 use Rattle.jc_log.specs.Deeds.{Deed}
-use Rattle.jc_log.specs.Log.{Gone, Life, Live, births, is_born, is_never, job_in, life, living, next_version, pod_in, upto}
+use Rattle.jc_log.specs.Log.{Gone, Life, Live, births, job_in, life, living, next_version, pod_in, upto}
 use Rattle.jc_log.specs.Requests.{Answered, accepted, changed_spec, create_job_at, create_job_gives, create_pod_gives, delete_job_at, delete_job_gives, grown, is_other, is_unnamed, let_go_at, let_go_gives, mark_pod_at, mark_pod_gives, pod_entry, refused, release_at, release_gives, released, report_phase_at, report_phase_gives, report_unless, same_course_of, update_refusal, update_spec_at, update_spec_gives, update_unless, with_mark, with_report, with_spec, with_status, without_finalizer, write_status_at, write_status_gives}
+use Rattle.jc_log.proofs.CountFacts.{births_within}
 use Rattle.jc_asks.specs.declared.asks.Ask.{Ask}
 use Rattle.jc_asks.specs.declared.asks.Ask.TheVariants.{MakePod, MarkPod, LetPodGo, WriteFirst, ReleasePod, WriteSecond}
 use Rattle.jc_asks.specs.Steps.{answered_to, make_gives, status_gives, stepped_at, written_gives}
@@ -500,21 +501,6 @@ module _ (P : Key → Type 0) (n m : ℕ) where
 
 -- ---- the log of deeds
 
-births_few : (log : List Entry) → births log ≤ length log
-births_few [] = omega arith
-births_few (JobPut job ∷ older) = by (births_few older) (is_born job.uid older)
-  where
-    by : births older ≤ length older → (b : Bool) → cond b (births older) (births older + 1) ≤ length (JobPut job ∷ older)
-    by h true = omega (arith, h)
-    by h false = omega (arith, h)
-births_few (JobGone job ∷ older) = let h = births_few older in omega (arith, h)
-births_few (PodPut pod ∷ older) = by (births_few older) (is_never (life pod.uid older))
-  where
-    by : births older ≤ length older → (b : Bool) → cond b (births older + 1) (births older) ≤ length (PodPut pod ∷ older)
-    by h true = omega (arith, h)
-    by h false = omega (arith, h)
-births_few (PodGone pod ∷ older) = let h = births_few older in omega (arith, h)
-
 module _ (P : Key → Type 0) where
   weaker : (n m k l : ℕ) → n ≤ k → m ≤ l → (e : Entry) → IsFine P n m e → IsFine P k l e
   weaker n m k l first second (JobPut job) h = record { dated = dated_weaker n k job.status.conditions first h.dated; key = h.key }
@@ -541,7 +527,7 @@ module _ (P : Key → Type 0) where
       let n : ℕ = moment shape (d ∷ past) in
       let m : ℕ = length (d ∷ past) in
       let older = all_weaker (moment shape past) (length past) n m (omega arith) (omega arith) log before.fine in
-      let births = births_few log in
+      let births = births_within log in
       by (log_given shape past) older few (gives shape past (log_given shape past) d.act).entry
       (act_fine P n m shape past log older (omega (arith, births, few)) (omega arith) d.act asks.0)
     where

@@ -41,45 +41,87 @@ fn put_job(
 // The locks by which seats may share the cluster.
 const LOCKS: [&str; 2] = ["mutex", "turn"];
 
-// The words of a run of two workers on so many threads, which share the cluster by the lock.
-fn words_of(alloc: Global, threads: u32, lock: &str) -> Result<Vec<String>, Fail> {
-    let mut words = Vec::new(alloc);
-    words.push(String::from_str(alloc, "run")?)?;
-    words.push(format!(in alloc; "--threads={threads}")?)?;
-    words.push(String::from_str(alloc, "--workers=2")?)?;
-    words.push(format!(in alloc; "--lock={lock}")?)?;
-    Ok(words)
+// More events than any of the runs has that end well.
+const MANY_EVENTS: u32 = 100_000;
+
+// Fewer events than twenty Jobs have.
+const FEW_EVENTS: u32 = 100;
+
+// A run of two workers that is asked for: on so many threads, which share the cluster by the lock, with room for so many
+// events.
+#[derive(Clone, Copy)]
+struct Asked<'a> {
+    threads: u32,
+    lock: &'a str,
+    events: u32,
 }
 
-// Whether the run ends well.
-fn ends_well<R: Threads + Wait + Sync, G: Gate + Sync>(
+impl<'a> Asked<'a> {
+    // The words of the run.
+    fn words(&self, alloc: Global) -> Result<Vec<String>, Fail> {
+        let mut words = Vec::new(alloc);
+        words.push(String::from_str(alloc, "run")?)?;
+        words.push(format!(in alloc; "--threads={}", self.threads)?)?;
+        words.push(String::from_str(alloc, "--workers=2")?)?;
+        words.push(format!(in alloc; "--lock={}", self.lock)?)?;
+        words.push(format!(in alloc; "--events={}", self.events)?)?;
+        Ok(words)
+    }
+
+    // The words of an audit of its report.
+    fn audit_words(&self, alloc: Global) -> Result<Vec<String>, Fail> {
+        let mut words = Vec::new(alloc);
+        words.push(String::from_str(alloc, "audit")?)?;
+        words.push(String::from_str(alloc, "--workers=2")?)?;
+        words.push(format!(in alloc; "--events={}", self.events)?)?;
+        Ok(words)
+    }
+}
+
+// What the program writes of the input, and how it ends.
+fn written<R: Threads + Wait + Sync, G: Gate + Sync>(
     rt: &R,
     alloc: Global,
     words: &[String],
-    source: &mut MemSource,
-    sink: &mut MemSink,
+    input: &str,
     gate: &G,
-) -> bool {
-    matches!(
-        run_program(rt, alloc, words, source, sink, gate),
-        Status::Ok
-    )
+) -> Result<(String, Status), Fail> {
+    let mut source = MemSource::new(input.as_bytes().to_vec(alloc)?, Vec::new(alloc));
+    let mut sink = MemSink::new(alloc, 1_000_000, Vec::new(alloc))?;
+    let status = run_program(rt, alloc, words, &mut source, &mut sink, gate);
+    Ok((
+        String::from_str(alloc, str::from_utf8(sink.held())?)?,
+        status,
+    ))
 }
 
-// The report of a run that ends well.
-fn report<R: Threads + Wait + Sync, G: Gate + Sync>(
+// An audit with the options of the run says yes to the report.
+fn see_audit<R: Threads + Wait + Sync + Abort>(
     rt: &R,
     alloc: Global,
-    words: &[String],
+    asked: Asked<'_>,
+    report: &str,
+) -> Result<(), Fail> {
+    let words = asked.audit_words(alloc)?;
+    let (verdict, status) = written(rt, alloc, &words, report, &FreeGate)?;
+    assert!(rt; matches!(status, Status::Ok), "the audit ends well");
+    assert_eq!(rt; verdict.as_str(), "yes\n");
+    Ok(())
+}
+
+// The report of a run that ends well, which an audit says yes to.
+fn report<R: Threads + Wait + Sync + Abort, G: Gate + Sync>(
+    rt: &R,
+    alloc: Global,
+    asked: Asked<'_>,
     script: &str,
     gate: &G,
 ) -> Result<String, Fail> {
-    let mut source = MemSource::new(script.as_bytes().to_vec(alloc)?, Vec::new(alloc));
-    let mut sink = MemSink::new(alloc, 1_000_000, Vec::new(alloc))?;
-    if !ends_well(rt, alloc, words, &mut source, &mut sink, gate) {
-        return Err(Fail::new("the run does not end well"));
-    }
-    Ok(String::from_str(alloc, str::from_utf8(sink.held())?)?)
+    let words = asked.words(alloc)?;
+    let (report, status) = written(rt, alloc, &words, script, gate)?;
+    assert!(rt; matches!(status, Status::Ok), "the run ends well");
+    see_audit(rt, alloc, asked, &report)?;
+    Ok(report)
 }
 
 // How often the part stands in the text.
@@ -117,8 +159,12 @@ fn see_threads<R: Threads + Wait + Sync + Abort>(
     threads: u32,
     lock: &str,
 ) -> Result<(), Fail> {
-    let words = words_of(alloc, threads, lock)?;
-    let told = report(rt, alloc, &words, script, &FreeGate)?;
+    let asked = Asked {
+        threads,
+        lock,
+        events: MANY_EVENTS,
+    };
+    let told = report(rt, alloc, asked, script, &FreeGate)?;
     see_jobs_end(rt, alloc, &told)
 }
 
@@ -131,6 +177,40 @@ fn jobs_end_on_threads(rt: HostRuntime) -> Result<(), Fail> {
         for threads in [1u32, 2, 4, 16] {
             see_threads(&rt, alloc, &script, threads, lock)?;
         }
+    }
+    Ok(())
+}
+
+// A run on four threads whose history is full before the Jobs have ended: its report has as many events as there is room
+// for, and says so, and an audit says yes to it.
+fn see_full_history<R: Threads + Wait + Sync + Abort>(
+    rt: &R,
+    alloc: Global,
+    script: &str,
+    lock: &str,
+) -> Result<(), Fail> {
+    let asked = Asked {
+        threads: 4,
+        lock,
+        events: FEW_EVENTS,
+    };
+    let words = asked.words(alloc)?;
+    let (told, status) = written(rt, alloc, &words, script, &FreeGate)?;
+    assert!(rt;
+        matches!(status, Status::HistoryFull),
+        "the history is full"
+    );
+    assert_eq!(rt; times(&told, " -> "), FEW_EVENTS as usize);
+    see_audit(rt, alloc, asked, &told)
+}
+
+// The same by either lock.
+#[test]
+fn full_histories_pass_audits(rt: HostRuntime) -> Result<(), Fail> {
+    let alloc = rt.alloc();
+    let script = twenty_jobs(alloc)?;
+    for lock in LOCKS {
+        see_full_history(&rt, alloc, &script, lock)?;
     }
     Ok(())
 }
@@ -232,9 +312,13 @@ fn see_meeting<R: Threads + Wait + Sync + Abort>(
     script: &str,
     lock: &str,
 ) -> Result<(), Fail> {
-    let words = words_of(alloc, 2, lock)?;
+    let asked = Asked {
+        threads: 2,
+        lock,
+        events: MANY_EVENTS,
+    };
     let gate = Meeting::new(rt, alloc);
-    let told = report(rt, alloc, &words, script, &gate)?;
+    let told = report(rt, alloc, asked, script, &gate)?;
     assert!(rt;
         !gate.is_late.load(Ordering::SeqCst),
         "two plans were made at once"

@@ -1,4 +1,4 @@
-use Rattle.jc_reading.proofs.ProperFacts.{script_proper}
+use Rattle.jc_reading.proofs.ProperScripts.{script_proper}
 use Rattle.jc_reading.proofs.laws.read_scripts_are_proper.Goals as goal
 
 pub returns : goal.returns

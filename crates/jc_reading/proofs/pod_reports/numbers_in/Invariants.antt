@@ -2,7 +2,7 @@
 use Rattle.std.proofs.Common.{◌≡◌, drop}
 use Rattle.serde_json.specs.Data.{no_members}
 use Rattle.serde_json.specs.View.{items_view, members_view}
-use Rattle.jc_reading.specs.Proper.{numbers_by_name}
+use Rattle.jc_reading.specs.Turned.{numbers_by_name}
 use Rattle.jc_reading.proofs.pod_reports.numbers_in.Given as goal
 
 abbrev pub invariant-loop-container : goal.invariant-loop-container

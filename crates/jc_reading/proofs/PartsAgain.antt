@@ -1,4 +1,4 @@
--- Changes, reports and ends that a line says are proper.
+-- What is printed of an allowed specification, change, report and list of ends is read back.
 use Rattle.std.proofs.Common.{ℕ, ℤ, ◌≤◌, List, [], cond, codes, None, IsUtf8, refl, ap, ◌∙◌, arith}
 use Rattle.std.specs.List.{AllByRecursion as Each}
 use Rattle.std.proofs.lemmas.Str.{is_utf8-from_IsUtf8}
@@ -20,23 +20,22 @@ use Rattle.jc_types.specs.declared.objects.Phase.TheVariants.{Pending, Running, 
 use Rattle.jc_types.specs.declared.policies.Pattern.{Pattern}
 use Rattle.jc_types.specs.declared.specifications.JobSpec.{JobSpec}
 use Rattle.jc_reading.specs.Allowed.{IsAllowedKey, IsAllowedSpec}
-use Rattle.jc_reading.specs.Proper.{AreEnds, IsChange, IsJob, IsReadAs, IsReportedChange}
+use Rattle.jc_reading.specs.Proper.{AreAllowedEnds, HasUnicodeTypes, IsAllowedChange, IsAllowedContainer, IsAllowedEnd, IsAllowedReport, IsAllowedType}
 use Rattle.jc_reading.specs.Spelled.{IsSpelled}
+use Rattle.jc_reading.specs.Turned.{IsReadAs, ReadAsEnds, ReadsAsChange, ReadsAsJob, ReadsAsReport}
 use Rattle.jc_reading.proofs.AgainSpec.{key_is_read, manifest_passes, spec_is_read}
 use Rattle.jc_reading.proofs.AsciiFacts.{ascii_text, label_ascii}
 use Rattle.jc_reading.proofs.ChangeAgain.{change_again}
 use Rattle.jc_reading.proofs.CompactFacts.{compact_text_told}
 use Rattle.jc_reading.proofs.EndsAgain.{ends_again}
-use Rattle.jc_reading.proofs.JobTexts.{HasTexts, any_spelled, given_spelled, items_spelled, named, spec_spelled, spelled_with, truth_text}
-use Rattle.jc_reading.proofs.ReportAgain.{IsRightContainer, report_again}
-use Rattle.jc_reading.proofs.RightFacts.{AreSaidEnds, IsSaidEnd}
-use Rattle.jc_reading.proofs.RightReports.{IsSaidReport}
-use Rattle.jc_reading.proofs.SaidFacts.{IsSmallChange, IsSmallEnd, IsSmallReport, change_fine, ends_fine, report_fine}
+use Rattle.jc_reading.proofs.JobTexts.{allowed_texts, any_spelled, given_spelled, items_spelled, named, spec_spelled, spelled_with, truth_text}
+use Rattle.jc_reading.proofs.ReportAgain.{report_again}
+use Rattle.jc_reading.proofs.RangeFacts.{change_told, ends_told, report_told}
 use Rattle.jc_reading.proofs.TextFacts.{compact_spelled}
-use Rattle.jc_reading.proofs.ToldFacts.{IsFine, each, spec_fine}
+use Rattle.jc_reading.proofs.ToldFacts.{IsToldWithin, each, spec_told}
 
 -- The text of a value that is told, whose texts are Unicode, reads as the value.
-pub reads_as : (n : ℕ) (d : Data) → IsFine n d → n ≤ 100 → IsSpelled d → IsReadAs d
+pub reads_as : (n : ℕ) (d : Data) → IsToldWithin n d → n ≤ 100 → IsSpelled d → IsReadAs d
 unfolding data_of
 reads_as n d fine few spelled =
     let deep = fine.deep in
@@ -45,9 +44,9 @@ reads_as n d fine few spelled =
 
 -- ---- Jobs
 
-pub job_proper : (key : Key) (spec : JobSpec) → IsAllowedKey key → IsAllowedSpec spec → HasTexts spec → IsJob key spec
-job_proper key spec name allowed texts = record {
-  reads = reads_as 7 (spec_data spec) (spec_fine spec allowed) (omega arith) (spec_spelled spec texts);
+pub job_reads : (key : Key) (spec : JobSpec) → IsAllowedKey key → IsAllowedSpec spec → HasUnicodeTypes spec → ReadsAsJob key spec
+job_reads key spec name allowed types = record {
+  reads = reads_as 7 (spec_data spec) (spec_told spec allowed) (omega arith) (spec_spelled spec (allowed_texts spec allowed types));
   accepted = manifest_passes [] key spec name allowed;
   names = key_is_read [] key spec;
   says = spec_is_read [] key spec allowed;
@@ -64,10 +63,10 @@ change_spelled change =
     (spelled_with _ _ _ (named (codes "backoffLimit") refl) (any_spelled number_data (λ n. tt) change.backoff_limit)
     (spelled_with _ _ _ (named (codes "activeDeadlineSeconds") refl) (any_spelled number_data (λ n. tt) change.deadline) tt))))
 
-pub change_proper : (change : SpecChange) → IsSmallChange change → IsChange change
-change_proper change small = record {
-  reads = reads_as 2 (change_data change) (change_fine change small) (omega arith) (change_spelled change);
-  said = change_again change small;
+pub change_reads : (change : SpecChange) → IsAllowedChange change → ReadsAsChange change
+change_reads change allowed = record {
+  reads = reads_as 2 (change_data change) (change_told change allowed) (omega arith) (change_spelled change);
+  said = change_again change allowed;
 }
 
 -- ---- reports
@@ -75,17 +74,17 @@ change_proper change small = record {
 code_spelled : (z : ℤ) → IsSpelled (exit_data z)
 code_spelled z = tt
 
-container_spelled : (change : ContainerChange) → IsRightContainer change → IsSpelled (container_data change)
+container_spelled : (change : ContainerChange) → IsAllowedContainer change → IsSpelled (container_data change)
 unfolding container_data with_container with_exit_member
-container_spelled change right =
+container_spelled change allowed =
     spelled_with _ _ _ (named (codes "restartCount") refl) (any_spelled number_data (λ n. tt) change.restarts)
-    (spelled_with _ _ _ (named (codes "name") refl) (ascii_text change.name (label_ascii change.name right.label))
+    (spelled_with _ _ _ (named (codes "name") refl) (ascii_text change.name (label_ascii change.name allowed.name))
     (spelled_with _ _ _ (named (codes "exitCode") refl) (any_spelled exit_data code_spelled change.exit) tt))
 
-condition_spelled : (condition : Pattern) → IsUtf8 condition.kind → IsSpelled (pod_condition_data condition)
+condition_spelled : (condition : Pattern) → IsAllowedType condition.kind → IsSpelled (pod_condition_data condition)
 unfolding pod_condition_data
-condition_spelled condition text =
-    spelled_with _ _ _ (named (codes "type") refl) text (spelled_with _ _ _ (named (codes "status") refl) (truth_text condition.truth) tt)
+condition_spelled condition allowed =
+    spelled_with _ _ _ (named (codes "type") refl) allowed.1 (spelled_with _ _ _ (named (codes "status") refl) (truth_text condition.truth) tt)
 
 phase_text : (phase : Phase) → IsUtf8 (phase_word phase)
 phase_text Pending = named _ refl
@@ -93,34 +92,34 @@ phase_text Running = named _ refl
 phase_text Succeeded = named _ refl
 phase_text Failed = named _ refl
 
-report_spelled : (change : PhaseChange) → IsSaidReport change → IsSpelled (phase_change_data change)
+report_spelled : (change : PhaseChange) → IsAllowedReport change → IsSpelled (phase_change_data change)
 unfolding phase_change_data
-report_spelled change said =
+report_spelled change allowed =
     spelled_with _ _ _ (named (codes "phase") refl) (phase_text change.phase)
-    (spelled_with _ _ _ (named (codes "containers") refl) (items_spelled container_data change.containers (each container_spelled change.containers said.right.containers))
-    (spelled_with _ _ _ (named (codes "conditions") refl) (items_spelled pod_condition_data change.conditions (each condition_spelled change.conditions said.texts)) tt))
+    (spelled_with _ _ _ (named (codes "containers") refl) (items_spelled container_data change.containers (each container_spelled change.containers allowed.containers))
+    (spelled_with _ _ _ (named (codes "conditions") refl) (items_spelled pod_condition_data change.conditions (each condition_spelled change.conditions allowed.conditions)) tt))
 
-pub report_proper : (change : PhaseChange) → IsSmallReport change → IsSaidReport change → IsReportedChange change
-report_proper change small said = record {
-  reads = reads_as 4 (phase_change_data change) (report_fine change small) (omega arith) (report_spelled change said);
-  said = report_again change said.right;
+pub report_reads : (change : PhaseChange) → IsAllowedReport change → ReadsAsReport change
+report_reads change allowed = record {
+  reads = reads_as 4 (phase_change_data change) (report_told change allowed) (omega arith) (report_spelled change allowed);
+  said = report_again change allowed;
 }
 
 -- ---- ends
 
-end_spelled : (end : End) → IsSaidEnd end → IsSpelled (end_data end)
+end_spelled : (end : End) → IsAllowedEnd end → IsSpelled (end_data end)
 unfolding end_data
-end_spelled end said =
+end_spelled end allowed =
     spelled_with _ _ _ (named (codes "restarts") refl) tt
     (spelled_with _ _ _ (named (codes "exitCode") refl) (code_spelled end.exit)
-    (spelled_with _ _ _ (named (codes "condition") refl) (given_spelled string (λ s u. u) end.condition said.text) tt))
+    (spelled_with _ _ _ (named (codes "condition") refl) (given_spelled string (λ s h. h.1) end.condition allowed.condition) tt))
 
-ends_spelled : (ends : List End) → Each IsSaidEnd ends → IsSpelled (ends_data ends)
+ends_spelled : (ends : List End) → Each IsAllowedEnd ends → IsSpelled (ends_data ends)
 unfolding ends_data
-ends_spelled ends said = items_spelled end_data ends (each end_spelled ends said)
+ends_spelled ends allowed = items_spelled end_data ends (each end_spelled ends allowed)
 
-pub ends_proper : (ends : List End) → Each IsSmallEnd ends → AreSaidEnds ends → AreEnds ends
-ends_proper ends small said = record {
-  reads = reads_as 3 (ends_data ends) (ends_fine ends small) (omega arith) (ends_spelled ends said.all);
-  said = ends_again ends (each (λ end one. one.right) ends said.all) said.some said.few;
+pub ends_read : (ends : List End) → AreAllowedEnds ends → ReadAsEnds ends
+ends_read ends allowed = record {
+  reads = reads_as 3 (ends_data ends) (ends_told ends allowed.each) (omega arith) (ends_spelled ends allowed.each);
+  said = ends_again ends allowed;
 }

@@ -3,7 +3,7 @@ use Rattle.jc_manifest.specs.Manifests.{key_of, spec_of}
 use Rattle.jc_reading.proofs.AgainSpec.{key_is_read, manifest_passes, spec_is_read}
 use Rattle.jc_reading.proofs.AllowedWhole.{manifest_allowed, names_allowed}
 use Rattle.jc_reading.proofs.ToldFacts.{spec_read}
-use Rattle.jc_reading.proofs.laws.accepted_jobs_are_proper.Goals as goal
+use Rattle.jc_reading.proofs.laws.accepted_jobs_are_read_back.Goals as goal
 
 pub returns : goal.returns
 returns c path job accepted text =

@@ -1,5 +1,5 @@
--- What a line reports of a pod is such as the formats allow, and its texts are Unicode.
-use Rattle.std.proofs.Common.{◌≡◌, ℕ, ℤ, pos, negsuc, nat_abs, List, [], ◌∷◌, Bool, true, false, ◌||◌, cond, codes, Option, Some, None, option_map, is_some, Result, Ok, Err, IsUtf8, Ordering, Less, Equal, Greater, nat_cmp, refl, sym, ap₂, ◌∙◌, subst}
+-- What a line reports of a pod is such as the formats allow.
+use Rattle.std.proofs.Common.{◌≡◌, ℕ, ℤ, pos, negsuc, nat_abs, List, [], ◌∷◌, Bool, true, false, ◌||◌, cond, codes, Option, Some, None, option_map, is_some, Result, Ok, Err, Ordering, Less, Equal, Greater, nat_cmp, refl, sym, ap₂, ◌∙◌, subst}
 use Rattle.std.specs.Cmp.Lexicographic.{slice_cmp}
 use Rattle.std.specs.List.{AllByRecursion as Each}
 use Rattle.std.specs.Ordering.{match_ordering}
@@ -17,14 +17,13 @@ use Rattle.jc_members.specs.Phases.{conditions_in, container_change, container_c
 use Rattle.jc_members.proofs.Within.{IsUpTo, using_first, whatever}
 use Rattle.jc_rows.specs.Words.{is_label}
 use Rattle.jc_types.specs.declared.actions.ContainerChange.{ContainerChange}
-use Rattle.jc_types.specs.declared.actions.PhaseChange.{PhaseChange}
-use Rattle.jc_types.specs.declared.policies.Pattern.{Pattern}
+use Rattle.jc_reading.specs.Proper.{AreAscending, IsAllowedContainer, IsAllowedReport}
 use Rattle.jc_reading.specs.Spelled.{HasSpelled, IsSpelled}
-use Rattle.jc_reading.proofs.NamedFacts.{keys}
-use Rattle.jc_reading.proofs.ReportAgain.{IsRightContainer, IsRightReport, pairs_of}
-use Rattle.jc_reading.proofs.RightFacts.{IsRightCondition, conditions_right, optional_object_spelled, read_ok}
-use Rattle.jc_reading.proofs.RisingFacts.{AreRising, IsInOrder, either_rise, given_found}
-use Rattle.jc_reading.proofs.SaidFacts.{IsExitCode, count_is_within, exit_is_code}
+use Rattle.jc_reading.proofs.ReportAgain.{names_in_change}
+use Rattle.jc_reading.proofs.AllowedEnds.{IsAllowedCondition, conditions_allowed}
+use Rattle.jc_reading.proofs.SpelledMembers.{optional_object_spelled, read_ok}
+use Rattle.jc_reading.proofs.RisingFacts.{IsInOrder, either_rise, given_found}
+use Rattle.jc_reading.proofs.RangeFacts.{IsExitCode, count_is_within, exit_is_code}
 use Rattle.jc_reading.proofs.ToldFacts.{each}
 
 -- ---- the members of a spelled object are in order
@@ -46,9 +45,9 @@ numbers_found (string s) h = tt
 numbers_found (array ds) h = tt
 numbers_found (object ms) h = given_found ms (in_order ms h)
 
-numbers_right : (name : List ℕ) (least greatest : ℤ) (d : Data) → IsSpelled d → IfOk (container_numbers name least greatest d) IsNumbers
+numbers_allowed : (name : List ℕ) (least greatest : ℤ) (d : Data) → IsSpelled d → IfOk (container_numbers name least greatest d) IsNumbers
 unfolding container_numbers
-numbers_right name least greatest d h =
+numbers_allowed name least greatest d h =
     using_first IsNumbers (λ o. IsSpelled (unwrap_or o null)) (read_as (optional_object [] name d)) _
     (read_ok (λ o. IsSpelled (unwrap_or o null)) (optional_object [] name d) (optional_object_spelled [] name d h))
     (λ o spelled. whatever IsNumbers (entries_fit (path_to [] name) least greatest (unwrap_or o null) (member_names (unwrap_or o null))) _
@@ -91,8 +90,8 @@ module _ (P : List ℕ → Type 0) where
 abbrev IsInEither : Data → Data → List ℕ → Type 0
 IsInEither exits restarts k = (is_some (member_of k exits) || is_some (member_of k restarts)) ≡ true
 
-names_right : (exits restarts : Data) → IsNumbers exits → IsNumbers restarts → Each (IsInEither exits restarts) (names_in_either exits restarts)
-names_right exits restarts first second =
+names_allowed : (exits restarts : Data) → IsNumbers exits → IsNumbers restarts → Each (IsInEither exits restarts) (names_in_either exits restarts)
+names_allowed exits restarts first second =
     either_have (IsInEither exits restarts) exits restarts
     (each (λ k e. or_left (is_some (member_of k exits)) (is_some (member_of k restarts)) e) (member_names exits) first)
     (each (λ k e. or_right (is_some (member_of k exits)) (is_some (member_of k restarts)) e) (member_names restarts) second)
@@ -116,9 +115,9 @@ record IsEntry (name : List ℕ) (numbers : Data) (o : Option ℤ) : Type 0 wher
   label : is_label name ≡ true
   some : is_some (member_of name numbers) ≡ is_some o
 
-entry_right : (path : List ℕ) (least greatest : ℤ) (numbers : Data) (name : List ℕ) → IfOk (entry_in path least greatest numbers name) (IsEntry name numbers)
+entry_allowed : (path : List ℕ) (least greatest : ℤ) (numbers : Data) (name : List ℕ) → IfOk (entry_in path least greatest numbers name) (IsEntry name numbers)
 unfolding entry_in optional_number
-entry_right path least greatest numbers name = by (is_label name) refl
+entry_allowed path least greatest numbers name = by (is_label name) refl
   where
     at : List ℕ
     at = path_to path name
@@ -135,11 +134,11 @@ entry_right path least greatest numbers name = by (is_label name) refl
 record IsCounted (name : List ℕ) (numbers : Data) (o : Option ℕ) : Type 0 where
   some : is_some (member_of name numbers) ≡ is_some o
 
-count_right : (restarts : Data) (name : List ℕ) → IfOk (container_count restarts name) (IsCounted name restarts)
+count_allowed : (restarts : Data) (name : List ℕ) → IfOk (container_count restarts name) (IsCounted name restarts)
 unfolding container_count container_restarts
-count_right restarts name =
+count_allowed restarts name =
     using_first (IsCounted name restarts) (IsEntry name restarts) (entry_in (path_to [] (codes "restartCounts")) (pos 0) (pos 2147483647) restarts name) _
-    (entry_right (path_to [] (codes "restartCounts")) (pos 0) (pos 2147483647) restarts name)
+    (entry_allowed (path_to [] (codes "restartCounts")) (pos 0) (pos 2147483647) restarts name)
     (λ o h. record { some = h.some ∙ by o })
   where
     by : (o : Option ℤ) → is_some o ≡ is_some (option_map nat_abs o)
@@ -150,25 +149,25 @@ count_right restarts name =
 
 record IsSaidContainer (name : List ℕ) (change : ContainerChange) : Type 0 where
   is : change.name ≡ name
-  right : IsRightContainer change
+  right : IsAllowedContainer change
 
 pub both_ok : {A E : Type 0} (P Q : A → Type 0) (r : Result A E) → IfOk r P → IfOk r Q → IfOk r (λ a. P a × Q a)
 both_ok P Q (Ok a) h g = (h, g)
 both_ok P Q (Err e) h g = tt
 
-container_right : (exits restarts : Data) (name : List ℕ) → IsInEither exits restarts name → IfOk (container_change exits restarts name) (IsSaidContainer name)
+container_allowed : (exits restarts : Data) (name : List ℕ) → IsInEither exits restarts name → IfOk (container_change exits restarts name) (IsSaidContainer name)
 unfolding container_change exit_in
-container_right exits restarts name either =
+container_allowed exits restarts name either =
     let at : List ℕ = path_to [] (codes "exitCodes") in
     using_first (IsSaidContainer name) (λ o. IsExitCode o × IsEntry name exits o) (entry_in at (negsuc 2147483647) (pos 2147483647) exits name) _
     (both_ok IsExitCode (IsEntry name exits) (entry_in at (negsuc 2147483647) (pos 2147483647) exits name) (exit_is_code exits name)
-    (entry_right at (negsuc 2147483647) (pos 2147483647) exits name))
+    (entry_allowed at (negsuc 2147483647) (pos 2147483647) exits name))
     (λ exit first. using_first (IsSaidContainer name) (λ o. IsUpTo 2147483647 o × IsCounted name restarts o) (container_count restarts name) _
-    (both_ok (IsUpTo 2147483647) (IsCounted name restarts) (container_count restarts name) (count_is_within restarts name) (count_right restarts name))
+    (both_ok (IsUpTo 2147483647) (IsCounted name restarts) (container_count restarts name) (count_is_within restarts name) (count_allowed restarts name))
     (λ count second. record {
       is = refl;
       right = record {
-        label = first.1.label;
+        name = first.1.label;
         exit = first.0;
         restarts = second.0;
         some = ap₂ (λ a b. a || b) (sym first.1.some) (sym second.1.some) ∙ either;
@@ -178,7 +177,7 @@ container_right exits restarts name either =
 -- ---- all containers
 
 abbrev AreOf : List (List ℕ) → List ContainerChange → Type 0
-AreOf names changes = (keys (pairs_of changes) ≡ names) × Each IsRightContainer changes
+AreOf names changes = (names_in_change changes ≡ names) × Each IsAllowedContainer changes
 
 then_of : (name : List ℕ) (names : List (List ℕ)) (first : Result ContainerChange Cause) (rest : Result (List ContainerChange) Cause) → IfOk first (IsSaidContainer name) → IfOk rest (AreOf names)
     → IfOk (then_each first rest) (AreOf (name ∷ names))
@@ -186,42 +185,35 @@ then_of name names (Ok change) (Ok changes) one all = (ap₂ (λ k ks. k ∷ ks)
 then_of name names (Ok change) (Err cause) one all = tt
 then_of name names (Err cause) rest one all = tt
 
-all_right : (exits restarts : Data) (names : List (List ℕ)) → Each (IsInEither exits restarts) names → IfOk (all_said (container_change exits restarts) names) (AreOf names)
-all_right exits restarts [] all = (refl, tt)
-all_right exits restarts (name ∷ names) all =
+all_allowed : (exits restarts : Data) (names : List (List ℕ)) → Each (IsInEither exits restarts) names → IfOk (all_said (container_change exits restarts) names) (AreOf names)
+all_allowed exits restarts [] all = (refl, tt)
+all_allowed exits restarts (name ∷ names) all =
     then_of name names (container_change exits restarts name) (all_said (container_change exits restarts) names)
-    (container_right exits restarts name all.0) (all_right exits restarts names all.1)
+    (container_allowed exits restarts name all.0) (all_allowed exits restarts names all.1)
 
-abbrev AreRight : List ContainerChange → Type 0
-AreRight changes = AreRising (keys (pairs_of changes)) × Each IsRightContainer changes
+abbrev AreAllowed : List ContainerChange → Type 0
+AreAllowed changes = AreAscending (names_in_change changes) × Each IsAllowedContainer changes
 
-risen : (names : List (List ℕ)) (r : Result (List ContainerChange) Cause) → AreRising names → IfOk r (AreOf names) → IfOk r AreRight
-risen names (Ok changes) rising all = (subst AreRising (sym all.0) rising, all.1)
+risen : (names : List (List ℕ)) (r : Result (List ContainerChange) Cause) → AreAscending names → IfOk r (AreOf names) → IfOk r AreAllowed
+risen names (Ok changes) rising all = (subst AreAscending (sym all.0) rising, all.1)
 risen names (Err cause) rising all = tt
 
-containers_right : (d : Data) → IsSpelled d → IfOk (containers_in d) AreRight
+containers_allowed : (d : Data) → IsSpelled d → IfOk (containers_in d) AreAllowed
 unfolding containers_in
-containers_right d h =
-    using_first AreRight IsNumbers (container_numbers (codes "exitCodes") (negsuc 2147483647) (pos 2147483647) d) _
-    (numbers_right (codes "exitCodes") (negsuc 2147483647) (pos 2147483647) d h)
-    (λ exits first. using_first AreRight IsNumbers (container_numbers (codes "restartCounts") (pos 0) (pos 2147483647) d) _
-    (numbers_right (codes "restartCounts") (pos 0) (pos 2147483647) d h)
+containers_allowed d h =
+    using_first AreAllowed IsNumbers (container_numbers (codes "exitCodes") (negsuc 2147483647) (pos 2147483647) d) _
+    (numbers_allowed (codes "exitCodes") (negsuc 2147483647) (pos 2147483647) d h)
+    (λ exits first. using_first AreAllowed IsNumbers (container_numbers (codes "restartCounts") (pos 0) (pos 2147483647) d) _
+    (numbers_allowed (codes "restartCounts") (pos 0) (pos 2147483647) d h)
     (λ restarts second. risen (names_in_either exits restarts) (all_said (container_change exits restarts) (names_in_either exits restarts)) (either_rise exits restarts)
-    (all_right exits restarts (names_in_either exits restarts) (names_right exits restarts first second))))
+    (all_allowed exits restarts (names_in_either exits restarts) (names_allowed exits restarts first second))))
 
 -- ---- the whole report
 
-pub record IsSaidReport (change : PhaseChange) : Type 0 where
-  pub right : IsRightReport change
-  pub texts : Each (λ (condition : Pattern). IsUtf8 condition.kind) change.conditions
-
-pub report_right : (d : Data) → IsSpelled d → IfOk (report_in d) IsSaidReport
+pub report_allowed : (d : Data) → IsSpelled d → IfOk (report_in d) IsAllowedReport
 unfolding report_in
-report_right d h =
-    whatever IsSaidReport (word_in [] (codes "phase") phase_of d) _
-    (λ phase. using_first IsSaidReport AreRight (containers_in d) _ (containers_right d h)
-    (λ containers first. using_first IsSaidReport (Each IsRightCondition) (conditions_in d) _ (conditions_right d h)
-    (λ conditions second. record {
-      right = record { rising = first.0; containers = first.1; conditions = each (λ condition good. good.0) conditions second };
-      texts = each (λ condition good. good.1) conditions second;
-    })))
+report_allowed d h =
+    whatever IsAllowedReport (word_in [] (codes "phase") phase_of d) _
+    (λ phase. using_first IsAllowedReport AreAllowed (containers_in d) _ (containers_allowed d h)
+    (λ containers first. using_first IsAllowedReport (Each IsAllowedCondition) (conditions_in d) _ (conditions_allowed d h)
+    (λ conditions second. record { rising = first.0; containers = first.1; conditions = second })))
