@@ -1,6 +1,5 @@
 mod ExpiredFacts
 mod FindFacts
-mod FineFacts
 mod Fits
 mod Lists
 mod LongerPlays

@@ -16,7 +16,7 @@ use Rattle.jc_script.proofs.Within.{given_is_within, using_first, whatever}
 use Rattle.jc_script.specs.Cause.{Cause}
 use Rattle.jc_script.specs.Lines.{lines_of}
 use Rattle.jc_script.specs.Scripts.{BadLine, text_says}
-use Rattle.jc_states.specs.PodLists.{put_pod}
+use Rattle.jc_runs.specs.PodLists.{put_pod}
 use Rattle.jc_types.specs.Keys.{same_uid}
 use Rattle.jc_types.specs.declared.actions.Action1.{Action1}
 use Rattle.jc_types.specs.declared.actions.Action1.TheVariants as act
@@ -36,13 +36,13 @@ use Rattle.jc_types.specs.declared.runs.Sys.TheVariants as sys
 use Rattle.jc_types.specs.declared.statuses.Condition.{Condition}
 use Rattle.jc_reap.specs.declared.expiries.Expiry.{Expiry}
 use Rattle.jc_reap.specs.Expiries.{MayGo, ended_at, expired, is_end, ttl_at}
-use Rattle.jc_reap.specs.Fine.{AllAskOf, AreDated, AsksOf, IsFine, IsFineJob, IsFinePod}
+use Rattle.jc_origins.specs.Origins.{AllCreateOf, AreDated, CreatesOf, HasOrigin, JobHasOrigin, PodHasOrigin}
 use Rattle.jc_reap.specs.Given.{Creates, IsGiven, IsSmallTtl}
 use Rattle.jc_reap.specs.Makers.{maker}
 use Rattle.jc_reap.specs.Reaping.{clock_to, command, is_ownerless, later_moment, mark_commands, ownerless, reap_list, removal, removals, then_settle, ttl_seen, unsettled}
 use Rattle.jc_reap.specs.TtlLines.{greatest_ttl, line_ttls, makes_job, spec_member, spec_path, text_ttls, ttl_given, ttl_of_command, ttl_of_spec, ttls_before, ttls_of, ttls_say}
 use Rattle.jc_reap.proofs.ExpiredFacts.{each-may_go}
-use Rattle.jc_reap.proofs.FineFacts.{job_fine, log_fine}
+use Rattle.jc_origins.proofs.OriginFacts.{job-origin, log-origins}
 
 -- ---- lists
 
@@ -65,11 +65,11 @@ each_times P (suc n) a holds = (holds, each_times P n a holds)
 -- ---- deeds of a script
 
 module _ (P : Key → Type 0) where
-  action_of : (a : Action1) → Creates P a → AsksOf P (act_of_action a)
+  action_of : (a : Action1) → Creates P a → CreatesOf P (act_of_action a)
   action_of (act.Create key spec) fine = fine
   action_of other fine = tt
 
-  system_of : (s : Sys) → AsksOf P (act_of_system s)
+  system_of : (s : Sys) → CreatesOf P (act_of_system s)
   system_of (sys.List controller kind) = tt
   system_of (sys.Deliver controller kind) = tt
   system_of (sys.Begin controller worker) = tt
@@ -77,43 +77,43 @@ module _ (P : Key → Type 0) where
   system_of sys.Node = tt
   system_of (sys.Clock add) = tt
 
-  command_of : (commands : List Command) (n : ℕ) → Each (λ (command : Command). Creates P command.action) commands → AsksOf P (act_of_command (slice_get commands n))
+  command_of : (commands : List Command) (n : ℕ) → Each (λ (command : Command). Creates P command.action) commands → CreatesOf P (act_of_command (slice_get commands n))
   command_of [] zero fine = tt
   command_of [] (suc n) fine = tt
   command_of (command ∷ commands) zero fine = action_of command.action fine.0
   command_of (command ∷ commands) (suc n) fine = command_of commands n fine.1
 
-  asks_of : (script : Script) (pasts : List Past) → Each (λ (command : Command). Creates P command.action) script.commands → AllAskOf P (deeds_in script pasts)
+  asks_of : (script : Script) (pasts : List Past) → Each (λ (command : Command). Creates P command.action) script.commands → AllCreateOf P (deeds_in script pasts)
   asks_of script [] fine = tt
   asks_of script (past ∷ pasts) fine = (by past.event, asks_of script pasts fine)
     where
-      by : (e : Event) → AsksOf P (act_of_event script.commands e)
+      by : (e : Event) → CreatesOf P (act_of_event script.commands e)
       by (event.Command lane number) = command_of script.commands number fine
       by (event.System s) = system_of s
 
   -- ---- pods of the log
 
   module _ (n m : ℕ) where
-    put_fine : (pod : Pod) (pods : List Pod) → IsFinePod m pod → Each (IsFinePod m) pods → Each (IsFinePod m) (put_pod pod pods)
+    put_fine : (pod : Pod) (pods : List Pod) → PodHasOrigin m pod → Each (PodHasOrigin m) pods → Each (PodHasOrigin m) (put_pod pod pods)
     put_fine pod [] one all = (one, tt)
     put_fine pod (q ∷ pods) one all = by (put_fine pod pods one all.1) (nat_lt pod.uid.0 q.uid.0) (pod.uid.0 == q.uid.0)
       where
-        by : Each (IsFinePod m) (put_pod pod pods) → (s t : Bool) → Each (IsFinePod m) (cond s (pod ∷ q ∷ pods) (cond t (pod ∷ pods) (q ∷ put_pod pod pods)))
+        by : Each (PodHasOrigin m) (put_pod pod pods) → (s t : Bool) → Each (PodHasOrigin m) (cond s (pod ∷ q ∷ pods) (cond t (pod ∷ pods) (q ∷ put_pod pod pods)))
         by rest true t = (one, all)
         by rest false true = (one, all.1)
         by rest false false = (all.0, rest)
 
-    pods_fine : (log : List Entry) → Each (IsFine P n m) log → Each (IsFinePod m) (pods_in log)
+    pods_fine : (log : List Entry) → Each (HasOrigin P n m) log → Each (PodHasOrigin m) (pods_in log)
     pods_fine [] all = tt
     pods_fine (JobPut job ∷ older) all = pods_fine older all.1
     pods_fine (JobGone job ∷ older) all = pods_fine older all.1
     pods_fine (PodPut pod ∷ older) all = put_fine pod (pods_in older) all.0 (pods_fine older all.1)
-    pods_fine (PodGone pod ∷ older) all = each_kept (IsFinePod m) (λ p. not (same_uid p.uid pod.uid)) (pods_in older) (pods_fine older all.1)
+    pods_fine (PodGone pod ∷ older) all = each_kept (PodHasOrigin m) (λ p. not (same_uid p.uid pod.uid)) (pods_in older) (pods_fine older all.1)
 
     abbrev AreGiven : List Command → Type 0
     AreGiven commands = Each (λ (command : Command). IsGiven P command.action) commands
 
-    marks_given : m < 2 ^ 32 → (pods : List Pod) → Each (IsFinePod m) pods → AreGiven (mark_commands pods)
+    marks_given : m < 2 ^ 32 → (pods : List Pod) → Each (PodHasOrigin m) pods → AreGiven (mark_commands pods)
     marks_given few [] all = tt
     marks_given few (pod ∷ pods) all =
         let most = all.0.few in
@@ -143,15 +143,15 @@ module _ (P : Key → Type 0) where
     at_some : {A : Type 0} (Q : A → Type 0) (o : Option A) (a : A) → o ≡ Some a → IfSome o Q → Q a
     at_some Q o a e h = subst (λ o. IfSome o Q) e h
 
-    row_fine : (ttl : Uid → Option ℕ) → ((u : Uid) → IsSmallTtl (ttl u)) → (log : List Entry) → Each (IsFine P n m) log → (row : Expiry × Uid) → MayGo ttl log row → IsFineRow row
+    row_fine : (ttl : Uid → Option ℕ) → ((u : Uid) → IsSmallTtl (ttl u)) → (log : List Entry) → Each (HasOrigin P n m) log → (row : Expiry × Uid) → MayGo ttl log row → IsFineRow row
     row_fine ttl small log all row may =
-        let job = at_some (IsFineJob P n) (job_in row.0.key log) may.job may.there (job_fine P n m log all row.0.key) in
+        let job = at_some (JobHasOrigin P n) (job_in row.0.key log) may.job may.there (job-origin P n m log all row.0.key) in
         let end : may.end ≤ n = at_some (λ end. end ≤ n) (ended_at may.job.status.conditions) may.end may.ended (ended_dated may.job.status.conditions job.dated) in
         let seconds : may.seconds ≤ greatest_ttl = at_some (λ seconds. seconds ≤ greatest_ttl) (ttl row.1) may.seconds may.given (small row.1) in
         let due = may.due in
         record { key = subst P (job_in-key row.0.key log may.job may.there) job.key; due = omega (arith, due, end, seconds) }
 
-    rows_fine : (ttl : Uid → Option ℕ) → ((u : Uid) → IsSmallTtl (ttl u)) → (log : List Entry) → Each (IsFine P n m) log → (rows : List (Expiry × Uid)) → Each (MayGo ttl log) rows → Each IsFineRow rows
+    rows_fine : (ttl : Uid → Option ℕ) → ((u : Uid) → IsSmallTtl (ttl u)) → (log : List Entry) → Each (HasOrigin P n m) log → (rows : List (Expiry × Uid)) → Each (MayGo ttl log) rows → Each IsFineRow rows
     rows_fine ttl small log all [] may = tt
     rows_fine ttl small log all (row ∷ rows) may = (row_fine ttl small log all row may.0, rows_fine ttl small log all rows may.1)
 
@@ -169,12 +169,12 @@ module _ (P : Key → Type 0) where
         by true e = let less = ltb-true reached due e in omega (arith, past, less)
         by false e = past
 
-    removals_given : m < 2 ^ 32 → (log : List Entry) → Each (IsFine P n m) log → (reached : ℕ) → n ≤ reached → (rows : List (Expiry × Uid)) → Each IsFineRow rows → AreGiven (removals log reached rows)
+    removals_given : m < 2 ^ 32 → (log : List Entry) → Each (HasOrigin P n m) log → (reached : ℕ) → n ≤ reached → (rows : List (Expiry × Uid)) → Each IsFineRow rows → AreGiven (removals log reached rows)
     removals_given few log all reached past [] fine = tt
     removals_given few log all reached past (row ∷ rows) fine =
         each_both (λ (command : Command). IsGiven P command.action) (clock_to reached row.0.moment) _ (clock_given reached row.0.moment past fine.0.due)
         (each_both (λ (command : Command). IsGiven P command.action) (removal log row) _
-        (fine.0.key, marks_given few (pods_of row.1 log) (each_kept (IsFinePod m) (λ pod. same_uid pod.owner_uid row.1) (pods_in log) (pods_fine log all)))
+        (fine.0.key, marks_given few (pods_of row.1 log) (each_kept (PodHasOrigin m) (λ pod. same_uid pod.owner_uid row.1) (pods_in log) (pods_fine log all)))
         (removals_given few log all (later_moment reached row.0.moment) (later_past reached row.0.moment past) rows fine.1))
 
     settle_given : (commands : List Command) → AreGiven commands → AreGiven (then_settle commands)
@@ -205,14 +205,14 @@ module _ (P : Key → Type 0) where
       let log : List Entry = log_seen seen in
       let n : ℕ = moment seen.shape (deeds_seen seen) in
       let m : ℕ = length (deeds_seen seen) in
-      let fine = log_fine P seen.shape (deeds_seen seen) (asks_of seen.script seen.pasts named) in
+      let fine = log-origins P seen.shape (deeds_seen seen) (asks_of seen.script seen.pasts named) in
       let many : m < 2 ^ 32 = subst (λ k. k < 2 ^ 32) (sym (length-map seen.pasts _)) few in
       let ttl : Uid → Option ℕ = ttl_seen seen ttls in
       settle_given n m (unsettled seen ttls)
       (each_both (λ (command : Command). IsGiven P command.action) (mark_commands (ownerless log)) _
-      (marks_given n m many (ownerless log) (each_kept (IsFinePod m) (is_ownerless (all_jobs log)) (pods_in log) (pods_fine n m log fine.fine)))
-      (removals_given n m many log fine.fine n (omega arith) (expired ttl (jobs_in log))
-      (rows_fine n m ttl (λ u. at_small ttls (maker seen.script.commands seen.pasts u) small) log fine.fine (expired ttl (jobs_in log)) (each-may_go ttl log))))
+      (marks_given n m many (ownerless log) (each_kept (PodHasOrigin m) (is_ownerless (all_jobs log)) (pods_in log) (pods_fine n m log fine.origins)))
+      (removals_given n m many log fine.origins n (omega arith) (expired ttl (jobs_in log))
+      (rows_fine n m ttl (λ u. at_small ttls (maker seen.script.commands seen.pasts u) small) log fine.origins (expired ttl (jobs_in log)) (each-may_go ttl log))))
 
 -- ---- the TTLs of a text
 

@@ -1,6 +1,5 @@
 pub mod Expiries
 pub mod Finds
-pub mod Fine
 pub mod Given
 pub mod Makers
 pub mod Reaping

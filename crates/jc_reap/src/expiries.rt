@@ -6,7 +6,7 @@ ghost use Rattle.jc_types.specs.Keys.{same_uid};
 ghost use Rattle.jc_log.specs.Tables.{at};
 ghost use Rattle.jc_reap.specs.Expiries.{after_end, ended_at, expired, expires_at, is_end, ttl_at, with_expiry};
 
-use jc_moment::Moment;
+use jc_core::Moment;
 use jc_table::Table;
 use jc_types::{Arc, CondKind, Condition, Conditions, Copied, Job, Key, Uid, Want};
 use std::alloc::Global;

@@ -5,8 +5,7 @@ ghost use Rattle.jc_reap.specs.Reaping.{clock_to, later_moment, removal, removal
 
 use crate::expiries::Expiry;
 use crate::marking::{give, mark_all};
-use jc_core::Store;
-use jc_moment::Moment;
+use jc_core::{Moment, Store};
 use jc_types::{Action1, Commands, Uid, Want};
 use std::collections::BTreeMap;
 

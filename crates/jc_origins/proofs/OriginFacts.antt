@@ -18,7 +18,7 @@ use Rattle.jc_control.specs.declared.begins.Begin.{Begin}
 use Rattle.jc_control.specs.declared.ends.SyncEnd.{SyncEnd}
 use Rattle.jc_history.specs.Fresh.{basis, begin as begin_of}
 use Rattle.jc_history.specs.Numbers.{number}
-use Rattle.jc_moment.specs.Range.{end_of_moments}
+use Rattle.jc_log.specs.Range.{end_of_moments}
 use Rattle.jc_history.specs.Lines.{line}
 use Rattle.jc_history.specs.Nodes.{NodeAct, change_by, fate, finish_change, node_step}
 use Rattle.jc_history.specs.Notes.{Note, Asked, Began, Ended, Expired, Faulted, Listed, SentBack, Ticked, Told, newest}
@@ -57,7 +57,7 @@ use Rattle.jc_types.specs.declared.statuses.CondKind.TheVariants.{Suspended}
 use Rattle.jc_types.specs.declared.statuses.Condition.{Condition}
 use Rattle.jc_types.specs.declared.statuses.JobStatus.{JobStatus}
 use Rattle.jc_types.specs.declared.statuses.Reason.{Reason}
-use Rattle.jc_reap.specs.Fine.{AllAskOf, AreDated, AsksOf, IsFine, IsFineJob, IsFinePod}
+use Rattle.jc_origins.specs.Origins.{AllCreateOf, AreDated, CreatesOf, HasOrigin, JobHasOrigin, PodHasOrigin, LogHasOrigin}
 
 -- ---- conditions
 
@@ -113,29 +113,29 @@ module _ (n now : ℕ) (past : now ≤ n) where
 -- ---- what is found in a log
 
 module _ (P : Key → Type 0) (n m : ℕ) where
-  abbrev AreFine : List Entry → Type 0
-  AreFine log = Each (IsFine P n m) log
+  abbrev HaveOrigins : List Entry → Type 0
+  HaveOrigins log = Each (HasOrigin P n m) log
 
-  pub job_fine : (log : List Entry) → AreFine log → (k : Key) → IfSome (job_in k log) (IsFineJob P n)
-  job_fine [] all k = tt
-  job_fine (JobPut job ∷ older) all k = by (job_fine older all.1 k) (same_key job.key k)
+  pub job-origin : (log : List Entry) → HaveOrigins log → (k : Key) → IfSome (job_in k log) (JobHasOrigin P n)
+  job-origin [] all k = tt
+  job-origin (JobPut job ∷ older) all k = by (job-origin older all.1 k) (same_key job.key k)
     where
-      by : IfSome (job_in k older) (IsFineJob P n) → (b : Bool) → IfSome (cond b (Some job) (job_in k older)) (IsFineJob P n)
+      by : IfSome (job_in k older) (JobHasOrigin P n) → (b : Bool) → IfSome (cond b (Some job) (job_in k older)) (JobHasOrigin P n)
       by rest true = all.0
       by rest false = rest
-  job_fine (JobGone job ∷ older) all k = by (job_fine older all.1 k) (same_key job.key k)
+  job-origin (JobGone job ∷ older) all k = by (job-origin older all.1 k) (same_key job.key k)
     where
-      by : IfSome (job_in k older) (IsFineJob P n) → (b : Bool) → IfSome (cond b None (job_in k older)) (IsFineJob P n)
+      by : IfSome (job_in k older) (JobHasOrigin P n) → (b : Bool) → IfSome (cond b None (job_in k older)) (JobHasOrigin P n)
       by rest true = tt
       by rest false = rest
-  job_fine (PodPut pod ∷ older) all k = job_fine older all.1 k
-  job_fine (PodGone pod ∷ older) all k = job_fine older all.1 k
+  job-origin (PodPut pod ∷ older) all k = job-origin older all.1 k
+  job-origin (PodGone pod ∷ older) all k = job-origin older all.1 k
 
   -- the pod that lives
   abbrev LivesFine : Life → Type 0
-  LivesFine life = IfSome (living life) (IsFinePod m)
+  LivesFine life = IfSome (living life) (PodHasOrigin m)
 
-  life_fine : (log : List Entry) → AreFine log → (u : Uid) → LivesFine (life u log)
+  life_fine : (log : List Entry) → HaveOrigins log → (u : Uid) → LivesFine (life u log)
   life_fine [] all u = tt
   life_fine (JobPut job ∷ older) all u = life_fine older all.1 u
   life_fine (JobGone job ∷ older) all u = life_fine older all.1 u
@@ -150,23 +150,23 @@ module _ (P : Key → Type 0) (n m : ℕ) where
       by rest true = tt
       by rest false = rest
 
-  upto_fine : (v : ℕ) (log : List Entry) → AreFine log → AreFine (upto v log)
+  upto_fine : (v : ℕ) (log : List Entry) → HaveOrigins log → HaveOrigins (upto v log)
   upto_fine v [] all = tt
   upto_fine v (e ∷ older) all = by (upto_fine v older all.1) (nat_lt (length older) v)
     where
-      by : AreFine (upto v older) → (b : Bool) → AreFine (cond b (e ∷ older) (upto v older))
+      by : HaveOrigins (upto v older) → (b : Bool) → HaveOrigins (cond b (e ∷ older) (upto v older))
       by rest true = all
       by rest false = rest
 
   -- What a sync starts from: a moment that is past, and a Job that stood in the log.
   record IsFineBasis (b : Basis) : Type 0 where
     now : b.now ≤ n
-    job : IfSome b.job (IsFineJob P n)
+    job : IfSome b.job (JobHasOrigin P n)
 
   -- ---- what an answer appends
 
   abbrev GivesFine : Answered → Type 0
-  GivesFine answered = IfSome answered.entry (IsFine P n m)
+  GivesFine answered = IfSome answered.entry (HasOrigin P n m)
 
   -- nothing, or this
   unless_gives : (b : Bool) (r : Reply) (other : Answered) → GivesFine other → GivesFine (cond b (refused r) other)
@@ -177,14 +177,14 @@ module _ (P : Key → Type 0) (n m : ℕ) where
   or_nothing true one r h = h
   or_nothing false one r h = tt
 
-  pod_entry_fine : (pod : Pod) → IsFinePod m pod → IsFine P n m (pod_entry pod)
+  pod_entry_fine : (pod : Pod) → PodHasOrigin m pod → HasOrigin P n m (pod_entry pod)
   pod_entry_fine pod h = by (goes pod)
     where
-      by : (b : Bool) → IsFine P n m (cond b (PodGone pod) (PodPut pod))
+      by : (b : Bool) → HasOrigin P n m (cond b (PodGone pod) (PodPut pod))
       by true = tt
       by false = h
 
-  module _ (log : List Entry) (all : AreFine log) where
+  module _ (log : List Entry) (all : HaveOrigins log) where
     create_fine : (key : Key) (spec : JobSpec) (now : ℕ) → P key → GivesFine (create_job_gives log key spec now)
     create_fine key spec now named = by (job_in key log)
       where
@@ -193,17 +193,17 @@ module _ (P : Key → Type 0) (n m : ℕ) where
         by (Some job) = tt
 
     update_fine : (key : Key) (version : Option Version) (change : SpecChange) → GivesFine (update_spec_gives log key version change)
-    update_fine key version change = by (job_in key log) (job_fine log all key)
+    update_fine key version change = by (job_in key log) (job-origin log all key)
       where
         written : Job → Answered
         written job = accepted (reply.Written (next_version log)) (JobPut (with_spec log job (changed_spec job.spec change)))
 
-        given : (job : Job) → IsFineJob P n job → (o : Option Reply) → GivesFine (update_unless log job change o)
+        given : (job : Job) → JobHasOrigin P n job → (o : Option Reply) → GivesFine (update_unless log job change o)
         given job h (Some r) = tt
         given job h None =
             unless_gives (same_limits job.spec (changed_spec job.spec change)) (reply.Unchanged job.version) (written job) (record { dated = h.dated; key = h.key })
 
-        by : (o : Option Job) → IfSome o (IsFineJob P n) → GivesFine (update_spec_at log version change o)
+        by : (o : Option Job) → IfSome o (JobHasOrigin P n) → GivesFine (update_spec_at log version change o)
         by None h = tt
         by (Some job) h =
             unless_gives (is_other version job.version) (reply.Conflict job.version) (update_unless log job change (update_refusal job.spec change))
@@ -217,9 +217,9 @@ module _ (P : Key → Type 0) (n m : ℕ) where
         by (Some job) = tt
 
     status_fine : (key : Key) (uid : Uid) (version : Version) (status : JobStatus) → AreDated n status.conditions → GivesFine (write_status_gives log key uid version status)
-    status_fine key uid version status dated = by (job_in key log) (job_fine log all key)
+    status_fine key uid version status dated = by (job_in key log) (job-origin log all key)
       where
-        by : (o : Option Job) → IfSome o (IsFineJob P n) → GivesFine (write_status_at log uid version status o)
+        by : (o : Option Job) → IfSome o (JobHasOrigin P n) → GivesFine (write_status_at log uid version status o)
         by None h = tt
         by (Some job) h =
             unless_gives (not (same_uid job.uid uid)) reply.NotFound _
@@ -233,26 +233,26 @@ module _ (P : Key → Type 0) (n m : ℕ) where
     mark_fine : (uid : Uid) (now : ℕ) → GivesFine (mark_pod_gives log uid now)
     mark_fine uid now = by (pod_in uid log) (life_fine log all uid)
       where
-        by : (o : Option Pod) → IfSome o (IsFinePod m) → GivesFine (mark_pod_at log now o)
+        by : (o : Option Pod) → IfSome o (PodHasOrigin m) → GivesFine (mark_pod_at log now o)
         by None h = tt
         by (Some pod) h =
             unless_gives (is_marked pod) (reply.Unchanged pod.version) (accepted (reply.Written (next_version log)) (pod_entry (with_mark log pod now)))
             (pod_entry_fine (with_mark log pod now) (record { some = h.some; few = h.few }))
 
-    released_fine : (pod : Pod) → IsFinePod m pod → GivesFine (released log pod)
+    released_fine : (pod : Pod) → PodHasOrigin m pod → GivesFine (released log pod)
     released_fine pod h = pod_entry_fine (without_finalizer log pod) (record { some = h.some; few = h.few })
 
     release_fine : (uid : Uid) → GivesFine (release_gives log uid)
     release_fine uid = by (pod_in uid log) (life_fine log all uid)
       where
-        by : (o : Option Pod) → IfSome o (IsFinePod m) → GivesFine (release_at log o)
+        by : (o : Option Pod) → IfSome o (PodHasOrigin m) → GivesFine (release_at log o)
         by None h = tt
         by (Some pod) h = or_nothing pod.tracked (released log pod) reply.NotTracked (released_fine pod h)
 
     let_go_fine : (uid : Uid) (version : Version) → GivesFine (let_go_gives log uid version)
     let_go_fine uid version = by (pod_in uid log) (life_fine log all uid)
       where
-        by : (o : Option Pod) → IfSome o (IsFinePod m) → GivesFine (let_go_at log version o)
+        by : (o : Option Pod) → IfSome o (PodHasOrigin m) → GivesFine (let_go_at log version o)
         by None h = tt
         by (Some pod) h =
             unless_gives (not (pod.version.0 == version.0)) (reply.Conflict pod.version) (cond pod.tracked (released log pod) (refused reply.NotTracked))
@@ -261,13 +261,13 @@ module _ (P : Key → Type 0) (n m : ℕ) where
     report_fine : (uid : Uid) (change : PhaseChange) → GivesFine (report_phase_gives log uid change)
     report_fine uid change = by (pod_in uid log) (life_fine log all uid)
       where
-        unless : (pod : Pod) → IsFinePod m pod → (o : Option ContainerChange) → GivesFine (report_unless log pod change o)
+        unless : (pod : Pod) → PodHasOrigin m pod → (o : Option ContainerChange) → GivesFine (report_unless log pod change o)
         unless pod h (Some unnamed) = tt
         unless pod h None =
             unless_gives (same_course_of pod (with_report log pod change)) (reply.Unchanged pod.version) (accepted (reply.Written (next_version log)) (pod_entry (with_report log pod change)))
             (pod_entry_fine (with_report log pod change) (record { some = h.some; few = h.few }))
 
-        by : (o : Option Pod) → IfSome o (IsFinePod m) → GivesFine (report_phase_at log change o)
+        by : (o : Option Pod) → IfSome o (PodHasOrigin m) → GivesFine (report_phase_at log change o)
         by None h = tt
         by (Some pod) h =
             unless_gives (is_final pod.phase) (reply.Final pod.phase) (cond (same_phase pod.phase Running && same_phase change.phase Pending) (refused (reply.BadStep Running Pending)) (report_unless log pod change (find (is_unnamed pod) change.containers)))
@@ -310,7 +310,7 @@ module _ (P : Key → Type 0) (n m : ℕ) where
     unfolding planned
     plan_fine b h = by b.job h.job
       where
-        by : (o : Option Job) → IfSome o (IsFineJob P n) → PlansFine (planned_for b o).first (planned_for b o).second
+        by : (o : Option Job) → IfSome o (JobHasOrigin P n) → PlansFine (planned_for b o).first (planned_for b o).second
         by None g = record { first = tt; second = tt }
         by (Some job) g = record {
           first = changed_dated job.status (first_value job b) (first_dated job b h.now g.dated);
@@ -387,14 +387,14 @@ module _ (P : Key → Type 0) (n m : ℕ) where
   both_noted [] rest one all = all
   both_noted (note ∷ first) rest one all = (one.0, both_noted first rest one.1 all)
 
-  module _ (log : List Entry) (all : AreFine log) (now : ℕ) (past : now ≤ n) where
+  module _ (log : List Entry) (all : HaveOrigins log) (now : ℕ) (past : now ≤ n) where
     lag_noted : (keys : List Key) → Each IsFineNote (on_lag keys)
     lag_noted [] = tt
     lag_noted (k ∷ keys) = (tt, tt)
 
     begin_noted : (worker : ℕ) (older : List Note) (r : Reply) → Each IsFineNote (on_begin worker now log older r)
     begin_noted worker older (reply.Begun key jobs_at pods_at) =
-        (record { now = past; job = job_fine (upto jobs_at.0 log) (upto_fine jobs_at.0 log all) key }, tt)
+        (record { now = past; job = job-origin (upto jobs_at.0 log) (upto_fine jobs_at.0 log all) key }, tt)
     begin_noted worker older (reply.Behind kind need have) = lag_noted (line older)
     begin_noted worker older other = tt
 
@@ -434,7 +434,7 @@ module _ (P : Key → Type 0) (n m : ℕ) where
     taken_noted c (does.Clock add) r older = clock_noted r
     taken_noted c other r older = tt
 
-  notes_fine : (shape : Shape) (c : ℕ) (deeds : List Deed) (log : List Entry) → AreFine log → moment shape deeds ≤ n → Each IsFineNote (notes shape c deeds log)
+  notes_fine : (shape : Shape) (c : ℕ) (deeds : List Deed) (log : List Entry) → HaveOrigins log → moment shape deeds ≤ n → Each IsFineNote (notes shape c deeds log)
   notes_fine shape c [] log all past = tt
   notes_fine shape c (d ∷ deeds) log all past =
       by (notes_fine shape c deeds log all (omega (arith, past))) (restarts c d.act)
@@ -450,7 +450,7 @@ module _ (P : Key → Type 0) (n m : ℕ) where
 
   -- ---- what each act appends
 
-  module _ (shape : Shape) (past : List Deed) (log : List Entry) (all : AreFine log) (few : births log + 1 ≤ m) (before : moment shape past ≤ n) where
+  module _ (shape : Shape) (past : List Deed) (log : List Entry) (all : HaveOrigins log) (few : births log + 1 ≤ m) (before : moment shape past ≤ n) where
     clock_fine : (at : ℕ) → GivesFine (clock_gives at)
     clock_fine at = by (nat_lt at end_of_moments)
       where
@@ -475,7 +475,7 @@ module _ (P : Key → Type 0) (n m : ℕ) where
     step_fine made fault None h = tt
     step_fine made fault (Some b) h = stepped_fine log all few (moment shape past) (so_far b made).flight h fault (so_far b made).left
 
-    act_fine : (act : Act) → AsksOf P act → GivesFine (gives shape past log act)
+    act_fine : (act : Act) → CreatesOf P act → GivesFine (gives shape past log act)
     unfolding gives
     act_fine (does.Create key spec) asks = create_fine log all key spec (moment shape past) asks
     act_fine (does.Update key version change) asks = update_fine log all key version change
@@ -502,37 +502,32 @@ module _ (P : Key → Type 0) (n m : ℕ) where
 -- ---- the log of deeds
 
 module _ (P : Key → Type 0) where
-  weaker : (n m k l : ℕ) → n ≤ k → m ≤ l → (e : Entry) → IsFine P n m e → IsFine P k l e
+  weaker : (n m k l : ℕ) → n ≤ k → m ≤ l → (e : Entry) → HasOrigin P n m e → HasOrigin P k l e
   weaker n m k l first second (JobPut job) h = record { dated = dated_weaker n k job.status.conditions first h.dated; key = h.key }
   weaker n m k l first second (JobGone job) h = tt
   weaker n m k l first second (PodPut pod) h = let few = h.few in record { some = h.some; few = omega (arith, few, second) }
   weaker n m k l first second (PodGone pod) h = tt
 
-  all_weaker : (n m k l : ℕ) → n ≤ k → m ≤ l → (log : List Entry) → Each (IsFine P n m) log → Each (IsFine P k l) log
+  all_weaker : (n m k l : ℕ) → n ≤ k → m ≤ l → (log : List Entry) → Each (HasOrigin P n m) log → Each (HasOrigin P k l) log
   all_weaker n m k l first second [] all = tt
   all_weaker n m k l first second (e ∷ log) all = (weaker n m k l first second e all.0, all_weaker n m k l first second log all.1)
 
-  -- The entries are fine, and no more than the deeds.
-  pub record IsFineLog (n m : ℕ) (log : List Entry) : Type 0 where
-    pub fine : Each (IsFine P n m) log
-    pub few : length log ≤ m
-
-  pub log_fine : (shape : Shape) (deeds : List Deed) → AllAskOf P deeds → IsFineLog (moment shape deeds) (length deeds) (log_given shape deeds)
+  pub log-origins : (shape : Shape) (deeds : List Deed) → AllCreateOf P deeds → LogHasOrigin P (moment shape deeds) (length deeds) (log_given shape deeds)
   unfolding log_given
-  log_fine shape [] asks = record { fine = tt; few = omega arith }
-  log_fine shape (d ∷ past) asks =
-      let before = log_fine shape past asks.1 in
+  log-origins shape [] asks = record { origins = tt; few = omega arith }
+  log-origins shape (d ∷ past) asks =
+      let before = log-origins shape past asks.1 in
       let few = before.few in
       let log : List Entry = log_given shape past in
       let n : ℕ = moment shape (d ∷ past) in
       let m : ℕ = length (d ∷ past) in
-      let older = all_weaker (moment shape past) (length past) n m (omega arith) (omega arith) log before.fine in
+      let older = all_weaker (moment shape past) (length past) n m (omega arith) (omega arith) log before.origins in
       let births = births_within log in
       by (log_given shape past) older few (gives shape past (log_given shape past) d.act).entry
       (act_fine P n m shape past log older (omega (arith, births, few)) (omega arith) d.act asks.0)
     where
-      by : (log : List Entry) → Each (IsFine P (moment shape (d ∷ past)) (length (d ∷ past))) log → length log ≤ length past
-          → (o : Option Entry) → IfSome o (IsFine P (moment shape (d ∷ past)) (length (d ∷ past)))
-          → IsFineLog (moment shape (d ∷ past)) (length (d ∷ past)) (grown log o)
-      by log older few None h = record { fine = older; few = omega (arith, few) }
-      by log older few (Some e) h = record { fine = (h, older); few = omega (arith, few) }
+      by : (log : List Entry) → Each (HasOrigin P (moment shape (d ∷ past)) (length (d ∷ past))) log → length log ≤ length past
+          → (o : Option Entry) → IfSome o (HasOrigin P (moment shape (d ∷ past)) (length (d ∷ past)))
+          → LogHasOrigin P (moment shape (d ∷ past)) (length (d ∷ past)) (grown log o)
+      by log older few None h = record { origins = older; few = omega (arith, few) }
+      by log older few (Some e) h = record { origins = (h, older); few = omega (arith, few) }
