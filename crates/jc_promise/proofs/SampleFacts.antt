@@ -8,7 +8,7 @@ use Rattle.jc_types.specs.declared.objects.Job.{Job}
 use Rattle.jc_types.specs.declared.objects.Pod.{Pod}
 use Rattle.jc_types.specs.declared.replies.Reply.TheVariants.{Ended}
 use Rattle.jc_types.specs.declared.runs.Shape.{Shape}
-use Rattle.jc_states.specs.Conditions.{has_end}
+use Rattle.jc_causes.specs.Conditions.{has_end}
 use Rattle.jc_plan.specs.Accounts.{counted_in, counted_out}
 use Rattle.jc_plan.specs.Backoffs.{pause}
 use Rattle.jc_plan.specs.Failures.{failing_in, failures_in}

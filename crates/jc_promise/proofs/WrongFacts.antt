@@ -9,7 +9,7 @@ use Rattle.jc_types.specs.declared.objects.Job.{Job}
 use Rattle.jc_types.specs.declared.objects.Phase.TheVariants as phase
 use Rattle.jc_types.specs.declared.objects.Pod.{Pod}
 use Rattle.jc_types.specs.declared.specifications.Mode.TheVariants.{Indexed, NonIndexed}
-use Rattle.jc_states.specs.Conditions.{has_target}
+use Rattle.jc_causes.specs.Conditions.{has_target}
 use Rattle.jc_log.specs.Acts.{Act}
 use Rattle.jc_log.specs.Acts as does
 use Rattle.jc_log.specs.Deeds.{Deed}

@@ -11,8 +11,8 @@ use Rattle.jc_types.specs.declared.runs.Event.{Event}
 use Rattle.jc_types.specs.declared.runs.Event.TheVariants as event
 use Rattle.jc_types.specs.declared.runs.Past.{Past}
 use Rattle.jc_types.specs.declared.runs.Shape.{Shape}
-use Rattle.jc_states.specs.declared.bases.Basis.{Basis}
-use Rattle.jc_states.specs.Pods.{is_final, is_tracked_active}
+use Rattle.jc_runs.specs.Basis.{Basis}
+use Rattle.jc_runs.specs.Pods.{is_final, is_tracked_active}
 use Rattle.jc_plan.specs.Accounts.{counted_in, counted_out}
 use Rattle.jc_plan.specs.Backoffs.{opening, pause}
 use Rattle.jc_plan.specs.Failures.{failing_in, failures_in}

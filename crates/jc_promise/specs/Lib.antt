@@ -5,6 +5,7 @@ pub mod WrongCounts
 pub mod WrongOutcomes
 pub mod WrongSyncs
 pub mod WrongEnds
+pub mod WrongCauses
 -- Words of the crates below, handed on to those above.
 pub use Rattle.jc_history.specs.Available
 pub use Rattle.jc_log.specs.Deeds
@@ -13,4 +14,4 @@ pub use Rattle.jc_history.specs.Play
 pub use Rattle.jc_order.specs.Plays
 pub use Rattle.jc_history.specs.Replies
 pub use Rattle.jc_runs.specs.Seen
-pub use Rattle.jc_states.specs.ValidActions
+pub use Rattle.jc_runs.specs.ValidActions

@@ -18,6 +18,7 @@ use Rattle.jc_history.specs.Registers.{backoff}
 use Rattle.jc_history.specs.Replies.{diary, log_given}
 use Rattle.jc_runs.specs.Conflicts.{AreToldLater}
 use Rattle.jc_bounds.specs.Histories.{HoldsBounds}
+use Rattle.jc_causes.specs.Causes.{AreCaused}
 use Rattle.jc_rest.specs.LetGo.{EndedAreLetGo}
 use Rattle.jc_rest.specs.Lost.{AreLostWell}
 use Rattle.jc_rest.specs.Stuck.{IsWaiting, is_sure}
@@ -54,7 +55,7 @@ WaitsWell shape past = is_quiescent shape past (log_given shape past) ≡ true
 -- deeds: to a command that stripped it, or to a sync that had a cause. A conflict that a sync is told
 -- is later than what it sent. Its lines tell the history. Where one controller runs, no more pods run
 -- at once than a Job allows, and a Job that has ended stays so. At rest no ended pod is forgotten, and no
--- Job is stuck.
+-- Job is stuck. Each request of a sync has a cause in what the sync saw.
 pub record KeepsPromises (script : Script) (shape : Shape) (history : History) : Type 0 where
   pub once : OnceAtEach (deeds script history) (log_given shape (deeds script history))
   pub lost : (k : Key) (job : Job) → job_in k (log_given shape (deeds script history)) ≡ Some job
@@ -64,3 +65,4 @@ pub record KeepsPromises (script : Script) (shape : Shape) (history : History) :
   pub bounds : shape.controllers ≡ 1 → HoldsBounds shape (deeds script history)
   pub rests : RestsWell shape (deeds script history)
   pub waits : WaitsWell shape (deeds script history)
+  pub causes : AreCaused shape (deeds script history)

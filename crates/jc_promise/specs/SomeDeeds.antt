@@ -12,7 +12,7 @@ use Rattle.jc_types.specs.declared.objects.Job.{Job}
 use Rattle.jc_types.specs.declared.objects.Key.{Key}
 use Rattle.jc_types.specs.declared.objects.Pod.{Pod}
 use Rattle.jc_types.specs.declared.runs.Shape.{Shape}
-use Rattle.jc_states.specs.Conditions.{has_end}
+use Rattle.jc_causes.specs.Conditions.{has_end}
 use Rattle.jc_log.specs.Deeds.{Deed}
 use Rattle.jc_log.specs.Log.{Never, job_in, life}
 use Rattle.jc_history.specs.Play.{deeds_played, whole_play}

@@ -9,8 +9,8 @@ ghost use Rattle.jc_types.specs.declared.actions.Script.{Script};
 ghost use Rattle.jc_types.specs.declared.objects.Job.{Job};
 ghost use Rattle.jc_types.specs.declared.runs.History.{History};
 ghost use Rattle.jc_types.specs.declared.runs.Shape.{Shape};
-ghost use Rattle.jc_states.specs.Conditions.{has_end};
-ghost use Rattle.jc_states.specs.ValidActions.{IsValidAction};
+ghost use Rattle.jc_causes.specs.Conditions.{has_end};
+ghost use Rattle.jc_runs.specs.ValidActions.{IsValidAction};
 ghost use Rattle.jc_log.specs.Deeds.{deeds};
 ghost use Rattle.jc_log.specs.Log.{job_in};
 ghost use Rattle.jc_history.specs.Available.{IsOrderly, is_quiescent};
@@ -22,6 +22,7 @@ ghost use Rattle.jc_history.specs.Samples.{sample_spec};
 ghost use Rattle.jc_runs.specs.Conflicts.{AreToldLater};
 ghost use Rattle.jc_bounds.specs.Histories.{HoldsBounds};
 ghost use Rattle.jc_bounds.specs.Kept.{IsShut};
+ghost use Rattle.jc_causes.specs.Causes.{AreCaused};
 ghost use Rattle.jc_rest.specs.Lost.{AreLostWell};
 ghost use Rattle.jc_rest.specs.Stuck.{is_sure};
 ghost use Rattle.jc_lines.specs.Told.{AreEvents};
@@ -29,11 +30,13 @@ ghost use Rattle.jc_promise.specs.Promises.{IsToldAlone, KeepsPromises, RestsWel
 ghost use Rattle.jc_promise.specs.SomeDeeds.{FindsEnd, MakesPod, SomeDeed, one_pod_deeds, waiting_deeds};
 ghost use Rattle.jc_promise.specs.Wrong.{pi_job};
 ghost use Rattle.jc_promise.specs.WrongCounts.{early_release, early_total, recount, stale_pod_cache, stale_write};
+ghost use Rattle.jc_promise.specs.WrongCauses.{active_released, failed_makes, index_made_twice, one_too_many, overdue_makes, same_status_written, suspended_makes, wanted_let_go, wanted_marked};
 ghost use Rattle.jc_promise.specs.WrongEnds.{early_end, failed_job, skipped_command, twice_script};
 ghost use Rattle.jc_promise.specs.WrongOutcomes.{early_fail_job, finalizer_vanishes, ignored_counted, index_twice};
 ghost use Rattle.jc_promise.specs.WrongSyncs.{false_conflict, forgotten_pod, old_caches, stuck_job, two_syncs, two_workers};
 
 use jc_bounds::one_controller_holds_the_bounds;
+use jc_causes::requests_have_causes;
 use jc_lines::lines_determine_histories;
 use jc_rest::{
     finalizers_are_lost_with_a_cause, no_ended_pod_is_forgotten_at_rest, no_job_is_stuck_at_rest,
@@ -57,6 +60,7 @@ pub fn legal_histories_keep_the_promises()
     no_ended_pod_is_forgotten_at_rest();
     no_job_is_stuck_at_rest();
     one_controller_holds_the_bounds();
+    requests_have_causes();
     lines_determine_histories();
 }
 
@@ -106,6 +110,9 @@ pub fn a_job_waits_at_rest()
 /// - That lines tell one history: a lane that begins with its second command.
 /// - That no ended pod is forgotten at rest: a sync that begins on what its caches held before.
 /// - That no Job is stuck at rest: a sync that begins on what its caches held before they were listed.
+/// - That each request has its cause: a sync that makes a pod of a suspended Job, of one past its backoff limit or its
+///   deadline, one more than is lacking, or a second one of an index; that lets go, marks or releases an active pod that
+///   is wanted; that writes the status that stands.
 pub fn wrong_histories_are_refused()
     ensures early_release { OnceAtEach early_release.deeds early_release.log → ⊥ }
     ensures early_release_unlost { AreLostWell (pi_job sample_spec) early_release.deeds
@@ -126,4 +133,13 @@ pub fn wrong_histories_are_refused()
     ensures skipped_command { IsToldAlone twice_script usual_shape skipped_command → ⊥ }
     ensures forgotten_pod { RestsWell usual_shape forgotten_pod → ⊥ }
     ensures stuck_job { WaitsWell usual_shape stuck_job → ⊥ }
+    ensures suspended_makes { AreCaused usual_shape suspended_makes → ⊥ }
+    ensures failed_makes { AreCaused usual_shape failed_makes → ⊥ }
+    ensures overdue_makes { AreCaused usual_shape overdue_makes → ⊥ }
+    ensures one_too_many { AreCaused usual_shape one_too_many → ⊥ }
+    ensures index_made_twice { AreCaused usual_shape index_made_twice → ⊥ }
+    ensures wanted_let_go { AreCaused usual_shape wanted_let_go → ⊥ }
+    ensures wanted_marked { AreCaused usual_shape wanted_marked → ⊥ }
+    ensures active_released { AreCaused usual_shape active_released → ⊥ }
+    ensures same_status_written { AreCaused usual_shape same_status_written → ⊥ }
 {}

@@ -18,5 +18,6 @@ returns c = λ script shape history valid some working few follows.
           c.lines_determine_histories.ensures script shape other history legal follows others events short same;
       bounds = λ one. c.one_controller_holds_the_bounds.ensures shape (deeds script history) one follows.legal;
       rests = λ quiet. c.no_ended_pod_is_forgotten_at_rest.ensures shape (deeds script history) follows.legal asks some working quiet;
+      causes = c.requests_have_causes.ensures shape (deeds script history) follows.legal;
       waits = λ quiet. c.no_job_is_stuck_at_rest.ensures shape (deeds script history) follows.legal asks working quiet;
     }

@@ -1,6 +1,7 @@
 -- What each of them is refused by.
 use Rattle.jc_promise.proofs.WrongFacts.{early_fail_job-refused, early_release-refused, early_release-unlost, early_total-refused, finalizer_vanishes-refused, ignored_counted-refused, index_twice-refused, recount-refused, stale_pod_cache-refused, stale_write-refused}
 use Rattle.jc_promise.proofs.WrongSyncFacts.{early_end-refused, false_conflict-refused, forgotten_pod-refused, old_caches-refused, skipped_command-refused, stuck_job-refused, two_syncs-refused}
+use Rattle.jc_promise.proofs.WrongCauseFacts.{active_released-refused, failed_makes-refused, index_made_twice-refused, one_too_many-refused, overdue_makes-refused, same_status_written-refused, suspended_makes-refused, wanted_let_go-refused, wanted_marked-refused}
 use Rattle.jc_promise.proofs.laws.wrong_histories_are_refused.Goals as goal
 
 pub returns : goal.returns
@@ -22,4 +23,13 @@ returns c = record {
   skipped_command = skipped_command-refused;
   forgotten_pod = forgotten_pod-refused;
   stuck_job = stuck_job-refused;
+  suspended_makes = suspended_makes-refused;
+  failed_makes = failed_makes-refused;
+  overdue_makes = overdue_makes-refused;
+  one_too_many = one_too_many-refused;
+  index_made_twice = index_made_twice-refused;
+  wanted_let_go = wanted_let_go-refused;
+  wanted_marked = wanted_marked-refused;
+  active_released = active_released-refused;
+  same_status_written = same_status_written-refused;
 }

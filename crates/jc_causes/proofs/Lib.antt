@@ -1,0 +1,2 @@
+pub mod CauseFacts
+pub mod StepFacts
