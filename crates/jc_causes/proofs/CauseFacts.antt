@@ -1,5 +1,5 @@
 -- Each request of a plan has its cause.
-use Rattle.std.proofs.Common.{◌≡◌, inl, inr, ℕ, zero, suc, ◌<◌, ◌-◌, Bool, true, false, cond, not, ◌&&◌, ◌||◌, List, [], ◌∷◌, ◌++◌, map, filter, length, replicate, take, Option, Some, None, IfSome, refl, sym, ap, arith, true≢false}
+use Rattle.std.proofs.Common.{◌≡◌, ◌⊎◌, inl, inr, ℕ, zero, suc, ◌<◌, ◌-◌, Bool, true, false, cond, not, ◌&&◌, ◌||◌, List, [], ◌++◌, map, filter, length, replicate, take, Option, Some, None, IfSome, refl, sym, ap, arith, true≢false}
 use Rattle.std.specs.List.{AllByRecursion as Each, Contains, range_with_len}
 use Rattle.std.specs.Option.{option_map_or}
 use Rattle.std.proofs.lemmas.Bool.{and_parts, not-true, or_cases}
@@ -13,25 +13,25 @@ use Rattle.jc_types.specs.declared.replies.Request.{Request}
 use Rattle.jc_types.specs.declared.replies.Request.TheVariants as request
 use Rattle.jc_types.specs.declared.specifications.Mode.{Mode}
 use Rattle.jc_types.specs.declared.specifications.Mode.TheVariants.{NonIndexed, Indexed}
-use Rattle.jc_types.specs.declared.statuses.JobStatus.{JobStatus}
 use Rattle.jc_types.specs.declared.syncs.CountIn.{CountIn}
 use Rattle.jc_types.proofs.ListFacts.{Each-append, Each-both, Each-filter, Each-map, Each-passes, Each-take, Each-weaker}
 use Rattle.jc_states.specs.Bases.{own_pods}
 use Rattle.jc_states.specs.declared.bases.Basis.{Basis}
-use Rattle.jc_states.specs.Pods.{is_active, is_tracked, tracked_active_pods}
+use Rattle.jc_states.specs.Pods.{is_active, is_tracked}
 use Rattle.jc_manage.specs.Backoffs.{is_held_back, opening}
-use Rattle.jc_manage.specs.Creations.{creatable, creates, free, is_free, IsIndexFor, job_lacks, job_wants, keepers, new_pods}
-use Rattle.jc_manage.specs.LetGoes.{going, is_doubled, is_let_go, is_needless, is_one_of, is_spare, is_to_mark, let_goes, marks, remaining, seen, surplus}
+use Rattle.jc_manage.specs.Creations.{creatable, free, is_free, IsIndexFor, job_lacks, job_wants, keepers, new_pods}
+use Rattle.jc_manage.specs.LetGoes.{going, is_doubled, is_let_go, is_needless, is_one_of, is_spare, is_to_mark, remaining, seen, surplus}
 use Rattle.jc_manage.specs.Planned.{backoff_in}
 use Rattle.jc_manage.proofs.Bounds.{creatable-few, creates-few}
 use Rattle.jc_manage.proofs.Numbered.{creatable-numbered}
-use Rattle.jc_plan.specs.Plans.{changed, planned, planned_for}
+use Rattle.jc_plan.specs.declared.plans.Planned.{Planned}
+use Rattle.jc_plan.specs.Plans.{planned, planned_for}
 use Rattle.jc_plan.specs.Releases.{due_uids, is_orphan, is_owed, is_released, releases_of}
-use Rattle.jc_plan.specs.Statuses.{accounted, decided_in, first_value, is_settled, second_value, wants_in}
+use Rattle.jc_plan.specs.Statuses.{accounted, first_value, second_value, wants_in}
 use Rattle.jc_asks.specs.Asks.{as_request, asks_of, early_asks, first_asks, last_asks, late_asks, let_go_ask, second_asks}
 use Rattle.jc_asks.specs.declared.asks.Ask.{Ask}
-use Rattle.jc_asks.specs.declared.asks.Ask.TheVariants.{MakePod, MarkPod, LetPodGo, WriteFirst, ReleasePod, WriteSecond}
-use Rattle.jc_causes.specs.Causes.{IsDoubled, IsFreeIndex, IsOfNoUse, IsOfSuspended, IsTooMany, IsUnwanted, MayAskOf, MayLetGo, MayMake, MayMark, MayRelease, MayWrite, is_decided, makes_pod, tracked_in, wanted_successes}
+use Rattle.jc_asks.specs.declared.asks.Ask.TheVariants.{MakePod, MarkPod, LetPodGo, ReleasePod}
+use Rattle.jc_causes.specs.Causes.{IsDoubled, IsOfNoUse, IsOfSuspended, IsTooMany, IsUnwanted, MayAskOf, MayLetGo, MayMake, MayMark, is_decided, makes_pod, tracked_in, wanted_successes}
 
 -- The elements that pass a test are elements.
 passing : {X : Type 0} (test : X → Bool) (xs : List X) → Each (λ x. Contains xs x × (test x ≡ true)) (filter test xs)
@@ -208,6 +208,7 @@ module _ (basis : Basis) where
         (Each-append Caused (map ReleasePod plan.releases) (second_asks plan.second) (released (Some job))
         (seconds (same_status job.status (first_value job basis)) (same_status (first_value job basis) (second_value job basis)) refl refl)))
       where
+        plan : Planned
         plan = planned_for basis (Some job)
 
   -- Of each Job, and where there is none.
@@ -224,6 +225,7 @@ module _ (basis : Basis) where
       by (Some job) h = inr h
 
   pub all-caused : Each (λ ask. MayAskOf basis.job basis 0 (as_request ask)) (asks_of (planned basis))
+  unfolding planned
   all-caused = all-for basis.job
 
   -- The plan makes no more pods than its Job lacks.
@@ -240,11 +242,12 @@ module _ (basis : Basis) where
   few-made (Some job) n (request.MarkPod u) few h = h
   few-made (Some job) n (request.LetGo u) few h = h
   few-made (Some job) n request.Status few h = h
-  few-made (Some job) n (request.CreatePod index) (inr no) h = absurd (true≢false no)
+  few-made (Some job) n (request.CreatePod index) (inr other) h = absurd (true≢false other)
   few-made (Some job) n (request.CreatePod index) (inl few) h =
       let held = creates-few (opening (backoff_in basis (accounted job basis))) basis.now (creatable (is_decided job basis) job (own_pods job basis.pods) (accounted job basis)) in
       let lack = creatable-few (is_decided job basis) job (own_pods job basis.pods) (accounted job basis) in
       record { undecided = h.undecided; resumed = h.resumed; lacking = omega (arith, few, held, lack); due = h.due; numbered = h.numbered; free = h.free }
 
   pub behind-others : (n : ℕ) (asked : Request) → n < length (planned basis).creates ⊎ (makes_pod asked ≡ false) → MayAskOf basis.job basis 0 asked → MayAskOf basis.job basis n asked
+  unfolding planned
   behind-others n asked few h = few-made basis.job n asked few h

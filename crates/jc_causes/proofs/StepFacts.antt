@@ -1,13 +1,12 @@
 -- A step of a sync of a legal history makes a request that has its cause.
-use Rattle.std.proofs.Common.{◌≡◌, inl, inr, ℕ, zero, suc, ◌<◌, Bool, true, false, cond, List, [], ◌∷◌, ◌++◌, map, drop, length, slice_get, Option, Some, None, is_some, unwrap_or, refl, sym, ap, ◌∙◌, subst, arith, true≢false, append_assoc}
+use Rattle.std.proofs.Common.{◌≡◌, ◌⊎◌, inl, inr, ℕ, zero, suc, ◌<◌, Bool, true, false, cond, List, [], ◌∷◌, ◌++◌, map, drop, length, slice_get, Option, Some, None, is_some, unwrap_or, refl, sym, ap, ◌∙◌, subst, arith, true≢false, append_assoc}
 use Rattle.std.proofs.lemmas.List.Sums.{count_by-le-length}
 use Rattle.std.specs.List.{AllByRecursion as Each}
-use Rattle.jc_types.specs.Keys.{is_in}
+use Rattle.jc_states.specs.UidLists.{is_in}
 use Rattle.jc_types.specs.declared.actions.Fault.{Fault}
 use Rattle.jc_types.specs.declared.actions.Fault.TheVariants.{Drop, Lose}
 use Rattle.jc_types.specs.declared.numbers.Uid.{Uid}
 use Rattle.jc_types.specs.declared.numbers.Version.{Version}
-use Rattle.jc_types.specs.declared.objects.Entry.{Entry}
 use Rattle.jc_types.specs.declared.replies.Answer.{Answer}
 use Rattle.jc_types.specs.declared.replies.Reply.{Reply}
 use Rattle.jc_types.specs.declared.replies.Reply.TheVariants as reply
@@ -29,7 +28,7 @@ use Rattle.jc_history.specs.Asks.{so_far}
 use Rattle.jc_history.specs.Diaries.{moment}
 use Rattle.jc_history.specs.Legal.{IsLegal, IsLegalNext}
 use Rattle.jc_history.specs.Registers.{made, pending, register}
-use Rattle.jc_history.specs.Replies.{diary, log_given, reply_given, step_gives}
+use Rattle.jc_history.specs.Replies.{diary, gives, log_given, reply_given, step_gives}
 use Rattle.jc_history.proofs.RequestFacts.{first_of_drop}
 use Rattle.jc_causes.specs.Causes.{AreCaused, MayAsk, MayAskOf, made_by, makes_pod}
 use Rattle.jc_causes.proofs.CauseFacts.{all-caused, behind-others, marked-next}
@@ -39,11 +38,11 @@ marked : (P : Ask → Type 0) → ((u : Uid) (v : Version) → P (LetPodGo u v) 
 marked P next gone [] h = tt
 marked P next gone (MakePod index ∷ asks) h = (h.0, marked P next gone asks h.1)
 marked P next gone (MarkPod u ∷ asks) h = (h.0, marked P next gone asks h.1)
-marked P next gone (LetPodGo u v ∷ asks) h = (h.0, by (is_in u gone))
+marked P next gone (LetPodGo u v ∷ asks) h = (h.0, by (marked P next gone asks h.1) (is_in u gone))
   where
-    by : (b : Bool) → Each P (cond b (MarkPod u ∷ with_marks gone asks) (with_marks gone asks))
-    by true = (next u v h.0, marked P next gone asks h.1)
-    by false = marked P next gone asks h.1
+    by : Each P (with_marks gone asks) → (b : Bool) → Each P (cond b (MarkPod u ∷ with_marks gone asks) (with_marks gone asks))
+    by rest true = (next u v h.0, rest)
+    by rest false = rest
 marked P next gone (WriteFirst ∷ asks) h = (h.0, marked P next gone asks h.1)
 marked P next gone (ReleasePod u ∷ asks) h = (h.0, marked P next gone asks h.1)
 marked P next gone (WriteSecond ∷ asks) h = (h.0, marked P next gone asks h.1)
@@ -57,14 +56,14 @@ left-over P (suc n) (ask ∷ asks) h = left-over P n asks h.1
 
 -- ---- creations come first
 
-is_make : Ask → Bool
+abbrev is_make : Ask → Bool
 is_make (MakePod index) = true
 is_make other = false
 
 -- No other request makes a pod.
 none-made : {X : Type 0} (f : X → Ask) → ((x : X) → is_make (f x) ≡ false) → (xs : List X) → Each (λ ask. is_make ask ≡ false) (map f xs)
-none-made f no [] = tt
-none-made f no (x ∷ xs) = (no x, none-made f no xs)
+none-made f other [] = tt
+none-made f other (x ∷ xs) = (other x, none-made f other xs)
 
 late-none : (first : Option JobStatus) (releases : List Uid) (second : Option JobStatus) → Each (λ ask. is_make ask ≡ false) (first_asks first ++ last_asks releases second)
 late-none first releases second = Each-append NoMake (first_asks first) (last_asks releases second) (one first) (Each-append NoMake (map ReleasePod releases) (second_asks second) (none-made ReleasePod (λ u. refl) releases) (two second))
@@ -89,13 +88,13 @@ at-none (a ∷ asks) (suc n) ask h e = at-none asks n ask h.1 e
 -- Where creations come first, one stands at a place below their number.
 at-front : (gone : List Uid) (indexes : List (Option ℕ)) (others : List Ask) (n : ℕ) (ask : Ask) → Each (λ ask. is_make ask ≡ false) others
     → slice_get (with_marks gone (map MakePod indexes ++ others)) n ≡ Some ask → (n < length indexes) ⊎ (is_make ask ≡ false)
-at-front gone [] others n ask h e = inr (at-none (with_marks gone others) n ask (marked (λ ask. is_make ask ≡ false) (λ u v no. refl) gone others h) e)
+at-front gone [] others n ask h e = inr (at-none (with_marks gone others) n ask (marked (λ ask. is_make ask ≡ false) (λ u v e. refl) gone others h) e)
 at-front gone (index ∷ indexes) others zero ask h e = inl (omega arith)
 at-front gone (index ∷ indexes) others (suc n) ask h e = one-more (at-front gone indexes others n ask h e)
   where
     one-more : ((n < length indexes) ⊎ (is_make ask ≡ false)) → (suc n < suc (length indexes)) ⊎ (is_make ask ≡ false)
     one-more (inl less) = inl (omega (arith, less))
-    one-more (inr no) = inr no
+    one-more (inr other) = inr other
 
 front-of : (plan : Planned) (gone : List Uid) (n : ℕ) (ask : Ask) → slice_get (requests plan gone) n ≡ Some ask → (n < length plan.creates) ⊎ (is_make ask ≡ false)
 front-of plan gone n ask e = at-front gone plan.creates others n ask none (subst (λ asks. slice_get (with_marks gone asks) n ≡ Some ask) (append_assoc (map MakePod plan.creates) (map MarkPod plan.marks ++ map let_go_ask plan.let_goes) (late_asks plan)) e)
@@ -109,11 +108,11 @@ front-of plan gone n ask e = at-front gone plan.creates others n ask none (subst
         (late-none plan.first plan.releases plan.second)
 
 -- The request that a reply tells of.
-asked_in : Reply → Request → Request
+abbrev asked_in : Reply → Request → Request
 asked_in (reply.Stepped asked given) other = asked
 asked_in reply other = other
 
-is_stepped : Reply → Bool
+abbrev is_stepped : Reply → Bool
 is_stepped (reply.Stepped asked given) = true
 is_stepped other = false
 
@@ -126,6 +125,7 @@ module _ (shape : Shape) (past : List Deed) (d : Deed) (legal : IsLegalNext shap
   left = drop (length steps) (requests (planned basis) (gone_in steps))
 
   gave : reply.Stepped asked given ≡ (stepped_at (moment shape past) (pending w (diary shape c past)) (log_given shape past) (so_far basis steps).flight left).reply
+  unfolding gives
   gave =
       sym told ∙ legal.reply ∙ ap (reply_given shape past (log_given shape past)) act
       ∙ ap (λ o. (step_gives (log_given shape past) (moment shape past) steps (pending w (diary shape c past)) o).reply) begun
@@ -146,7 +146,7 @@ module _ (shape : Shape) (past : List Deed) (d : Deed) (legal : IsLegalNext shap
     where
       by : ((length steps < length (planned basis).creates) ⊎ (is_make ask ≡ false)) → (made_by steps < length (planned basis).creates) ⊎ (makes_pod (as_request ask) ≡ false)
       by (inl less) = let few = count_by-le-length (λ (step : Request × Answer). makes_pod step.0) steps in inl (omega (arith, less, few))
-      by (inr no) = inr (makes-as ask ∙ no)
+      by (inr other) = inr (makes-as ask ∙ other)
 
   of-left : (asks : List Ask) (fault : Option Fault) → Each Caused asks → ((ask : Ask) → slice_get asks 0 ≡ Some ask → Caused ask → MayAsk basis steps (as_request ask))
       → reply.Stepped asked given ≡ (stepped_at (moment shape past) fault (log_given shape past) (so_far basis steps).flight asks).reply → MayAsk basis steps asked

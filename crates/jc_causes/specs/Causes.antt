@@ -11,7 +11,7 @@
 --     MayAsk basis steps asked        the request has its cause, behind these steps
 --     IsCaused shape past d           so has that of the deed, where it is a step of a sync
 --     AreCaused shape deeds           so has that of each
-use Rattle.std.specs.Prelude.{◌≡◌, ℕ, ◌<◌, ◌-◌, Bool, true, false, ◌&&◌, ◌||◌, List, [], ◌∷◌, length, Option, Some, None, IfSome, is_some, unwrap_or}
+use Rattle.std.specs.Prelude.{◌≡◌, ◌⊎◌, ℕ, ◌<◌, ◌-◌, Bool, true, false, ◌&&◌, List, [], ◌∷◌, length, Option, Some, None, IfSome, is_some, unwrap_or}
 use Rattle.std.specs.List.{Contains, count_by}
 use Rattle.std.specs.Option.{option_map_or}
 use Rattle.jc_types.specs.Equality.{same_status}
