@@ -1,6 +1,6 @@
 -- What the wrong histories of requests without a cause are refused by: worked out.
-use Rattle.std.proofs.Common.{◌≡◌, inl, inr, ℕ, ◌<◌, ◌≤◌, nat_le, Bool, true, false, not, ◌&&◌, ◌||◌, ◌-◌, List, [], ◌∷◌, length, Option, Some, None, is_some, refl, sym, ap, ◌∙◌, subst, arith, true≢false}
-use Rattle.std.specs.List.{AllByRecursion as Each, Contains, list_any}
+use Rattle.std.proofs.Common.{◌≡◌, ◌⊎◌, inl, inr, ℕ, nat_le, Bool, true, false, not, ◌&&◌, ◌||◌, ◌-◌, List, ◌∷◌, length, Option, Some, None, is_some, refl, sym, ap, ◌∙◌, subst, arith, true≢false}
+use Rattle.std.specs.List.{Contains, list_any}
 use Rattle.std.specs.Option.{option_map, option_map_or, unwrap_or}
 use Rattle.std.proofs.lemmas.Bool.{and_parts, leb-true, or_left, or_right}
 use Rattle.std.proofs.lemmas.List.Elements.{All-contains, All-from_recursion}
@@ -14,8 +14,6 @@ use Rattle.jc_types.specs.declared.replies.Answer.TheVariants as answer
 use Rattle.jc_types.specs.declared.replies.Reply.TheVariants as reply
 use Rattle.jc_types.specs.declared.replies.Request.{Request}
 use Rattle.jc_types.specs.declared.replies.Request.TheVariants as request
-use Rattle.jc_types.specs.declared.runs.Shape.{Shape}
-use Rattle.jc_types.specs.declared.specifications.Mode.{Mode}
 use Rattle.jc_types.specs.declared.specifications.Mode.TheVariants.{Indexed}
 use Rattle.jc_runs.specs.Basis.{Basis}
 use Rattle.jc_plan.specs.Accounts.{counted_in, counted_out}
@@ -24,7 +22,7 @@ use Rattle.jc_plan.specs.Failures.{failing_in, failures_in}
 use Rattle.jc_plan.specs.Plans.{planned}
 use Rattle.jc_plan.specs.Statuses.{accounted, first_value, second_value}
 use Rattle.jc_plan.specs.Creations.{is_free, job_lacks, job_wants, keepers}
-use Rattle.jc_plan.specs.LetGoes.{is_let_go, is_needless, is_one_of, is_spare, remaining}
+use Rattle.jc_plan.specs.LetGoes.{is_doubled, is_let_go, is_needless, is_one_of, is_spare}
 use Rattle.jc_plan.specs.Releases.{due_uids, is_orphan, is_owed}
 use Rattle.jc_runs.specs.Bases.{own_pods}
 use Rattle.jc_runs.specs.Pods.{is_active, is_tracked}
@@ -40,11 +38,11 @@ use Rattle.jc_promise.specs.WrongCauses.{active_released, failed_before, failed_
 -- A step whose request has no cause in what its sync saw is refused.
 refused : (past : List Deed) (d : Deed) (asked : Request) (given : Answer) → d.act ≡ does.Step 0 0 → d.reply ≡ reply.Stepped asked given → (P : Basis → Bool)
     → ((basis : Basis) → P basis ≡ true → MayAsk basis (made 0 (diary usual_shape 0 past)) asked → ⊥) → option_map P (register 0 (diary usual_shape 0 past)) ≡ Some true → AreCaused usual_shape (d ∷ past) → ⊥
-refused past d asked given act told P no is h = by (register 0 (diary usual_shape 0 past)) refl is
+refused past d asked given act told P never is h = by (register 0 (diary usual_shape 0 past)) refl is
   where
     by : (o : Option Basis) → register 0 (diary usual_shape 0 past) ≡ o → option_map P o ≡ Some true → ⊥
     by None e q = true≢false (sym (ap is_some q))
-    by (Some basis) e q = no basis (ap (λ o. unwrap_or o false) q) (h.0 0 0 asked given basis act told e)
+    by (Some basis) e q = never basis (ap (λ o. unwrap_or o false) q) (h.0 0 0 asked given basis act told e)
 
 -- It holds of the Job that the sync sees.
 abbrev of_job : (Job → Basis → Bool) → Basis → Bool
@@ -62,11 +60,11 @@ not-one test xs x none there e = by (list_any test xs) refl none
 
 create-refused : (n : ℕ) (index : Option ℕ) (P : Job → Basis → Bool) → ((job : Job) (basis : Basis) → P job basis ≡ true → MayMake job basis n index → ⊥)
     → (basis : Basis) → of_job P basis ≡ true → MayAskOf basis.job basis n (request.CreatePod index) → ⊥
-create-refused n index P no basis e h = by basis.job e h
+create-refused n index P never basis e h = by basis.job e h
   where
     by : (o : Option Job) → option_map_or (λ job. P job basis) o false ≡ true → MayAskOf o basis n (request.CreatePod index) → ⊥
     by None e h = h
-    by (Some job) e h = no job basis e h
+    by (Some job) e h = never job basis e h
 
 -- The Job is suspended.
 suspended-is : option_map (of_job (λ job basis. job.spec.suspend)) (register 0 (diary usual_shape 0 suspended_before)) ≡ Some true
@@ -153,8 +151,8 @@ unwanted-is job basis pod (IsOfSuspended q) = ap (λ b. b || rest) q
   where
     rest : Bool
     rest = is_let_go job.spec.mode (is_needless (wanted_successes job) (accounted job basis)) (job_wants job (own_pods job basis.pods) (accounted job basis)) (tracked_in job basis) pod
-unwanted-is job basis pod (IsOfNoUse m e) = spare-is job basis pod m (ap (λ b. b || _) e)
-unwanted-is job basis pod (IsDoubled m e) = spare-is job basis pod m (or_right (option_map_or (is_needless (wanted_successes job) (accounted job basis)) pod.index false) _ e)
+unwanted-is job basis pod (IsOfNoUse m e) = spare-is job basis pod m (or_left (option_map_or (is_needless (wanted_successes job) (accounted job basis)) pod.index false) (is_doubled (tracked_in job basis) pod) e)
+unwanted-is job basis pod (IsDoubled m e) = spare-is job basis pod m (or_right (option_map_or (is_needless (wanted_successes job) (accounted job basis)) pod.index false) (is_doubled (tracked_in job basis) pod) e)
 unwanted-is job basis pod (IsTooMany rest is e) = or_right job.spec.suspend _ (or_right (is_spare job.spec.mode (is_needless (wanted_successes job) (accounted job basis)) (tracked_in job basis) pod) _ (subst (λ pods. is_one_of (length pods - job_wants job (own_pods job basis.pods) (accounted job basis)) job.spec.mode pods pod ≡ true) is e))
 
 let-go-refused : (u : Uid) (job : Job) (basis : Basis) → not (list_any (is_unwanted job basis) (tracked_in job basis)) ≡ true → MayLetGo job basis u → ⊥

@@ -9,7 +9,7 @@
 --     wanted_marked         it marks one
 --     active_released       it releases one
 --     same_status_written   it writes the status that the Job has
-use Rattle.std.specs.Prelude.{ℕ, ◌+◌, true, List, [], ◌∷◌, ◌++◌, Some, None}
+use Rattle.std.specs.Prelude.{◌+◌, true, List, [], ◌∷◌, ◌++◌, Some, None}
 use Rattle.jc_log.specs.Acts as does
 use Rattle.jc_types.specs.declared.objects.Kind.TheVariants.{Jobs, Pods}
 use Rattle.jc_types.specs.declared.replies.Reply.TheVariants as reply
