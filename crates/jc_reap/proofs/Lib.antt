@@ -1,6 +1,6 @@
 mod ExpiredFacts
 mod FindFacts
-mod FineFacts
+mod LimitedFacts
 mod Fits
 mod Lists
 mod LongerPlays

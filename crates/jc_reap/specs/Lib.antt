@@ -1,7 +1,7 @@
 pub mod Expiries
 pub mod Finds
-pub mod Fine
-pub mod Given
+pub mod Limited
+pub mod Said
 pub mod Makers
 pub mod Reaping
 pub mod TtlLines

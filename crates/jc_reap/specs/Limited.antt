@@ -1,7 +1,7 @@
 -- What stands in the log of deeds: Jobs whose conditions are no younger than a moment, under keys of which something
 -- holds, and pods by numbers up to a bound.
 --     AreDated n conditions       none of the conditions is younger than the moment
---     IsFine P n m entry          so it is of what the entry puts
+--     IsLimited P n m entry       so it is of what the entry puts
 --     AllAskOf P deeds            of the key of each Job that a deed creates it holds
 use Rattle.std.specs.Prelude.{ℕ, ◌≤◌, List}
 use Rattle.std.specs.List.{AllByRecursion as Each}
@@ -19,19 +19,19 @@ use Rattle.jc_types.specs.declared.statuses.Condition.{Condition}
 abbrev pub AreDated : ℕ → List Condition → Type 0
 AreDated n conditions = Each (λ (condition : Condition). condition.since ≤ n) conditions
 
-pub record IsFineJob (P : Key → Type 0) (n : ℕ) (job : Job) : Type 0 where
+pub record IsLimitedJob (P : Key → Type 0) (n : ℕ) (job : Job) : Type 0 where
   pub dated : AreDated n job.status.conditions
   pub key : P job.key
 
-pub record IsFinePod (m : ℕ) (pod : Pod) : Type 0 where
+pub record IsLimitedPod (m : ℕ) (pod : Pod) : Type 0 where
   pub some : 1 ≤ pod.uid.0
   pub few : pod.uid.0 ≤ m
 
-abbrev pub IsFine : (Key → Type 0) → ℕ → ℕ → Entry → Type 0
-IsFine P n m (JobPut job) = IsFineJob P n job
-IsFine P n m (JobGone job) = Unit {0}
-IsFine P n m (PodPut pod) = IsFinePod m pod
-IsFine P n m (PodGone pod) = Unit {0}
+abbrev pub IsLimited : (Key → Type 0) → ℕ → ℕ → Entry → Type 0
+IsLimited P n m (JobPut job) = IsLimitedJob P n job
+IsLimited P n m (JobGone job) = Unit {0}
+IsLimited P n m (PodPut pod) = IsLimitedPod m pod
+IsLimited P n m (PodGone pod) = Unit {0}
 
 -- Of the key of a Job that the act creates it holds.
 abbrev pub AsksOf : (Key → Type 0) → Act → Type 0
