@@ -17,7 +17,7 @@ use Rattle.jc_single.specs.Play.{whole_play}
 use Rattle.jc_single.specs.Plays.{IsProper}
 use Rattle.jc_single.specs.Seen.{Seen}
 use Rattle.jc_single.specs.Finds.{seen_at_end}
-use Rattle.jc_single.specs.Given.{Creates, IsGiven, IsSmallTtl}
+use Rattle.jc_single.specs.Said.{Creates, CanBeSaid, IsSmallTtl}
 use Rattle.jc_single.specs.Reaping.{command, reap_list}
 use Rattle.jc_script.specs.Scripts.{BadLine}
 use Rattle.jc_single.proofs.ReapFacts.{both, history_of, last-holds}
@@ -50,14 +50,14 @@ pub all-create : (commands : List Command) → AreProper commands → Each (λ (
 all-create [] h = tt
 all-create (command ∷ commands) h = (creates command.action h.0.action, all-create commands h.1)
 
-given : (a : Action1) → IsGiven IsTested a → IsProperAction a
+given : (a : Action1) → CanBeSaid IsTested a → IsProperAction a
 given (act.Delete key) h = allowed key h
 given (act.Mark pod) h = record { some = h.0; few = h.1 }
 given (act.Clock add) h = h
 given act.Settle h = tt
 given other h = absurd h
 
-pub all-proper : (commands : List Command) → Each (λ (command : Command). IsGiven IsTested command.action) commands
+pub all-proper : (commands : List Command) → Each (λ (command : Command). CanBeSaid IsTested command.action) commands
     → Each (λ (command : Command). command.lane ≡ 0) commands → AreProper commands
 all-proper [] h lanes = tt
 all-proper (command ∷ commands) h lanes =
@@ -89,7 +89,7 @@ module _ (shape : Shape) where
       (plays : (script : Script) → IsProper script shape → IsHistory script shape (history_of script shape))
       (gives : (seen : Seen) (ttls : List (Option ℕ)) → Each (λ (command : Command). Creates IsTested command.action) seen.script.commands
       → length seen.pasts < 2 ^ 32 → Each IsSmallTtl ttls
-      → Each (λ (command : Command). IsGiven IsTested command.action) (reap_list seen ttls))
+      → Each (λ (command : Command). CanBeSaid IsTested command.action) (reap_list seen ttls))
       (lane : (seen : Seen) (ttls : List (Option ℕ)) → Each (λ (command : Command). command.lane ≡ 0) (reap_list seen ttls)) where
     last-proper : (commands : List Command) (ttls : List (Option ℕ)) → AreProper commands → IsProper (at_rest commands) shape
         → Each IsSmallTtl ttls → IfOk (reaped_of shape (Ok commands) (Ok ttls)) (λ script. AreProper script.commands)

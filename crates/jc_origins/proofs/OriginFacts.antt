@@ -1,4 +1,4 @@
--- What stands in the log of deeds is fine.
+-- What stands in the log of deeds is limited: the conditions of Jobs by the moment, pods by the number of deeds.
 use Rattle.std.proofs.Common.{ℕ, ℤ, ◌+◌, ◌-◌, ◌≤◌, ◌==◌, nat_lt, Bool, true, false, cond, not, ◌&&◌, ◌||◌, List, [], ◌∷◌, ◌++◌, length, map, find, Option, Some, None, option_map, is_some, IfSome, arith}
 use Rattle.std.specs.List.{AllByRecursion as Each, list_any}
 use Rattle.std.specs.Option.{option_or, option_to_list, unwrap_or}
@@ -132,94 +132,94 @@ module _ (P : Key → Type 0) (n m : ℕ) where
   job-origin (PodGone pod ∷ older) all k = job-origin older all.1 k
 
   -- the pod that lives
-  abbrev LivesFine : Life → Type 0
-  LivesFine life = IfSome (living life) (PodHasOrigin m)
+  abbrev LivesLimited : Life → Type 0
+  LivesLimited life = IfSome (living life) (PodHasOrigin m)
 
-  life_fine : (log : List Entry) → HaveOrigins log → (u : Uid) → LivesFine (life u log)
-  life_fine [] all u = tt
-  life_fine (JobPut job ∷ older) all u = life_fine older all.1 u
-  life_fine (JobGone job ∷ older) all u = life_fine older all.1 u
-  life_fine (PodPut pod ∷ older) all u = by (life_fine older all.1 u) (same_uid pod.uid u)
+  life_limited : (log : List Entry) → HaveOrigins log → (u : Uid) → LivesLimited (life u log)
+  life_limited [] all u = tt
+  life_limited (JobPut job ∷ older) all u = life_limited older all.1 u
+  life_limited (JobGone job ∷ older) all u = life_limited older all.1 u
+  life_limited (PodPut pod ∷ older) all u = by (life_limited older all.1 u) (same_uid pod.uid u)
     where
-      by : LivesFine (life u older) → (b : Bool) → LivesFine (cond b (Live pod) (life u older))
+      by : LivesLimited (life u older) → (b : Bool) → LivesLimited (cond b (Live pod) (life u older))
       by rest true = all.0
       by rest false = rest
-  life_fine (PodGone pod ∷ older) all u = by (life_fine older all.1 u) (same_uid pod.uid u)
+  life_limited (PodGone pod ∷ older) all u = by (life_limited older all.1 u) (same_uid pod.uid u)
     where
-      by : LivesFine (life u older) → (b : Bool) → LivesFine (cond b Gone (life u older))
+      by : LivesLimited (life u older) → (b : Bool) → LivesLimited (cond b Gone (life u older))
       by rest true = tt
       by rest false = rest
 
-  upto_fine : (v : ℕ) (log : List Entry) → HaveOrigins log → HaveOrigins (upto v log)
-  upto_fine v [] all = tt
-  upto_fine v (e ∷ older) all = by (upto_fine v older all.1) (nat_lt (length older) v)
+  upto_limited : (v : ℕ) (log : List Entry) → HaveOrigins log → HaveOrigins (upto v log)
+  upto_limited v [] all = tt
+  upto_limited v (e ∷ older) all = by (upto_limited v older all.1) (nat_lt (length older) v)
     where
       by : HaveOrigins (upto v older) → (b : Bool) → HaveOrigins (cond b (e ∷ older) (upto v older))
       by rest true = all
       by rest false = rest
 
   -- What a sync starts from: a moment that is past, and a Job that stood in the log.
-  record IsFineBasis (b : Basis) : Type 0 where
+  record IsLimitedBasis (b : Basis) : Type 0 where
     now : b.now ≤ n
     job : IfSome b.job (JobHasOrigin P n)
 
   -- ---- what an answer appends
 
-  abbrev GivesFine : Answered → Type 0
-  GivesFine answered = IfSome answered.entry (HasOrigin P n m)
+  abbrev GivesLimited : Answered → Type 0
+  GivesLimited answered = IfSome answered.entry (HasOrigin P n m)
 
   -- nothing, or this
-  unless_gives : (b : Bool) (r : Reply) (other : Answered) → GivesFine other → GivesFine (cond b (refused r) other)
+  unless_gives : (b : Bool) (r : Reply) (other : Answered) → GivesLimited other → GivesLimited (cond b (refused r) other)
   unless_gives true r other g = tt
   unless_gives false r other g = g
 
-  or_nothing : (b : Bool) (one : Answered) (r : Reply) → GivesFine one → GivesFine (cond b one (refused r))
+  or_nothing : (b : Bool) (one : Answered) (r : Reply) → GivesLimited one → GivesLimited (cond b one (refused r))
   or_nothing true one r h = h
   or_nothing false one r h = tt
 
-  pod_entry_fine : (pod : Pod) → PodHasOrigin m pod → HasOrigin P n m (pod_entry pod)
-  pod_entry_fine pod h = by (goes pod)
+  pod_entry_limited : (pod : Pod) → PodHasOrigin m pod → HasOrigin P n m (pod_entry pod)
+  pod_entry_limited pod h = by (goes pod)
     where
       by : (b : Bool) → HasOrigin P n m (cond b (PodGone pod) (PodPut pod))
       by true = tt
       by false = h
 
   module _ (log : List Entry) (all : HaveOrigins log) where
-    create_fine : (key : Key) (spec : JobSpec) (now : ℕ) → P key → GivesFine (create_job_gives log key spec now)
-    create_fine key spec now named = by (job_in key log)
+    create_limited : (key : Key) (spec : JobSpec) (now : ℕ) → P key → GivesLimited (create_job_gives log key spec now)
+    create_limited key spec now named = by (job_in key log)
       where
-        by : (o : Option Job) → GivesFine (create_job_at log key spec now o)
+        by : (o : Option Job) → GivesLimited (create_job_at log key spec now o)
         by None = record { dated = tt; key = named }
         by (Some job) = tt
 
-    update_fine : (key : Key) (version : Option Version) (change : SpecChange) → GivesFine (update_spec_gives log key version change)
-    update_fine key version change = by (job_in key log) (job-origin log all key)
+    update_limited : (key : Key) (version : Option Version) (change : SpecChange) → GivesLimited (update_spec_gives log key version change)
+    update_limited key version change = by (job_in key log) (job-origin log all key)
       where
         written : Job → Answered
         written job = accepted (reply.Written (next_version log)) (JobPut (with_spec log job (changed_spec job.spec change)))
 
-        given : (job : Job) → JobHasOrigin P n job → (o : Option Reply) → GivesFine (update_unless log job change o)
+        given : (job : Job) → JobHasOrigin P n job → (o : Option Reply) → GivesLimited (update_unless log job change o)
         given job h (Some r) = tt
         given job h None =
             unless_gives (same_limits job.spec (changed_spec job.spec change)) (reply.Unchanged job.version) (written job) (record { dated = h.dated; key = h.key })
 
-        by : (o : Option Job) → IfSome o (JobHasOrigin P n) → GivesFine (update_spec_at log version change o)
+        by : (o : Option Job) → IfSome o (JobHasOrigin P n) → GivesLimited (update_spec_at log version change o)
         by None h = tt
         by (Some job) h =
             unless_gives (is_other version job.version) (reply.Conflict job.version) (update_unless log job change (update_refusal job.spec change))
             (given job h (update_refusal job.spec change))
 
-    delete_fine : (key : Key) → GivesFine (delete_job_gives log key)
-    delete_fine key = by (job_in key log)
+    delete_limited : (key : Key) → GivesLimited (delete_job_gives log key)
+    delete_limited key = by (job_in key log)
       where
-        by : (o : Option Job) → GivesFine (delete_job_at log o)
+        by : (o : Option Job) → GivesLimited (delete_job_at log o)
         by None = tt
         by (Some job) = tt
 
-    status_fine : (key : Key) (uid : Uid) (version : Version) (status : JobStatus) → AreDated n status.conditions → GivesFine (write_status_gives log key uid version status)
-    status_fine key uid version status dated = by (job_in key log) (job-origin log all key)
+    status_limited : (key : Key) (uid : Uid) (version : Version) (status : JobStatus) → AreDated n status.conditions → GivesLimited (write_status_gives log key uid version status)
+    status_limited key uid version status dated = by (job_in key log) (job-origin log all key)
       where
-        by : (o : Option Job) → IfSome o (JobHasOrigin P n) → GivesFine (write_status_at log uid version status o)
+        by : (o : Option Job) → IfSome o (JobHasOrigin P n) → GivesLimited (write_status_at log uid version status o)
         by None h = tt
         by (Some job) h =
             unless_gives (not (same_uid job.uid uid)) reply.NotFound _
@@ -227,63 +227,63 @@ module _ (P : Key → Type 0) (n m : ℕ) where
             (unless_gives (same_status job.status status) (reply.Unchanged job.version) (accepted (reply.Written (next_version log)) (JobPut (with_status log job status)))
             (record { dated = dated; key = h.key })))
 
-    made_fine : (owner : Job) (index : Option ℕ) (now : ℕ) → births log + 1 ≤ m → GivesFine (create_pod_gives log owner index now)
-    made_fine owner index now few = record { some = omega arith; few = few }
+    made_limited : (owner : Job) (index : Option ℕ) (now : ℕ) → births log + 1 ≤ m → GivesLimited (create_pod_gives log owner index now)
+    made_limited owner index now few = record { some = omega arith; few = few }
 
-    mark_fine : (uid : Uid) (now : ℕ) → GivesFine (mark_pod_gives log uid now)
-    mark_fine uid now = by (pod_in uid log) (life_fine log all uid)
+    mark_limited : (uid : Uid) (now : ℕ) → GivesLimited (mark_pod_gives log uid now)
+    mark_limited uid now = by (pod_in uid log) (life_limited log all uid)
       where
-        by : (o : Option Pod) → IfSome o (PodHasOrigin m) → GivesFine (mark_pod_at log now o)
+        by : (o : Option Pod) → IfSome o (PodHasOrigin m) → GivesLimited (mark_pod_at log now o)
         by None h = tt
         by (Some pod) h =
             unless_gives (is_marked pod) (reply.Unchanged pod.version) (accepted (reply.Written (next_version log)) (pod_entry (with_mark log pod now)))
-            (pod_entry_fine (with_mark log pod now) (record { some = h.some; few = h.few }))
+            (pod_entry_limited (with_mark log pod now) (record { some = h.some; few = h.few }))
 
-    released_fine : (pod : Pod) → PodHasOrigin m pod → GivesFine (released log pod)
-    released_fine pod h = pod_entry_fine (without_finalizer log pod) (record { some = h.some; few = h.few })
+    released_limited : (pod : Pod) → PodHasOrigin m pod → GivesLimited (released log pod)
+    released_limited pod h = pod_entry_limited (without_finalizer log pod) (record { some = h.some; few = h.few })
 
-    release_fine : (uid : Uid) → GivesFine (release_gives log uid)
-    release_fine uid = by (pod_in uid log) (life_fine log all uid)
+    release_limited : (uid : Uid) → GivesLimited (release_gives log uid)
+    release_limited uid = by (pod_in uid log) (life_limited log all uid)
       where
-        by : (o : Option Pod) → IfSome o (PodHasOrigin m) → GivesFine (release_at log o)
+        by : (o : Option Pod) → IfSome o (PodHasOrigin m) → GivesLimited (release_at log o)
         by None h = tt
-        by (Some pod) h = or_nothing pod.tracked (released log pod) reply.NotTracked (released_fine pod h)
+        by (Some pod) h = or_nothing pod.tracked (released log pod) reply.NotTracked (released_limited pod h)
 
-    let_go_fine : (uid : Uid) (version : Version) → GivesFine (let_go_gives log uid version)
-    let_go_fine uid version = by (pod_in uid log) (life_fine log all uid)
+    let_go_limited : (uid : Uid) (version : Version) → GivesLimited (let_go_gives log uid version)
+    let_go_limited uid version = by (pod_in uid log) (life_limited log all uid)
       where
-        by : (o : Option Pod) → IfSome o (PodHasOrigin m) → GivesFine (let_go_at log version o)
+        by : (o : Option Pod) → IfSome o (PodHasOrigin m) → GivesLimited (let_go_at log version o)
         by None h = tt
         by (Some pod) h =
             unless_gives (not (pod.version.0 == version.0)) (reply.Conflict pod.version) (cond pod.tracked (released log pod) (refused reply.NotTracked))
-            (or_nothing pod.tracked (released log pod) reply.NotTracked (released_fine pod h))
+            (or_nothing pod.tracked (released log pod) reply.NotTracked (released_limited pod h))
 
-    report_fine : (uid : Uid) (change : PhaseChange) → GivesFine (report_phase_gives log uid change)
-    report_fine uid change = by (pod_in uid log) (life_fine log all uid)
+    report_limited : (uid : Uid) (change : PhaseChange) → GivesLimited (report_phase_gives log uid change)
+    report_limited uid change = by (pod_in uid log) (life_limited log all uid)
       where
-        unless : (pod : Pod) → PodHasOrigin m pod → (o : Option ContainerChange) → GivesFine (report_unless log pod change o)
+        unless : (pod : Pod) → PodHasOrigin m pod → (o : Option ContainerChange) → GivesLimited (report_unless log pod change o)
         unless pod h (Some unnamed) = tt
         unless pod h None =
             unless_gives (same_course_of pod (with_report log pod change)) (reply.Unchanged pod.version) (accepted (reply.Written (next_version log)) (pod_entry (with_report log pod change)))
-            (pod_entry_fine (with_report log pod change) (record { some = h.some; few = h.few }))
+            (pod_entry_limited (with_report log pod change) (record { some = h.some; few = h.few }))
 
-        by : (o : Option Pod) → IfSome o (PodHasOrigin m) → GivesFine (report_phase_at log change o)
+        by : (o : Option Pod) → IfSome o (PodHasOrigin m) → GivesLimited (report_phase_at log change o)
         by None h = tt
         by (Some pod) h =
             unless_gives (is_final pod.phase) (reply.Final pod.phase) (cond (same_phase pod.phase Running && same_phase change.phase Pending) (refused (reply.BadStep Running Pending)) (report_unless log pod change (find (is_unnamed pod) change.containers)))
             (unless_gives (same_phase pod.phase Running && same_phase change.phase Pending) (reply.BadStep Running Pending) (report_unless log pod change (find (is_unnamed pod) change.containers))
             (unless pod h (find (is_unnamed pod) change.containers)))
 
-    finish_fine : (uid : Uid) (exit : ℤ) → GivesFine (finish_gives log (pod_in uid log) (λ pod. report_phase_gives log uid (finish_change pod exit)))
-    finish_fine uid exit = by (pod_in uid log)
+    finish_limited : (uid : Uid) (exit : ℤ) → GivesLimited (finish_gives log (pod_in uid log) (λ pod. report_phase_gives log uid (finish_change pod exit)))
+    finish_limited uid exit = by (pod_in uid log)
       where
-        by : (o : Option Pod) → GivesFine (finish_gives log o (λ pod. report_phase_gives log uid (finish_change pod exit)))
+        by : (o : Option Pod) → GivesLimited (finish_gives log o (λ pod. report_phase_gives log uid (finish_change pod exit)))
         by None = tt
-        by (Some pod) = report_fine uid (finish_change pod exit)
+        by (Some pod) = report_limited uid (finish_change pod exit)
 
-    node_fine : (o : Option (Pod × NodeAct)) → GivesFine (node_gives log o)
-    node_fine None = tt
-    node_fine (Some step) = report_fine step.0.uid (change_by step.0 step.1)
+    node_limited : (o : Option (Pod × NodeAct)) → GivesLimited (node_gives log o)
+    node_limited None = tt
+    node_limited (Some step) = report_limited step.0.uid (change_by step.0 step.1)
 
     -- ---- the steps of a sync
 
@@ -302,129 +302,129 @@ module _ (P : Key → Type 0) (n m : ℕ) where
     unfolding second_value
     second_dated job b past h = settled_dated n b.now past job.spec.suspend _ _ job.status.conditions h
 
-    record PlansFine (one other : Option JobStatus) : Type 0 where
+    record PlansLimited (one other : Option JobStatus) : Type 0 where
       first : IfSome one (λ (status : JobStatus). AreDated n status.conditions)
       second : IfSome other (λ (status : JobStatus). AreDated n status.conditions)
 
-    plan_fine : (b : Basis) → IsFineBasis b → PlansFine (planned b).first (planned b).second
+    plan_limited : (b : Basis) → IsLimitedBasis b → PlansLimited (planned b).first (planned b).second
     unfolding planned
-    plan_fine b h = by b.job h.job
+    plan_limited b h = by b.job h.job
       where
-        by : (o : Option Job) → IfSome o (JobHasOrigin P n) → PlansFine (planned_for b o).first (planned_for b o).second
+        by : (o : Option Job) → IfSome o (JobHasOrigin P n) → PlansLimited (planned_for b o).first (planned_for b o).second
         by None g = record { first = tt; second = tt }
         by (Some job) g = record {
           first = changed_dated job.status (first_value job b) (first_dated job b h.now g.dated);
           second = changed_dated (first_value job b) (second_value job b) (second_dated job b h.now g.dated);
         }
 
-    module _ (few : births log + 1 ≤ m) (now : ℕ) (flight : Flight) (h : IsFineBasis flight.basis) where
-      written_fine : (o : Option JobStatus) → IfSome o (λ (status : JobStatus). AreDated n status.conditions) → GivesFine (written_gives log flight o)
-      written_fine None g = tt
-      written_fine (Some status) g = by flight.basis.job
+    module _ (few : births log + 1 ≤ m) (now : ℕ) (flight : Flight) (h : IsLimitedBasis flight.basis) where
+      written_limited : (o : Option JobStatus) → IfSome o (λ (status : JobStatus). AreDated n status.conditions) → GivesLimited (written_gives log flight o)
+      written_limited None g = tt
+      written_limited (Some status) g = by flight.basis.job
         where
-          by : (o : Option Job) → GivesFine (status_gives log flight status o)
+          by : (o : Option Job) → GivesLimited (status_gives log flight status o)
           by None = tt
-          by (Some job) = status_fine flight.basis.key job.uid flight.sends status g
+          by (Some job) = status_limited flight.basis.key job.uid flight.sends status g
 
-      make_fine : (index : Option ℕ) (o : Option Job) → GivesFine (make_gives log index now o)
-      make_fine index None = tt
-      make_fine index (Some job) = made_fine job index now few
+      make_limited : (index : Option ℕ) (o : Option Job) → GivesLimited (make_gives log index now o)
+      make_limited index None = tt
+      make_limited index (Some job) = made_limited job index now few
 
-      answered_fine : (ask : Ask) → GivesFine (answered_to log now flight ask)
-      answered_fine (MakePod index) = make_fine index flight.basis.job
-      answered_fine (MarkPod u) = mark_fine u now
-      answered_fine (LetPodGo u v) = let_go_fine u v
-      answered_fine WriteFirst = written_fine (planned flight.basis).first (plan_fine flight.basis h).first
-      answered_fine (ReleasePod u) = release_fine u
-      answered_fine WriteSecond = written_fine (planned flight.basis).second (plan_fine flight.basis h).second
+      answered_limited : (ask : Ask) → GivesLimited (answered_to log now flight ask)
+      answered_limited (MakePod index) = make_limited index flight.basis.job
+      answered_limited (MarkPod u) = mark_limited u now
+      answered_limited (LetPodGo u v) = let_go_limited u v
+      answered_limited WriteFirst = written_limited (planned flight.basis).first (plan_limited flight.basis h).first
+      answered_limited (ReleasePod u) = release_limited u
+      answered_limited WriteSecond = written_limited (planned flight.basis).second (plan_limited flight.basis h).second
 
-      stepped_fine : (fault : Option Fault) (left : List Ask) → GivesFine (step_done (stepped_at now fault log flight left))
-      stepped_fine fault [] = tt
-      stepped_fine None (ask ∷ left) = answered_fine ask
-      stepped_fine (Some Drop) (ask ∷ left) = tt
-      stepped_fine (Some Lose) (ask ∷ left) = answered_fine ask
+      stepped_limited : (fault : Option Fault) (left : List Ask) → GivesLimited (step_done (stepped_at now fault log flight left))
+      stepped_limited fault [] = tt
+      stepped_limited None (ask ∷ left) = answered_limited ask
+      stepped_limited (Some Drop) (ask ∷ left) = tt
+      stepped_limited (Some Lose) (ask ∷ left) = answered_limited ask
 
   -- ---- what a controller has noted
 
-  abbrev IsFineNote : Note → Type 0
-  IsFineNote (Began worker b) = IsFineBasis b
-  IsFineNote other = Unit {0}
+  abbrev IsLimitedNote : Note → Type 0
+  IsLimitedNote (Began worker b) = IsLimitedBasis b
+  IsLimitedNote other = Unit {0}
 
-  newest_fine : (w : ℕ) (notes : List Note) → Each IsFineNote notes → IfSome (newest (register_told w) notes) (λ o. IfSome o IsFineBasis)
-  newest_fine w [] all = tt
-  newest_fine w (Began worker b ∷ older) all = by (newest_fine w older all.1) (worker == w)
+  newest_limited : (w : ℕ) (notes : List Note) → Each IsLimitedNote notes → IfSome (newest (register_told w) notes) (λ o. IfSome o IsLimitedBasis)
+  newest_limited w [] all = tt
+  newest_limited w (Began worker b ∷ older) all = by (newest_limited w older all.1) (worker == w)
     where
-      by : IfSome (newest (register_told w) older) (λ o. IfSome o IsFineBasis) → (t : Bool)
-          → IfSome (option_or (cond t (Some (Some b)) None) (newest (register_told w) older)) (λ o. IfSome o IsFineBasis)
+      by : IfSome (newest (register_told w) older) (λ o. IfSome o IsLimitedBasis) → (t : Bool)
+          → IfSome (option_or (cond t (Some (Some b)) None) (newest (register_told w) older)) (λ o. IfSome o IsLimitedBasis)
       by rest true = all.0
       by rest false = rest
-  newest_fine w (Ended worker b end now ∷ older) all = by (newest_fine w older all.1) (worker == w)
+  newest_limited w (Ended worker b end now ∷ older) all = by (newest_limited w older all.1) (worker == w)
     where
-      by : IfSome (newest (register_told w) older) (λ o. IfSome o IsFineBasis) → (t : Bool)
-          → IfSome (option_or (cond t (Some None) None) (newest (register_told w) older)) (λ o. IfSome o IsFineBasis)
+      by : IfSome (newest (register_told w) older) (λ o. IfSome o IsLimitedBasis) → (t : Bool)
+          → IfSome (option_or (cond t (Some None) None) (newest (register_told w) older)) (λ o. IfSome o IsLimitedBasis)
       by rest true = tt
       by rest false = rest
-  newest_fine w (Listed kind at keys ∷ older) all = newest_fine w older all.1
-  newest_fine w (Told kind at key ∷ older) all = newest_fine w older all.1
-  newest_fine w (Expired kind ∷ older) all = newest_fine w older all.1
-  newest_fine w (SentBack key ∷ older) all = newest_fine w older all.1
-  newest_fine w (Asked worker b request answer ∷ older) all = newest_fine w older all.1
-  newest_fine w (Faulted worker fault ∷ older) all = newest_fine w older all.1
-  newest_fine w (Ticked at ∷ older) all = newest_fine w older all.1
+  newest_limited w (Listed kind at keys ∷ older) all = newest_limited w older all.1
+  newest_limited w (Told kind at key ∷ older) all = newest_limited w older all.1
+  newest_limited w (Expired kind ∷ older) all = newest_limited w older all.1
+  newest_limited w (SentBack key ∷ older) all = newest_limited w older all.1
+  newest_limited w (Asked worker b request answer ∷ older) all = newest_limited w older all.1
+  newest_limited w (Faulted worker fault ∷ older) all = newest_limited w older all.1
+  newest_limited w (Ticked at ∷ older) all = newest_limited w older all.1
 
-  register_fine : (w : ℕ) (notes : List Note) → Each IsFineNote notes → IfSome (register w notes) IsFineBasis
-  register_fine w notes all = by (newest (register_told w) notes) (newest_fine w notes all)
+  register_limited : (w : ℕ) (notes : List Note) → Each IsLimitedNote notes → IfSome (register w notes) IsLimitedBasis
+  register_limited w notes all = by (newest (register_told w) notes) (newest_limited w notes all)
     where
-      by : (o : Option (Option Basis)) → IfSome o (λ o. IfSome o IsFineBasis) → IfSome (unwrap_or o None) IsFineBasis
+      by : (o : Option (Option Basis)) → IfSome o (λ o. IfSome o IsLimitedBasis) → IfSome (unwrap_or o None) IsLimitedBasis
       by None h = tt
       by (Some o) h = h
 
-  if_noted : (b : Bool) (notes : List Note) → Each IsFineNote notes → Each IsFineNote (cond b notes [])
+  if_noted : (b : Bool) (notes : List Note) → Each IsLimitedNote notes → Each IsLimitedNote (cond b notes [])
   if_noted true notes all = all
   if_noted false notes all = tt
 
-  both_noted : (first rest : List Note) → Each IsFineNote first → Each IsFineNote rest → Each IsFineNote (first ++ rest)
+  both_noted : (first rest : List Note) → Each IsLimitedNote first → Each IsLimitedNote rest → Each IsLimitedNote (first ++ rest)
   both_noted [] rest one all = all
   both_noted (note ∷ first) rest one all = (one.0, both_noted first rest one.1 all)
 
   module _ (log : List Entry) (all : HaveOrigins log) (now : ℕ) (past : now ≤ n) where
-    lag_noted : (keys : List Key) → Each IsFineNote (on_lag keys)
+    lag_noted : (keys : List Key) → Each IsLimitedNote (on_lag keys)
     lag_noted [] = tt
     lag_noted (k ∷ keys) = (tt, tt)
 
-    begin_noted : (worker : ℕ) (older : List Note) (r : Reply) → Each IsFineNote (on_begin worker now log older r)
+    begin_noted : (worker : ℕ) (older : List Note) (r : Reply) → Each IsLimitedNote (on_begin worker now log older r)
     begin_noted worker older (reply.Begun key jobs_at pods_at) =
-        (record { now = past; job = job-origin (upto jobs_at.0 log) (upto_fine jobs_at.0 log all) key }, tt)
+        (record { now = past; job = job-origin (upto jobs_at.0 log) (upto_limited jobs_at.0 log all) key }, tt)
     begin_noted worker older (reply.Behind kind need have) = lag_noted (line older)
     begin_noted worker older other = tt
 
-    list_noted : (kind : Kind) (r : Reply) → Each IsFineNote (on_list kind log r)
+    list_noted : (kind : Kind) (r : Reply) → Each IsLimitedNote (on_list kind log r)
     list_noted kind (reply.Listed at) = (tt, tt)
     list_noted kind other = tt
 
-    delivery_noted : (kind : Kind) (r : Reply) → Each IsFineNote (on_delivery kind log r)
+    delivery_noted : (kind : Kind) (r : Reply) → Each IsLimitedNote (on_delivery kind log r)
     delivery_noted kind (reply.Delivered version) = (tt, tt)
     delivery_noted kind (reply.Expired floor) = (tt, tt)
     delivery_noted kind other = tt
 
-    clock_noted : (r : Reply) → Each IsFineNote (on_clock r)
+    clock_noted : (r : Reply) → Each IsLimitedNote (on_clock r)
     clock_noted (reply.Now moment) = (tt, tt)
     clock_noted other = tt
 
-    answer_noted : (worker : ℕ) (b : Basis) (asked : Request) (given : Answer) → Each IsFineNote (on_answer worker b now asked given)
+    answer_noted : (worker : ℕ) (b : Basis) (asked : Request) (given : Answer) → Each IsLimitedNote (on_answer worker b now asked given)
     answer_noted worker b asked given = by (end_by (asks_status asked) given)
       where
-        by : (o : Option SyncEnd) → Each IsFineNote (option_to_list (option_map (λ end. Ended worker b end now) o) ++ Asked worker b asked given ∷ [])
+        by : (o : Option SyncEnd) → Each IsLimitedNote (option_to_list (option_map (λ end. Ended worker b end now) o) ++ Asked worker b asked given ∷ [])
         by None = (tt, tt)
         by (Some end) = (tt, (tt, tt))
 
-    step_noted : (worker : ℕ) (o : Option Basis) (r : Reply) → Each IsFineNote (on_step worker now o r)
+    step_noted : (worker : ℕ) (o : Option Basis) (r : Reply) → Each IsLimitedNote (on_step worker now o r)
     step_noted worker (Some b) (reply.Stepped asked given) = answer_noted worker b asked given
     step_noted worker (Some b) reply.Ended = (tt, tt)
     step_noted worker (Some b) other = tt
     step_noted worker None other = tt
 
-    taken_noted : (c : ℕ) (act : Act) (r : Reply) (older : List Note) → Each IsFineNote (notes_taken c act r now log older)
+    taken_noted : (c : ℕ) (act : Act) (r : Reply) (older : List Note) → Each IsLimitedNote (notes_taken c act r now log older)
     taken_noted c (does.List controller kind) r older = if_noted (controller == c) (on_list kind log r) (list_noted kind r)
     taken_noted c (does.Deliver controller kind) r older = if_noted (controller == c) (on_delivery kind log r) (delivery_noted kind r)
     taken_noted c (does.Begin controller worker) r older = if_noted (controller == c) (on_begin worker now log older r) (begin_noted worker older r)
@@ -434,15 +434,15 @@ module _ (P : Key → Type 0) (n m : ℕ) where
     taken_noted c (does.Clock add) r older = clock_noted r
     taken_noted c other r older = tt
 
-  notes_fine : (shape : Shape) (c : ℕ) (deeds : List Deed) (log : List Entry) → HaveOrigins log → moment shape deeds ≤ n → Each IsFineNote (notes shape c deeds log)
-  notes_fine shape c [] log all past = tt
-  notes_fine shape c (d ∷ deeds) log all past =
-      by (notes_fine shape c deeds log all (omega (arith, past))) (restarts c d.act)
+  notes_limited : (shape : Shape) (c : ℕ) (deeds : List Deed) (log : List Entry) → HaveOrigins log → moment shape deeds ≤ n → Each IsLimitedNote (notes shape c deeds log)
+  notes_limited shape c [] log all past = tt
+  notes_limited shape c (d ∷ deeds) log all past =
+      by (notes_limited shape c deeds log all (omega (arith, past))) (restarts c d.act)
     where
       older : List Note
       older = notes shape c deeds log
 
-      by : Each IsFineNote older → (b : Bool) → Each IsFineNote (cond b [] (notes_taken c d.act d.reply (moment shape deeds) log older ++ older))
+      by : Each IsLimitedNote older → (b : Bool) → Each IsLimitedNote (cond b [] (notes_taken c d.act d.reply (moment shape deeds) log older ++ older))
       by rest true = tt
       by rest false =
           both_noted (notes_taken c d.act d.reply (moment shape deeds) log older) older
@@ -451,53 +451,53 @@ module _ (P : Key → Type 0) (n m : ℕ) where
   -- ---- what each act appends
 
   module _ (shape : Shape) (past : List Deed) (log : List Entry) (all : HaveOrigins log) (few : births log + 1 ≤ m) (before : moment shape past ≤ n) where
-    clock_fine : (at : ℕ) → GivesFine (clock_gives at)
-    clock_fine at = by (nat_lt at end_of_moments)
+    clock_limited : (at : ℕ) → GivesLimited (clock_gives at)
+    clock_limited at = by (nat_lt at end_of_moments)
       where
-        by : (b : Bool) → GivesFine (cond b (refused (reply.Now at)) (refused reply.ClockEnd))
+        by : (b : Bool) → GivesLimited (cond b (refused (reply.Now at)) (refused reply.ClockEnd))
         by true = tt
         by false = tt
 
-    deliver_fine : (window : ℕ) (o : Option Version) → GivesFine (deliver_gives log window o)
-    deliver_fine window None = tt
-    deliver_fine window (Some version) = by (nat_lt version.0 (length log - window)) (version.0 == length log)
+    deliver_limited : (window : ℕ) (o : Option Version) → GivesLimited (deliver_gives log window o)
+    deliver_limited window None = tt
+    deliver_limited window (Some version) = by (nat_lt version.0 (length log - window)) (version.0 == length log)
       where
-        by : (p q : Bool) → GivesFine (cond p (refused (reply.Expired (record { 0 = length log - window }))) (cond q (refused reply.UpToDate) (refused (reply.Delivered (record { 0 = version.0 + 1 })))))
+        by : (p q : Bool) → GivesLimited (cond p (refused (reply.Expired (record { 0 = length log - window }))) (cond q (refused reply.UpToDate) (refused (reply.Delivered (record { 0 = version.0 + 1 })))))
         by true q = tt
         by false true = tt
         by false false = tt
 
-    begin_fine : (o : Option Basis) (b : Begin) → GivesFine (begin_gives o b)
-    begin_fine None b = tt
-    begin_fine (Some basis) b = tt
+    begin_limited : (o : Option Basis) (b : Begin) → GivesLimited (begin_gives o b)
+    begin_limited None b = tt
+    begin_limited (Some basis) b = tt
 
-    step_fine : (made : List (Request × Answer)) (fault : Option Fault) (o : Option Basis) → IfSome o IsFineBasis → GivesFine (step_gives log (moment shape past) made fault o)
-    step_fine made fault None h = tt
-    step_fine made fault (Some b) h = stepped_fine log all few (moment shape past) (so_far b made).flight h fault (so_far b made).left
+    step_limited : (made : List (Request × Answer)) (fault : Option Fault) (o : Option Basis) → IfSome o IsLimitedBasis → GivesLimited (step_gives log (moment shape past) made fault o)
+    step_limited made fault None h = tt
+    step_limited made fault (Some b) h = stepped_limited log all few (moment shape past) (so_far b made).flight h fault (so_far b made).left
 
-    act_fine : (act : Act) → CreatesOf P act → GivesFine (gives shape past log act)
+    act_limited : (act : Act) → CreatesOf P act → GivesLimited (gives shape past log act)
     unfolding gives
-    act_fine (does.Create key spec) asks = create_fine log all key spec (moment shape past) asks
-    act_fine (does.Update key version change) asks = update_fine log all key version change
-    act_fine (does.Delete key) asks = delete_fine log all key
-    act_fine (does.Mark pod) asks = mark_fine log all pod (moment shape past)
-    act_fine (does.Strip pod) asks = release_fine log all pod
-    act_fine (does.Finish uid exit) asks = finish_fine log all uid exit
-    act_fine (does.Report pod change) asks = report_fine log all pod change
-    act_fine (does.Fate key ends) asks = tt
-    act_fine (does.Clock add) asks = clock_fine (moment shape past + add)
-    act_fine (does.List controller kind) asks = tt
-    act_fine (does.Deliver controller kind) asks = deliver_fine shape.window (number kind (notes shape controller past log))
-    act_fine (does.Begin controller worker) asks =
-        begin_fine (register worker (notes shape controller past log)) (begin_of (notes shape controller past log) log (moment shape past))
-    act_fine (does.Step controller worker) asks =
-        step_fine (made worker (notes shape controller past log)) (pending worker (notes shape controller past log)) (register worker (notes shape controller past log))
-        (register_fine worker (notes shape controller past log) (notes_fine shape controller past log all before))
-    act_fine does.Node asks = node_fine log all (node_step log (fate past))
-    act_fine (does.Restart controller) asks = tt
-    act_fine (does.PutFault controller worker fault) asks = tt
-    act_fine does.Settle asks = tt
-    act_fine does.Unknown asks = tt
+    act_limited (does.Create key spec) asks = create_limited log all key spec (moment shape past) asks
+    act_limited (does.Update key version change) asks = update_limited log all key version change
+    act_limited (does.Delete key) asks = delete_limited log all key
+    act_limited (does.Mark pod) asks = mark_limited log all pod (moment shape past)
+    act_limited (does.Strip pod) asks = release_limited log all pod
+    act_limited (does.Finish uid exit) asks = finish_limited log all uid exit
+    act_limited (does.Report pod change) asks = report_limited log all pod change
+    act_limited (does.Fate key ends) asks = tt
+    act_limited (does.Clock add) asks = clock_limited (moment shape past + add)
+    act_limited (does.List controller kind) asks = tt
+    act_limited (does.Deliver controller kind) asks = deliver_limited shape.window (number kind (notes shape controller past log))
+    act_limited (does.Begin controller worker) asks =
+        begin_limited (register worker (notes shape controller past log)) (begin_of (notes shape controller past log) log (moment shape past))
+    act_limited (does.Step controller worker) asks =
+        step_limited (made worker (notes shape controller past log)) (pending worker (notes shape controller past log)) (register worker (notes shape controller past log))
+        (register_limited worker (notes shape controller past log) (notes_limited shape controller past log all before))
+    act_limited does.Node asks = node_limited log all (node_step log (fate past))
+    act_limited (does.Restart controller) asks = tt
+    act_limited (does.PutFault controller worker fault) asks = tt
+    act_limited does.Settle asks = tt
+    act_limited does.Unknown asks = tt
 
 -- ---- the log of deeds
 
@@ -524,7 +524,7 @@ module _ (P : Key → Type 0) where
       let older = all_weaker (moment shape past) (length past) n m (omega arith) (omega arith) log before.origins in
       let births = births_within log in
       by (log_given shape past) older few (gives shape past (log_given shape past) d.act).entry
-      (act_fine P n m shape past log older (omega (arith, births, few)) (omega arith) d.act asks.0)
+      (act_limited P n m shape past log older (omega (arith, births, few)) (omega arith) d.act asks.0)
     where
       by : (log : List Entry) → Each (HasOrigin P (moment shape (d ∷ past)) (length (d ∷ past))) log → length log ≤ length past
           → (o : Option Entry) → IfSome o (HasOrigin P (moment shape (d ∷ past)) (length (d ∷ past)))

@@ -93,6 +93,10 @@ pub exit_is_allowed : (path name : List ℕ) (d : Data) → IfOk (read_as (neede
 unfolding needed_number
 exit_is_allowed path name d = exit_member (path_to path name) (member_of name d)
 
+type_of : (o : Option (List ℕ)) → IfSome o (IsTestedText is_type) → IfSome o IsAllowedType
+type_of None h = tt
+type_of (Some kind) h = h
+
 end_allowed : (path : List ℕ) (d : Data) → IsSpelled d → IfOk (end_said path d) IsAllowedEnd
 unfolding end_said
 end_allowed path d h =
@@ -101,7 +105,7 @@ end_allowed path d h =
     (given_is_within path (codes "restarts") 0 GREATEST_LIMIT d)
     (λ restarts second. using_first IsAllowedEnd (λ o. IfSome o (IsTestedText is_type)) (given_text_in path (codes "condition") 30 is_type d) _
     (given_text_tested path (codes "condition") 30 is_type d h)
-    (λ condition third. record { exit = first; restarts = or_zero restarts GREATEST_LIMIT second; condition = third })))
+    (λ condition third. record { exit = first; restarts = or_zero restarts GREATEST_LIMIT second; condition = type_of condition third })))
 
 end_at_allowed : (list : List ℕ) (place : ℕ) (d : Data) → IsSpelled d → IfOk (end_said_at list place d) IsAllowedEnd
 unfolding end_said_at

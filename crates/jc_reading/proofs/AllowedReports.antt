@@ -216,4 +216,4 @@ report_allowed d h =
     whatever IsAllowedReport (word_in [] (codes "phase") phase_of d) _
     (λ phase. using_first IsAllowedReport AreAllowed (containers_in d) _ (containers_allowed d h)
     (λ containers first. using_first IsAllowedReport (Each IsAllowedCondition) (conditions_in d) _ (conditions_allowed d h)
-    (λ conditions second. record { rising = first.0; containers = first.1; conditions = second })))
+    (λ conditions second. record { rising = first.0; containers = first.1; conditions = each (λ condition allowed. allowed) conditions second })))

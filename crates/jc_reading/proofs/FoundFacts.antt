@@ -5,7 +5,6 @@ use Rattle.std.specs.Cmp.Lexicographic.{bytes_decides}
 use Rattle.std.specs.Result.{result_ok}
 use Rattle.std.proofs.lemmas.List.{take-append-drop}
 use Rattle.std.proofs.lemmas.Option.{none-some, same_Some, cond_some as tested_by}
-use Rattle.serde_json.specs.Read.{read}
 use Rattle.jc_json.specs.Line.{data_of}
 use Rattle.jc_manifest.specs.Manifests.{key_of, manifest_refusal, spec_of}
 use Rattle.jc_script.specs.Ends.{ends_said}

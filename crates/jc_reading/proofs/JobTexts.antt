@@ -132,11 +132,11 @@ both_texts (name ∷ names) more first second = (first.0, both_texts names more 
 -- one of the names is a text as they are
 among_text : (names : List (List ℕ)) (name : List ℕ) → Each IsUtf8 names → is_among names name ≡ true → IsUtf8 name
 among_text [] name all is = absurd (true≢false (sym is))
-among_text (other ∷ names) name all is = by (bytes_eq other name) refl is
+among_text (first ∷ names) name all is = by (among_text names name all.1) (bytes_eq first name) refl is
   where
-    by : (b : Bool) → bytes_eq other name ≡ b → (b || is_among names name) ≡ true → IsUtf8 name
-    by true same e = subst IsUtf8 ((bytes_decides other name).0 same) all.0
-    by false other e = among_text names name all.1 e
+    by : (is_among names name ≡ true → IsUtf8 name) → (b : Bool) → bytes_eq first name ≡ b → (b || is_among names name) ≡ true → IsUtf8 name
+    by rest true same e = subst IsUtf8 ((bytes_decides first name).0 same) all.0
+    by rest false same e = rest e
 
 requirement_texts : (names : List (List ℕ)) → Each IsUtf8 names → (r : Requirement) → IsAllowedRequirement names r → HasUnicode r → HasTextsIn r
 requirement_texts names all (ExitCodes None operator values) allowed types = tt

@@ -37,7 +37,7 @@ use Rattle.jc_types.specs.declared.statuses.Condition.{Condition}
 use Rattle.jc_reap.specs.declared.expiries.Expiry.{Expiry}
 use Rattle.jc_reap.specs.Expiries.{MayGo, ended_at, expired, is_end, ttl_at}
 use Rattle.jc_origins.specs.Origins.{AllCreateOf, AreDated, CreatesOf, HasOrigin, JobHasOrigin, PodHasOrigin}
-use Rattle.jc_reap.specs.Given.{Creates, IsGiven, IsSmallTtl}
+use Rattle.jc_reap.specs.Said.{Creates, CanBeSaid, IsSmallTtl}
 use Rattle.jc_reap.specs.Makers.{maker}
 use Rattle.jc_reap.specs.Reaping.{clock_to, command, is_ownerless, later_moment, mark_commands, ownerless, reap_list, removal, removals, then_settle, ttl_seen, unsettled}
 use Rattle.jc_reap.specs.TtlLines.{greatest_ttl, line_ttls, makes_job, spec_member, spec_path, text_ttls, ttl_given, ttl_of_command, ttl_of_spec, ttls_before, ttls_of, ttls_say}
@@ -66,8 +66,8 @@ each_times P (suc n) a holds = (holds, each_times P n a holds)
 
 module _ (P : Key → Type 0) where
   action_of : (a : Action1) → Creates P a → CreatesOf P (act_of_action a)
-  action_of (act.Create key spec) fine = fine
-  action_of other fine = tt
+  action_of (act.Create key spec) limited = limited
+  action_of other limited = tt
 
   system_of : (s : Sys) → CreatesOf P (act_of_system s)
   system_of (sys.List controller kind) = tt
@@ -78,46 +78,46 @@ module _ (P : Key → Type 0) where
   system_of (sys.Clock add) = tt
 
   command_of : (commands : List Command) (n : ℕ) → Each (λ (command : Command). Creates P command.action) commands → CreatesOf P (act_of_command (slice_get commands n))
-  command_of [] zero fine = tt
-  command_of [] (suc n) fine = tt
-  command_of (command ∷ commands) zero fine = action_of command.action fine.0
-  command_of (command ∷ commands) (suc n) fine = command_of commands n fine.1
+  command_of [] zero limited = tt
+  command_of [] (suc n) limited = tt
+  command_of (command ∷ commands) zero limited = action_of command.action limited.0
+  command_of (command ∷ commands) (suc n) limited = command_of commands n limited.1
 
   asks_of : (script : Script) (pasts : List Past) → Each (λ (command : Command). Creates P command.action) script.commands → AllCreateOf P (deeds_in script pasts)
-  asks_of script [] fine = tt
-  asks_of script (past ∷ pasts) fine = (by past.event, asks_of script pasts fine)
+  asks_of script [] limited = tt
+  asks_of script (past ∷ pasts) limited = (by past.event, asks_of script pasts limited)
     where
       by : (e : Event) → CreatesOf P (act_of_event script.commands e)
-      by (event.Command lane number) = command_of script.commands number fine
+      by (event.Command lane number) = command_of script.commands number limited
       by (event.System s) = system_of s
 
   -- ---- pods of the log
 
   module _ (n m : ℕ) where
-    put_fine : (pod : Pod) (pods : List Pod) → PodHasOrigin m pod → Each (PodHasOrigin m) pods → Each (PodHasOrigin m) (put_pod pod pods)
-    put_fine pod [] one all = (one, tt)
-    put_fine pod (q ∷ pods) one all = by (put_fine pod pods one all.1) (nat_lt pod.uid.0 q.uid.0) (pod.uid.0 == q.uid.0)
+    put_limited : (pod : Pod) (pods : List Pod) → PodHasOrigin m pod → Each (PodHasOrigin m) pods → Each (PodHasOrigin m) (put_pod pod pods)
+    put_limited pod [] one all = (one, tt)
+    put_limited pod (q ∷ pods) one all = by (put_limited pod pods one all.1) (nat_lt pod.uid.0 q.uid.0) (pod.uid.0 == q.uid.0)
       where
         by : Each (PodHasOrigin m) (put_pod pod pods) → (s t : Bool) → Each (PodHasOrigin m) (cond s (pod ∷ q ∷ pods) (cond t (pod ∷ pods) (q ∷ put_pod pod pods)))
         by rest true t = (one, all)
         by rest false true = (one, all.1)
         by rest false false = (all.0, rest)
 
-    pods_fine : (log : List Entry) → Each (HasOrigin P n m) log → Each (PodHasOrigin m) (pods_in log)
-    pods_fine [] all = tt
-    pods_fine (JobPut job ∷ older) all = pods_fine older all.1
-    pods_fine (JobGone job ∷ older) all = pods_fine older all.1
-    pods_fine (PodPut pod ∷ older) all = put_fine pod (pods_in older) all.0 (pods_fine older all.1)
-    pods_fine (PodGone pod ∷ older) all = each_kept (PodHasOrigin m) (λ p. not (same_uid p.uid pod.uid)) (pods_in older) (pods_fine older all.1)
+    pods_limited : (log : List Entry) → Each (HasOrigin P n m) log → Each (PodHasOrigin m) (pods_in log)
+    pods_limited [] all = tt
+    pods_limited (JobPut job ∷ older) all = pods_limited older all.1
+    pods_limited (JobGone job ∷ older) all = pods_limited older all.1
+    pods_limited (PodPut pod ∷ older) all = put_limited pod (pods_in older) all.0 (pods_limited older all.1)
+    pods_limited (PodGone pod ∷ older) all = each_kept (PodHasOrigin m) (λ p. not (same_uid p.uid pod.uid)) (pods_in older) (pods_limited older all.1)
 
-    abbrev AreGiven : List Command → Type 0
-    AreGiven commands = Each (λ (command : Command). IsGiven P command.action) commands
+    abbrev CanAllBeSaid : List Command → Type 0
+    CanAllBeSaid commands = Each (λ (command : Command). CanBeSaid P command.action) commands
 
-    marks_given : m < 2 ^ 32 → (pods : List Pod) → Each (PodHasOrigin m) pods → AreGiven (mark_commands pods)
-    marks_given few [] all = tt
-    marks_given few (pod ∷ pods) all =
+    marks_said : m < 2 ^ 32 → (pods : List Pod) → Each (PodHasOrigin m) pods → CanAllBeSaid (mark_commands pods)
+    marks_said few [] all = tt
+    marks_said few (pod ∷ pods) all =
         let most = all.0.few in
-        ((all.0.some, omega (arith, most, few)), marks_given few pods all.1)
+        ((all.0.some, omega (arith, most, few)), marks_said few pods all.1)
 
     -- ---- Jobs whose time is over
 
@@ -136,29 +136,29 @@ module _ (P : Key → Type 0) where
         by None h = tt
         by (Some c) h = h
 
-    record IsFineRow (row : Expiry × Uid) : Type 0 where
+    record IsLimitedRow (row : Expiry × Uid) : Type 0 where
       key : P row.0.key
       due : row.0.moment ≤ n + greatest_ttl
 
     at_some : {A : Type 0} (Q : A → Type 0) (o : Option A) (a : A) → o ≡ Some a → IfSome o Q → Q a
     at_some Q o a e h = subst (λ o. IfSome o Q) e h
 
-    row_fine : (ttl : Uid → Option ℕ) → ((u : Uid) → IsSmallTtl (ttl u)) → (log : List Entry) → Each (HasOrigin P n m) log → (row : Expiry × Uid) → MayGo ttl log row → IsFineRow row
-    row_fine ttl small log all row may =
+    row_limited : (ttl : Uid → Option ℕ) → ((u : Uid) → IsSmallTtl (ttl u)) → (log : List Entry) → Each (HasOrigin P n m) log → (row : Expiry × Uid) → MayGo ttl log row → IsLimitedRow row
+    row_limited ttl small log all row may =
         let job = at_some (JobHasOrigin P n) (job_in row.0.key log) may.job may.there (job-origin P n m log all row.0.key) in
         let end : may.end ≤ n = at_some (λ end. end ≤ n) (ended_at may.job.status.conditions) may.end may.ended (ended_dated may.job.status.conditions job.dated) in
         let seconds : may.seconds ≤ greatest_ttl = at_some (λ seconds. seconds ≤ greatest_ttl) (ttl row.1) may.seconds may.given (small row.1) in
         let due = may.due in
         record { key = subst P (job_in-key row.0.key log may.job may.there) job.key; due = omega (arith, due, end, seconds) }
 
-    rows_fine : (ttl : Uid → Option ℕ) → ((u : Uid) → IsSmallTtl (ttl u)) → (log : List Entry) → Each (HasOrigin P n m) log → (rows : List (Expiry × Uid)) → Each (MayGo ttl log) rows → Each IsFineRow rows
-    rows_fine ttl small log all [] may = tt
-    rows_fine ttl small log all (row ∷ rows) may = (row_fine ttl small log all row may.0, rows_fine ttl small log all rows may.1)
+    rows_limited : (ttl : Uid → Option ℕ) → ((u : Uid) → IsSmallTtl (ttl u)) → (log : List Entry) → Each (HasOrigin P n m) log → (rows : List (Expiry × Uid)) → Each (MayGo ttl log) rows → Each IsLimitedRow rows
+    rows_limited ttl small log all [] may = tt
+    rows_limited ttl small log all (row ∷ rows) may = (row_limited ttl small log all row may.0, rows_limited ttl small log all rows may.1)
 
-    clock_given : (reached due : ℕ) → n ≤ reached → due ≤ n + greatest_ttl → AreGiven (clock_to reached due)
-    clock_given reached due past few = by (nat_lt reached due)
+    clock_said : (reached due : ℕ) → n ≤ reached → due ≤ n + greatest_ttl → CanAllBeSaid (clock_to reached due)
+    clock_said reached due past few = by (nat_lt reached due)
       where
-        by : (b : Bool) → AreGiven (cond b (command (act.Clock (due - reached)) ∷ []) [])
+        by : (b : Bool) → CanAllBeSaid (cond b (command (act.Clock (due - reached)) ∷ []) [])
         by true = (omega (arith, past, few), tt)
         by false = tt
 
@@ -169,17 +169,17 @@ module _ (P : Key → Type 0) where
         by true e = let less = ltb-true reached due e in omega (arith, past, less)
         by false e = past
 
-    removals_given : m < 2 ^ 32 → (log : List Entry) → Each (HasOrigin P n m) log → (reached : ℕ) → n ≤ reached → (rows : List (Expiry × Uid)) → Each IsFineRow rows → AreGiven (removals log reached rows)
-    removals_given few log all reached past [] fine = tt
-    removals_given few log all reached past (row ∷ rows) fine =
-        each_both (λ (command : Command). IsGiven P command.action) (clock_to reached row.0.moment) _ (clock_given reached row.0.moment past fine.0.due)
-        (each_both (λ (command : Command). IsGiven P command.action) (removal log row) _
-        (fine.0.key, marks_given few (pods_of row.1 log) (each_kept (PodHasOrigin m) (λ pod. same_uid pod.owner_uid row.1) (pods_in log) (pods_fine log all)))
-        (removals_given few log all (later_moment reached row.0.moment) (later_past reached row.0.moment past) rows fine.1))
+    removals_said : m < 2 ^ 32 → (log : List Entry) → Each (HasOrigin P n m) log → (reached : ℕ) → n ≤ reached → (rows : List (Expiry × Uid)) → Each IsLimitedRow rows → CanAllBeSaid (removals log reached rows)
+    removals_said few log all reached past [] limited = tt
+    removals_said few log all reached past (row ∷ rows) limited =
+        each_both (λ (command : Command). CanBeSaid P command.action) (clock_to reached row.0.moment) _ (clock_said reached row.0.moment past limited.0.due)
+        (each_both (λ (command : Command). CanBeSaid P command.action) (removal log row) _
+        (limited.0.key, marks_said few (pods_of row.1 log) (each_kept (PodHasOrigin m) (λ pod. same_uid pod.owner_uid row.1) (pods_in log) (pods_limited log all)))
+        (removals_said few log all (later_moment reached row.0.moment) (later_past reached row.0.moment past) rows limited.1))
 
-    settle_given : (commands : List Command) → AreGiven commands → AreGiven (then_settle commands)
-    settle_given [] all = tt
-    settle_given (first ∷ more) all = each_both (λ (command : Command). IsGiven P command.action) (first ∷ more) (command act.Settle ∷ []) all (tt, tt)
+    settle_said : (commands : List Command) → CanAllBeSaid commands → CanAllBeSaid (then_settle commands)
+    settle_said [] all = tt
+    settle_said (first ∷ more) all = each_both (λ (command : Command). CanBeSaid P command.action) (first ∷ more) (command act.Settle ∷ []) all (tt, tt)
 
   -- ---- TTLs
 
@@ -199,20 +199,20 @@ module _ (P : Key → Type 0) where
 
   -- ---- all commands
 
-  pub reap_given : (seen : Seen) (ttls : List (Option ℕ)) → Each (λ (command : Command). Creates P command.action) seen.script.commands
-      → length seen.pasts < 2 ^ 32 → Each IsSmallTtl ttls → Each (λ (command : Command). IsGiven P command.action) (reap_list seen ttls)
-  reap_given seen ttls named few small =
+  pub reap_said : (seen : Seen) (ttls : List (Option ℕ)) → Each (λ (command : Command). Creates P command.action) seen.script.commands
+      → length seen.pasts < 2 ^ 32 → Each IsSmallTtl ttls → Each (λ (command : Command). CanBeSaid P command.action) (reap_list seen ttls)
+  reap_said seen ttls named few small =
       let log : List Entry = log_seen seen in
       let n : ℕ = moment seen.shape (deeds_seen seen) in
       let m : ℕ = length (deeds_seen seen) in
-      let fine = log-origins P seen.shape (deeds_seen seen) (asks_of seen.script seen.pasts named) in
+      let limited = log-origins P seen.shape (deeds_seen seen) (asks_of seen.script seen.pasts named) in
       let many : m < 2 ^ 32 = subst (λ k. k < 2 ^ 32) (sym (length-map seen.pasts _)) few in
       let ttl : Uid → Option ℕ = ttl_seen seen ttls in
-      settle_given n m (unsettled seen ttls)
-      (each_both (λ (command : Command). IsGiven P command.action) (mark_commands (ownerless log)) _
-      (marks_given n m many (ownerless log) (each_kept (PodHasOrigin m) (is_ownerless (all_jobs log)) (pods_in log) (pods_fine n m log fine.origins)))
-      (removals_given n m many log fine.origins n (omega arith) (expired ttl (jobs_in log))
-      (rows_fine n m ttl (λ u. at_small ttls (maker seen.script.commands seen.pasts u) small) log fine.origins (expired ttl (jobs_in log)) (each-may_go ttl log))))
+      settle_said n m (unsettled seen ttls)
+      (each_both (λ (command : Command). CanBeSaid P command.action) (mark_commands (ownerless log)) _
+      (marks_said n m many (ownerless log) (each_kept (PodHasOrigin m) (is_ownerless (all_jobs log)) (pods_in log) (pods_limited n m log limited.origins)))
+      (removals_said n m many log limited.origins n (omega arith) (expired ttl (jobs_in log))
+      (rows_limited n m ttl (λ u. at_small ttls (maker seen.script.commands seen.pasts u) small) log limited.origins (expired ttl (jobs_in log)) (each-may_go ttl log))))
 
 -- ---- the TTLs of a text
 

@@ -1,6 +1,6 @@
 pub mod Expiries
 pub mod Finds
-pub mod Given
+pub mod Said
 pub mod Makers
 pub mod Reaping
 pub mod TtlLines

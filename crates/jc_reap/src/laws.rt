@@ -24,7 +24,7 @@ ghost use Rattle.jc_script.specs.Scripts.{BadLine, script_of};
 ghost use Rattle.jc_reap.specs.declared.expiries.Expiry.{Expiry};
 ghost use Rattle.jc_reap.specs.Expiries.{MayGo, expired, expiry_order};
 ghost use Rattle.jc_reap.specs.Finds.{AreDue, IsCollected, seen_at_end};
-ghost use Rattle.jc_reap.specs.Given.{Creates, IsGiven, IsSmallTtl};
+ghost use Rattle.jc_reap.specs.Said.{Creates, CanBeSaid, IsSmallTtl};
 ghost use Rattle.jc_reap.specs.Reaping.{reap_list, ttl_seen};
 ghost use Rattle.jc_reap.specs.TtlLines.{RefusesTtl, ttls_of};
 
@@ -46,10 +46,10 @@ pub fn reaped_commands_fit()
 /// pods by numbers of 32 bits, and wait for fewer seconds than 32 bits hold, since no Job has ended later than now and
 /// each TTL is a number of 31 bits.
 pub fn reaped_commands_can_be_said()
-    ensures given { (test : Key → Bool) (seen : Seen) (ttls : List (Option ℕ))
+    ensures commands { (test : Key → Bool) (seen : Seen) (ttls : List (Option ℕ))
         → Each (λ (command : Command). Creates (λ key. test key ≡ true) command.action) seen.script.commands
         → length seen.pasts < 2 ^ 32 → Each IsSmallTtl ttls
-        → Each (λ (command : Command). IsGiven (λ key. test key ≡ true) command.action)
+        → Each (λ (command : Command). CanBeSaid (λ key. test key ≡ true) command.action)
         (reap_list seen ttls) }
     ensures ttls { (shape : Shape) (text : List ℕ) (ttls : List (Option ℕ))
         → ttls_of shape text ≡ Ok ttls → Each IsSmallTtl ttls }

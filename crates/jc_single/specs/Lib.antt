@@ -5,7 +5,7 @@ pub mod Told
 -- Words of the crates below, handed on to those above.
 pub use Rattle.jc_reap.specs.TtlLines
 pub use Rattle.jc_reap.specs.Finds
-pub use Rattle.jc_reap.specs.Given
+pub use Rattle.jc_reap.specs.Said
 pub use Rattle.jc_reap.specs.Reaping
 pub use Rattle.jc_promise.specs.ValidActions
 pub use Rattle.jc_promise.specs.Available

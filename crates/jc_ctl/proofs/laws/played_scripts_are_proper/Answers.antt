@@ -22,7 +22,7 @@ returns c (order.Reap shape) input script fits said =
     IfOk-at_ok (λ script. AreProper script.commands) said
     (reaped-proper shape fits.few_events
     (λ script within. c.plays_are_orderly_histories.ensures.history script shape within (history_of script shape) refl)
-    (c.reaped_commands_can_be_said.ensures.given is_allowed_key) c.reaped_commands_fit.ensures.lane
+    (c.reaped_commands_can_be_said.ensures.commands is_allowed_key) c.reaped_commands_fit.ensures.lane
     (script_of shape input) (ttls_of shape input)
     (λ commands read. c.read_scripts_are_proper.ensures shape input commands
     fits.some_controllers fits.few_controllers fits.some_workers fits.few_workers read)

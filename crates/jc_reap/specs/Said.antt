@@ -1,7 +1,7 @@
 -- What the commands of a reaper say: such numbers as a script may, and keys that a create command gave.
 --     IsSmallTtl ttl            the TTL, if there is one, is a number of 31 bits
 --     Creates P action          of the key of a Job that the action creates it holds
---     IsGiven P action          what the action of a reaper says is so
+--     CanBeSaid P action        what the action of a reaper says is so
 use Rattle.std.specs.Prelude.{ℕ, ◌≤◌, ◌<◌, ◌^◌, Option, IfSome}
 use Rattle.jc_types.specs.declared.actions.Action1.{Action1}
 use Rattle.jc_types.specs.declared.actions.Action1.TheVariants as act
@@ -19,9 +19,9 @@ Creates P other = Unit {0}
 
 -- It deletes a Job of such a key, marks a pod by a number of 32 bits, waits for no more seconds than 32 bits hold, or
 -- settles.
-abbrev pub IsGiven : (Key → Type 0) → Action1 → Type 0
-IsGiven P (act.Delete key) = P key
-IsGiven P (act.Mark pod) = (1 ≤ pod.0) × (pod.0 < 2 ^ 32)
-IsGiven P (act.Clock add) = add < 2 ^ 32
-IsGiven P act.Settle = Unit {0}
-IsGiven P other = ⊥
+abbrev pub CanBeSaid : (Key → Type 0) → Action1 → Type 0
+CanBeSaid P (act.Delete key) = P key
+CanBeSaid P (act.Mark pod) = (1 ≤ pod.0) × (pod.0 < 2 ^ 32)
+CanBeSaid P (act.Clock add) = add < 2 ^ 32
+CanBeSaid P act.Settle = Unit {0}
+CanBeSaid P other = ⊥
