@@ -1,7 +1,14 @@
 #!/usr/bin/env python3
-"""check_tools.py: the tools' own checks. Each prints a line where it fails; the last line says how many held. It needs no program."""
+"""check_tools.py [PROGRAM]: the tools' own checks. Each prints a line where it fails; the last line says how many held.
+
+PROGRAM is what plays scripts for them: the environment's JOBCTL if left out, or crates/jobctl/out/jobctl. Where there is none
+a line says so, and what needs it is skipped; a PROGRAM that was given and is not there is a failure.
+"""
 import ast
+import contextlib
 import glob
+import importlib
+import io
 import json
 import os
 import re
@@ -12,6 +19,10 @@ import xml.etree.ElementTree
 sys.dont_write_bytecode = True
 sys.path.insert(0, os.path.dirname(os.path.abspath(__file__)))
 import explain
+import get
+import plays
+import replay
+import reports
 import script_of
 import standins
 import timeline
@@ -23,6 +34,43 @@ holds = checks.holds
 
 def of(name):
     return timeline.Story(text_of(f"examples/{name}.report"))
+
+
+def stories():
+    """Returns the names of the examples that are reports with events."""
+    names = [os.path.basename(it)[:-7] for it in sorted(glob.glob(f"{TOP}/examples/*.report"))]
+    return [name for name in names if text_of(f"examples/{name}.report").startswith("1 ")]
+
+
+def report_of(name):
+    return reports.read(text_of(f"examples/{name}.report"))
+
+
+def ran(tool, *words, given=""):
+    """Runs a tool as a program of its own would run, in this process. Whatever it is given, it has no traceback."""
+    main = importlib.import_module(tool.removesuffix(".py")).main
+    out, err, kept = io.StringIO(), io.StringIO(), (sys.argv, sys.stdin)
+    sys.argv, sys.stdin = [tool, *map(str, words)], io.TextIOWrapper(io.BytesIO(given.encode()), encoding="utf-8")
+    status = 0
+    try:
+        with contextlib.redirect_stdout(out), contextlib.redirect_stderr(err):
+            reports.run(tool, main)
+    except SystemExit as end:
+        status = end.code if isinstance(end.code, int) else 1
+        err.write("" if isinstance(end.code, int) else f"{end.code}\n")
+    except Exception as error:
+        holds(f"{tool} {words}: no traceback, but {error!r}", False)
+    finally:
+        sys.argv, sys.stdin = kept
+    return subprocess.CompletedProcess([tool, *words], status, out.getvalue(), err.getvalue())
+
+
+def refuses(tool, *words, given="", status=1, says=""):
+    """Holds that a tool refuses what it is given, in one line that begins with its name, or by its usage."""
+    done = ran(tool, *words, given=given)
+    lines = done.stderr.strip().split("\n")
+    is_line = lines[-1].startswith(f"{tool}: ") and (status == 2 or len(lines) == 1)
+    holds(f"{tool} {' '.join(words)}: refused", done.returncode == status and is_line and says in lines[-1] and not done.stdout)
 
 
 def check_sources():
@@ -95,6 +143,116 @@ def check_script_of():
     holds("what is no Job is refused", ran.returncode == 1 and "Pod" in ran.stderr and not ran.stdout)
 
 
+def check_reports():
+    """Each report of examples/ is read, line by line; what is none is refused with its line."""
+    for name in stories():
+        lines = text_of(f"examples/{name}.report").split("\n")
+        report = report_of(name)
+        holds(f"{name}: its events", [it.line for it in report.events] == [it for it in lines if it[:1].isdigit()])
+        holds(f"{name}: its Jobs", len(report.jobs) == sum(it.startswith("job ") for it in lines))
+        last = max([0, *(it.version for it in report.events if it.version)])
+        holds(f"{name}: the length of its log", reports.lengths(report.events)[-1] == last)
+    lost = report_of("lost_status_reply").events
+    holds("a lost status", [lost[it - 1].reply for it in reports.lost(lost)] == ["status unavailable"])
+    made = reports.births(report_of("two_controllers").events)
+    holds("two pods of one index", [(it.key, it.index) for it in made.values()] == [("default/pi", None), ("default/pi", 0), ("default/pi", 0)])
+    text = text_of("examples/first.report")
+    spoilt = [text.replace("\n7 -", "\n8 -"), text.replace("7 -", "7 x", 1), text + "more\n", text.replace("verdicts", "verdict"), "no report"]
+    spoilt += [text.replace('"backoffLimit"', "backoffLimit"), text.replace("step 0 0 ->", "step 0 ->"), text.replace('"succeeded":1}', '"succeeded":}')]
+    for number, it in enumerate(spoilt):
+        try:
+            reports.read(it)
+            holds(f"spoilt report {number} is refused", False)
+        except reports.Refused as error:
+            holds(f"spoilt report {number}: {error}", "this is no report: line " in str(error))
+
+
+def check_replay():
+    """A report becomes a script of its events, and tells the options of its play."""
+    lines = replay.script_of(text_of("examples/first.report").split("\n")[:-1])
+    holds("first: a command an event", len(lines) == 19 and json.loads(lines[1]) == {"do": "list", "kind": "jobs"})
+    holds("the options", replay.options_of_report(report_of("two_controllers")) == ["--controllers", "2"])
+    holds("the start", replay.options_of_report(report_of("waiting")) == ["--start", "9999-12-31T23:58:45Z"])
+    done = ran("replay.py", f"{TOP}/examples/first.report", "--until", "2")
+    holds("cut behind event 2", done.stdout.split("\n")[:-1] == lines[:2] and "play it by: run" in done.stderr)
+    refuses("replay.py", "none.report", says="No such file")
+    refuses("replay.py", "--until", "x", status=2)
+    refuses("replay.py", given="1 @0 jump -> high\n", says="line 1")
+    refuses("replay.py", given='1 @0 create default/a {"parallelism":1} -> created 1 v1\n', says="line 1")
+
+
+def played_words(name):
+    """Returns the words with which an example was played."""
+    file = f"{TOP}/examples/{name}.args"
+    return text_of(file).split() if os.path.exists(file) else ["run"]
+
+
+def check_replayed(program):
+    """The play of a report's script is the report, but for lanes and a last `full`: of stories, of runs on threads, of a reap."""
+    texts = {name: text_of(f"examples/{name}.report") for name in stories()}
+    for name in ("kubectl", "on_failure", "waiting"):
+        words = ["run", "--controllers", "2", "--workers", "2", "--threads", "3", *played_words(name)[1:]]
+        for lock in ("mutex", "turn"):
+            texts[f"{name} on threads, {lock}"] = plays.play(program, [*words, "--lock", lock], text_of(f"examples/{name}.script").split("\n"))
+    texts["kubectl, full"] = plays.play(program, ["run", "--events", "30"], text_of("examples/kubectl.script").split("\n"))
+    for name, text in texts.items():
+        lines = text.split("\n")[:-1]
+        again = plays.play(program, ["run", *replay.options_of(lines)], replay.script_of(lines)).split("\n")[:-1]
+        want = [reports.without_lane(it) for it in lines if it != "full"]
+        holds(f"{name}: played again", len(want) > 15 and [reports.without_lane(it) for it in again] == want)
+
+
+TABLES = """\
+NAME           STATUS     COMPLETIONS   DURATION   AGE
+job.batch/pi   Complete   1/1           10s        10s
+
+NAME       READY   STATUS      RESTARTS   AGE
+pod/pi-2   0/1     Error       0          10s
+pod/pi-3   0/1     Completed   0          0s
+"""
+WATCHED = """\
+EVENT   NAMESPACE   NAME     READY   STATUS      RESTARTS     AGE
+6       default     pair-2   0/1     Pending     0            0s
+9       default     pair-3   0/1     Pending     0            0s
+18      default     pair-2   1/1     Running     0            0s
+28      default     pair-2   1/1     Running     1 (0s ago)   0s
+33      default     pair-2   0/1     Completed   1 (0s ago)   0s
+49      default     pair-3   1/1     Running     0            0s
+59      default     pair-3   0/1     Completed   0            0s
+"""
+
+
+def check_get():
+    """Durations as kubectl prints them, and the events as JSON."""
+    times = {0: "0s", 119: "119s", 120: "2m", 125: "2m5s", 600: "10m", 10799: "179m", 10800: "3h", 14700: "4h5m", 86400: "24h"}
+    times |= {172800: "2d", 180000: "2d2h", 700000: "8d", 63072000: "2y", 63158400: "2y1d", 252288000: "8y"}
+    holds("durations", {it: get.span(it) for it in times} == times)
+    done = ran("get.py", "events", f"{TOP}/examples/limits_per_index.report", "--at", "4")
+    lines = [json.loads(it) for it in done.stdout.split("\n")[:-1]]
+    holds("an event as JSON", lines[3]["act"] == "begin 0 0" and lines[3]["job"] == "default/pi" and lines[0]["lane"] == 0)
+    refuses("get.py", "nodes", status=2)
+    refuses("get.py", "events", f"{TOP}/examples/first.report", "--at", "99", says="no event 99")
+    refuses("get.py", "jobs", f"{TOP}/examples/first.report", "--program", "/none", says="there is no program")
+
+
+def check_got(program):
+    """Jobs and pods as kubectl prints them, and the exact statuses at each event."""
+    def got(name, *words, text=None):
+        return ran("get.py", words[0], "-", *words[1:], "--program", program, given=text or text_of(f"examples/{name}.report"))
+
+    holds("get.py jobs,pods", got("kubectl", "jobs,pods").stdout == TABLES)
+    holds("get.py pods -A -w", got("on_failure", "pods", "-A", "-w").stdout == WATCHED)
+    holds("get.py -n, with none there", "No resources found in other namespace." in got("first", "jobs", "-n", "other").stderr)
+    for name in stories():
+        found = {f"{it['metadata']['namespace']}/{it['metadata']['name']}": it["status"] for it in json.loads(got(name, "jobs", "-A", "-o", "json").stdout)["items"]}
+        holds(f"{name}: the last statuses", found == {key: it.status for key, it in report_of(name).jobs.items()})
+    middle = json.loads(got("first", "jobs,pods", "--at", "16", "-o", "json").stdout)["items"]
+    holds("first: listed at event 16", middle[0]["status"]["uncountedTerminatedPods"]["succeeded"] == ["00000000-0000-0000-0000-000000000002"])
+    holds("first: pod 2 at event 16", middle[1]["status"]["phase"] == "Succeeded" and len(middle[1]["metadata"]["finalizers"]) == 1)
+    spoilt = got("first", "jobs", text=text_of("examples/first.report").replace("released v6", "released v7"))
+    holds("get.py: a spoilt report", spoilt.returncode == 1 and "line 17" in spoilt.stderr and not spoilt.stdout)
+
+
 def check_standins():
     """What a function took is told by the files that were written of it."""
     files = [(0.0, "rattle-last-used"), (1.0, "Rattle-it-specs.Words.decls.oantt"), (4.0, "Rattle-it-proofs.parts.made.Lts.oantt")]
@@ -122,9 +280,29 @@ def check_jobctl():
         holds("jobctl without the kit", ran.returncode == 1 and "kit is missing" in ran.stderr)
 
 
+def program():
+    """Returns the program that plays scripts, or None where there is none; one that was asked for has to be there."""
+    asked = sys.argv[1] if len(sys.argv) > 1 else os.environ.get("JOBCTL")
+    path = asked or plays.BUILT
+    if os.path.exists(path):
+        return os.path.abspath(path)
+    holds(f"there is a program {path}", not asked)
+    return None
+
+
+ALONE = (check_sources, check_timeline, check_explain, check_script_of, check_reports, check_replay, check_get, check_standins, check_stored_run, check_jobctl)
+PLAYED = (check_replayed, check_got)
+
+
 def main():
-    for check in (check_sources, check_timeline, check_explain, check_script_of, check_standins, check_stored_run, check_jobctl):
+    for check in ALONE:
         check()
+    path = program()
+    for check in PLAYED if path else ():
+        check(path)
+    if not path:
+        names = ", ".join(it.__name__ for it in PLAYED)
+        print(f"check_tools: SKIPPED, for there is no program {plays.BUILT}: {names}")
     checks.end(60)
 
 
