@@ -7,11 +7,12 @@ a line says so, and what needs it is skipped; a PROGRAM that was given and is no
 import ast
 import contextlib
 import glob
-import importlib
+import importlib.util
 import io
 import json
 import os
 import re
+import shutil
 import subprocess
 import sys
 import xml.etree.ElementTree
@@ -131,16 +132,91 @@ def check_explain():
     holds("what is no reply", explain.told(["nonsense"]) == [] and explain.told(["999"]) == [])
 
 
+YAML = """\
+# two documents and a third
+apiVersion: batch/v1
+kind: Job
+metadata: {name: pi}
+spec: {backoffLimit: 0, template: {spec: {restartPolicy: Never, containers: [{name: main}]}}}
+---
+apiVersion: batch/v1
+kind: CronJob
+metadata: {name: nightly, namespace: night}
+spec:
+  schedule: "0 3 * * *"
+  jobTemplate: {spec: {completions: 2, template: {spec: {restartPolicy: Never, containers: [{name: main}]}}}}
+---
+{apiVersion: v1, kind: ConfigMap, metadata: {name: settings}}
+"""
+
+
+def live_pod(number, code, **more):
+    """Returns a pod of the Job `pi` as a cluster has it, which has ended with the code, or has not where that is None."""
+    owner = {"apiVersion": "batch/v1", "controller": True, "kind": "Job", "name": "pi", "uid": "u-1"}
+    metadata = {"name": f"pi-{number}", "namespace": "default", "creationTimestamp": f"2024-01-01T00:00:{number:02}Z", "ownerReferences": [owner]}
+    state = {"running": {}} if code is None else {"terminated": {"exitCode": code}}
+    phase = "Running" if code is None else "Failed" if code else "Succeeded"
+    status = {"phase": phase, "containerStatuses": [{"name": "main", "restartCount": 0, "state": state}], **more}
+    return {"apiVersion": "v1", "kind": "Pod", "metadata": metadata, "spec": {"containers": [{"name": "main"}]}, "status": status}
+
+
+def live():
+    """Returns what `kubectl get jobs,pods -o json` prints of a Job whose pods ended in several ways, with a pod of nobody."""
+    job = json.loads(text_of("examples/kubectl.script").split("\n")[0])["job"]
+    job["metadata"]["uid"] = "u-1"
+    disrupted = {"conditions": [{"type": "DisruptionTarget", "status": "True"}], "containerStatuses": [], "phase": "Failed"}
+    pods = [live_pod(3, None), live_pod(1, 42), live_pod(2, 0, **disrupted), {"apiVersion": "v1", "kind": "Pod", "metadata": {"name": "other"}}]
+    return json.dumps({"apiVersion": "v1", "kind": "List", "items": [*pods, job]})
+
+
 def check_script_of():
-    """Manifests become lines, one each."""
+    """What people have becomes lines: Jobs and CronJobs, of JSON and of YAML, and pods' ends; and nothing has a traceback."""
     want = text_of("examples/kubectl.script").split("\n")
     job = json.loads(want[0])["job"]
-    holds("one manifest", script_of.script(script_of.jobs(job, "it"), [1, 0], True) == want[:3])
-    many = {"kind": "List", "apiVersion": "v1", "items": [job, {"kind": "List", "items": [job]}]}
-    holds("a List", script_of.script(script_of.jobs(many, "it"), [], False) == [want[0]] * 2)
+    holds("one manifest", ran("script_of.py", "--ends", "1,0", "--settle", given=json.dumps(job, indent=4)).stdout.split("\n") == want)
+    many = {"kind": "List", "apiVersion": "v1", "items": [job, {"kind": "JobList", "apiVersion": "batch/v1", "items": [{**job, "kind": None}]}]}
+    many["items"][1]["items"][0].pop("kind")
+    holds("Lists", len(ran("script_of.py", given=json.dumps(many)).stdout.split("\n")) == 3)
     holds("many in one text", script_of.values('{"a":1}\n\n {"b":2}', "it") == [{"a": 1}, {"b": 2}])
-    ran = subprocess.run([sys.executable, "-B", f"{TOP}/tools/script_of.py"], input='{"kind":"Pod"}', capture_output=True, text=True)
-    holds("what is no Job is refused", ran.returncode == 1 and "Pod" in ran.stderr and not ran.stdout)
+    done = ran("script_of.py", given=live())
+    ends = json.loads(done.stdout.split("\n")[1])["ends"]
+    holds("the ends of pods", ends == [{"exitCode": 42}, {"exitCode": 137, "condition": "DisruptionTarget"}, {"exitCode": 0}])
+    notes = ["pi-2 left no exit code", "pi-3 has not ended", "passed over: Pod other"]
+    holds("what was guessed is told", all(it in done.stderr for it in notes))
+    odd = {**job, "odd": "\ud800"}
+    holds("half a pair", json.loads(ran("script_of.py", given=json.dumps(odd)).stdout)["job"] == odd)
+    for text, says in (('{"kind":"Pod"}', "but Pod"), ("{", "no JSON"), ("[]", "but what has no kind"), ("null", ""), ("", "no Job"), ("[" * 99999, "no JSON")):
+        refuses("script_of.py", given=text, says=says)
+    for text in ('{"kind":"Job","metadata":null}', '{"kind":"Job","metadata":{"name":7}}', '{"kind":"CronJob"}'):
+        refuses("script_of.py", "--ends", "1", given=text, says="has no metadata.name")
+    for text in ('{"kind":"List","items":5}', '{"kind":"List","items":[1]}', '{"kind":7}', '{"kind":"Job","x":NaN}', '{"kind":"Job","x":1e999}'):
+        refuses("script_of.py", given=text)
+    refuses("script_of.py", "none.json", says="none.json: No such file")
+    refuses("script_of.py", f"{TOP}/tools", says="directory")
+    refuses("script_of.py", "--ends", "a,b", status=2, says="these are no exit codes")
+    refuses("script_of.py", "--ends", "256", status=2)
+
+
+def check_yaml():
+    """YAML becomes lines, by kubectl, by PyYAML, or else the error says both ways."""
+    ways = {"kubectl": bool(shutil.which("kubectl")), "PyYAML": bool(importlib.util.find_spec("yaml"))}
+    for way, is_there in ways.items():
+        if not is_there:
+            print(f"check_tools: SKIPPED, for there is no {way}: YAML by {way}")
+    found = [script_of.by_kubectl(YAML, "it")] * ways["kubectl"] + [script_of.by_yaml(YAML, "it")] * ways["PyYAML"]
+    for values in found:
+        made, _, others = script_of.jobs(values, "it")
+        keys = [script_of.key_of(it, "it") for it in made]
+        holds("the documents", keys == [("default", "pi"), ("night", "nightly")] and [script_of.named(it) for it in others] == ["ConfigMap settings"])
+        holds("no label is left", "labels" not in made[0]["metadata"] and made[1]["spec"]["completions"] == 2)
+    if all(ways.values()):
+        holds("both ways say the same", found[0] == found[1])
+    for text in ("a: [", "kind: Job\n\tx: y", "just a text"):
+        refuses("script_of.py", given=text)
+    path, reader = os.environ["PATH"], script_of.by_yaml
+    os.environ["PATH"], script_of.by_yaml = "/nowhere", lambda *given: None
+    refuses("script_of.py", given=YAML, says="either kubectl has to be on the PATH, or PyYAML")
+    os.environ["PATH"], script_of.by_yaml = path, reader
 
 
 def check_reports():
@@ -235,6 +311,13 @@ def check_get():
     refuses("get.py", "jobs", f"{TOP}/examples/first.report", "--program", "/none", says="there is no program")
 
 
+def check_live(program):
+    """The script of a live cluster plays to the numbers that the cluster had."""
+    lines = ran("script_of.py", "--settle", given=live()).stdout.split("\n")
+    status = reports.read(plays.play(program, ["run"], lines)).jobs["default/pi"].status
+    holds("a live cluster: two pods failed, one succeeded", status["succeeded"] == 1 and status["failed"] == 2)
+
+
 def check_got(program):
     """Jobs and pods as kubectl prints them, and the exact statuses at each event."""
     def got(name, *words, text=None):
@@ -290,8 +373,8 @@ def program():
     return None
 
 
-ALONE = (check_sources, check_timeline, check_explain, check_script_of, check_reports, check_replay, check_get, check_standins, check_stored_run, check_jobctl)
-PLAYED = (check_replayed, check_got)
+ALONE = (check_sources, check_timeline, check_explain, check_script_of, check_yaml, check_reports, check_replay, check_get, check_standins, check_stored_run, check_jobctl)
+PLAYED = (check_replayed, check_live, check_got)
 
 
 def main():
