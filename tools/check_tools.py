@@ -19,6 +19,7 @@ import xml.etree.ElementTree
 
 sys.dont_write_bytecode = True
 sys.path.insert(0, os.path.dirname(os.path.abspath(__file__)))
+import cluster
 import explain
 import get
 import plays
@@ -76,7 +77,7 @@ def refuses(tool, *words, given="", status=1, says=""):
 
 def check_sources():
     """Each Python file and each shell script can be read."""
-    for file in sorted(glob.glob(f"{TOP}/tools/*.py") + glob.glob(f"{TOP}/bench/*.py")):
+    for file in sorted(glob.glob(f"{TOP}/[tbe]*/*.py")):
         with open(file, encoding="utf-8") as it:
             ast.parse(it.read(), file)
         holds(file, True)
@@ -318,6 +319,26 @@ def check_live(program):
     holds("a live cluster: two pods failed, one succeeded", status["succeeded"] == 1 and status["failed"] == 2)
 
 
+def check_cluster(program):
+    """A cluster for tests: what came of its commands, and examples/test_a_policy.py."""
+    it = cluster.Cluster(program, controllers=2).job("pi", backoffLimit=0, namespace="team").ends("pi", 3, namespace="team")
+    holds("nothing yet", it.pods() == [] and it.status("pi", "team") == {} and it.ending("pi", "team") is None)
+    it.sync(controller=1).node(2)
+    holds("a pod that failed", [(pod.uid, pod.key, pod.phase, pod.is_tracked) for pod in it.pods("pi", "team")] == [(2, "team/pi", "Failed", True)])
+    it.settle()
+    holds("a Job that failed", it.ending("pi", "team") == ("Failed", "BackoffLimitExceeded"))
+    holds("its condition", it.condition("pi", "FailureTarget", "team")["status"] == "True" and not it.condition("pi", "Complete", "team"))
+    holds("its script", len(it.script()) == 5 and json.loads(it.script()[3]) == {"do": "node", "times": 2})
+    for wrong, of in ((lambda: it.status("qi"), KeyError), (lambda: cluster.Cluster(program, threads=2), TypeError), (lambda: it.clock(-1).report(), reports.Refused)):
+        try:
+            wrong()
+            holds(f"a cluster's {of.__name__}", False)
+        except of as error:
+            holds(f"a cluster's {error}", of is not reports.Refused or "out of range add" in str(error) and '"add":-1' in str(error))
+    done = subprocess.run([sys.executable, "-B", f"{TOP}/examples/test_a_policy.py"], env={**os.environ, "JOBCTL": program}, capture_output=True, text=True)
+    holds("examples/test_a_policy.py", done.returncode == 0 and "Ran 4 tests" in done.stderr)
+
+
 def check_got(program):
     """Jobs and pods as kubectl prints them, and the exact statuses at each event."""
     def got(name, *words, text=None):
@@ -374,7 +395,7 @@ def program():
 
 
 ALONE = (check_sources, check_timeline, check_explain, check_script_of, check_yaml, check_reports, check_replay, check_get, check_standins, check_stored_run, check_jobctl)
-PLAYED = (check_replayed, check_live, check_got)
+PLAYED = (check_replayed, check_live, check_cluster, check_got)
 
 
 def main():

@@ -135,12 +135,12 @@ def questions(uid):
 
 
 class Replayed:
-    """A report, and the program that plays its front again."""
+    """A report, and the program that plays its front again. Options that are known need not be told by the report."""
 
-    def __init__(self, report, program):
+    def __init__(self, report, program, **options):
         self.report, self.program, self.events = report, program, report.events
         self.script = [replay.line_of(event) for event in report.events]
-        told = replay.told_of(report)
+        told = {**replay.told_of(report), **options}
         self.controllers, self.workers = told["controllers"], told["workers"]
         self.words = ["run", "--controllers", str(self.controllers), "--workers", str(MOST_WORKERS)]
         self.words += [f"--window={told['window']}"] if told["window"] else []
