@@ -119,18 +119,34 @@ def check_timeline():
 
 
 def check_explain():
-    """Each rule, reply and status that a program can print is explained."""
+    """Each rule, reply, cause and status, and each line that a program can print, is explained."""
     numbers = sorted(explain.rules())
     holds("the rules go from 1 without a gap", numbers == list(range(1, len(numbers) + 1)) and len(numbers) >= 33)
-    for report in glob.glob(f"{TOP}/examples/*.report"):
-        for line in text_of(os.path.relpath(report, TOP)).split("\n"):
-            reply = line.rpartition(" -> ")[2] if " -> " in line else None
-            if reply and not explain.told(reply.split(" ")):
-                holds(f"explain.py knows the reply {reply}", False)
+    for name in stories():
+        for line in text_of(f"examples/{name}.report").split("\n")[:-1]:
+            # (a tag, an act and a reply; of a request of a sync, also its answer)
+            event = reports.event_of(line)
+            least = (4 if event.request[0] else 3) if event else 1
+            holds(f"explain.py knows the line {line[:60]}", len(explain.told(line.split(" "))) >= least)
+    said = ["bad words", "read fault", "write fault", "line 3: missing job", "history full", "no memory", "input too long", "no at line 17"]
+    for line in said:
+        holds(f"a line of standard error: {line}", explain.told([f"jobctl: {line}"]) and explain.told(line.split(" ")))
+    holds("the statuses of these lines", [it for it in explain.statuses() if it in (2, 3, 4, 6, 7, 8, 9)] == [2, 3, 4, 6, 7, 8, 9])
+    holds("each exit status", all(explain.told(["status", str(it)]) for it in range(10) if it != 1))
+    causes = ["not json", "line too long", "too many commands", "wrong type ends[0].exitCode", "out of range job.spec.parallelism"]
+    holds("each cause", all(explain.told([it]) for it in causes))
     holds("rule 2", explain.told(["invalid", "job.kind", "rule", "2"])[0].endswith("(job.kind)"))
-    holds("a line of standard error", bool(explain.told(["jobctl: line 3: missing job"])))
-    holds("each exit status", all(explain.told(["status", str(it)]) for it in (0, 2, 3, 4, 5, 6, 7, 8)))
-    holds("what is no reply", explain.told(["nonsense"]) == [] and explain.told(["999"]) == [])
+    holds("a range", "1 to 4,294,967,295" in explain.told(["out of range pod"])[1])
+    holds("a range of a manifest", "0 to 5,000" in explain.told(["out of range job.spec.parallelism"])[1])
+    holds("the commands", "settle" in explain.told(["invalid do rule 29"])[1])
+    holds("the words of a phase", "Succeeded" in explain.told(["invalid phase rule 29"])[1])
+    reasons = {it["reason"] for name in stories() for job in report_of(name).jobs.values() for it in job.status.get("conditions", [])}
+    types = {it["type"] for name in stories() for job in report_of(name).jobs.values() for it in job.status.get("conditions", [])}
+    holds(f"reasons {reasons} and conditions {types}", len(reasons) > 3 and all(explain.told([it]) for it in reasons | types))
+    for path in ("job.spec.template.spec.containers", "job.metadata.name", "job.spec.successPolicy.rules[1].succeededCount", "ends", "times"):
+        holds(f"a member: {path}", bool(explain.members(path)))
+    holds("what is nothing", all(explain.told([it]) == [] for it in ("nonsense", "999", "status 17", "rule 99")))
+    refuses("explain.py", "nonsense", says="has nothing on nonsense")
 
 
 YAML = """\
