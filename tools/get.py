@@ -213,7 +213,7 @@ def main():
     kinds, namespace = given.kinds.split(","), None if given.all_namespaces else given.namespace
     play = plays.Replayed(report, plays.program_at(given.program))
     if given.watch:
-        lines = changes(play.states([it for it in play.writes() if it <= at]), kinds, namespace)
+        lines = changes([play.state(it) for it in play.writes() if it <= at], kinds, namespace)
     elif given.output:
         lines = [json.dumps(listed(play.state(at), kinds, namespace), indent=4, ensure_ascii=False)]
     else:

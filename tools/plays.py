@@ -4,7 +4,6 @@ What the cluster holds behind event N of a report is asked of the program, and n
 played up to there (replay.py), with further commands behind it whose replies tell how each pod stands. So each of these
 answers is the program's own.
 """
-import concurrent.futures
 import dataclasses
 import json
 import os
@@ -90,37 +89,41 @@ class State:
     queues: dict
 
 
-def specs(events):
-    """Returns the specification of each Job that was made, by UID, as the last write of it left it."""
+def spec_history(events):
+    """Returns, by UID, the specification of each Job that was made, with the events at which it became so."""
     found, of_key = {}, {}
     for event in events:
         if event.verb == "create" and event.said[0] == "created":
             of_key[event.key] = int(event.said[1])
-            found[of_key[event.key]] = event.value
+            found[of_key[event.key]] = [(event.number, event.value)]
         elif event.verb == "update" and event.said[0] == "written":
-            found[of_key[event.key]] = {**found[of_key[event.key]], **event.value}
+            own = found[of_key[event.key]]
+            own.append((event.number, {**own[-1][1], **event.value}))
     return found
 
 
-def restarts(events, moments, first_containers):
-    """Returns how often the containers of each pod have restarted, and when last, by UID."""
-    found, running = {}, set()
+def restart_history(events, first_containers):
+    """Returns, by UID, how often the containers of each pod had restarted, with the events at which they did."""
+    found, counts, running = {}, {}, set()
     for event in events:
-        uid = event.pod
-        counts, _ = found.setdefault(uid, ({}, None)) if uid else ({}, None)
+        uid, given = event.pod, {}
         if event.verb == "report" and event.said[0] == "written":
             change = event.value
             given = {it["name"]: it["restartCount"] for it in change["containers"] if "restartCount" in it}
-            if given:
-                found[uid] = ({**counts, **given}, moments[event.number])
-            if change["phase"] == "Running":
-                running.add(uid)
+            running |= {uid} if change["phase"] == "Running" else set()
         elif event.verb == "node" and event.said[2:3] == ["Running"]:
-            if uid in running:
-                name = first_containers[uid]
-                found[uid] = ({**counts, name: counts.get(name, 0) + 1}, moments[event.number])
+            name = first_containers[uid]
+            given = {name: counts.get((uid, name), 0) + 1} if uid in running else {}
             running.add(uid)
-    return {uid: (sum(counts.values()), moment) for uid, (counts, moment) in found.items()}
+        counts |= {(uid, name): count for name, count in given.items()}
+        if given:
+            found.setdefault(uid, []).append((event.number, sum(it for (of, _), it in counts.items() if of == uid)))
+    return found
+
+
+def value_at(history, number):
+    """Returns the last entry of a history up to an event, or None."""
+    return next((it for it in reversed(history) if it[0] <= number), None)
 
 
 def questions(uid):
@@ -147,46 +150,47 @@ class Replayed:
         self.words += [f"--start={told['start']}"] if told["start"] else []
         self.moments = reports.moments(report.events, told["start"] or replay.PLAIN["start"])
         self.births = reports.births(report.events)
-        self.templates = specs(report.events)
+        self.specs = spec_history(report.events)
+        self.names = {it.uid: self.containers_of(it) for it in self.births.values() if it.kind == "pod"}
+        self.restarts = restart_history(report.events, {uid: (names or [""])[0] for uid, names in self.names.items()})
+        self.seats = [(controller, worker) for controller in range(self.controllers) for worker in range(MOST_WORKERS)]
+        self.lines = self.checked()
 
-    def at(self, number, more=()):
-        """Returns the report of the play up to an event and the commands behind it, and refuses what comes out otherwise."""
-        front = self.events[:number]
+    def checked(self):
+        """Returns the lines of the play of the whole report, and refuses a report that comes out otherwise."""
         try:
-            played = reports.read(play(self.program, self.words, [*self.script[:number], *more]))
+            lines = play(self.program, self.words, self.script).split("\n")
         except reports.Refused as error:
             raise reports.Refused(f"this is no report: its play is refused: {error}") from None
-        for event, again in zip(front, played.events):
+        for event, line in zip(self.events, lines):
+            again = reports.event_of(line)
             if (event.act, event.reply) != (again.act, again.reply):
                 told = f"line {event.number} is {reports.shortened(event.line)!r}, and the program answers {again.reply!r}"
                 raise reports.Refused(f"this is no report of this program: {told}")
-        return played
+        return lines[: len(self.events)]
 
-    def template_of(self, uid):
+    def containers_of(self, birth):
         """Returns the names of a pod's containers."""
-        key, number = self.births[uid].key, self.births[uid].number
-        owners = [it for it in self.births.values() if it.kind == "job" and it.key == key and it.number <= number]
-        return self.templates[owners[-1].uid]["template"]["containers"] if owners else []
+        owners = [it for it in self.births.values() if it.kind == "job" and it.key == birth.key and it.number <= birth.number]
+        return self.specs[owners[-1].uid][0][1]["template"]["containers"] if owners else []
 
     def state(self, number):
-        """Returns what the cluster holds behind an event."""
-        made = [it for it in self.births.values() if it.number <= number]
-        asked = [f'{{"do":"begin","controller":{seat[0]},"worker":{seat[1]}}}' for seat in self.seats()]
-        uids = [it.uid for it in made if it.kind == "pod"]
-        played = self.at(number, [*asked, *(line for uid in uids for line in questions(uid))])
-        replies = [event.reply for event in played.events[number:]]
-        queues = self.queues(replies[: len(asked)])
+        """Returns what the cluster holds behind an event: the front is played, and behind it come questions."""
+        asked = [f'{{"do":"begin","controller":{controller},"worker":{worker}}}' for controller, worker in self.seats]
+        uids = [it.uid for it in self.births.values() if it.kind == "pod" and it.number <= number]
+        more = [*asked, *(line for uid in uids for line in questions(uid))]
+        lines = play(self.program, self.words, [*self.script[:number], *more]).split("\n")
+        if lines[:number] != self.lines[:number]:
+            raise reports.Refused(f"the program {self.program} plays the same script in several ways")
+        replies = [line.rpartition(" -> ")[2] for line in lines[number : number + len(more)]]
         told = {uid: replies[len(asked) + place * QUESTIONS :][:QUESTIONS] for place, uid in enumerate(uids)}
-        return State(number, self.moments[number], self.jobs(number, played), self.pods(number, told), queues)
-
-    def seats(self):
-        """Returns each worker of each controller."""
-        return [(controller, worker) for controller in range(self.controllers) for worker in range(MOST_WORKERS)]
+        last = reports.read_lines([line for line in lines[number + len(more) :] if line])
+        return State(number, self.moments[number], self.jobs(number, last), self.pods(number, told), self.queues(replies))
 
     def queues(self, replies):
         """Returns what the workers would begin, one after the other, by controller; None where the caches are not listed yet."""
         found = {}
-        for (controller, _), reply in zip(self.seats(), replies):
+        for (controller, _), reply in zip(self.seats, replies):
             words = reply.split(" ")
             queue = found.setdefault(controller, [])
             if words[0] == "not-synced":
@@ -197,35 +201,28 @@ class Replayed:
                 queue.append(reply)
         return found
 
-    def jobs(self, number, played):
+    def jobs(self, number, last):
         """Returns the Jobs that are there, by key."""
-        spec, found = specs(self.events[:number]), []
-        for key, last in sorted(played.jobs.items()):
-            uid = int(last.uid.replace("-", ""), 16)
-            found.append(Job(key, uid, last.version, last.status, spec[uid], self.moments[self.births[uid].number]))
+        found = []
+        for key, line in sorted(last.jobs.items()):
+            uid = int(line.uid.replace("-", ""), 16)
+            spec = value_at(self.specs[uid], number)[1]
+            found.append(Job(key, uid, line.version, line.status, spec, self.moments[self.births[uid].number]))
         return found
 
     def pods(self, number, told):
         """Returns the pods that are there, by UID, from what they answered."""
-        first = {uid: (self.template_of(uid) or [""])[0] for uid in told}
-        counts, found = restarts(self.events[:number], self.moments, first), []
+        found = []
         for uid, (phase, ready, mark, strip) in sorted(told.items()):
-            birth = self.births[uid]
+            birth, words = self.births[uid], phase.split(" ")
             if phase != "not-found":
-                words = phase.split(" ")
                 stands = "Pending" if words[0] == "unchanged" else words[1]
                 is_ready = stands == "Running" and ready.startswith("unchanged")
                 is_marked, is_tracked = mark.startswith("unchanged"), strip.startswith("released")
-                times, last = counts.get(uid, (0, None))
-                names = self.template_of(uid)
-                moment = self.moments[birth.number]
-                found.append(Pod(uid, birth.key, birth.index, stands, is_ready, is_marked, is_tracked, times, last, names, moment))
+                last, times = value_at(self.restarts.get(uid, []), number) or (None, 0)
+                moments = self.moments[last] if last else None, self.names[uid], self.moments[birth.number]
+                found.append(Pod(uid, birth.key, birth.index, stands, is_ready, is_marked, is_tracked, times, *moments))
         return found
-
-    def states(self, numbers):
-        """Returns the states behind these events, in their order, a play each, as many beside each other as there are processors."""
-        with concurrent.futures.ThreadPoolExecutor(os.cpu_count() or 1) as pool:
-            return list(pool.map(self.state, numbers))
 
     def writes(self):
         """Returns the numbers of the events by which something in the store may have changed."""

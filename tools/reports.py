@@ -10,6 +10,11 @@ import sys
 
 # What a write of the store is answered. Other replies changed nothing there.
 WRITTEN = ("created", "written", "removed", "released")
+# What is answered where nothing was done.
+REFUSALS = (
+    "exists not-found not-tracked unchanged conflict immutable invalid final bad-step no-container clock-end expired not-synced "
+    "worker-busy no-key behind unavailable"
+).split()
 # What a sync asks of one pod, and what begins so.
 ASKED_OF_A_POD = ("create-pod", "mark", "let-go", "release")
 
@@ -107,6 +112,11 @@ class Report:
     def until(self, number):
         """Returns the events up to this one."""
         return self.events[:number]
+
+
+def is_refusal(event):
+    """Returns whether the event was answered that nothing was done."""
+    return (event.request[1] or event.said)[0] in REFUSALS
 
 
 def event_of(line):
@@ -257,6 +267,46 @@ def lengths(events):
         if event.number in unheard and (known is None or length < known):
             length += 1
         found.append(length)
+    return found
+
+
+def caches(events):
+    """Returns, before the first event and after each, the versions of the caches of each controller that has done anything."""
+    found = [{}]
+    for event in events:
+        now = found[-1]
+        if event.verb in ("list", "deliver"):
+            controller, kind, answer = int(event.words[1]), event.words[2], event.said[0]
+            at = dict(now.get(controller, {"jobs": None, "pods": None}))
+            at[kind] = int(event.said[1][1:]) if answer in ("listed", "entry") else None if answer == "expired" else at[kind]
+            now = {**now, controller: at}
+        elif event.verb == "restart" or event.request[1][:1] == ["unavailable"]:
+            now = {**now, int(event.words[1]): {"jobs": None, "pods": None}}
+        found.append(now)
+    return found
+
+
+def syncs(events):
+    """Returns the syncs in the order in which they began: the seat, the Job, the versions of the caches, and each request with its
+    event and its answer; where it has ended, by which event and why."""
+    found, under_way = [], {}
+    for event in events:
+        if event.verb == "begin" and event.said[0] == "begun":
+            jobs, pods = int(event.said[3][1:]), int(event.said[5][1:])
+            controller, worker = event.seat
+            sync = {"controller": controller, "worker": worker, "key": event.key, "jobs": jobs, "pods": pods, "begin": event.number}
+            under_way[event.seat] = {**sync, "end": None, "why": "", "steps": []}
+            found.append(under_way[event.seat])
+        elif event.verb == "restart":
+            for seat in [it for it in under_way if it[0] == int(event.words[1])]:
+                under_way.pop(seat).update(end=event.number, why="the controller was restarted")
+        elif event.verb == "step" and event.seat in under_way:
+            request, answer = event.request
+            if request:
+                under_way[event.seat]["steps"].append([event.number, " ".join(request), " ".join(answer)])
+            if event.reply == "ended" or answer[:1] == ["unavailable"] or request == ["status"] and answer[0] in ("conflict", "not-found"):
+                why = "nothing was left to ask" if event.reply == "ended" else " ".join(request + answer)
+                under_way.pop(event.seat).update(end=event.number, why=why)
     return found
 
 
