@@ -69,6 +69,7 @@ def ran(tool, *words, given=""):
 
 def refuses(tool, *words, given="", status=1, says=""):
     """Holds that a tool refuses what it is given, in one line that begins with its name, or by its usage."""
+    words = [str(it) for it in words]
     done = ran(tool, *words, given=given)
     lines = done.stderr.strip().split("\n")
     is_line = lines[-1].startswith(f"{tool}: ") and (status == 2 or len(lines) == 1)
@@ -373,6 +374,93 @@ def check_got(program):
     holds("get.py: a spoilt report", spoilt.returncode == 1 and "line 17" in spoilt.stderr and not spoilt.stdout)
 
 
+def data_of(text):
+    """Returns what a page shows."""
+    return json.loads(re.search(r'<script type="application/json" id="data">(.*?)</script>', text, re.DOTALL)[1])
+
+
+def check_page(program):
+    """A page has each line of its report, and at the end and between the exact statuses; it asks nothing of any network."""
+    for name in ("first", "two_controllers", "lost_status_reply"):
+        done = ran("page.py", f"{TOP}/examples/{name}.report", "--program", program)
+        data, report = data_of(done.stdout), report_of(name)
+        holds(f"{name}: a page of one file", not re.search(r"""(src|href)=|url\(|@import|fetch\(|https?:""", done.stdout.partition("<script type")[0]))
+        holds(f"{name}: its lines", data["lines"] == [it.line for it in report.events] and len(data["means"]) == len(report.events))
+        last = {it["key"]: it["history"][-1][1]["status"] for it in data["jobs"]}
+        holds(f"{name}: the last statuses", last == {key: it.status for key, it in report.jobs.items()})
+        asked = sum(len(it["steps"]) for it in data["syncs"])
+        holds(f"{name}: what the syncs asked", asked == sum(bool(it.request[0]) for it in report.events))
+        check_page_script(name, done.stdout)
+    data = data_of(ran("page.py", f"{TOP}/examples/two_controllers.report", "--program", program).stdout)
+    queues = [[it[1] for it in of["queue"]] for of in data["controllers"]]
+    holds(f"two controllers: their queues {queues}", queues[1] == [None, ["default/pi"], []])
+    refuses("page.py", f"{TOP}/examples/generated.report", "--program", program, says="line 1")
+    refuses("page.py", f"{TOP}/examples/first.report", "--from", 9, "--to", 99, "--program", program, says="no events 9 to 99")
+    refuses("page.py", f"{TOP}/examples/first.report", "-o", "/none/it.html", "--program", program, says="/none/it.html")
+    refuses("page.py", "none.report", says="No such file")
+
+
+def check_page_script(name, text):
+    """The page's script draws each event, by node, on elements that stand in for a browser's."""
+    if not shutil.which("node"):
+        print("check_tools: SKIPPED, for there is no node: the script of a page")
+        return
+    script = re.findall(r"<script>(.*?)</script>", text, re.DOTALL)[0]
+    stand_in = """
+const element = () => ({ children: [], addEventListener() {}, dataset: {}, scrollIntoView() {} });
+const elements = {}; globalThis.location = { hash: "#2" }; globalThis.history = { replaceState() {} };
+globalThis.document = { getElementById: (id) => elements[id] ||= element(), addEventListener() {} }; globalThis.addEventListener = () => {};
+elements.data = { textContent: DATA };
+"""
+    ending = """
+const drawn = []; for (let it = first; it <= last; it++) { go(it); drawn.push(elements.state.innerHTML); }
+console.log(JSON.stringify([drawn.length, stateAt(last).jobs.map((it) => it.is.status), drawn.some((it) => /undefined|NaN/.test(it)), elements.at.textContent]));
+"""
+    data = json.dumps(json.dumps(data_of(text)))
+    done = subprocess.run(["node", "-"], input=stand_in.replace("DATA", data) + script + ending, capture_output=True, text=True)
+    holds(f"{name}: the page's script: {done.stderr[:300]}", done.returncode == 0)
+    count = len(report_of(name).events)
+    want = [count + 1, [it.status for it in report_of(name).jobs.values()], False, f"{count} of {count}"]
+    holds(f"{name}: each event is drawn", done.returncode == 0 and json.loads(done.stdout) == want)
+
+
+COMPARED = """\
+NAME   SIDE   STATUS     REASON                 COMPLETIONS   FAILED   ACTIVE   PODS   DURATION
+pi     A      Complete   CompletionsReached     1/1           1        0        2      10s
+       B      Failed     BackoffLimitExceeded   0/1           1        0        1      0s
+
+default/pi is created otherwise: backoffLimit 4 in A, 0 in B
+They part at event 41:
+  both  39 begin 0 0 -> begun default/pi jobs v9 pods v9
+  both  40 step 0 0 -> ended
+  A     41 clock 10 -> now 2024-01-01T00:00:10Z
+  B     41 settled -> done
+A has 78 events, B has 41.
+"""
+
+
+def check_compare():
+    """Two reports side by side, without a program."""
+    first, other = f"{TOP}/examples/first.report", f"{TOP}/examples/crash_between_writes.report"
+    same = ran("compare.py", first, first).stdout
+    holds("a report and itself", "All 19 events are the same." in same and " both " in same)
+    holds("two reports", "They part at event 9:" in ran("compare.py", first, other).stdout)
+    refuses("compare.py", first, status=2)
+    refuses("compare.py", first, "--with", "spec", status=2)
+    refuses("compare.py", first, "--with", "spec.parallelism=1", says="is a report")
+    refuses("compare.py", first, f"{TOP}/tools/compare.py", "--program", "/none")
+
+
+def check_compared(program):
+    """A script and the same with a changed member, and manifests."""
+    script = f"{TOP}/examples/kubectl.script"
+    holds("compare.py --with", ran("compare.py", script, "--with", "spec.backoffLimit=0", "--program", program).stdout == COMPARED)
+    refuses("compare.py", script, "--with", "spec.backoffLimit=x", "--program", program, says="wrong type job.spec.backoffLimit")
+    refuses("compare.py", script, "--with", "kind.x=1", "--program", program, says="kind is no object")
+    done = ran("compare.py", "-", "--with", "spec.completions=2", "--ends", "0", "--program", program, given=json.dumps(json.loads(text_of("examples/kubectl.script").split("\n")[0])["job"], indent=2))
+    holds("compare.py of a manifest on standard input", "2/2" in done.stdout)
+
+
 def check_standins():
     """What a function took is told by the files that were written of it."""
     files = [(0.0, "rattle-last-used"), (1.0, "Rattle-it-specs.Words.decls.oantt"), (4.0, "Rattle-it-proofs.parts.made.Lts.oantt")]
@@ -410,8 +498,8 @@ def program():
     return None
 
 
-ALONE = (check_sources, check_timeline, check_explain, check_script_of, check_yaml, check_reports, check_replay, check_get, check_standins, check_stored_run, check_jobctl)
-PLAYED = (check_replayed, check_live, check_cluster, check_got)
+ALONE = (check_sources, check_timeline, check_explain, check_script_of, check_yaml, check_reports, check_replay, check_get, check_compare, check_standins, check_stored_run, check_jobctl)
+PLAYED = (check_replayed, check_live, check_cluster, check_got, check_page, check_compared)
 
 
 def main():

@@ -70,14 +70,19 @@ def status_of(job):
     return next((it for it in SHOWN if it in conditions), "Running")
 
 
+def completions_of(job):
+    """Returns how many pods have succeeded, of how many."""
+    succeeded, wanted, parallelism = job.status.get("succeeded", 0), job.spec.get("completions"), job.spec["parallelism"]
+    if wanted is not None:
+        return f"{succeeded}/{wanted}"
+    return f"{succeeded}/1" + (f" of {parallelism}" if parallelism > 1 else "")
+
+
 def job_row(job, moment):
     """Returns the cells of a Job behind its name."""
-    succeeded, wanted = job.status.get("succeeded", 0), job.spec.get("completions")
-    parallelism = job.spec["parallelism"]
-    completions = f"{succeeded}/{1 if wanted is None else wanted}" + (f" of {parallelism}" if wanted is None and parallelism > 1 else "")
     start = job.status.get("startTime")
     duration = age(start, job.status.get("completionTime", moment)) if start else ""
-    return (status_of(job), completions, duration, age(job.born, moment))
+    return (status_of(job), completions_of(job), duration, age(job.born, moment))
 
 
 def pod_row(pod, moment):

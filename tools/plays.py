@@ -8,12 +8,14 @@ import dataclasses
 import json
 import os
 import subprocess
+import sys
 
 import replay
 import reports
 from checks import TOP
 
 BUILT = os.path.join(TOP, "crates", "jobctl", "out", "jobctl")
+WRAPPER = os.path.join(TOP, "jobctl")
 # How many workers a controller may have: each that has no sync can be asked what it would begin.
 MOST_WORKERS = 16
 # How often one pod is asked.
@@ -23,9 +25,11 @@ QUESTIONS = 4
 def program_at(path=None):
     """Returns the path of the program: the one that is given, or that of the environment, or the one that is built here, or
     else ./jobctl, which builds it."""
-    path = path or os.environ.get("JOBCTL") or (BUILT if os.path.exists(BUILT) else os.path.join(TOP, "jobctl"))
+    path = path or os.environ.get("JOBCTL") or (BUILT if os.path.exists(BUILT) else WRAPPER)
     if not os.access(path, os.X_OK) or os.path.isdir(path):
         raise reports.Refused(f"there is no program {path}: build it by ./jobctl prove, or give --program PATH")
+    if os.path.samefile(path, WRAPPER):
+        print("no program is built, so ./jobctl plays, which may take minutes where it has kept nothing", file=sys.stderr)
     return os.path.abspath(path)
 
 
