@@ -444,7 +444,7 @@ def check_compare():
     first, other = f"{TOP}/examples/first.report", f"{TOP}/examples/crash_between_writes.report"
     same = ran("compare.py", first, first).stdout
     holds("a report and itself", "All 19 events are the same." in same and " both " in same)
-    holds("two reports", "They part at event 9:" in ran("compare.py", first, other).stdout)
+    holds("two reports", "They part at event 17:" in ran("compare.py", first, other).stdout)
     refuses("compare.py", first, status=2)
     refuses("compare.py", first, "--with", "spec", status=2)
     refuses("compare.py", first, "--with", "spec.parallelism=1", says="is a report")
