@@ -35,7 +35,7 @@ holds = checks.holds
 
 
 def of(name):
-    return timeline.Story(text_of(f"examples/{name}.report"))
+    return timeline.Story(report_of(name))
 
 
 def stories():
@@ -88,20 +88,17 @@ def check_sources():
 
 def check_timeline():
     """Each report of examples/ becomes a picture, whose counts come to what its last lines say."""
-    reports = sorted(glob.glob(f"{TOP}/examples/*.report"))
-    holds("examples/ has reports", len(reports) > 5)
-    for report in reports:
-        name = os.path.basename(report)[:-7]
+    holds("examples/ has reports", len(stories()) > 5)
+    for name in stories():
         story = of(name)
-        has_events = bool(re.match(r"1 ", text_of(f"examples/{name}.report")))
-        holds(f"{name}: the counts come to the last lines", story.doubts == ([] if has_events else ["this report has no events"]))
+        holds(f"{name}: the counts come to the last lines", story.doubts == [])
         picture = timeline.Picture(story, 1, 10**9).svg()
         root = xml.etree.ElementTree.fromstring(picture)
         names = [it.text for it in root.iter("{http://www.w3.org/2000/svg}text")]
         holds(f"{name}: each pod has a column", all(f"pod {uid}" in names for uid in story.pods))
         holds(f"{name}: nothing from outside", "href" not in picture and "url(" not in picture)
         lines = sum(len(row["lines"]) for row in story.rows)
-        holds(f"{name}: each event is in a row", lines == len(re.findall(r"(?m)^[0-9]+ ", text_of(f"examples/{name}.report"))))
+        holds(f"{name}: each event is in a row", lines == len(report_of(name).events))
     first = of("first")
     texts = [(version, text) for _, version, text in first.jobs[0].lines]
     seven = [(1, "created"), (3, "active 1"), (5, "listed 2"), (7, "succeeded 1")]
@@ -115,8 +112,20 @@ def check_timeline():
     holds("an ignored pod is not judged", ignored.judged == {3: "Succeeded"})
     fresh = timeline.Picture(of("crash_between_writes"), 1, 10**9).svg()
     holds("docs/crash_between_writes.svg is what timeline.py makes", fresh == text_of("docs/crash_between_writes.svg"))
-    part = timeline.Story(text_of("examples/kubectl.report"))
+    part = of("kubectl")
     holds("a part of a picture is lower", timeline.Picture(part, 40, 50).height < timeline.Picture(part, 1, 90).height)
+    whole, own = (timeline.Picture(of("collected"), 1, 10**9, jobs, folds=folds) for jobs, folds in (((), False), (("default/soon",), False)))
+    holds("one Job's picture is smaller", own.height < whole.height and own.width < whole.width and set(own.pods) == {5})
+    one = timeline.Picture(of("two_controllers"), 1, 10**9, pods=[3])
+    holds("one pod's picture has its Job", set(one.pods) == {3} and len(one.jobs) == 1 and "pod 2" not in [name for _, name in one.heads])
+    folded = timeline.Picture(of("collected"), 1, 10**9, folds=True)
+    holds("a folded picture is narrower", folded.width < whole.width - 400 and len(set(folded.job_x.values())) == 1)
+    for text, says in (("", "no events"), ("no report\n", "line 1"), (text_of("examples/first.report").replace("7 -", "7 x"), "line 7")):
+        refuses("timeline.py", "--no-exact", "-o", "/none/it.svg", given=text, says=says)
+    refuses("timeline.py", "none.report", says="No such file")
+    refuses("timeline.py", f"{TOP}/examples/first.report", "--no-exact", "-o", "/none/it.svg", says="/none/it.svg")
+    refuses("timeline.py", f"{TOP}/examples/first.report", "--no-exact", "--job", "nobody", says="no Job default/nobody")
+    refuses("timeline.py", f"{TOP}/examples/first.report", "--pod", "x", status=2)
 
 
 def check_explain():
@@ -316,6 +325,18 @@ EVENT   NAMESPACE   NAME     READY   STATUS      RESTARTS     AGE
 """
 
 
+def check_exact(program):
+    """The statuses of a picture are those of the program: what is worked out without one is the same, but for conditions."""
+    for name in stories():
+        report = report_of(name)
+        worked_out, exact = of(name), timeline.Story(report, timeline.exact_statuses(report, program))
+        for one, other in zip(worked_out.jobs, exact.jobs):
+            lines = [[text.partition(":")[0] for _, _, text in job.lines] for job in (one, other)]
+            holds(f"{name}: {one.key}: {lines}", lines[0] == lines[1])
+    text = ran("timeline.py", f"{TOP}/examples/limits_per_index.report", "--program", program).stdout
+    holds("conditions and reasons", "FailureTarget (FailedIndexes)" in text and "Failed (FailedIndexes)" in text)
+
+
 def check_get():
     """Durations as kubectl prints them, and the events as JSON."""
     times = {0: "0s", 119: "119s", 120: "2m", 125: "2m5s", 600: "10m", 10799: "179m", 10800: "3h", 14700: "4h5m", 86400: "24h"}
@@ -499,7 +520,7 @@ def program():
 
 
 ALONE = (check_sources, check_timeline, check_explain, check_script_of, check_yaml, check_reports, check_replay, check_get, check_compare, check_standins, check_stored_run, check_jobctl)
-PLAYED = (check_replayed, check_live, check_cluster, check_got, check_page, check_compared)
+PLAYED = (check_replayed, check_exact, check_live, check_cluster, check_got, check_page, check_compared)
 
 
 def main():

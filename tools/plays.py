@@ -191,6 +191,11 @@ class Replayed:
         last = reports.read_lines([line for line in lines[number + len(more) :] if line])
         return State(number, self.moments[number], self.jobs(number, last), self.pods(number, told), self.queues(replies))
 
+    def statuses(self, number):
+        """Returns the exact status of each Job behind an event, by key."""
+        lines = play(self.program, self.words, self.script[:number]).split("\n")[number:]
+        return {key: it.status for key, it in reports.read_lines([line for line in lines if line]).jobs.items()}
+
     def queues(self, replies):
         """Returns what the workers would begin, one after the other, by controller; None where the caches are not listed yet."""
         found = {}
