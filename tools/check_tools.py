@@ -112,6 +112,10 @@ def check_timeline():
     holds("an ignored pod is not judged", ignored.judged == {3: "Succeeded"})
     fresh = timeline.Picture(of("crash_between_writes"), 1, 10**9).svg()
     holds("docs/crash_between_writes.svg is what timeline.py makes", fresh == text_of("docs/crash_between_writes.svg"))
+
+
+def check_parts():
+    """Parts of a picture: some events, some Jobs and pods, folded columns; and what no picture is made of."""
     part = of("kubectl")
     holds("a part of a picture is lower", timeline.Picture(part, 40, 50).height < timeline.Picture(part, 1, 90).height)
     whole, own = (timeline.Picture(of("collected"), 1, 10**9, jobs, folds=folds) for jobs, folds in (((), False), (("default/soon",), False)))
@@ -519,7 +523,7 @@ def program():
     return None
 
 
-ALONE = (check_sources, check_timeline, check_explain, check_script_of, check_yaml, check_reports, check_replay, check_get, check_compare, check_standins, check_stored_run, check_jobctl)
+ALONE = (check_sources, check_timeline, check_parts, check_explain, check_script_of, check_yaml, check_reports, check_replay, check_get, check_compare, check_standins, check_stored_run, check_jobctl)
 PLAYED = (check_replayed, check_exact, check_live, check_cluster, check_got, check_page, check_compared)
 
 

@@ -93,8 +93,9 @@ def key_row(key, report, specs, births):
 
 def side(report):
     """Returns the cells of each Job of a report, by its key."""
-    specs, births = plays.spec_history(report.events), reports.births(report.events)
-    return {key: key_row(key, report, specs, births) for key in report.jobs}
+    with reports.going_together():
+        specs, births = plays.spec_history(report.events), reports.births(report.events)
+        return {key: key_row(key, report, specs, births) for key in report.jobs}
 
 
 def table(left, right):

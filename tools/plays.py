@@ -152,13 +152,13 @@ class Replayed:
         self.words = ["run", "--controllers", str(self.controllers), "--workers", str(MOST_WORKERS)]
         self.words += [f"--window={told['window']}"] if told["window"] else []
         self.words += [f"--start={told['start']}"] if told["start"] else []
+        self.lines = self.checked()
         self.moments = reports.moments(report.events, told["start"] or replay.PLAIN["start"])
         self.births = reports.births(report.events)
         self.specs = spec_history(report.events)
         self.names = {it.uid: self.containers_of(it) for it in self.births.values() if it.kind == "pod"}
         self.restarts = restart_history(report.events, {uid: (names or [""])[0] for uid, names in self.names.items()})
         self.seats = [(controller, worker) for controller in range(self.controllers) for worker in range(MOST_WORKERS)]
-        self.lines = self.checked()
 
     def checked(self):
         """Returns the lines of the play of the whole report, and refuses a report that comes out otherwise."""

@@ -137,16 +137,17 @@ def windows_of(report):
 
 
 def told_of(report):
-    """Returns what the report tells of each option, None where it tells nothing, and the least window that will do."""
+    """Returns what the report tells of each option, None where it tells nothing; of the window, what will do."""
     seats = [event.words for event in report.events if event.verb in OF_A_CONTROLLER]
     workers = [int(words[2]) for words in seats if words[0] in OF_A_WORKER]
-    window, least = windows_of(report)
+    with reports.going_together():
+        start, (window, least) = start_of(report), windows_of(report)
     return {
         "controllers": max([1, *(int(words[1]) + 1 for words in seats)]),
         "workers": max([1, *(worker + 1 for worker in workers)]),
         "window": window if window or least <= PLAIN["window"] else least,
         "events": len(report.events) if report.is_full else None,
-        "start": start_of(report),
+        "start": start,
     }
 
 

@@ -2,7 +2,9 @@
 
 A report is what docs/SCRIPT.md says under "The report". What is none is Refused, with the line that says so.
 """
+import contextlib
 import dataclasses
+import datetime
 import json
 import os
 import re
@@ -17,6 +19,25 @@ REFUSALS = (
 ).split()
 # What a sync asks of one pod, and what begins so.
 ASKED_OF_A_POD = ("create-pod", "mark", "let-go", "release")
+
+
+LAST_LINE = re.compile(r"job [^ /]+/[^ /]+ [0-9a-f]{8}-[0-9a-f]{4}-[0-9a-f]{4}-[0-9a-f]{4}-[0-9a-f]{12} v[0-9]+ \{.*\}$")
+# The words of an act, and of a reply.
+NUMBER, UID, VERSION, KEY, PHASE = r"(?:0|[1-9][0-9]{0,11})", r"[1-9][0-9]{0,11}", r"v[0-9]{1,12}", r"[^ /]+/[^ /]+", r"[A-Z][a-z]+"
+ACT = re.compile(
+    rf"create {KEY} \{{.*|update {KEY} (any|{VERSION}) \{{.*|delete {KEY}|(mark|strip) {UID}|finish {UID} {NUMBER}|report {UID} \{{.*"
+    rf"|fate {KEY} \[.*|node|clock {NUMBER}|(list|deliver) {NUMBER} (jobs|pods)|(begin|step) {NUMBER} {NUMBER}|restart {NUMBER}"
+    rf"|fault {NUMBER} {NUMBER} (drop|lose)|settled"
+)
+ANSWER = (
+    rf"created {UID} {VERSION}|exists|(written|unchanged|removed|released|conflict) {VERSION}|not-found|not-tracked|final {PHASE}|unavailable"
+)
+REPLY = re.compile(
+    rf"{ANSWER}|(immutable|invalid|no-container) [^ ]+|bad-step {PHASE} {PHASE}|pod {UID} {PHASE} written {VERSION}|idle|now [^ ]+|clock-end"
+    rf"|(listed|entry|expired) {VERSION}|up-to-date|not-synced|begun {KEY} jobs {VERSION} pods {VERSION}|worker-busy|no-key"
+    rf"|behind (jobs|pods) need {VERSION} have {VERSION}|create-pod (-|{NUMBER}) ({ANSWER})|(mark|let-go|release) {UID} ({ANSWER})"
+    rf"|status ({ANSWER})|ended|done"
+)
 
 
 class Refused(Exception):
@@ -136,7 +157,7 @@ def read_lines(lines):
         words = line.split(" ", 4)
         if event and not jobs and event.number == len(events) + 1:
             events.append(event)
-        elif len(words) == 5 and words[0] == "job" and line.endswith("}"):
+        elif LAST_LINE.match(line):
             jobs[words[1]] = LastLine(words[1], words[2], int(words[3][1:]), readable(words[4], number), "")
         elif words[0] == "verdicts" and len(words) > 1 and words[1] in jobs:
             jobs[words[1]] = dataclasses.replace(jobs[words[1]], verdicts=line.split(" ", 2)[2])
@@ -160,13 +181,24 @@ def check(events):
     """Refuses events whose words are not as they have to be."""
     for event in events:
         try:
+            is_one = bool(ACT.fullmatch(event.act) and REPLY.fullmatch(event.reply))
             if event.verb in ("create", "update", "report", "fate"):
                 event.value
-            event.key, event.pod, event.version
-            if event.verb in ("begin", "step", "fault"):
-                event.seat
-        except (ValueError, IndexError):
-            raise Refused(f"this is no report: line {event.number} is {shortened(event.line)!r}") from None
+            if event.said[0] == "now":
+                datetime.datetime.fromisoformat(event.said[1].removesuffix("Z"))
+        except ValueError:
+            is_one = False
+        if not is_one:
+            raise Refused(f"this is no report: line {event.number} is {shortened(event.line)!r}")
+
+
+@contextlib.contextmanager
+def going_together():
+    """Refuses, in the place of an error of Python, what is read from lines that are well formed and do not go together."""
+    try:
+        yield
+    except (KeyError, IndexError, TypeError, AttributeError, ValueError, OverflowError):
+        raise Refused("this is no report: its lines do not go together") from None
 
 
 def shortened(text, most=90):

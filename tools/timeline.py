@@ -130,9 +130,10 @@ class Story:
         self.caches, self.lanes, self.syncs, self.length = {}, {}, {}, 0
         self.unheard, self.versions_of_caches = reports.lost(report.events), reports.caches(report.events)
         self.births = {birth.number: birth for birth in reports.births(report.events).values()}
-        for event in report.events:
-            self.event(event)
-        self.end()
+        with reports.going_together():
+            for event in report.events:
+                self.event(event)
+            self.end()
 
     def row(self, event, kind, text):
         """Adds a row; neighbouring events of caches share one."""
