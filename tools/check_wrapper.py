@@ -1,9 +1,10 @@
 #!/usr/bin/env python3
-"""check_wrapper.py [PROGRAM]: the checks of ./jobctl. Each prints a line where it fails; the last line says how many held.
+"""check_wrapper.py [PROGRAM [CHECK..]]: the checks of ./jobctl. Each prints a line where it fails; the last line says how many held.
 
 They run in a copy of this checkout in which nothing is built or proved. Where ./jobctl would build the unproved program for minutes,
 PROGRAM is put in its place; all else is what a newcomer meets, README.md's lines among it. Where proofs are tried, a kit that is made
-here stands in the place of the real one. Without PROGRAM it is the one that ./jobctl would run.
+here stands in the place of the real one. Without PROGRAM it is the one that ./jobctl would run. With CHECK, as `kept`, only those are
+made.
 """
 import glob
 import os
@@ -103,7 +104,7 @@ class Place:
             os.chmod(f"{self.room}/{name}", 0o755)
 
     def start(self, given, **how):
-        whole = [sys.executable, "-B", f"{self.top}/tools/wrapper.py", *given]
+        whole = [sys.executable, "-SB", f"{self.top}/tools/wrapper.py", *given]
         return subprocess.Popen(whole, cwd=self.top, env=self.environment, **{"stdout": subprocess.PIPE, "stderr": subprocess.PIPE, **how})
 
     def run(self, *given, text=b"", **how):
@@ -131,7 +132,9 @@ class Place:
 
     def files(self):
         """Returns the files of the out/ folders but for locks, and those of the folder for temporary ones."""
-        found = [f"{at}/{it}" for top in (f"{self.top}/out", f"{self.room}/temporary") for at, folders, files in os.walk(top) for it in [*folders, *files]]
+        found = []
+        for top in (f"{self.top}/out", f"{self.room}/temporary"):
+            found += [f"{at}/{it}" for at, folders, files in os.walk(top) for it in [*folders, *files]]
         found += glob.glob(f"{self.top}/crates/*/out/*")
         return sorted(it for it in found if not it.endswith(".lock"))
 
@@ -140,8 +143,9 @@ class Place:
 
 VALUES = "0 1 4 5 16 17 200000 200001 007 +5 -1 x mutex turn fair Mutex =2 1=2 --threads 4294967296 99999999999 1,000 1_0 0x1 １".split()
 VALUES += ["", " 1", "1 ", "1\n", "1970-01-01T00:00:00Z", "1969-12-31T23:59:59Z", "9999-12-31T23:59:59Z", "9999-12-31T23:59:60Z"]
-VALUES += ["2023-02-29T00:00:00Z", "2024-02-29T00:00:00Z", "2100-02-29T00:00:00Z", "2000-02-29T23:59:59Z", "2024-1-01T00:00:00Z", "2024-01-01T24:00:00Z"]
-VALUES += ["2024-01-01t00:00:00z", "2024-13-01T00:00:00Z", "2024-04-31T00:00:00Z", "2024-01-01T00:00:00.0Z", "2024-01-01T00:00:00+00:00", "2024-01-01"]
+VALUES += ["2023-02-29T00:00:00Z", "2024-02-29T00:00:00Z", "2100-02-29T00:00:00Z", "2000-02-29T23:59:59Z", "2024-1-01T00:00:00Z"]
+VALUES += ["2024-01-01T24:00:00Z", "2024-01-01t00:00:00z", "2024-13-01T00:00:00Z", "2024-04-31T00:00:00Z", "2024-01-01T00:00:00.0Z"]
+VALUES += ["2024-01-01T00:00:00+00:00", "2024-01-01"]
 
 
 def random_words(dice):
@@ -179,8 +183,9 @@ def is_refused(given):
     return None if is_own else False
 
 
-def check_words(program):
+def check_words(place):
     """The wrapper refuses just what the program refuses."""
+    program = place.program
     dice = random.Random(26)
     cases = [*listed_words(), *(random_words(dice) for _ in range(400)), [], [""], ["walk"], ["generate", "1", "1", "1"]]
     counts = {True: 0, False: 0, None: 0}
@@ -196,7 +201,7 @@ def check_words(program):
     holds("words that are no UTF-8", is_refused(["run", "\udcff"]) is True)
 
 
-def check_table():
+def check_table(_):
     """The options have the limits that docs/SCRIPT.md gives."""
     found = {row[0]: row for row in tells.rows("SCRIPT.md", "option")}
     holds("docs/SCRIPT.md has the same options", sorted(found) == sorted(it.name for it in words.OPTIONS))
@@ -209,13 +214,29 @@ def check_table():
         holds(f"docs/SCRIPT.md: the words of {option.name}", all(it in row[1] for it in option.allowed))
 
 
+REFUSED = [
+    ("run --thread 1", "did you mean --threads?"),
+    ("rnu", "did you mean run?"),
+    ("", "there is no word"),
+    ("run --threads 17", "0 to 16"),
+    ("audit --threads 1", "an option of run alone"),
+    ("run --events", "has no value"),
+    ("run --events=007", "written 7"),
+    ("run --lock fair", "mutex or turn"),
+    ("run a b", "two files"),
+    ("run --workers 1 --workers=1", "given twice"),
+    ("generate 1 2", "three numbers"),
+    ("generate 1 101 2", "JOBS is 1 to 100"),
+    ("prove x", "does not take x"),
+    ("help rn", "did you mean run?"),
+    ("run --start 2024-01-01", "2024-01-01T00:00:00Z"),
+]
+
+
 def check_refusals(place):
     """Bad words are refused at once, by name, with the usage and a near match, and nothing is built or kept."""
-    cases = [(["run", "--thread", "1"], "did you mean --threads?"), (["rnu"], "did you mean run?"), ([], "there is no word"), (["run", "--threads", "17"], "0 to 16")]
-    cases += [(["audit", "--threads", "1"], "an option of run alone"), (["run", "--events"], "has no value"), (["run", "--events=007"], "written 7")]
-    cases += [(["run", "--lock", "fair"], "mutex or turn"), (["run", "a", "b"], "two files"), (["generate", "1", "2"], "three numbers"), (["prove", "x"], "does not take x")]
-    cases += [(["generate", "1", "101", "2"], "JOBS is 1 to 100"), (["help", "rn"], "did you mean run?"), (["run", "--start", "2024-01-01"], "2024-01-01T00:00:00Z")]
-    for given, part in cases:
+    for line, part in REFUSED:
+        given = line.split()
         status, out, err = place.run(*given)
         is_well = status == 2 and not out and err.startswith("jobctl: bad words\n") and part in err and "usage: ./jobctl" in err
         holds(f"./jobctl {given} is refused, with {part!r}: {status} {err!r}", is_well)
@@ -232,7 +253,8 @@ def check_help(place):
     holds("help names each command", all(f"./jobctl {it}" in whole for it in words.COMMANDS))
     holds("no line of a help is over 140 wide", all(len(it) <= 140 for of in ["", *words.COMMANDS] for it in words.help_of(of)))
     said = place.run("version")[1]
-    holds(f"version tells the kit, and that nothing is built: {said!r}", "kit a kit of the checks" in said and "program none yet" in said and "commit " in said)
+    is_well = "kit a kit of the checks" in said and "program none yet" in said and "commit " in said
+    holds(f"version tells the kit, and that nothing is built: {said!r}", is_well)
 
 
 # ---- README, input and output
@@ -249,17 +271,18 @@ def readme_lines():
             found[-1][1].append(line.strip())
         else:
             found.append(None)
-    return [it for it in found if it and not re.match(r"\./jobctl (prove|test)\b", it[0])]
+    return [it for it in found if it and not re.match(r"\./jobctl (prove|test)\b", it[0]) and "FILE" not in it[0]]
 
 
 def check_readme(place):
     """README.md's lines do what it says, in a fresh copy with nothing proved."""
     lines = readme_lines()
     audits = [it for it in lines if it[0].endswith("| ./jobctl audit")]
-    holds(f"README.md runs the first example, and audits a spoilt report: {lines}", len(audits) == 1 and any("run" in it[0] and "first.script" in it[0] for it in lines))
+    runs = [it for it in lines if re.fullmatch(r"\./jobctl run (< )?examples/first\.script", it[0])]
+    holds(f"README.md runs the first example, and audits a spoilt report: {lines}", len(audits) == 1 and runs)
     for line, wanted in lines:
         place.forget()
-        if not all(shutil.which(it.split()[0], path=place.environment["PATH"] + ":.") for it in line.split("|") if not it.strip().startswith("./")):
+        if not all(it.strip().startswith(("./", "tools/")) or shutil.which(it.split()[0]) for it in line.split("|")):
             continue
         how = {"cwd": place.top, "env": place.environment, "stdin": subprocess.DEVNULL, "capture_output": True, "text": True}
         ran = subprocess.run(["bash", "-c", f"set -o pipefail; {line}"], **how)
@@ -267,7 +290,7 @@ def check_readme(place):
             holds(f"{line}: no 17 and status 9: {ran}", ran.stdout == "no 17\n" and ran.returncode == 9 and wanted[:1] == ["no 17"])
         else:
             holds(f"{line}: status 0: {ran}", ran.returncode == 0)
-        if line.startswith("./jobctl run") and "first.script" in line and "|" not in line:
+        if (line, wanted) in runs:
             holds(f"{line}: the report", ran.stdout == REPORT)
         holds(f"{line}: one build, and it is said that nothing is proved", place.built() == 1 and NOTE in ran.stderr)
 
@@ -367,7 +390,8 @@ def check_failed_build(place):
     place.write("how", "fails")
     status, out, err = place.run("run", SCRIPT)
     named = re.search(r"\S+/out/build-\S+\.log", err)
-    holds(f"a build that fails: {status} {err!r}", status == 1 and not out and "rt: jobctl has an error" in err and "line 29" in err and "Traceback" not in err)
+    is_well = status == 1 and not out and "rt: jobctl has an error" in err and "line 29" in err and "Traceback" not in err
+    holds(f"a build that fails: {status} {err!r}", is_well)
     holds("its log is kept", named and os.path.isfile(named[0]))
     place.write("how", "edits")
     status, out, err = place.run("run", SCRIPT)
@@ -426,7 +450,8 @@ def check_prove(place):
         os.remove(it)
     place.write("how_ci", "")
     status, out, err = place.run("prove")
-    holds(f"prove: {status} {err!r}", status == 0 and "minutes of the clock" in err and re.search(r"1 of [0-9]+ crates: jc_io is proved, .* left", err))
+    is_told = "minutes of the clock" in err and re.search(r"1 of [0-9]+ crates: jc_io is proved, .* left", err)
+    holds(f"prove: {status} {err!r}", status == 0 and is_told)
     holds("prove leaves no log", not glob.glob(f"{place.top}/out/*.log"))
     status, out, err = place.run("run", SCRIPT)
     holds(f"the proved program runs, and says nothing: {err!r}", (status, out, err) == (0, REPORT, ""))
@@ -484,7 +509,8 @@ def check_kept_proofs(place):
     place.forget()
     os.makedirs(f"{place.room}/rattle-kept/proof-jobctl-1")
     status, out, err = place.run("run", SCRIPT)
-    holds(f"a kit that keeps nothing: {err!r}", (status, out) == (0, REPORT) and NOTE in err and "Traceback" not in err and not glob.glob(f"{place.top}/out/*.log"))
+    is_silent = "Traceback" not in err and "rror" not in err and not glob.glob(f"{place.top}/out/*.log")
+    holds(f"a kit that keeps nothing: {err!r}", (status, out) == (0, REPORT) and NOTE in err and is_silent)
     place.forget()
     place.write("kit/bin/rt", KEEPING.format(top=place.top, program=place.program), True)
     status, out, err = place.run("run", SCRIPT)
@@ -505,7 +531,9 @@ def lives(number):
 
 def check_interrupt(place):
     """A signal ends what was started, all the way down, and leaves no files."""
-    for number, given, how in ((signal.SIGINT, ["run", SCRIPT], "how"), (signal.SIGTERM, ["audit", SCRIPT], "how"), (signal.SIGHUP, ["prove"], "how_ci"), (signal.SIGTERM, ["prove"], "how_ci")):
+    cases = [(signal.SIGINT, ["run", SCRIPT], "how"), (signal.SIGTERM, ["audit", SCRIPT], "how")]
+    cases += [(signal.SIGHUP, ["prove"], "how_ci"), (signal.SIGTERM, ["prove"], "how_ci")]
+    for number, given, how in cases:
         place.forget()
         place.write(how, "hangs")
         started = place.start(given, stdin=subprocess.DEVNULL)
@@ -550,7 +578,8 @@ def check_bad_lines(place):
     for text, part in BAD:
         status, out, err = place.run("run", text='{"do":"sync"}\n' * (not text.startswith("\ufeff")) + text + "\n")
         own = re.search(r"(?m)^jobctl: line [12]: .*$", err)
-        holds(f"{text!r}: the line, and {part!r}: {err!r}", status == 5 and not out and own and part in err[own.end() :] and "^\n" in err[own.end() :])
+        behind = err[own.end() :] if own else ""
+        holds(f"{text!r}: the line, and {part!r}: {err!r}", status == 5 and not out and part in behind and "^\n" in behind)
     status, _, err = place.run("run", text='{"do":"sync"}\n'.encode("utf-16"))
     holds(f"UTF-16: {err!r}", status == 5 and "this is UTF-16" in err)
     long = '{"do":"mark","pod":2,"x":"' + "y" * 3000 + '","z":1}'
@@ -589,16 +618,23 @@ def check_check(place):
 
 def check_audits(place):
     """Of a report that is none, the line is shown, and what it should be where that can be told."""
-    spoilt = [("released v6", "released v7", 17, "released v6"), ("succeeded 1 failed", "succeeded 2 failed", 21, "succeeded 1 failed"), ("12 -", "13 -", 12, "12 - deliver")]
+    spoilt = [("released v6", "released v7", 17, "released v6"), ("12 -", "13 -", 12, "12 - deliver")]
+    spoilt += [("succeeded 1 failed", "succeeded 2 failed", 21, "succeeded 1 failed")]
     for old, new, number, right in spoilt:
         status, out, err = place.run("audit", text=REPORT.replace(old, new))
         holds(f"{new}: no {number}: {err!r}", status == 9 and out == f"no {number}\n" and f"jobctl: no at line {number}\n  line {number} is:" in err)
         holds(f"{new}: the lines before it are right: {err!r}", f"lines 1 to {number - 1} are right" in err)
         if os.path.isfile(f"{place.top}/tools/replay.py"):
             holds(f"{new}: what it should be: {err!r}", re.search(rf"(?m)^  it should be: .*{re.escape(right)}", err))
-    for text in ("garbage\n", "1 @0 xx 0 -> done\n", REPORT + "more\n", REPORT[: len(REPORT) // 2], "\xff\n", REPORT.replace(" -> listed", " -> "), "job x\n"):
+    none = ["garbage\n", "1 @0 xx 0 -> done\n", REPORT + "more\n", REPORT[: len(REPORT) // 2], "\xff\n", "job x\n"]
+    for text in [*none, REPORT.replace(" -> listed", " -> "), REPORT.replace("@0", "@7 "), "9" * 5000 + " - node -> idle\n"]:
         status, out, err = place.run("audit", text=text)
         holds(f"{text[:30]!r}: {err!r}", status == 9 and out.startswith("no ") and "Traceback" not in err and " is:" in err)
+
+
+ALL = [check_table, check_words, check_refusals, check_help, check_readme, check_input, check_terminal, check_output]
+ALL += [check_two_at_once, check_bad_lines, check_check, check_audits, check_failed_build, check_kept]
+ALL += [check_prove, check_gate_words, check_kept_proofs, check_interrupt]
 
 
 def main():
@@ -606,15 +642,12 @@ def main():
     program = os.path.abspath(given[0]) if given else programs.proved("jobctl") or programs.kept_unproved("jobctl")
     if not program or not os.access(program, os.X_OK):
         sys.exit("check_wrapper: there is no program to check with: give one, or make one by ./jobctl run")
-    check_table()
-    check_words(program)
     with tempfile.TemporaryDirectory(prefix="jobctl-checks-") as room:
         place = Place(os.path.realpath(room), program)
-        for check in (check_refusals, check_help, check_readme, check_input, check_terminal, check_output, check_two_at_once, check_bad_lines, check_check):
-            check(place)
-        for check in (check_audits, check_failed_build, check_kept, check_prove, check_gate_words, check_kept_proofs, check_interrupt):
-            check(place)
-    checks.end(150)
+        for check in ALL:
+            if not given[1:] or check.__name__[len("check_") :] in given[1:]:
+                check(place)
+    checks.end(1 if given[1:] else 150)
 
 
 if __name__ == "__main__":

@@ -28,7 +28,8 @@ SIGNALS = (signal.SIGINT, signal.SIGTERM, signal.SIGHUP)
 # What things cost. All proofs, edits and tests, by `rt ci`, from nothing:
 PROCESSOR_MINUTES, CLOCK_MINUTES, CLOCK_PROCESSORS = 192, 60, 4
 # A build with nothing proved, on a free machine and on one that has other work, in minutes of the clock:
-BUILD_MINUTES, BUSY_BUILD_MINUTES = 2, 4
+BUILD_MINUTES, BUSY_BUILD_MINUTES = 2, 5
+HOW_LONG = f"some {BUILD_MINUTES} minutes, and {BUSY_BUILD_MINUTES} or more beside other work"
 
 
 class Failed(Exception):
@@ -355,8 +356,8 @@ def prove():
         say("the kit has kept a proof of these very sources")
         return proved("jobctl")
     log = new_log("prove")
-    say(f"proving {len(crates())} crates with their tests and edits, {processors()} at a time: some {PROCESSOR_MINUTES} minutes of processor time from")
-    say(f"nothing, which is some {expected_minutes()} minutes of the clock here, and more beside other work. The log is {log}.")
+    say(f"proving {len(crates())} crates with their tests and edits, {processors()} at a time: from nothing some {PROCESSOR_MINUTES} minutes of")
+    say(f"processor time, which is some {expected_minutes()} minutes of the clock here, and more beside other work. The log is {log}.")
     progress, before = Progress(log), before_proof()
     with tempfile.TemporaryDirectory(prefix="jobctl-", ignore_cleanup_errors=True) as room:
         # (the kit runs programs as nobody, who has to get to them)
@@ -408,7 +409,7 @@ def tell_build(what):
     def tick(seconds):
         if seconds - tick.last >= 10:
             tick.last = seconds
-            say(f"{what}, {as_time(seconds)} so far; it takes some {BUILD_MINUTES} minutes, and {BUSY_BUILD_MINUTES} or more beside other work")
+            say(f"{what}, {as_time(seconds)} so far; it takes {HOW_LONG}")
 
     tick.last = 0
     return tick
@@ -443,7 +444,7 @@ def build(name):
         if kept_unproved(name):
             return kept_unproved(name)
         place, sources = unproved_place(name, kit())
-        say(f"building {name} of these sources with nothing proved, once: some {BUILD_MINUTES} minutes, and {BUSY_BUILD_MINUTES} or more beside other work")
+        say(f"building {name} of these sources, once, with nothing proved: {HOW_LONG}")
         log = new_log("build")
         with tempfile.TemporaryDirectory(prefix="jobctl-", ignore_cleanup_errors=True) as room:
             try:

@@ -100,7 +100,7 @@ def names_of(cause):
 @functools.lru_cache(maxsize=None)
 def explained(cause):
     """Returns what tools/explain.py says of a cause."""
-    ran = subprocess.run([sys.executable, "-B", f"{TOP}/tools/explain.py", cause], stdin=subprocess.DEVNULL, capture_output=True, text=True)
+    ran = subprocess.run([sys.executable, "-SB", f"{TOP}/tools/explain.py", cause], stdin=subprocess.DEVNULL, capture_output=True, text=True)
     return ran.stdout.rstrip("\n").split("\n") if ran.returncode == 0 and ran.stdout.strip() else []
 
 
@@ -247,7 +247,7 @@ def replayed(program, options, lines):
         if not os.path.isfile(f"{TOP}/tools/replay.py"):
             return []
         how = {"stdin": subprocess.DEVNULL, "capture_output": True}
-        script = subprocess.run([sys.executable, "-B", f"{TOP}/tools/replay.py", f"{room}/report"], **how)
+        script = subprocess.run([sys.executable, "-SB", f"{TOP}/tools/replay.py", f"{room}/report"], **how)
         if script.returncode:
             return []
         ran = subprocess.run([program, "run", *options], input=script.stdout, capture_output=True)
@@ -267,7 +267,7 @@ def wanted(lines, at, played):
     if has is None or want is None:
         is_first = at > 0 and parted(lines[at - 1]) is not None or at == 0
         return text_of(played[at]), "so it is where no further event comes" if is_first else ""
-    if int(has[1]) != at + 1:
+    if has[1] != str(at + 1):
         return f"{want[1]} {has[2]} {has[3]} -> {want[4]}", "events are numbered from 1 without a gap"
     if has[3] == want[3] and has[4] == want[4]:
         what = "nothing of the kind comes of itself there" if has[2] == "-" else "no such command can stand there"

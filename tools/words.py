@@ -4,24 +4,17 @@ The words of the program itself are those of docs/SCRIPT.md, "The words": what i
 check_wrapper.py holds the two together. The wrapper has some of its own: a FILE in the place of standard input, and help,
 version, check, test and prove.
 """
-import difflib
 import re
-from dataclasses import dataclass, field
 
 BATCH = ("run", "reap", "audit")
 
 
-@dataclass
 class Option:
     """An option: a number from least to most, or one of some texts, or a moment."""
 
-    name: str
-    commands: tuple
-    default: str
-    text: str
-    least: int = 0
-    most: int = 0
-    allowed: tuple = ()
+    def __init__(self, name, commands, default, text, least=0, most=0, allowed=()):
+        self.name, self.commands, self.default, self.text = name, commands, default, text
+        self.least, self.most, self.allowed = least, most, allowed
 
     def form(self):
         """Returns what a value has to be."""
@@ -52,36 +45,39 @@ NUMBERS = [
 # Each command: its form, and what it does.
 COMMANDS = {
     "run": ("run [FILE] [OPTIONS]", "plays a script and prints the report"),
-    "reap": ("reap [FILE] [OPTIONS]", "plays a script, then deletes the finished Jobs whose time to live is over, and prints that report"),
+    "reap": ("reap [FILE] [OPTIONS]", "plays a script, then deletes finished Jobs whose time to live is over, and prints the report"),
     "audit": ("audit [FILE] [OPTIONS]", "says whether a report is one: yes, or no with the first line that differs"),
     "generate": ("generate NUMBER JOBS PODS", "makes a script, plays it and prints a summary"),
     "check": ("check [FILE]", "names all bad lines of a script, with what they mean; plays nothing"),
-    "test": ("test", "compares what the program prints with the stories and reports of this repository, and tests the tools"),
+    "test": ("test", "holds what the program prints to the stories and reports that are here, and tests the tools"),
     "prove": ("prove", "proves the program and builds it"),
     "version": ("version", "prints the commit, the kit, and whether the program is proved"),
     "help": ("help [COMMAND]", "prints this, or more of one command"),
 }
 MORE = {
-    "run": "A script is one JSON object a line; without FILE, or with -, it is read from standard input. An example:\n  ./jobctl run examples/first.script",
-    "reap": "Without FILE, or with -, the script is read from standard input. An example:\n  ./jobctl reap examples/collected.script",
-    "audit": "It takes the options with which the report was printed, but for --threads and --lock. Without FILE, or with -, the\nreport is read from standard input. Where it is none, standard error says what its line should be. An example:\n  ./jobctl audit examples/first.report",
+    "run": """A script is one JSON object a line; without FILE, or with -, it is read from standard input. An example:
+  ./jobctl run examples/first.script""",
+    "reap": """Without FILE, or with -, the script is read from standard input. An example:
+  ./jobctl reap examples/collected.script""",
+    "audit": """It takes the options with which the report was printed, but for --threads and --lock. Without FILE, or with -, the
+report is read from standard input. Where it is none, standard error says what its line should be. An example:
+  ./jobctl audit examples/first.report""",
     "generate": "It reads nothing. An example:\n  ./jobctl generate 5 100 20",
     "check": "Without FILE, or with -, the script is read from standard input. Status 0 says that no line is bad, 5 that one is.",
-    "test": "It takes the proved program where there is one of these sources, and else the one that is kept unproved.\nThe last line is 'N passed, M failed'; status 0 says that none failed, and 1 that one did.",
+    "test": """It takes the proved program where there is one of these sources, and else the one that is kept unproved.
+The last line is 'N passed, M failed'; status 0 says that none failed, and 1 that one did.""",
     "prove": "What is proved is kept, until a source changes.",
     "version": "",
     "help": "",
 }
 
 
-@dataclass
 class Order:
-    """What the words ask for: a command, the words that the program gets, and the file that is read, if one is named."""
+    """What the words ask for: a command, the words that the program gets, the file that is read, if one is named, and of which command
+    help is wanted."""
 
-    command: str
-    program_words: list = field(default_factory=list)
-    file: str = None
-    of: str = ""
+    def __init__(self, command, program_words=(), file=None, of=""):
+        self.command, self.program_words, self.file, self.of = command, list(program_words), file, of
 
 
 class Refused(Exception):
@@ -105,6 +101,8 @@ def is_moment(text):
 
 def near(word, known):
     """Returns the words that ask whether another was meant."""
+    import difflib
+
     found = difflib.get_close_matches(word, known, 1, 0.6)
     return f": did you mean {found[0]}?" if found else ""
 
@@ -232,6 +230,6 @@ def help_of(of):
         rows = [(it.name, it.form(), f"{it.text}{f' (without it: {it.default})' if it.default else ''}") for it in values]
         widths = [max(len(row[i]) for row in rows) for i in (0, 1)]
         lines += [f"  {name:{widths[0]}}  {value:{widths[1]}}  {what}" for name, value, what in rows]
-        lines += ["", "Options are --NAME VALUE or --NAME=VALUE, each at most once; numbers are written without sign and without zeros in front."] * (of in BATCH)
+        lines += ["", "Options are --NAME VALUE or --NAME=VALUE, each at most once; numbers have no sign and no zeros in front."] * (of in BATCH)
         lines += [""]
     return (lines + MORE[of].split("\n") if MORE[of] else lines[:-1])

@@ -13,7 +13,6 @@ import tempfile
 
 sys.dont_write_bytecode = True
 import programs
-import tells
 import words
 from programs import Failed, Interrupted, say
 
@@ -108,7 +107,12 @@ def run(order):
     status, said = play(program, order.program_words, given)
     if status in (5, 9):
         name = order.file if order.file not in (None, "-") else "standard input"
-        tells.more(program, order, status, said, given, words.shown(name))
+        import tells
+
+        try:
+            tells.more(program, order, status, said, given, words.shown(name))
+        except (ValueError, LookupError, RecursionError) as error:
+            say(f"no more can be told of it: {error!r}")
     return status
 
 
@@ -118,6 +122,8 @@ def check(order):
     program, is_proved = programs.ready("jobctl")
     if not is_proved:
         say(NOT_PROVED)
+    import tells
+
     return tells.check(program, given, words.shown(name))
 
 
@@ -150,7 +156,7 @@ def prove():
 
 def test():
     sys.stdout.flush()
-    os.execv(sys.executable, [sys.executable, "-B", f"{programs.TOP}/tools/run_tests.py"])
+    os.execv(sys.executable, [sys.executable, "-SB", f"{programs.TOP}/tools/run_tests.py"])
 
 
 def refuse(why, of):
