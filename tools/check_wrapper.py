@@ -322,19 +322,38 @@ def quoted(text):
     return "'" + text.replace("'", "'\\''") + "'"
 
 
+def first_line(started):
+    """Returns the first line of standard error; what says nothing for a minute is ended."""
+    timer = threading.Timer(60, started.kill)
+    timer.start()
+    try:
+        return started.stderr.readline()
+    finally:
+        timer.cancel()
+
+
+def ended(started):
+    """Returns the status of what has been sent a signal; where it does not end in a minute, it is ended by force."""
+    try:
+        return started.wait(60)
+    except subprocess.TimeoutExpired:
+        started.kill()
+        return None
+
+
 def check_terminal(place):
     """At a terminal it says that it waits for input, and an interrupt ends it."""
     ours, theirs = pty.openpty()
     started = place.start(["run"], stdin=theirs)
-    said = started.stderr.readline()
+    said = first_line(started)
     holds(f"at a terminal it says that it reads: {said}", b"from the terminal" in said and b"Ctrl-D" in said)
     os.write(ours, text_of("examples/first.script").encode() + b"\x04")
     out, _ = started.communicate(timeout=60)
     holds("what is typed is played", out.decode() == REPORT)
     started = place.start(["run"], stdin=theirs)
-    started.stderr.readline()
+    first_line(started)
     started.send_signal(signal.SIGINT)
-    holds("an interrupt ends it while it waits", started.wait(30) == -signal.SIGINT)
+    holds("an interrupt ends it while it waits", ended(started) == -signal.SIGINT)
     started.communicate()
     os.close(ours)
     os.close(theirs)
@@ -445,6 +464,8 @@ def check_prove(place):
         place.write("how_ci", how)
         status, out, err = place.run("prove")
         holds(f"prove where rt ci {how}: {status} {err!r}", status == 1 and part in err and ".log" in err and "Traceback" not in err)
+        if how == "edits":
+            shutil.copy(f"{TOP}/crates/jobctl/src/main.rt", f"{place.top}/crates/jobctl/src/main.rt")
         holds(f"prove where rt ci {how}: nothing is proved", NOTE in place.run("run", SCRIPT)[2])
     for it in glob.glob(f"{place.top}/out/*.log"):
         os.remove(it)
@@ -545,9 +566,15 @@ def check_interrupt(place):
             below = int(it.read())
         holds(f"{given}: what was started lives", lives(below))
         started.send_signal(number)
-        _, err = started.communicate(timeout=30)
+        ended(started)
+        if lives(below):
+            time.sleep(1)
+        is_left = lives(below)
+        if is_left:
+            os.kill(below, signal.SIGKILL)
+        _, err = started.communicate()
         holds(f"{given}: signal {number} ends it: {started.returncode} {err}", started.returncode == -number and b"Traceback" not in err)
-        holds(f"{given}: signal {number} ends what was started", not lives(below))
+        holds(f"{given}: signal {number} ends what was started", not is_left)
         left = [it for it in place.files() if not it.endswith("/unproved")]
         holds(f"{given}: signal {number} leaves no files: {left}", not left)
         os.remove(f"{place.room}/hangs")
@@ -638,6 +665,8 @@ ALL += [check_prove, check_gate_words, check_kept_proofs, check_interrupt]
 
 
 def main():
+    # (what is started from the background ignores this signal, and so would what is started here)
+    signal.signal(signal.SIGINT, signal.default_int_handler)
     given = sys.argv[1:]
     program = os.path.abspath(given[0]) if given else programs.proved("jobctl") or programs.kept_unproved("jobctl")
     if not program or not os.access(program, os.X_OK):
