@@ -224,6 +224,7 @@ REFUSED = [
     ("run --events=007", "written 7"),
     ("run --lock fair", "mutex or turn"),
     ("run a b", "two files"),
+    ("examples/first.script", "did you mean ./jobctl run examples/first.script?"),
     ("run --workers 1 --workers=1", "given twice"),
     ("generate 1 2", "three numbers"),
     ("generate 1 101 2", "JOBS is 1 to 100"),
@@ -241,6 +242,26 @@ def check_refusals(place):
         is_well = status == 2 and not out and err.startswith("jobctl: bad words\n") and part in err and "usage: ./jobctl" in err
         holds(f"./jobctl {given} is refused, with {part!r}: {status} {err!r}", is_well)
     holds("nothing was built for bad words", not place.built() and not place.files())
+
+
+def check_version(place):
+    """version tells the commit of a checkout of git, and whether a file of it has changed since."""
+    def git(*given):
+        names = {f"GIT_{it}_{what}": "checks@localhost" for it in ("AUTHOR", "COMMITTER") for what in ("NAME", "EMAIL")}
+        ran = subprocess.run(["git", "-C", place.top, *given], env={**os.environ, **names}, stdin=subprocess.DEVNULL, capture_output=True, text=True)
+        return ran.stdout.strip()
+
+    holds("version where there is no git", "commit unknown" in place.run("version")[1])
+    git("init", "-q")
+    git("add", "README.md", "jobctl")
+    git("commit", "-q", "-m", "it")
+    commit = git("rev-parse", "HEAD")
+    said = place.run("version")[1]
+    holds(f"version tells the commit {commit}: {said!r}", len(commit) >= 40 and said.startswith(f"commit {commit}\n"))
+    os.rename(f"{place.top}/README.md", f"{place.top}/README.was")
+    holds("version tells that a file has changed", "files that were changed" in place.run("version")[1])
+    os.rename(f"{place.top}/README.was", f"{place.top}/README.md")
+    shutil.rmtree(f"{place.top}/.git")
 
 
 def check_help(place):
@@ -302,7 +323,7 @@ def check_input(place):
         holds(f"./jobctl {given} < first.script", place.run(*given, text=script)[:2] == (0, REPORT))
     holds("audit FILE", place.run("audit", f"{TOP}/examples/first.report")[:2] == (0, "yes\n"))
     holds("reap FILE", place.run("reap", f"{TOP}/examples/collected.script")[:2] == (0, text_of("examples/collected.report")))
-    for file, part in ((f"{place.room}/not-there", "No such file"), (place.room, "directory")):
+    for file, part in (("not-there", "No such file"), (place.room, "directory"), ("threads=4", "did you mean --threads=4?")):
         status, out, err = place.run("run", file)
         holds(f"run {file}: {status} {err!r}", status == 3 and not out and err.startswith("jobctl: read fault\n") and part in err)
     status, out, err = place.run("run")
@@ -659,7 +680,7 @@ def check_audits(place):
         holds(f"{text[:30]!r}: {err!r}", status == 9 and out.startswith("no ") and "Traceback" not in err and " is:" in err)
 
 
-ALL = [check_table, check_words, check_refusals, check_help, check_readme, check_input, check_terminal, check_output]
+ALL = [check_table, check_words, check_refusals, check_help, check_version, check_readme, check_input, check_terminal, check_output]
 ALL += [check_two_at_once, check_bad_lines, check_check, check_audits, check_failed_build, check_kept]
 ALL += [check_prove, check_gate_words, check_kept_proofs, check_interrupt]
 

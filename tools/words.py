@@ -4,6 +4,7 @@ The words of the program itself are those of docs/SCRIPT.md, "The words": what i
 check_wrapper.py holds the two together. The wrapper has some of its own: a FILE in the place of standard input, and help,
 version, check, test and prove.
 """
+import os
 import re
 
 BATCH = ("run", "reap", "audit")
@@ -107,6 +108,12 @@ def near(word, known):
     return f": did you mean {found[0]}?" if found else ""
 
 
+def without_dashes(file):
+    """Returns the words that ask whether an option was meant by what is taken for a file."""
+    is_option = f"--{file.partition('=')[0]}" in [it.name for it in OPTIONS]
+    return f": did you mean --{shown(file)}?" if is_option else ""
+
+
 def shown(word):
     """Returns a word as it can be printed on one line."""
     text = word.encode("utf-8", "backslashreplace").decode()
@@ -206,6 +213,8 @@ def read(words):
         return read_generate(behind)
     if command in COMMANDS:
         return read_own(command, behind)
+    if os.path.isfile(command):
+        raise Refused(f"{shown(command)} is a file, and no command: did you mean ./jobctl run {shown(command)}?")
     raise Refused(f"there is no command {shown(command) or 'of an empty word'}{near(command, COMMANDS)}")
 
 

@@ -18,7 +18,7 @@ from programs import Failed, Interrupted, say
 
 # One byte more than a program takes: it refuses that itself.
 MOST_BYTES = 67_108_865
-NOT_PROVED = "nothing in this program is proved; ./jobctl prove proves it, in about an hour on four processors"
+NOT_PROVED = f"nothing in this program is proved; ./jobctl prove proves it, in {programs.PROOF_TAKES}"
 
 
 class ReadFault(Exception):
@@ -65,7 +65,7 @@ def read_whole(file, what):
         try:
             source, name = os.open(file, os.O_RDONLY | os.O_CLOEXEC), file
         except OSError as error:
-            raise ReadFault(f"{words.shown(file)}: {error.strerror}") from None
+            raise ReadFault(f"{words.shown(file)}: {error.strerror}{words.without_dashes(file)}") from None
     try:
         length = copied(source, to)
     except OSError as error:
