@@ -178,8 +178,11 @@ def limits(line, cause):
 
 def meaning(line, cause):
     """Returns what a cause means for a line."""
-    said = explained(cause)
-    more = [it for it in limits(line, cause) if not any(it.partition(": ")[2].partition(";")[0] in known for known in said if ": " in it)]
+    said, more = explained(cause), []
+    for it in limits(line, cause):
+        is_said = ": " in it and any(it.partition(": ")[2].partition(";")[0] in known for known in said)
+        meant = re.search(r"did you mean .*", it)
+        more += [it] if not is_said else [meant[0]] if meant else []
     return said + more
 
 
@@ -290,7 +293,10 @@ def tell_audit(program, options, lines, number):
     """Returns what an audit's no is about: the line, and what it should be."""
     at = number - 1
     has = text_of(lines[at]) if at < len(lines) else "(the report has ended)"
-    played = replayed(program, options, [line for line in lines[:number] if parted(line)])
+    # (with the numbers that they should have)
+    events = [parted(line) for line in lines[:number] if parted(line)]
+    front = [it[0].replace(it[1], str(i), 1).encode() for i, it in enumerate(events, 1)]
+    played = replayed(program, options, front)
     want, why = wanted(lines, at, played) if played else (None, "")
     if want and not stands(program, options, [*lines[:at], want.encode()]):
         want, why = None, "this event cannot come there, whatever its reply"
