@@ -1,7 +1,7 @@
 -- What a spelled value is turned into is spelled: so what is read of it is allowed.
 use Rattle.std.proofs.Common.{◌≡◌, List, [], ℕ, codes, Option, Some, None, option_and_then, IfSome, IsUtf8, refl, sym, subst}
 use Rattle.std.specs.Prelude.{unwrap_or}
-use Rattle.serde_json.specs.Data.{Data, null, boolean, number, string, array, object, Items, no_items, item, Members, no_members}
+use Rattle.serde_json.specs.Data.{Data, null, boolean, number, string, array, object, Items, no_items, item, Members, no_members, put}
 use Rattle.serde_json.specs.Find.{as_array, as_str, get}
 use Rattle.jc_json.specs.Field.{member_of, needed_object}
 use Rattle.jc_manifest.specs.Manifests.{spec_of}
@@ -105,8 +105,16 @@ numbers_turned field (item d ds) ms h all =
 pub report_turned : (d : Data) → IsSpelled d → IsSpelled (report_of d)
 unfolding report_of
 report_turned d h =
-    let containers : AreSpelled (items_at (codes "containers") d) = items_of_array (get (codes "containers") d) (found_spelled (codes "containers") d h) in
-    put_spelled _ _ _ (named (codes "conditions") refl) (or_null (get (codes "conditions") d) (found_spelled (codes "conditions") d h))
-    (put_spelled _ _ _ (named (codes "exitCodes") refl) (numbers_turned (codes "exitCode") _ no_members containers tt)
-    (put_spelled _ _ _ (named (codes "restartCounts") refl) (numbers_turned (codes "restartCount") _ no_members containers tt)
-    (put_spelled _ _ no_members (named (codes "phase") refl) (or_null (get (codes "phase") d) (found_spelled (codes "phase") d h)) tt)))
+    let items : Items = items_at (codes "containers") d in
+    let containers : AreSpelled items = items_of_array (get (codes "containers") d) (found_spelled (codes "containers") d h) in
+    put_spelled (codes "conditions") (unwrap_or (get (codes "conditions") d) null)
+    (put (codes "exitCodes") (object (numbers_by_name (codes "exitCode") items no_members))
+    (put (codes "restartCounts") (object (numbers_by_name (codes "restartCount") items no_members)) (put (codes "phase") (unwrap_or (get (codes "phase") d) null) no_members)))
+    (named (codes "conditions") refl) (or_null (get (codes "conditions") d) (found_spelled (codes "conditions") d h))
+    (put_spelled (codes "exitCodes") (object (numbers_by_name (codes "exitCode") items no_members))
+    (put (codes "restartCounts") (object (numbers_by_name (codes "restartCount") items no_members)) (put (codes "phase") (unwrap_or (get (codes "phase") d) null) no_members))
+    (named (codes "exitCodes") refl) (numbers_turned (codes "exitCode") items no_members containers tt)
+    (put_spelled (codes "restartCounts") (object (numbers_by_name (codes "restartCount") items no_members)) (put (codes "phase") (unwrap_or (get (codes "phase") d) null) no_members)
+    (named (codes "restartCounts") refl) (numbers_turned (codes "restartCount") items no_members containers tt)
+    (put_spelled (codes "phase") (unwrap_or (get (codes "phase") d) null) no_members
+    (named (codes "phase") refl) (or_null (get (codes "phase") d) (found_spelled (codes "phase") d h)) tt)))

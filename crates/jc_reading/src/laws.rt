@@ -93,7 +93,6 @@ pub fn accepted_manifests_are_allowed()
 
 /// A Job that is created as an accepted manifest says is proper, where the texts of the manifest are
 /// Unicode, as those of a line are.
-#[tactic(auto, using(crate::proofs::ProperScripts::job_proper))]
 pub fn accepted_jobs_are_proper()
     ensures { (path : List ℕ) (job : Data) → IsSpelled job → manifest_refusal path job ≡ None
         → IsProperAction (Create (key_of path job) (spec_of path job)) }
