@@ -13,7 +13,6 @@ use Rattle.jc_log.specs.Acts as does
 use Rattle.jc_log.specs.Deeds.{Deed, act_of_action}
 use Rattle.jc_log.specs.Log.{jobs_in, pods_in}
 use Rattle.jc_log.proofs.PodFacts.{pods_in-among}
-use Rattle.jc_ledger.proofs.FrameFacts.{Each-back, Each-front}
 use Rattle.jc_runs.specs.Diaries.{all_jobs, moment}
 use Rattle.jc_runs.specs.Replies.{log_given}
 use Rattle.jc_reap.specs.Expiries.{expired}
@@ -21,6 +20,11 @@ use Rattle.jc_reap.specs.Finds.{CollectsAll, IsCollected}
 use Rattle.jc_reap.specs.Reaping.{clock_to, is_ownerless, later_moment, mark_commands, ownerless, removal, removals}
 use Rattle.jc_reap.proofs.ExpiredFacts.{Among, Row, among-all}
 use Rattle.jc_reap.proofs.PlayedFacts.{Came, acts_in, asked, each-onto, onto}
+
+-- What holds of each of the whole holds of each of both parts.
+both-parts : {X : Type 0} (P : X → Type 0) (xs ys : List X) → Each P (xs ++ ys) → Each P xs × Each P ys
+both-parts P [] ys h = (tt, h)
+both-parts P (x ∷ xs) ys h = let more = both-parts P xs ys h.1 in ((h.0, more.0), more.1)
 
 module _ (P : Act → Type 0) where
   abbrev pub Of : Command → Type 0
@@ -51,9 +55,9 @@ module _ (P : Act → Type 0) where
   removed log row [] now there all = absurd there
   removed log row (first ∷ rows) now there all =
       let next = removals log (later_moment now first.0.moment) rows in
-      let due = Each-back Of (clock_to now first.0.moment) (removal log first ++ next) all in
-      by there (Each-front Of (removal log first) next due)
-      (λ h. removed log row rows (later_moment now first.0.moment) h (Each-back Of (removal log first) next due))
+      let due = (both-parts Of (clock_to now first.0.moment) (removal log first ++ next) all).1 in
+      let here = both-parts Of (removal log first) next due in
+      by there here.0 (λ h. removed log row rows (later_moment now first.0.moment) h here.1)
     where
       by : (first ≡ row) ⊎ Among row rows → Each Of (removal log first) → (Among row rows → Each Of (removal log row)) → Each Of (removal log row)
       by (inl is) here rest = subst (λ (r : Row). Each Of (removal log r)) is here
@@ -66,15 +70,14 @@ module _ (ttl : Uid → Option ℕ) (log : List Entry) (now : ℕ) (acts : List 
   collects : Each Came-of (mark_commands (ownerless log) ++ removals log now (expired ttl (jobs_in log))) → CollectsAll ttl log acts
   collects all =
       let P : Act → Type 0 = λ (a : Act). Contains acts a in
-      let marks = Each-front Came-of (mark_commands (ownerless log)) (removals log now (expired ttl (jobs_in log))) all in
-      let goes = Each-back Came-of (mark_commands (ownerless log)) (removals log now (expired ttl (jobs_in log))) all in
+      let parts = both-parts Came-of (mark_commands (ownerless log)) (removals log now (expired ttl (jobs_in log))) all in
       record {
-        jobs = λ row may. (removed P log row (expired ttl (jobs_in log)) now (among-all ttl log row may) goes).0;
-        left = λ pod there gone. marked P (is_ownerless (all_jobs log)) pod (pods_in log) (pods_in-among pod.uid log ∙ there) gone marks;
+        jobs = λ row may. (removed P log row (expired ttl (jobs_in log)) now (among-all ttl log row may) parts.1).0;
+        left = λ pod there gone. marked P (is_ownerless (all_jobs log)) pod (pods_in log) (pods_in-among pod.uid log ∙ there) gone parts.0;
         pods = λ pod there row may owned.
             marked P (λ (p : Pod). same_uid p.owner_uid row.1) pod (pods_in log) (pods_in-among pod.uid log ∙ there)
             (ap (λ (u : Uid). same_uid u row.1) owned ∙ same_uid-itself row.1)
-            (removed P log row (expired ttl (jobs_in log)) now (among-all ttl log row may) goes).1;
+            (removed P log row (expired ttl (jobs_in log)) now (among-all ttl log row may) parts.1).1;
       }
 
 -- Where all commands have come, all was collected.
