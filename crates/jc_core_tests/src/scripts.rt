@@ -18,13 +18,14 @@ use std::alloc::Global;
 use std::process::Abort;
 use std::test::Fail;
 
-// One controller with one worker, from 2024-01-01T00:00:00Z on.
-//
-// `Fail` where that is no moment.
-fn shape() -> Result<Shape, Fail> {
+/// One controller with so many workers, from 2024-01-01T00:00:00Z on.
+///
+/// # Errors
+/// `Fail` where that is no moment.
+pub fn shape_of(workers: u32) -> Result<Shape, Fail> {
     Ok(Shape {
         controllers: 1,
-        workers: 1,
+        workers,
         window: 1_000,
         events: 1_000,
         start: Moment::from_seconds(1_704_067_200).ok_or("a moment")?,
@@ -54,10 +55,11 @@ fn is_proper(script: &Script, shape: &Shape) -> bool
     true
 }
 
-// The script of the text. Its commands create and list, and no more.
-//
-// `Fail` where it is none.
-fn script_of(rt: &impl Abort, alloc: Global, text: &str, shape: &Shape) -> Result<Script, Fail>
+/// The script of the text. Its commands create and list, and no more.
+///
+/// # Errors
+/// `Fail` where it is none.
+pub fn script_of(rt: &impl Abort, alloc: Global, text: &str, shape: &Shape) -> Result<Script, Fail>
     ensures fine { IfOk result (λ script.
         Each (λ (command : Command). IsValidAction command.action) script.commands) }
     ensures proper { IfOk result (λ script. IsProper script shape.now) }
@@ -80,7 +82,7 @@ fn script_of(rt: &impl Abort, alloc: Global, text: &str, shape: &Shape) -> Resul
 pub fn cluster_of(rt: &impl Abort, alloc: Global, text: &str) -> Result<Cluster, Fail>
     ensures { IfOk result (λ cluster. IsOrderly cluster.seen.shape (deeds_seen cluster.seen)) }
 {
-    let shape = shape()?;
+    let shape = shape_of(1)?;
     let script = script_of(rt, alloc, text, &shape)?;
     assert!(rt; script.commands.len() < 1_000 && shape.events <= 200_000);
     Ok(Cluster::new(alloc, script, shape)?)
