@@ -4,7 +4,9 @@ ghost use Rattle.std.specs.Prelude.{◌≡◌, ◌+◌, ◌*◌, ◌<◌, ◌≤
 ghost use Rattle.std.specs.List.{AllByRecursion as Each};
 ghost use Rattle.jc_states.specs.ValidActions.{IsValidAction};
 ghost use Rattle.jc_types.specs.ValidSpecs.{IsValidSpec};
+ghost use Rattle.jc_ranges.specs.declared.bounds.TheConstants.{GREATEST_INDEX};
 ghost use Rattle.jc_types.specs.declared.actions.Command.{Command};
+ghost use Rattle.jc_types.specs.declared.limits.TheConstants.{GREATEST_COMPLETIONS, GREATEST_LIMIT, GREATEST_PARALLELISM, MOST_CONTAINERS, MOST_UNCOUNTED};
 ghost use Rattle.jc_gen.specs.Generated.{IsGenerated, generated, job_ends, job_key, job_spec};
 
 /// A script has two commands for each Job, and one more. Each Job has a specification that is valid and a key of its
@@ -27,4 +29,16 @@ pub fn generated_commands_are_valid()
     ensures valid { (number jobs pods : ℕ) → 1 ≤ pods → pods ≤ 20
         → Each (λ (command : Command). IsValidAction command.action)
         (generated number jobs pods).commands }
+{}
+
+/// The constants of the rules that definitions cite from the code by their names: of uncounted pods, `parallelism`,
+/// `completions`, limits, containers and indexes. With another one the rules would be others, and no clause but these
+/// would tell. They stand here, since few crates stand above this one.
+pub fn constants_of_rules()
+    ensures uncounted { MOST_UNCOUNTED ≡ 500 }
+    ensures parallelism { GREATEST_PARALLELISM ≡ 5000 }
+    ensures completions { GREATEST_COMPLETIONS ≡ 10000 }
+    ensures limit { GREATEST_LIMIT ≡ 2147483647 }
+    ensures containers { MOST_CONTAINERS ≡ 100 }
+    ensures index { GREATEST_INDEX ≡ 99999 }
 {}

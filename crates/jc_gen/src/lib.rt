@@ -5,4 +5,4 @@ mod generator;
 mod laws;
 
 pub use generator::{are_sizes, generate};
-pub use laws::{generated_commands_are_valid, generated_scripts_are_fit};
+pub use laws::{constants_of_rules, generated_commands_are_valid, generated_scripts_are_fit};

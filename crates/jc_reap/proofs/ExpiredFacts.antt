@@ -324,21 +324,23 @@ each-may_go ttl log =
       within = x.within;
     }) (jobs_in log) (rows-there log))
 
-contains : (row : Row) (rows : List Row) → Among row rows → Contains rows row
-contains row [] h = absurd h
-contains row (first ∷ rows) (inl is) = (0, omega arith, is)
-contains row (first ∷ rows) (inr h) = let more = contains row rows h in let below = more.1 in (suc more.0, omega (arith, below), more.2)
-
-pub all-expired : (ttl : Uid → Option ℕ) (log : List Entry) (row : Row) → MayGo ttl log row → Contains (expired ttl (jobs_in log)) row
-all-expired ttl log row may =
+pub among-all : (ttl : Uid → Option ℕ) (log : List Entry) (row : Row) → MayGo ttl log row → Among row (expired ttl (jobs_in log))
+among-all ttl log row may =
     let key : may.job.key ≡ row.0.key = job_in-key row.0.key log may.job may.there in
     let goes : Goes ttl may.job row.0.moment =
     ap (λ (o : Option ℕ). after_end o (ttl may.job.uid)) may.ended
     ∙ ap (after_end (Some may.end)) (ap ttl may.uid ∙ may.given)
     ∙ expires-at may.end may.seconds row.0.moment may.due may.within in
     let among = among-expired ttl (jobs_in log) (jobs-apart log) row.0.key may.job row.0.moment (jobs_in-at row.0.key log ∙ may.there) goes in
-    contains row (expired ttl (jobs_in log))
-    (subst (λ (r : Row). Among r (expired ttl (jobs_in log))) (λ i. (record { moment = row.0.moment; key = key i }, may.uid i)) among)
+    subst (λ (r : Row). Among r (expired ttl (jobs_in log))) (λ i. (record { moment = row.0.moment; key = key i }, may.uid i)) among
+
+contains : (row : Row) (rows : List Row) → Among row rows → Contains rows row
+contains row [] h = absurd h
+contains row (first ∷ rows) (inl is) = (0, omega arith, is)
+contains row (first ∷ rows) (inr h) = let more = contains row rows h in let below = more.1 in (suc more.0, omega (arith, below), more.2)
+
+pub all-expired : (ttl : Uid → Option ℕ) (log : List Entry) (row : Row) → MayGo ttl log row → Contains (expired ttl (jobs_in log)) row
+all-expired ttl log row may = contains row (expired ttl (jobs_in log)) (among-all ttl log row may)
 
 -- ---- the rows are apart
 

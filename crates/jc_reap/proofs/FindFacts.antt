@@ -1,5 +1,6 @@
 -- What the commands of a reaper find: each goes on from the history that the reaper saw, and nothing but they comes between.
 use Rattle.std.proofs.Common.{◌≡◌, ℕ, ◌+◌, ◌-◌, ◌<◌, ◌≤◌, Bool, true, false, cond, not, ◌||◌, nat_lt, List, [], ◌∷◌, ◌++◌, map, reverse, Option, Some, None, is_some, refl, sym, ap, ◌∙◌, subst, arith, append_assoc, true≢false, ltb-true, ltb-false, lt-ltb, ne_eqb}
+use Rattle.std.specs.Prelude.{if◌then◌else◌}
 use Rattle.std.specs.List.{AllByRecursion as Each}
 use Rattle.std.specs.Map.{lookup}
 use Rattle.std.proofs.lemmas.List.{map-append, reverse-append}
@@ -94,6 +95,17 @@ mark-untimed : (log : List Entry) (pod : Pod) (now : ℕ) → is_now (mark_pod_a
 mark-untimed log pod now = by (is_marked pod)
   where
     by : (b : Bool) → is_now (cond b (refused (reply.Unchanged pod.version)) (accepted (reply.Written (next_version log)) (pod_entry (with_mark log pod now)))).reply ≡ false
+    by true = refl
+    by false = refl
+
+-- It is written, but where the pod is marked.
+mark-told : (log : List Entry) (pod : Pod) (now : ℕ)
+    → (mark_pod_at log now (Some pod)).reply ≡ (if is_marked pod then reply.Unchanged pod.version else reply.Written (next_version log))
+mark-told log pod now = by (is_marked pod)
+  where
+    by : (b : Bool)
+        → (cond b (refused (reply.Unchanged pod.version)) (accepted (reply.Written (next_version log)) (pod_entry (with_mark log pod now)))).reply
+        ≡ cond b (reply.Unchanged pod.version) (reply.Written (next_version log))
     by true = refl
     by false = refl
 
@@ -210,7 +222,12 @@ module _ (ttl : Uid → Option ℕ) (shape : Shape) where
       let m = marked log pod (moment shape past) in
       let new : IsMarked log (log_given shape (d ∷ past)) pod = subst (λ (l : List Entry). IsMarked log l pod) (sym g.grew) m in
       let calm = still shape past d (is_now d.reply) refl (ap is_now g.told ∙ mark-untimed log pod (moment shape past)) in (
-        record { pod = pod; there = h.pods_are.0; gone = gone.0 },
+        record {
+          pod = pod;
+          there = h.pods_are.0;
+          gone = gone.0;
+          marks = g.told ∙ mark-told log pod (moment shape past);
+        },
         marks-good mine left rows now (d ∷ past) acts next
             (Each-weaker (λ (q : Pod). is_ownerless (all_jobs log) q ≡ true) (λ (q : Pod). is_ownerless (all_jobs (log_given shape (d ∷ past))) q ≡ true)
             (λ q lone. ap (λ (t : List (Key × Job)). is_ownerless (map (λ (row : Key × Job). row.1) t) q) new.jobs ∙ lone) mine gone.1)

@@ -1,3 +1,4 @@
+mod AllFacts
 mod ExpiredFacts
 mod FindFacts
 mod Fits

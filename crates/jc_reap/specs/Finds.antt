@@ -1,11 +1,14 @@
 -- What the commands of a reaper find when they come; deeds and logs are newest first.
 --     FindsExpired ttl log now k reply    a delete of the key removed a Job whose time was over
---     FindsOwnerless log u                a mark found a pod whose Job is gone
+--     FindsOwnerless log u reply          a mark found a pod whose Job is gone
 --     FindsDue ttl shape past act reply   the act did the one or the other, if it is a delete or a mark
 --     AreDue ttl shape past more          so did each of the deeds behind the past
---     IsCollected ttl shape before after  so did each of the deeds by which the ones went on to the others
+--     CollectsAll ttl log acts            by these acts all was collected that was due by the log
+--     IsCollected ttl shape before full after   so did each of the deeds by which the ones went on to the others, and
+--                                               all was collected, where the history is not full
 --     seen_at_end script shape            what a reaper sees at the end of the script's play
-use Rattle.std.specs.Prelude.{◌≡◌, ℕ, ◌+◌, ◌≤◌, true, List, [], ◌∷◌, ◌++◌, Option, Some}
+use Rattle.std.specs.Prelude.{◌≡◌, ℕ, ◌+◌, ◌≤◌, Bool, false, true, List, [], ◌∷◌, ◌++◌, map, Option, Some, if◌then◌else◌}
+use Rattle.std.specs.List.{Contains}
 use Rattle.jc_types.specs.declared.actions.Script.{Script}
 use Rattle.jc_types.specs.declared.numbers.Uid.{Uid}
 use Rattle.jc_types.specs.declared.objects.Entry.{Entry}
@@ -13,7 +16,7 @@ use Rattle.jc_types.specs.declared.objects.Job.{Job}
 use Rattle.jc_types.specs.declared.objects.Key.{Key}
 use Rattle.jc_types.specs.declared.objects.Pod.{Pod}
 use Rattle.jc_types.specs.declared.replies.Reply.{Reply}
-use Rattle.jc_types.specs.declared.replies.Reply.TheVariants.{Removed}
+use Rattle.jc_types.specs.declared.replies.Reply.TheVariants.{Removed, Unchanged, Written}
 use Rattle.jc_types.specs.declared.runs.Shape.{Shape}
 use Rattle.jc_log.specs.Acts.{Act}
 use Rattle.jc_log.specs.Acts as does
@@ -23,7 +26,9 @@ use Rattle.jc_runs.specs.Diaries.{all_jobs, moment}
 use Rattle.jc_runs.specs.Play.{whole_play}
 use Rattle.jc_runs.specs.Replies.{log_given}
 use Rattle.jc_runs.specs.Seen.{Seen}
-use Rattle.jc_reap.specs.Expiries.{ended_at}
+use Rattle.jc_runs.specs.Pods.{is_marked}
+use Rattle.jc_reap.specs.declared.expiries.Expiry.{Expiry}
+use Rattle.jc_reap.specs.Expiries.{MayGo, ended_at}
 use Rattle.jc_reap.specs.Reaping.{is_ownerless}
 
 -- A delete of the key finds a Job that has ended and that has a TTL, so many seconds after whose end the
@@ -39,17 +44,18 @@ pub record FindsExpired (ttl : Uid → Option ℕ) (log : List Entry) (now : ℕ
     pub over : end + seconds ≤ now
     pub removed : reply ≡ Removed (next_version log)
 
--- A mark finds a pod that no Job that is there made.
-pub record FindsOwnerless (log : List Entry) (u : Uid) : Type 0 where
+-- A mark finds a pod that no Job that is there made, and marks it, where it is not marked already.
+pub record FindsOwnerless (log : List Entry) (u : Uid) (reply : Reply) : Type 0 where
   pub pod : Pod
   pub there : pod_in u log ≡ Some pod
   pub gone : is_ownerless (all_jobs log) pod ≡ true
+  pub marks : reply ≡ (if is_marked pod then Unchanged pod.version else Written (next_version log))
 
 -- A delete or a mark finds this, after these deeds. Of other acts nothing is said.
 abbrev pub FindsDue : (Uid → Option ℕ) → Shape → List Deed → Act → Reply → Type 0
 FindsDue ttl shape past (does.Delete k) reply =
     FindsExpired ttl (log_given shape past) (moment shape past) k reply
-FindsDue ttl shape past (does.Mark u) reply = FindsOwnerless (log_given shape past) u
+FindsDue ttl shape past (does.Mark u) reply = FindsOwnerless (log_given shape past) u reply
 FindsDue ttl shape past other reply = Unit {0}
 
 -- So does each of the deeds that came behind the past.
@@ -57,11 +63,23 @@ abbrev pub AreDue : (Uid → Option ℕ) → Shape → List Deed → List Deed �
 AreDue ttl shape past [] = Unit {0}
 AreDue ttl shape past (d ∷ more) = FindsDue ttl shape (more ++ past) d.act d.reply × AreDue ttl shape past more
 
--- The deeds went on from those before, and each delete and each mark among what came behind them found this.
-pub record IsCollected (ttl : Uid → Option ℕ) (shape : Shape) (before after : List Deed) : Type 0 where
+-- By the acts each Job was deleted that may go by the log; and each pod was marked that no Job made that is there by
+-- the log, or that such a Job made.
+pub record CollectsAll (ttl : Uid → Option ℕ) (log : List Entry) (acts : List Act) : Type 0 where
+  pub jobs : (row : Expiry × Uid) → MayGo ttl log row → Contains acts (does.Delete row.0.key)
+  pub left : (pod : Pod) → pod_in pod.uid log ≡ Some pod → is_ownerless (all_jobs log) pod ≡ true
+      → Contains acts (does.Mark pod.uid)
+  pub pods : (pod : Pod) → pod_in pod.uid log ≡ Some pod → (row : Expiry × Uid) → MayGo ttl log row
+      → pod.owner_uid ≡ row.1 → Contains acts (does.Mark pod.uid)
+
+-- The deeds went on from those before, and each delete and each mark among what came behind them found what is due.
+-- Unless the history is full, all was collected that was due when they began.
+pub record IsCollected (ttl : Uid → Option ℕ) (shape : Shape) (before : List Deed) (full : Bool) (after : List Deed)
+    : Type 0 where
   pub more : List Deed
   pub parts : after ≡ more ++ before
   pub due : AreDue ttl shape before more
+  pub all : full ≡ false → CollectsAll ttl (log_given shape before) (map (λ (d : Deed). d.act) more)
 
 -- What a reaper sees at the end of the play of the script.
 abbrev pub seen_at_end : Script → Shape → Seen

@@ -93,7 +93,8 @@ pub fn reaped_is_due()
 
 /// So in the play of a script that ends in the commands of a reaper, from where the play of those
 /// before them has come to what the reaper saw: each delete and each mark that was made from there on
-/// found this, also where the play is full before its end.
+/// found this, also where the play is full before its end. Where it is not full, all was collected:
+/// each Job that may go was deleted, and each pod whose Job is gone, or went so, was marked.
 pub fn reaped_plays()
     ensures { (script : Script) (seen : Seen) (ttls : List (Option ℕ)) (place : ℕ) (p : Playing)
         → deeds_seen seen ≡ deeds_played script p → p.log ≡ log_seen seen
@@ -101,8 +102,9 @@ pub fn reaped_plays()
         → ((i : ℕ)
         → slice_get script.commands (place + i) ≡ slice_get (reap_list seen ttls) i)
         → ((n : ℕ) → place ≤ n → list_any (is_command n) p.pasts ≡ false)
-        → IsCollected (ttl_seen seen ttls) seen.shape (deeds_seen seen) (deeds_played script
-        (rest_played script seen.shape place (reap_list seen ttls) p)) }
+        → let last = rest_played script seen.shape place (reap_list seen ttls) p in
+        IsCollected (ttl_seen seen ttls) seen.shape (deeds_seen seen) last.full
+        (deeds_played script last) }
 {
     allowed_updates_stay_valid();
 }
@@ -127,16 +129,19 @@ pub fn longer_scripts_play_on()
 /// **What a reaper's commands find, end to end**: a script is played, and then the script with the
 /// commands that a reaper gives for the end of this play. In the second play, behind the events of the
 /// first, each delete that was made removed a Job that had ended and whose TTL had passed, and each
-/// mark found a pod whose Job was gone; also where that play is full before its end.
+/// mark found a pod whose Job was gone; also where that play is full before its end. Where it is not
+/// full, all was collected that was due at the end of the first play: each Job that had ended, was
+/// given a TTL, and whose end and TTL are not past the last moment was deleted; and each pod whose Job
+/// was gone, or was deleted so, was marked.
 pub fn collecting_plays_are_due()
     ensures { (front : List Command) (shape : Shape) (ttls : List (Option ℕ))
         → IsProper (record { commands = front }) shape
         → Each (λ (command : Command). IsValidAction command.action) front
         → let seen = seen_at_end (record { commands = front }) shape in
         let longer = front ++ reap_list seen ttls in
-        IsCollected (ttl_seen seen ttls) shape (deeds_seen seen)
-        (deeds_played (record { commands = longer })
-        (whole_play (record { commands = longer }) shape)) }
+        let last = whole_play (record { commands = longer }) shape in
+        IsCollected (ttl_seen seen ttls) shape (deeds_seen seen) last.full
+        (deeds_played (record { commands = longer }) last) }
 {
     allowed_updates_stay_valid();
     valid_scripts_ask_valid();

@@ -3,7 +3,9 @@
 --     HasLeft seat seen             a command of one of its lanes may come
 --     HasHappened event old new     the event could come, and has happened
 --     IsOwnEvent seat old event     it is of one of its lanes, or the first of the system that is not held
-use Rattle.std.specs.Prelude.{◌≡◌, ℕ, ◌%◌, ◌⊎◌, Some}
+--     HaveHappened seat events ..   the events have happened one after the other, each of them the seat's own
+--     HasTurned seat old new        so such events have, and then nothing but that a register may be held
+use Rattle.std.specs.Prelude.{◌≡◌, ℕ, ◌%◌, ◌⊎◌, List, [], ◌∷◌, Some}
 use Rattle.jc_types.specs.declared.runs.Event.{Event}
 use Rattle.jc_runs.specs.Seen.{Seen, act_seen, happened, reply_seen}
 use Rattle.jc_history.specs.Play.{first_event}
@@ -43,3 +45,17 @@ pub record IsOfLanes (seat : Seat) (event : Event) : Type 0 where
 abbrev pub IsOwnEvent : Seat → Shared → Event → Type 0
 IsOwnEvent seat old event =
     IsOfLanes seat event ⊎ (first_event (unheld_seen old.slots old.seen) ≡ Some event)
+
+-- The events have happened, the last one first: each could come then, and was the seat's own.
+abbrev pub HaveHappened : Seat → List Event → Shared → Shared → Type 0
+HaveHappened seat [] old new = new ≡ old
+HaveHappened seat (event ∷ before) old new =
+    (between : Shared) × HaveHappened seat before old between × HasHappened event between new
+    × IsOwnEvent seat between event
+
+-- Own events have happened, one after the other, and then nothing but that a register may be held.
+pub record HasTurned (seat : Seat) (old new : Shared) : Type 0 where
+  pub events : List Event
+  pub last : Shared
+  pub happened : HaveHappened seat events old last
+  pub seen : new.seen ≡ last.seen

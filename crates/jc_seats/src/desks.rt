@@ -1,6 +1,6 @@
 //! What lies under the lock of a threaded run: the cluster, and a log of what its seats have marked.
 
-ghost use Rattle.std.specs.Prelude.{◌≡◌, ◌+◌, ◌<◌, ◌≤◌, [], Err, IfOk, IsSome, None, OnErr, is_ok, length, reverse, true};
+ghost use Rattle.std.specs.Prelude.{◌≡◌, ◌⊎◌, ◌+◌, ◌<◌, ◌≤◌, [], Err, IfOk, IsSome, None, OnErr, is_ok, length, reverse, true};
 ghost use mathlib.Core.List.{IsPrefix};
 ghost use Rattle.jc_types.specs.declared.runs.Event.{Event};
 ghost use Rattle.jc_runs.specs.Bases.{CanPlan};
@@ -11,7 +11,7 @@ ghost use Rattle.jc_core.specs.declared.holding.Work.{Work};
 ghost use Rattle.jc_core.specs.Slots.{unheld_seen};
 ghost use Rattle.jc_core.specs.Turns.{has_rest};
 ghost use Rattle.jc_seats.specs.Hands.{IsHandedIn, WasTaken, offered};
-ghost use Rattle.jc_seats.specs.SeatTurns.{HasHappened, HasLeft, IsOwnEvent};
+ghost use Rattle.jc_seats.specs.SeatTurns.{HasHappened, HasLeft, HasTurned, IsOwnEvent};
 
 use crate::hands::hand_in;
 use crate::kept::Kept;
@@ -171,6 +171,8 @@ impl<J: Naming, L: Logged> Desk<J, L> {
         ensures went { IfOk result (λ step. step ≡ Step.Went
             → (event : Event) × HasHappened event self.old self.new
             × IsOwnEvent seat.old self.old event) }
+        ensures own { (self.new.seen ≡ self.old.seen) ⊎ ((event : Event)
+            × HasHappened event self.old self.new × IsOwnEvent seat.old self.old event) }
         ensures waits { IfOk result (λ step. step ≡ Step.Wait → (self.new ≡ self.old)
             × (has_holders self.old.slots ≡ true)
             × (first_event (unheld_seen self.old.slots self.old.seen) ≡ None)
@@ -191,14 +193,15 @@ impl<J: Naming, L: Logged> Desk<J, L> {
         }
     }
 
-    /// Turns of the seat, until one does something else than an event, or there were 64. A seat that waits
-    /// for the lock takes longer to wake than an event takes.
+    /// Turns of the seat, until one does something else than an event, or there were 64. Each event that comes is
+    /// the seat's own, and could come. A seat that waits for the lock takes longer to wake than an event takes.
     ///
     /// # Errors
     /// `HistoryFull` only where the history has as many events as the shape allows; `Want` where there is no
     /// memory. What happened before stands.
     pub fn turns(&mut self, seat: &mut Seat) -> Result<Step<J, L>, ApplyFault>
         requires { seat.old.number < seat.old.threads }
+        ensures own { HasTurned seat.old self.old self.new }
         ensures went { IfOk result (λ step. step ≡ Step.Went
             → length self.new.seen.pasts ≡ length self.old.seen.pasts + 64) }
         ensures waits { IfOk result (λ step. step ≡ Step.Wait

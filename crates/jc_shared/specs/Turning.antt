@@ -3,8 +3,9 @@
 --     Found script shape old g        a history that was found, by a seat that had seen old
 --     IsDone seen event answer new    what an event is answered, and what it leaves
 --     IsOutAnswer answer              the value was out
+--     lost_after answer lost          the count of tries that found it out, after this one
 --     SeatIsAnswered ..                   what a seat is answered, and what it has seen then
-use Rattle.std.specs.Prelude.{◌≡◌, ◌<◌, ◌≤◌, List, [], ◌∷◌, ◌++◌, length, reverse, Result, Ok, Err}
+use Rattle.std.specs.Prelude.{◌≡◌, ℕ, ◌+◌, ◌<◌, ◌≤◌, List, [], ◌∷◌, ◌++◌, length, reverse, Result, Ok, Err}
 use mathlib.Core.List.{IsPrefix}
 use Rattle.jc_types.specs.declared.actions.Script.{Script}
 use Rattle.jc_types.specs.declared.runs.Event.{Event}
@@ -49,6 +50,11 @@ IsDone old event (Err Want) new = new ≡ old
 abbrev pub IsOutAnswer : Result SeenReply ApplyFault → Type 0
 IsOutAnswer (Ok seen.Out) = Unit {0}
 IsOutAnswer other = ⊥
+
+-- How many tries have found it out, where so many had before this one.
+abbrev pub lost_after : Result SeenReply ApplyFault → ℕ → ℕ
+lost_after (Ok seen.Out) lost = lost + 1
+lost_after other lost = lost
 
 -- What the seat is answered, which had seen the one list and has seen the other now.
 abbrev pub SeatIsAnswered : Script → Shape → Event → Result SeenReply ApplyFault → List Past → List Past

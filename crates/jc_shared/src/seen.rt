@@ -3,7 +3,7 @@
 ghost use Rattle.std.specs.Prelude.{◌≡◌, ◌<◌, ◌↔◌, false};
 ghost use Rattle.jc_seats.specs.Names.{IsOfName};
 ghost use Rattle.jc_turn.specs.Seats.{IsSameSeat};
-ghost use Rattle.jc_shared.specs.Turning.{SeatIsAnswered, IsDone, IsOutAnswer, IsSeenHistory};
+ghost use Rattle.jc_shared.specs.Turning.{SeatIsAnswered, IsDone, IsOutAnswer, IsSeenHistory, lost_after};
 
 use jc_seats::{ApplyFault, Kept, Naming};
 use jc_turn::{Seat, Taken, Turn};
@@ -44,7 +44,8 @@ fn done<J: Naming>(kept: &mut Kept<J>, event: Event) -> Result<SeenReply, ApplyF
 /// The history that was found begins with all that the seat had seen; it is a legal and orderly one
 /// of the script, and has counted once. The seat has then seen it, with the event where it was
 /// done, and the cluster is back. `Out` comes exactly where the seat's count of tries that found
-/// the cluster out rose, and the seat has then seen what it had seen; `NotNow` exactly where the
+/// the cluster out rose; it has risen by one then, and is else as before. With `Out` the seat has seen
+/// what it had seen; `NotNow` comes exactly where the
 /// event cannot come after the history that was found.
 ///
 /// # Errors
@@ -59,6 +60,7 @@ pub fn apply_seen<J: Naming>(
     requires free { seat.old.holds ≡ false }
     ensures seat { IsSameSeat seat.old seat.new × (seat.new.holds ≡ false) }
     ensures out { IsOutAnswer result ↔ (seat.old.lost < seat.new.lost) }
+    ensures lost { seat.new.lost ≡ lost_after result seat.old.lost }
     ensures answer { SeatIsAnswered J.script J.shape event result seat.old.seen seat.new.seen }
 {
     let Taken::Value(mut kept) = turn.take(seat) else {

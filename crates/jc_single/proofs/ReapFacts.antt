@@ -72,16 +72,21 @@ settled_more commands n few =
 
 -- ---- the script that is played last
 
--- What holds of the script, and of it with commands behind, holds of what a reaper plays last.
-pub last-holds : (P : Script → Type 0) (script : Script) (shape : Shape) (ttls : List (Option ℕ)) → P script
+-- What holds of the script, where its play is full, and of it with commands behind, holds of what a reaper plays last.
+pub last-where : (P : Script → Type 0) (script : Script) (shape : Shape) (ttls : List (Option ℕ))
+    → (is_full script shape ≡ true → P script)
     → P (record { commands = script.commands ++ reap_list (seen_at_end script shape) ttls }) → P (then_reaped script shape ttls)
 unfolding then_reaped
-last-holds P script shape ttls alone more = by (is_full script shape)
+last-where P script shape ttls alone more = by (is_full script shape) refl
   where
-    by : (b : Bool)
+    by : (b : Bool) → is_full script shape ≡ b
         → P (if b then script else record { commands = script.commands ++ reap_list (seen_at_end script shape) ttls })
-    by true = alone
-    by false = more
+    by true full = alone full
+    by false full = more
+
+pub last-holds : (P : Script → Type 0) (script : Script) (shape : Shape) (ttls : List (Option ℕ)) → P script
+    → P (record { commands = script.commands ++ reap_list (seen_at_end script shape) ttls }) → P (then_reaped script shape ttls)
+last-holds P script shape ttls alone more = last-where P script shape ttls (λ full. alone) more
 
 pub full-last : (script : Script) (shape : Shape) (ttls : List (Option ℕ)) → is_full script shape ≡ true
     → then_reaped script shape ttls ≡ script

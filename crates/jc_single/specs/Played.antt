@@ -54,10 +54,12 @@ then_reaped script shape ttls =
     else record { commands = script.commands ++ reap_list (seen_at_end script shape) ttls }
 
 -- In the play of that script, behind the events of the first play, each delete that was made removed a Job that had
--- ended and whose TTL had passed, and each mark found a pod whose Job was gone.
+-- ended and whose TTL had passed, and each mark found a pod whose Job was gone. Unless that play is full, each Job and
+-- each pod of which this was due at the end of the first play was collected so.
 abbrev pub CollectsDue : Script → Shape → List (Option ℕ) → Type 0
 CollectsDue script shape ttls =
     IsCollected (ttl_seen (seen_at_end script shape) ttls) shape (deeds_seen (seen_at_end script shape))
+    (is_full (then_reaped script shape ttls) shape)
     (deeds_played (then_reaped script shape ttls) (whole_play (then_reaped script shape ttls) shape))
 
 -- The script that a reaper plays last, of the commands and the TTLs that a text says, or its first bad line.

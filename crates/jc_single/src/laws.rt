@@ -64,7 +64,8 @@ pub fn runs_tell_their_history()
 
 /// **What a reaper's commands find (`ttlSecondsAfterFinished` of batch/v1)**: where the words ask for a reaper,
 /// and the text is a script that gives these TTLs, each delete that was made behind the first play removed a Job
-/// that had ended and whose TTL had passed, and each mark found a pod whose Job was gone.
+/// that had ended and whose TTL had passed, and each mark found a pod whose Job was gone. Unless the history is full,
+/// all was collected that was due at the end of the first play.
 pub fn reapers_collect_what_is_due()
     ensures { (words : List (List ℕ)) (shape : Shape) (input : List ℕ) (commands : List Command)
         (ttls : List (Option ℕ)) → order_of words ≡ Some (Reap shape)

@@ -192,7 +192,8 @@ pub fn run_single<S: Source, K: Sink>(
         → IfSome (staging_of order) (λ staging. IfSome (S.left source.old) (λ input.
         IsOkAnd (script_played order input) (λ script.
         TellsFront staging.threads script staging.shape (K.held sink.old) (K.held sink.new)))) }
-    // What a reaper's commands have found: Jobs whose time was over, and pods whose Job was gone.
+    // What a reaper's commands have found: Jobs whose time was over, and pods whose Job was gone; unless the history is
+    // full, all of them.
     ensures collected { (shape : Shape) (input : List ℕ) (commands : List Command)
         (ttls : List (Option ℕ)) → order_of (map string_bytes words.now) ≡ Some (Reap shape)
         → S.left source.old ≡ Some input → script_of shape input ≡ Ok commands

@@ -1,4 +1,4 @@
-use Rattle.std.proofs.Common.{reverse, sym, subst}
+use Rattle.std.proofs.Common.{inr, reverse, sym, subst}
 use Rattle.jc_runs.specs.Seen.{Seen}
 use Rattle.jc_turn.proofs.Prefixes.{prefix_trans}
 use Rattle.jc_seats.specs.Hands.{WasTaken}
@@ -33,3 +33,7 @@ invariant_of-self-in-Went g c =
 pub returns-in-Went-clause-went : goal.returns-in-Went-clause-went
 returns-in-Went-clause-went g c = λ e.
     subst (λ (s : Shared). (event : Event) × HasHappened event s c.turn.new.self × IsOwnEvent c.args.seat.now s event) c.self.view_is (c.in_ok-work.ensures.went c.in-Went.is)
+
+pub returns-in-Went-clause-own : goal.returns-in-Went-clause-own
+returns-in-Went-clause-own g c =
+    inr (subst (λ (s : Shared). (event : Event) × HasHappened event s c.turn.new.self × IsOwnEvent c.args.seat.now s event) c.self.view_is (c.in_ok-work.ensures.went c.in-Went.is))
