@@ -102,6 +102,8 @@ def table(left, right):
     """Returns the lines of the table of Jobs."""
     sides, rows = (side(left), side(right)), [HEAD]
     nothing = ("not there", *("" for _ in HEAD[3:]))
+    if not any(sides):
+        return ["There is no Job at the end on either side."]
     for key in sorted({*sides[0], *sides[1]}):
         cells = [it.get(key, nothing) for it in sides]
         name = key.removeprefix("default/")
