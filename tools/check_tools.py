@@ -464,6 +464,9 @@ pi     A      Complete   CompletionsReached     1/1           1        0        
        B      Failed     BackoffLimitExceeded   0/1           1        0        1      0s
 
 default/pi is created otherwise: backoffLimit 4 in A, 0 in B
+The status of default/pi parts at event 29:
+  A     {}
+  B     {"conditions":[{"lastTransitionTime":"2024-01-01T00:00:00Z","reason":"BackoffLimitExceeded","status":"True","type":"FailureTarget"}]}
 They part at event 41:
   both  39 begin 0 0 -> begun default/pi jobs v9 pods v9
   both  40 step 0 0 -> ended
