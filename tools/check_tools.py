@@ -231,18 +231,20 @@ def check_script_of():
 
 def check_yaml():
     """YAML becomes lines, by kubectl, by PyYAML, or else the error says both ways."""
-    ways = {"kubectl": bool(shutil.which("kubectl")), "PyYAML": bool(importlib.util.find_spec("yaml"))}
-    for way, is_there in ways.items():
-        if not is_there:
+    ways = {"kubectl": (script_of.by_kubectl, bool(shutil.which("kubectl"))), "PyYAML": (script_of.by_yaml, bool(importlib.util.find_spec("yaml")))}
+    found = []
+    for way, (reads, is_there) in ways.items():
+        if is_there:
+            found.append(reads(YAML, "it"))
+        else:
             print(f"check_tools: SKIPPED, for there is no {way}: YAML by {way}")
-    found = [script_of.by_kubectl(YAML, "it")] * ways["kubectl"] + [script_of.by_yaml(YAML, "it")] * ways["PyYAML"]
     for values in found:
         made, _, others = script_of.jobs(values, "it")
         keys = [script_of.key_of(it, "it") for it in made]
         holds("the documents", keys == [("default", "pi"), ("night", "nightly")])
         holds("what is passed over", [script_of.named(it) for it in others] == ["ConfigMap settings"])
         holds("no label is left", "labels" not in made[0]["metadata"] and made[1]["spec"]["completions"] == 2)
-    if all(ways.values()):
+    if len(found) == len(ways):
         holds("both ways say the same", found[0] == found[1])
     for text in ("a: [", "kind: Job\n\tx: y", "just a text"):
         refuses("script_of.py", given=text)
@@ -423,7 +425,10 @@ def check_page(program):
         holds(f"{name}: the last statuses", last == {key: it.status for key, it in report.jobs.items()})
         asked = sum(len(it["steps"]) for it in data["syncs"])
         holds(f"{name}: what the syncs asked", asked == sum(bool(it.request[0]) for it in report.events))
-        check_page_script(name, done.stdout)
+        if shutil.which("node"):
+            check_page_script(name, done.stdout)
+    if not shutil.which("node"):
+        print("check_tools: SKIPPED, for there is no node: the script of a page")
     data = data_of(ran("page.py", f"{TOP}/examples/two_controllers.report", "--program", program).stdout)
     queues = [[it[1] for it in of["queue"]] for of in data["controllers"]]
     holds(f"two controllers: their queues {queues}", queues[1] == [None, ["default/pi"], []])
@@ -435,9 +440,6 @@ def check_page(program):
 
 def check_page_script(name, text):
     """The page's script draws each event, by node, on elements that stand in for a browser's."""
-    if not shutil.which("node"):
-        print("check_tools: SKIPPED, for there is no node: the script of a page")
-        return
     script = re.findall(r"<script>(.*?)</script>", text, re.DOTALL)[0]
     stand_in = """
 const element = () => ({ children: [], addEventListener() {}, dataset: {}, scrollIntoView() {} });
