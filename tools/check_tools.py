@@ -78,7 +78,7 @@ def refuses(tool, *words, given="", status=1, says=""):
 
 def check_sources():
     """Each Python file and each shell script can be read."""
-    for file in sorted(glob.glob(f"{TOP}/[tbe]*/*.py")):
+    for file in sorted(it for folder in ("tools", "bench", "examples") for it in glob.glob(f"{TOP}/{folder}/*.py")):
         with open(file, encoding="utf-8") as it:
             ast.parse(it.read(), file)
         holds(file, True)
