@@ -5,8 +5,8 @@
   compare.py a.script b.script --run "--controllers 2"    two scripts, played with these options of `run`
   compare.py job.yaml other.yaml --ends 1,0               two manifests, with these ends and a settle (as script_of.py)
   compare.py my.script --with spec.backoffLimit=2         a script or a manifest, as it is and with each Job's member changed
-A table shows where each Job has come to on either side (one row where both are the same), and behind it stands the first event
-at which they part. A VALUE is JSON, or else a text; null takes the member away. Reports need no program. Status 1 says that
+A table shows where each Job has come to on either side (one row where both are the same), and behind it stand the first write
+of a status that differs, where something was played, and the first event at which they part. A VALUE is JSON, or else a text; null takes the member away. Reports need no program. Status 1 says that
 there is no such file, or that it is refused.
 """
 import argparse
@@ -102,6 +102,8 @@ def table(left, right):
     """Returns the lines of the table of Jobs."""
     sides, rows = (side(left), side(right)), [HEAD]
     nothing = ("not there", *("" for _ in HEAD[3:]))
+    if not any(sides):
+        return ["There is no Job at the end on either side."]
     for key in sorted({*sides[0], *sides[1]}):
         cells = [it.get(key, nothing) for it in sides]
         name = key.removeprefix("default/")
@@ -126,10 +128,31 @@ def happened(event):
     return (event.verb, event.key, event.reply) if event.verb == "create" else (event.act, event.reply)
 
 
+def same_events(left, right):
+    """Returns how many events of two histories are the same, from the first on."""
+    pairs = list(zip(left.events, right.events))
+    return next((place for place, (one, other) in enumerate(pairs) if happened(one) != happened(other)), len(pairs))
+
+
+def parting_statuses(left, right, program):
+    """Returns the lines that tell which write of a status, of the events that are the same, is the first with another status."""
+    both = [plays.Replayed(report, program) for report in (left, right)]
+    for event in left.events[: same_events(left, right)]:
+        if event.request[0] != ["status"] or not event.version:
+            continue
+        found = [play.statuses(event.number) for play in both]
+        for key in sorted({*found[0], *found[1]}):
+            sides = [it.get(key, {}) for it in found]
+            names = [it for it in sorted({*sides[0], *sides[1]}) if sides[0].get(it) != sides[1].get(it)]
+            if names:
+                told = [json.dumps({it: side[it] for it in names if it in side}, separators=(",", ":")) for side in sides]
+                return [f"The status of {key} parts at event {event.number}:", f"  A     {told[0]}", f"  B     {told[1]}"]
+    return []
+
+
 def parting(left, right):
     """Returns the lines that tell where two histories part."""
-    pairs = list(zip(left.events, right.events))
-    same = next((place for place, (one, other) in enumerate(pairs) if happened(one) != happened(other)), len(pairs))
+    same = same_events(left, right)
     if same == len(left.events) == len(right.events):
         return [f"All {same} events are the same."]
     lines = [f"They part at event {same + 1}:"]
@@ -156,19 +179,23 @@ def read_words():
 
 def main():
     given = read_words()
+    given.was_played = False
 
     def report_of(name, text, members=()):
         if reports.event_of(text.partition("\n")[0]):
             if members:
                 raise reports.Refused(f"{name} is a report: --with needs a script or a manifest")
             return reports.read(text)
+        given.was_played = True
         lines = with_changed(script_lines(text, os.path.basename(name), given.ends), members)
         return reports.read(plays.play(plays.program_at(given.program), ["run", *shlex.split(given.run)], lines))
 
     text = reports.text_of(given.a)
     left = report_of(given.a, text)
     right = report_of(given.b, reports.text_of(given.b)) if given.b else report_of(given.a, text, given.members)
-    print(*table(left, right), "", *shown_specs(left, right), *parting(left, right), sep="\n")
+    # (where something was played, there is a program to ask)
+    statuses = parting_statuses(left, right, plays.program_at(given.program)) if given.was_played else []
+    print(*table(left, right), "", *shown_specs(left, right), *statuses, *parting(left, right), sep="\n")
 
 
 if __name__ == "__main__":

@@ -186,6 +186,8 @@ class Replayed:
         lines = play(self.program, self.words, [*self.script[:number], *more]).split("\n")
         if lines[:number] != self.lines[:number]:
             raise reports.Refused(f"the program {self.program} plays the same script in several ways")
+        if lines[-2:-1] == ["full"]:
+            raise reports.Refused(f"a history has no room for event {number} and what is asked behind it")
         replies = [line.rpartition(" -> ")[2] for line in lines[number : number + len(more)]]
         told = {uid: replies[len(asked) + place * QUESTIONS :][:QUESTIONS] for place, uid in enumerate(uids)}
         last = reports.read_lines([line for line in lines[number + len(more) :] if line])

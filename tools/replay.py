@@ -176,14 +176,23 @@ def tell(report):
         print(f"replay.py: not told by the report, and of no account for its play: {', '.join(unknown)}", file=sys.stderr)
 
 
+def report_until(text, until):
+    """Returns the report of a text; of one that is spoilt behind the event where it is to be cut, what stands before."""
+    try:
+        return reports.read(text)
+    except reports.Refused:
+        if until is None:
+            raise
+        return reports.read_lines(text.split("\n")[: max(until, 0)])
+
+
 def main():
     words = argparse.ArgumentParser(description=__doc__, formatter_class=argparse.RawDescriptionHelpFormatter)
     words.add_argument("report", nargs="?", metavar="REPORT")
     words.add_argument("--until", type=int, metavar="N", help="cut behind event N")
     given = words.parse_args()
-    report = reports.read(reports.text_of(given.report))
-    events = report.events if given.until is None else report.until(max(given.until, 0))
-    for event in events:
+    report = report_until(reports.text_of(given.report), given.until)
+    for event in report.events if given.until is None else report.until(max(given.until, 0)):
         print(line_of(event))
     tell(report)
 

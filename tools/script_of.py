@@ -189,7 +189,9 @@ def end_of(pod):
     if phase == "Failed" and not code:
         others = [(name, it) for name, it in codes.items() if it]
         code = others[0][1] if others else KILLED
-        guess = f"failed by its container {others[0][0]}, which is told as its first one's" if others else f"left no exit code; {KILLED} is taken"
+        guess = f"left no exit code; {KILLED} is taken"
+        if others:
+            guess = f"failed by its container {others[0][0]}, whose code is told as the first one's"
     end = {"exitCode": code if phase == "Failed" else 0}
     if member(stand.get(first), "restartCount", int):
         end["restarts"] = stand[first]["restartCount"]

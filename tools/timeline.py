@@ -141,8 +141,8 @@ class Story:
             self.rows[-1]["lines"].append(event.line)
             self.rows[-1]["last"] = event.number
         else:
-            about = {"keys": set(), "pods": set()}
-            self.rows.append({"kind": kind, "text": text, "lines": [event.line], "first": event.number, "last": event.number, "wrote": None, **about})
+            row = {"kind": kind, "text": text, "lines": [event.line], "first": event.number, "last": event.number}
+            self.rows.append({**row, "wrote": None, "keys": set(), "pods": set()})
         return len(self.rows) - 1
 
     def about(self, row, key=None, pod=None):
@@ -554,7 +554,8 @@ class Picture:
                 text += f": {', '.join(ended)}" if is_last and ended else ""
                 text = f"{shown_key(job)}: {text}" if self.folds else text
                 self.box(x, self.y(row) + 5, 8, 8, "#b9862f", 'rx="4"')
-                self.text(x + 13, self.y(row) + 12, text, "bold" if is_last else "", (self.job_width + 110 * self.folds) // 6 - 3, f"v{version}: {text}")
+                most = (self.job_width + 110 * self.folds) // 6 - 3
+                self.text(x + 13, self.y(row) + 12, text, "bold" if is_last else "", most, f"v{version}: {text}")
 
     def pod(self, x, pod):
         end = len(self.story.rows)
@@ -635,8 +636,9 @@ def read_words():
     words.add_argument("--to", dest="last", type=int, default=10**9, metavar="M")
     words.add_argument("--job", dest="jobs", action="append", default=[], metavar="KEY", help="this Job alone; may stand several times")
     words.add_argument("--pod", dest="pods", type=numbers_of, default=[], metavar="UID,UID..", help="these pods alone, with their Jobs")
-    words.add_argument("--fold", action=argparse.BooleanOptionalAction, help=f"fold the columns; so it is with more than {MOST_JOBS} Jobs or {MOST_PODS} pods")
-    words.add_argument("--exact", action=argparse.BooleanOptionalAction, help="ask the program for the statuses; so it is where one is built or given")
+    either, many = argparse.BooleanOptionalAction, f"more than {MOST_JOBS} Jobs or {MOST_PODS} pods"
+    words.add_argument("--fold", action=either, help=f"fold the columns; so it is with {many}")
+    words.add_argument("--exact", action=either, help="ask the program for the statuses; so it is where one is built or given")
     plays.add_program(words)
     return words.parse_args()
 
