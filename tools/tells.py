@@ -177,10 +177,14 @@ def limits(line, cause):
 
 
 def meaning(line, cause):
-    """Returns what a cause means for a line."""
-    said = explained(cause)
-    more = [it for it in limits(line, cause) if not any(it.partition(": ")[2].partition(";")[0] in known for known in said if ": " in it)]
-    return said + more
+    """Returns what a cause means for a line: what explain.py says of it, and what that does not say of the member."""
+    told = explained(cause)
+    said = "\n".join(told)
+    for it in limits(line, cause):
+        body, sign, meant = it.partition("; did you mean ")
+        is_said = ": " in body and body.partition(": ")[2].partition(";")[0] in said
+        told = told + ([f"did you mean {meant}"] * bool(sign) if is_said else [it])
+    return told
 
 
 # ---- what is no script at all
