@@ -177,13 +177,14 @@ def limits(line, cause):
 
 
 def meaning(line, cause):
-    """Returns what a cause means for a line."""
-    said, more = explained(cause), []
+    """Returns what a cause means for a line: what explain.py says of it, and what that does not say of the member."""
+    told = explained(cause)
+    said = "\n".join(told)
     for it in limits(line, cause):
-        is_said = ": " in it and any(it.partition(": ")[2].partition(";")[0] in known for known in said)
-        meant = re.search(r"did you mean .*", it)
-        more += [it] if not is_said else [meant[0]] if meant else []
-    return said + more
+        body, sign, meant = it.partition("; did you mean ")
+        is_said = ": " in body and body.partition(": ")[2].partition(";")[0] in said
+        told = told + ([f"did you mean {meant}"] * bool(sign) if is_said else [it])
+    return told
 
 
 # ---- what is no script at all
@@ -242,19 +243,31 @@ def block(lines, at, cause):
 # ---- an audit
 
 
+def script_of(events):
+    """Returns the script that plays the events of a report, by tools/replay.py, or nothing where that refuses them. The numbers are
+    set right before, and where the last reply is not one at all, another stands in its place, since what is played has its own."""
+    if not events or not os.path.isfile(f"{TOP}/tools/replay.py"):
+        return None
+    numbered = [f"{number} {it[2]} {it[3]} -> {it[4]}" for number, it in enumerate(events, 1)]
+    other = numbered[-1].rpartition(" -> ")[0] + " -> done"
+    for lines in (numbered, [*numbered[:-1], other]):
+        with tempfile.NamedTemporaryFile("w", encoding="utf-8", prefix="jobctl-") as it:
+            it.write("".join(f"{line}\n" for line in lines))
+            it.flush()
+            how = {"stdin": subprocess.DEVNULL, "capture_output": True}
+            ran = subprocess.run([sys.executable, "-SB", f"{TOP}/tools/replay.py", it.name], **how)
+        if ran.returncode == 0:
+            return ran.stdout
+    return None
+
+
 def replayed(program, options, lines):
     """Returns the lines that are printed where the events of a report are played as a script, or nothing where that cannot be."""
-    with tempfile.TemporaryDirectory(prefix="jobctl-") as room:
-        with open(f"{room}/report", "wb") as it:
-            it.write(b"".join(line + b"\n" for line in lines))
-        if not os.path.isfile(f"{TOP}/tools/replay.py"):
-            return []
-        how = {"stdin": subprocess.DEVNULL, "capture_output": True}
-        script = subprocess.run([sys.executable, "-SB", f"{TOP}/tools/replay.py", f"{room}/report"], **how)
-        if script.returncode:
-            return []
-        ran = subprocess.run([program, "run", *options], input=script.stdout, capture_output=True)
-        return ran.stdout.split(b"\n")[:-1] if ran.returncode in (0, 6) else []
+    script = script_of([parted(line) for line in lines])
+    if script is None:
+        return []
+    ran = subprocess.run([program, "run", *options], input=script, capture_output=True)
+    return ran.stdout.split(b"\n")[:-1] if ran.returncode in (0, 6) else []
 
 
 def parted(line):
