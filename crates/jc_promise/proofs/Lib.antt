@@ -1,7 +1,9 @@
 pub mod DeedFacts
 mod NumberFacts
+mod QuietFacts
 mod SampleFacts
 mod WrongFacts
 mod WrongSyncFacts
+mod WrongRestFacts
 -- Lemmas of the crates below, handed on to those above.
 pub use Rattle.jc_runs.proofs.BackoffFacts
