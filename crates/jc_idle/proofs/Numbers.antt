@@ -1,9 +1,12 @@
--- How many numbers of a range a list has; so how many are free.
-use Rattle.std.proofs.Common.{◌≡◌, ℕ, zero, suc, ◌+◌, ◌<◌, ◌≤◌, ◌==◌, Bool, true, false, cond, not, ◌&&◌, ◌||◌, List, [], ◌∷◌, filter, length, refl, sym, ap, ◌∙◌, arith, true≢false, eqb-true}
+-- How many numbers of a range a list has, or pods have as their index; so how many are free.
+use Rattle.std.proofs.Common.{◌≡◌, ℕ, zero, suc, ◌+◌, ◌<◌, ◌≤◌, ◌==◌, Bool, true, false, cond, not, ◌&&◌, ◌||◌, List, [], ◌∷◌, filter, length, Option, Some, None, refl, sym, ap, ◌∙◌, arith, true≢false, eqb-true}
 use Rattle.std.specs.List.{range_with_len}
+use Rattle.std.specs.Option.{option_map_or}
 use Rattle.jc_ranges.specs.Sets.{has}
+use Rattle.jc_types.specs.declared.objects.Pod.{Pod}
 use Rattle.jc_types.specs.declared.syncs.CountIn.{CountIn}
-use Rattle.jc_manage.specs.Creations.{free, is_free, is_settled_index}
+use Rattle.jc_states.specs.Indexes.{has_index}
+use Rattle.jc_manage.specs.Creations.{free, holds, is_free, is_settled_index}
 
 above-none : (x a n : ℕ) → x < a → length (filter (λ m. x == m) (range_with_len a n)) ≡ 0
 above-none x a zero lt = refl
@@ -57,15 +60,34 @@ all-in test within is a (suc n) e = by (within a) refl (test a) refl e (all-in t
     by true i false j e ih = ap suc (ih e)
     by false i false j e ih = absurd (true≢false (sym (ap not i) ∙ sym (is a) ∙ j))
 
--- Where no index is free though no pod keeps one, there are as many completed and failed ones as completions.
-pub none-free : (completions : ℕ) (counted : CountIn) → free completions counted [] ≡ [] → completions ≤ length counted.completed + length counted.failed_indexes
-none-free n counted e =
-    let all = all-in (is_free counted []) (is_settled_index counted) (λ m. and-true (not (is_settled_index counted m))) 0 n e in
-    let both = either-few (λ m. has m counted.completed) (λ m. has m counted.failed_indexes) (range_with_len 0 n) in
+-- Of the numbers of a range no more are indexes of pods than there are pods.
+index-few : (p : Pod) (a n : ℕ) → length (filter (λ m. has_index m p) (range_with_len a n)) ≤ 1
+index-few p a n = by p.index
+  where
+    by : (o : Option ℕ) → length (filter (λ m. option_map_or (λ index. index == m) o false) (range_with_len a n)) ≤ 1
+    by None = let none = none-few (range_with_len a n) in omega (arith, none)
+    by (Some index) = one-at-most index a n
+
+held-few : (pods : List Pod) (a n : ℕ) → length (filter (λ m. holds pods m) (range_with_len a n)) ≤ length pods
+held-few [] a n = let none = none-few (range_with_len a n) in omega (arith, none)
+held-few (p ∷ pods) a n =
+    let both = either-few (λ m. has_index m p) (λ m. holds pods m) (range_with_len a n) in
+    let one = index-few p a n in
+    let ih = held-few pods a n in
+    omega (arith, both, one, ih)
+
+-- Where no index is free, there are as many completed and failed ones and pods that keep one as completions.
+pub none-free : (completions : ℕ) (counted : CountIn) (kept : List Pod) → free completions counted kept ≡ []
+    → completions ≤ length counted.completed + length counted.failed_indexes + length kept
+none-free n counted kept e =
+    let all = all-in (is_free counted kept) (λ m. is_settled_index counted m || holds kept m) (λ m. nor (is_settled_index counted m) (holds kept m)) 0 n e in
+    let both = either-few (is_settled_index counted) (holds kept) (range_with_len 0 n) in
+    let settled = either-few (λ m. has m counted.completed) (λ m. has m counted.failed_indexes) (range_with_len 0 n) in
     let completed = members-few counted.completed 0 n in
     let failed = members-few counted.failed_indexes 0 n in
-    omega (arith, all, both, completed, failed)
+    let held = held-few kept 0 n in
+    omega (arith, all, both, settled, completed, failed, held)
   where
-    and-true : (b : Bool) → (b && true) ≡ b
-    and-true true = refl
-    and-true false = refl
+    nor : (a b : Bool) → (not a && not b) ≡ not (a || b)
+    nor true b = refl
+    nor false b = refl

@@ -1,8 +1,10 @@
 pub mod DeedFacts
 mod NumberFacts
+mod QuietFacts
 mod SampleFacts
 mod WrongFacts
 mod WrongSyncFacts
 mod WrongCauseFacts
+mod WrongRestFacts
 -- Lemmas of the crates below, handed on to those above.
 pub use Rattle.jc_runs.proofs.BackoffFacts

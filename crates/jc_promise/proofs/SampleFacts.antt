@@ -1,7 +1,7 @@
 -- The histories that show of what is said: worked out.
-use Rattle.std.proofs.Common.{◌≡◌, Bool, true, false, List, [], ◌∷◌, ◌++◌, drop, take, Option, Some, None, is_some, refl, sym, ap, ◌∙◌, arith, true≢false}
+use Rattle.std.proofs.Common.{◌≡◌, Bool, true, false, not, ◌&&◌, List, [], ◌∷◌, ◌++◌, drop, take, Option, Some, None, is_some, refl, sym, ap, ◌∙◌, arith, true≢false}
 use Rattle.std.proofs.lemmas.List.{take-append-drop}
-use Rattle.std.specs.Option.{option_map, unwrap_or}
+use Rattle.std.specs.Option.{option_map, option_map_or, unwrap_or}
 use Rattle.jc_types.specs.declared.objects.Entry.{Entry}
 use Rattle.jc_types.specs.declared.objects.Entry.TheVariants.{JobPut, JobGone, PodPut, PodGone}
 use Rattle.jc_types.specs.declared.objects.Job.{Job}
@@ -9,6 +9,7 @@ use Rattle.jc_types.specs.declared.objects.Pod.{Pod}
 use Rattle.jc_types.specs.declared.replies.Reply.TheVariants.{Ended}
 use Rattle.jc_types.specs.declared.runs.Shape.{Shape}
 use Rattle.jc_causes.specs.Conditions.{has_end}
+use Rattle.jc_rest.specs.Owners.{is_foreign}
 use Rattle.jc_plan.specs.Accounts.{counted_in, counted_out}
 use Rattle.jc_plan.specs.Backoffs.{pause}
 use Rattle.jc_plan.specs.Failures.{failing_in, failures_in}
@@ -16,17 +17,20 @@ use Rattle.jc_plan.specs.Plans.{planned}
 use Rattle.jc_plan.specs.Statuses.{first_value, second_value}
 use Rattle.jc_log.specs.Acts as does
 use Rattle.jc_log.specs.Deeds.{Deed}
-use Rattle.jc_log.specs.Log.{Life, Gone, Live, Never, is_never, job_in, life}
+use Rattle.jc_log.specs.Log.{Life, Gone, Live, Never, is_never, job_in, life, pod_in, upto}
 use Rattle.jc_log.specs.Requests.{grown}
 use Rattle.jc_history.specs.Available.{available, is_empty, is_quiescent}
 use Rattle.jc_history.specs.Legal.{IsLegal}
 use Rattle.jc_history.specs.Play.{brought_up, event_played, settled_down, stepped_through, whole_play}
 use Rattle.jc_history.specs.Replies.{diary, gives, log_given}
-use Rattle.jc_history.specs.Samples.{pi_key, usual_shape, version_at}
+use Rattle.jc_history.specs.Samples.{pi_key, pod_made, sample_spec, status_written, uid_of, usual_shape, version_at}
 use Rattle.jc_history.specs.SampleScripts.{one_pod_script}
+use Rattle.jc_rest.specs.Orphans.{is_sure_of, last_about}
 use Rattle.jc_rest.specs.Stuck.{is_sure}
 use Rattle.jc_order.specs.Plays.{IsProper}
-use Rattle.jc_promise.specs.SomeDeeds.{FindsEnd, MakesPod, SomeDeed, one_pod_deeds, waiting_deeds, waiting_script}
+use Rattle.jc_promise.specs.Wrong.{job_is_made, pi_job, sync_begins, sync_steps}
+use Rattle.jc_promise.specs.WrongRests.{both_list}
+use Rattle.jc_promise.specs.SomeDeeds.{FindsEnd, MakesPod, SomeDeed, SomeSync, one_pod_deeds, orphan_deeds, orphan_script, quiet_deeds, waiting_deeds, waiting_script}
 use Rattle.jc_order.proofs.PlayFacts.{plays-whole}
 
 -- ---- the history is legal
@@ -151,3 +155,64 @@ waiting-sure = refl
 pub waiting-unended : option_map (λ (job : Job). has_end job.status.conditions) (job_in pi_key (log_given usual_shape waiting_deeds)) ≡ Some false
 unfolding failing_in failures_in whole_play brought_up stepped_through settled_down event_played gives log_given planned first_value second_value counted_in counted_out pause available waiting_script
 waiting-unended = refl
+
+-- ---- an orphan
+
+proper-orphan : IsProper orphan_script usual_shape
+unfolding orphan_script
+proper-orphan = (tt, ((omega arith, omega arith), (tt, (tt, tt))))
+
+pub orphan-legal : IsLegal usual_shape orphan_deeds
+orphan-legal = (plays-whole orphan_script usual_shape proper-orphan).plays.legal
+
+pub orphan-rests : is_quiescent usual_shape orphan_deeds (log_given usual_shape orphan_deeds) ≡ true
+unfolding failing_in failures_in whole_play brought_up stepped_through settled_down event_played gives log_given planned first_value second_value counted_in counted_out pause available orphan_script
+orphan-rests = refl
+
+pub orphan-released : option_map_or (λ (pod : Pod). is_foreign (job_in pod.owner (log_given usual_shape orphan_deeds)) pod && not pod.tracked) (pod_in (uid_of 2) (log_given usual_shape orphan_deeds)) false ≡ true
+unfolding failing_in failures_in whole_play brought_up stepped_through settled_down event_played gives log_given planned first_value second_value counted_in counted_out pause available orphan_script
+orphan-released = refl
+
+pub orphan-sure : option_map_or (λ (pod : Pod). is_sure_of pod (last_about pod (log_given usual_shape orphan_deeds)) (diary usual_shape 0 orphan_deeds)) (pod_in (uid_of 2) (log_given usual_shape orphan_deeds)) false ≡ true
+unfolding failing_in failures_in whole_play brought_up stepped_through settled_down event_played gives log_given planned first_value second_value counted_in counted_out pause available orphan_script
+orphan-sure = refl
+
+-- ---- a quiet sync
+
+pub sync-legal : IsLegal usual_shape quiet_deeds
+unfolding failing_in failures_in gives log_given planned first_value second_value counted_in counted_out pause
+sync-legal = (
+  record { within = (omega arith, omega arith); settled = tt; reply = refl; length = refl },
+  (
+    record { within = (omega arith, omega arith); settled = tt; reply = refl; length = refl },
+    (
+      record { within = (omega arith, omega arith); settled = tt; reply = refl; length = refl },
+      (
+        record { within = (omega arith, omega arith); settled = tt; reply = refl; length = refl },
+        (
+          record { within = omega arith; settled = tt; reply = refl; length = refl },
+          (record { within = omega arith; settled = tt; reply = refl; length = refl }, (record { within = tt; settled = tt; reply = refl; length = refl }, tt)),
+        ),
+      ),
+    ),
+  ),
+)
+
+sync-there : job_in pi_key (upto 1 (log_given usual_shape quiet_deeds)) ≡ Some (pi_job sample_spec)
+unfolding failing_in failures_in gives log_given planned first_value second_value counted_in counted_out pause
+sync-there = refl
+
+pub sync-quiet : SomeSync usual_shape quiet_deeds (log_given usual_shape quiet_deeds)
+sync-quiet = record {
+  controller = 0;
+  worker = 0;
+  begin = sync_begins 1 1 1;
+  past = both_list 1 (job_is_made sample_spec ∷ []);
+  key = pi_key;
+  job = pi_job sample_spec;
+  last = sync_steps Ended 3;
+  run = sync_steps (status_written 3) 3 ∷ sync_steps (pod_made None 2 2) 2 ∷ [];
+  later = [];
+  parts = refl;
+  quiet = record { begins = refl; current = refl; there = sync-there; no_fault = refl; steps = (refl, (refl, (refl, tt))); goes_on = (refl, (refl, tt)); over = tt };
+}

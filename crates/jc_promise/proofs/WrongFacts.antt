@@ -1,6 +1,8 @@
 -- What the wrong histories are refused by: worked out.
-use Rattle.std.proofs.Common.{◌≡◌, ℕ, ◌==◌, Bool, true, false, cond, ◌||◌, List, [], ◌∷◌, drop, length, Option, Some, None, is_some, inl, inr, refl, sym, ap, ◌∙◌, subst, arith, true≢false}
-use Rattle.std.specs.List.{AllByRecursion as Each}
+use Rattle.std.proofs.Common.{◌≡◌, ℕ, ◌==◌, Bool, true, false, cond, ◌||◌, List, [], ◌∷◌, drop, length, map, Option, Some, None, is_some, inl, inr, refl, sym, ap, ◌∙◌, subst, arith, true≢false}
+use Rattle.std.specs.List.{AllByRecursion as Each, range_with_len}
+use Rattle.std.proofs.lemmas.List.{length-map}
+use Rattle.std.proofs.lemmas.List.FromFn.{length-range_with_len}
 use Rattle.std.proofs.lemmas.Bool.{or_left, or_right}
 use Rattle.jc_types.specs.declared.numbers.Uid.{Uid}
 use Rattle.jc_types.specs.declared.objects.Entry.{Entry}
@@ -10,6 +12,7 @@ use Rattle.jc_types.specs.declared.objects.Phase.TheVariants as phase
 use Rattle.jc_types.specs.declared.objects.Pod.{Pod}
 use Rattle.jc_types.specs.declared.specifications.Mode.TheVariants.{Indexed, NonIndexed}
 use Rattle.jc_causes.specs.Conditions.{has_target}
+use Rattle.jc_types.specs.declared.statuses.IndexCount.{IndexCount}
 use Rattle.jc_log.specs.Acts.{Act}
 use Rattle.jc_log.specs.Acts as does
 use Rattle.jc_log.specs.Deeds.{Deed}
@@ -22,6 +25,7 @@ use Rattle.jc_rest.specs.Lost.{AreLostWell, ByCommand, BySync, HowLost, WasLost}
 use Rattle.jc_history.specs.Samples.{failing_spec, pi_key, sample_spec, uid_of}
 use Rattle.jc_promise.specs.Wrong.{in_phase, pi_job, pi_pod}
 use Rattle.jc_promise.specs.WrongCounts.{early_release, early_total, recount, stale_pod_cache, stale_write}
+use Rattle.jc_promise.specs.WrongIndexes.{crowded_list, failures_anew, index_past, index_unfailed, unseen_release}
 use Rattle.jc_promise.specs.WrongOutcomes.{early_fail_job, failing_pod, finalizer_vanishes, ignored_counted, index_twice}
 
 -- ---- no cause
@@ -141,3 +145,32 @@ pub finalizer_vanishes-refused : AreLostWell (pi_job sample_spec) finalizer_vani
 finalizer_vanishes-refused h =
     none-took (pi_job sample_spec) (uid_of 2) finalizer_vanishes.log finalizer_vanishes.deeds (refl, (refl, (refl, (refl, tt))))
     (h (uid_of 2) 2 (pi_pod 2 None 2) refl refl refl)
+
+-- ---- indexes
+
+abbrev first-failures : List IndexCount → ℕ
+first-failures [] = 0
+first-failures (count ∷ counts) = count.failures
+
+pub failures_anew-refused : OnceAtEach failures_anew.deeds failures_anew.log → ⊥
+failures_anew-refused h =
+    let e : 1 ≡ 2 = ap first-failures (h.0 pi_key _ refl).by_index.0 in omega (arith, e)
+
+pub index_unfailed-refused : OnceAtEach index_unfailed.deeds index_unfailed.log → ⊥
+index_unfailed-refused h = let e : 0 ≡ 1 = ap (λ (l : List ℕ). length l) (h.0 pi_key _ refl).by_index.1 in omega (arith, e)
+
+pub index_past-refused : OnceAtEach index_past.deeds index_past.log → ⊥
+index_past-refused h = let e : 1 ≡ 0 = ap (λ (l : List ℕ). length l) ((h.0 pi_key _ refl).completed refl) in omega (arith, e)
+
+-- ---- a pod that runs, and lists
+
+pub unseen_release-refused : OnceAtEach unseen_release.deeds unseen_release.log → ⊥
+unseen_release-refused h =
+    no-cause (pi_job sample_spec) 3 unseen_release.log (pi_pod 2 None 2) refl refl
+    ((h.0 pi_key (pi_job sample_spec) refl).taken.0 refl (pi_pod 2 None 2) refl refl).cause
+
+pub crowded_list-refused : OnceAtEach crowded_list.deeds crowded_list.log → ⊥
+crowded_list-refused h =
+    let few = (h.0 pi_key _ refl).few in
+    let long : length (map uid_of (range_with_len 2 501)) ≡ 501 = length-map (range_with_len 2 501) uid_of ∙ length-range_with_len 2 501 in
+    omega (arith, few, long)

@@ -36,7 +36,7 @@ use Rattle.jc_bounds.specs.Histories.{HoldsBounds}
 use Rattle.jc_bounds.specs.Kept.{IsShut}
 use Rattle.jc_lines.specs.Events.{event_lines}
 use Rattle.jc_rest.specs.LetGo.{IsLetGoOnceEnded}
-use Rattle.jc_rest.specs.Stuck.{HasEnded, HasPod, IsHeldBack, IsSuspended, IsWaiting, MayRunNone, is_sure}
+use Rattle.jc_rest.specs.Stuck.{HasEnded, HasPods, IsHalted, IsHeldBack, IsOpen, IsSuspended, IsWaiting, MayRunNone, is_sure}
 use Rattle.jc_promise.specs.Promises.{IsToldAlone, RestsWell, WaitsWell}
 use Rattle.jc_promise.specs.Wrong.{done, pi_job, pi_pod, sync_steps}
 use Rattle.jc_promise.specs.WrongEnds.{early_end, failed_job, first_command, skipped_command, twice_script}
@@ -156,7 +156,7 @@ forgotten-kept : list_any is_kept (pods_of (uid_of 1) (log_given usual_shape for
 unfolding failing_in failures_in gives log_given planned first_value second_value counted_in counted_out pause
 forgotten-kept = refl
 
-pub forgotten_pod-refused : RestsWell usual_shape forgotten_pod → ⊥
+pub forgotten_pod-refused : RestsWell usual_shape forgotten_pod (log_given usual_shape forgotten_pod) → ⊥
 forgotten_pod-refused h = by (job_in pi_key (log_given usual_shape forgotten_pod)) refl forgotten-job
   where
     by : (o : Option Job) → job_in pi_key (log_given usual_shape forgotten_pod) ≡ o → option_map (λ (job : Job). job.uid) o ≡ Some (uid_of 1) → ⊥
@@ -188,19 +188,22 @@ stuck-open : opening (backoff pi_key (diary usual_shape 0 stuck_job)) ≡ None
 unfolding failing_in failures_in gives log_given planned first_value second_value counted_in counted_out pause
 stuck-open = refl
 
-pub stuck_job-refused : WaitsWell usual_shape stuck_job → ⊥
+pub stuck_job-refused : WaitsWell usual_shape stuck_job (log_given usual_shape stuck_job) → ⊥
 stuck_job-refused h = by (h stuck-rests 0 (omega arith) pi_key (pi_job sample_spec) stuck-there stuck-sure)
   where
     none-in : (pods : List Pod) (pod : Pod) → pods ≡ [] → Contains pods pod → ⊥
     none-in [] pod e (i, lt, is) = omega (arith, lt)
     none-in (p ∷ pods) pod e there = true≢false (ap (λ (l : List Pod). elim l [ [] ↦ false | x ∷ xs ↦ true ]) e)
 
+    halted : IsHalted stuck_job (backoff pi_key (diary usual_shape 0 stuck_job)) (log_given usual_shape stuck_job) (pi_job sample_spec) → ⊥
+    halted (IsSuspended e) = true≢false (sym e)
+    halted (MayRunNone e) = absurd (omega (arith, e))
+    halted (HasPods enough pod there active endless) = none-in (pods_of (uid_of 1) (log_given usual_shape stuck_job)) pod stuck-podless there
+    halted (IsHeldBack second opens past) = true≢false (sym (ap is_some opens) ∙ ap is_some stuck-open)
+
     by : IsWaiting stuck_job (backoff pi_key (diary usual_shape 0 stuck_job)) (log_given usual_shape stuck_job) (pi_job sample_spec) → ⊥
     by (HasEnded e) = true≢false (sym e)
-    by (IsSuspended e) = true≢false (sym e)
-    by (MayRunNone e) = absurd (omega (arith, e))
-    by (HasPod pod there active endless) = none-in (pods_of (uid_of 1) (log_given usual_shape stuck_job)) pod stuck-podless there
-    by (IsHeldBack second opens past) = true≢false (sym (ap is_some opens) ∙ ap is_some stuck-open)
+    by (IsOpen unsettled h) = halted h
 
 -- ---- an early end
 

@@ -1,11 +1,14 @@
+pub mod Quiet
 pub mod Promises
 pub mod SomeDeeds
 pub mod Wrong
 pub mod WrongCounts
 pub mod WrongOutcomes
+pub mod WrongIndexes
 pub mod WrongSyncs
 pub mod WrongEnds
 pub mod WrongCauses
+pub mod WrongRests
 -- Words of the crates below, handed on to those above.
 pub use Rattle.jc_history.specs.Available
 pub use Rattle.jc_log.specs.Deeds

@@ -1,7 +1,7 @@
 -- A sync that saw a Job as it is now and its ended pod neither ends well nor finds its Job gone. It wrote no status,
 -- since that would be a newer entry of the Job; and a plan that writes none has room for each pod, so it has this one
 -- released.
-use Rattle.std.proofs.Common.{◌≡◌, ℕ, zero, suc, ◌≤◌, ◌<◌, Bool, true, false, cond, not, ◌&&◌, ◌||◌, List, [], ◌∷◌, filter, find, length, Option, Some, None, IfSome, refl, sym, ap, ◌∙◌, subst, arith, true≢false}
+use Rattle.std.proofs.Common.{◌≡◌, ℕ, zero, suc, ◌≤◌, ◌<◌, Bool, true, false, cond, not, ◌&&◌, ◌||◌, List, [], ◌∷◌, filter, find, length, Option, Some, None, IfSome, is_some, refl, sym, ap, ◌∙◌, subst, arith, true≢false}
 use Rattle.std.specs.Option.{option_map_or, unwrap_or}
 use Rattle.std.proofs.lemmas.Bool.{and_from, and_parts, and_right, cond-true, not_from_false, not_from_true, or_left}
 use Rattle.std.proofs.lemmas.List.{append-nil}
@@ -43,6 +43,8 @@ use Rattle.jc_log.proofs.WriteFacts.{Follows-upto, life-uid, place_is_version}
 use Rattle.jc_plan.specs.Judged.{fits, is_candidate, is_left_over}
 use Rattle.jc_plan.specs.Plans.{WritesNothing, planned}
 use Rattle.jc_plan.specs.Statuses.{first_value}
+use Rattle.jc_plan.specs.declared.plans.Planned.{Planned}
+use Rattle.jc_plan.proofs.PartFacts.{planned-here}
 use Rattle.jc_plan.proofs.LeftFacts.{all-fit}
 use Rattle.jc_plan.proofs.OrderFacts.{due-released}
 use Rattle.jc_plan.proofs.PlanFacts.{plan-first}
@@ -108,7 +110,7 @@ ended-out spec pod h = by pod.phase (counts_marked spec.replacement && is_marked
 
 -- ---- what is found stays found
 
-found-kept : (test keep : Pod → Bool) (pods : List Pod) (pod : Pod) → keep pod ≡ true → find test pods ≡ Some pod → find test (filter keep pods) ≡ Some pod
+pub found-kept : (test keep : Pod → Bool) (pods : List Pod) (pod : Pod) → keep pod ≡ true → find test pods ≡ Some pod → find test (filter keep pods) ≡ Some pod
 found-kept test keep [] pod k e = e
 found-kept test keep (p ∷ pods) pod k e = by (test p) refl (keep p) refl e (found-kept test keep pods pod k)
   where
@@ -131,7 +133,7 @@ lost-fails true = refl
 lost-fails false = refl
 
 -- Where nothing is left to ask, all releases were answered.
-all-released : (flight : Flight) → IsAt flight [] → AreReleased flight (planned flight.basis).releases
+pub all-released : (flight : Flight) → IsAt flight [] → AreReleased flight (planned flight.basis).releases
 all-released flight (Over is released) = released
 all-released flight (Under under) = by (place_of flight [] under)
   where
@@ -140,6 +142,49 @@ all-released flight (Under under) = by (place_of flight [] under)
     by (AtFirst status first is unwritten) = absurd (true≢false (sym (ap is_asked is)))
     by (AtLast made (u ∷ rest) are is knows released) = absurd (true≢false (sym (ap is_asked is)))
     by (AtLast made [] are is knows released) = λ u h. released u (sym (ap (is_in u) (are ∙ append-nil made)) ∙ h)
+
+-- ---- a sync whose Job is as it saw it
+
+-- It is never told that its Job is gone; so where it does not end well, it ends as one that failed.
+module _ (k : Key) (log : List Entry) (now : ℕ) (flight : Flight) (named : flight.basis.key ≡ k) (as-is : flight.basis.job ≡ job_in k log) where
+  status-fails : (job : Job) → job_in k log ≡ Some job → (status : JobStatus) (given : Answered) → StatusCases log flight.basis.key job.uid flight.sends status given
+      → IfSome (end_by true (as_answer given.reply)) (λ end. is_retried end ≡ true)
+  status-fails job there status given (Accepted current its own at differs e) = subst (λ (x : Answered). IfSome (end_by true (as_answer x.reply)) (λ end. is_retried end ≡ true)) (sym e) tt
+  status-fails job there status given (Same current its own at same e) = subst (λ (x : Answered). IfSome (end_by true (as_answer x.reply)) (λ end. is_retried end ≡ true)) (sym e) tt
+  status-fails job there status given (Conflicts current its own other e) = subst (λ (x : Answered). IfSome (end_by true (as_answer x.reply)) (λ end. is_retried end ≡ true)) (sym e) refl
+  status-fails job there status given (Absent gone e) = absurd (gone job (ap (λ q. job_in q log) named ∙ there) refl)
+
+  -- Without a Job the plan writes no status.
+  written-fails : (status : JobStatus) (o : Option JobStatus) → o ≡ Some status → (flight.basis.job ≡ None → o ≡ None) → IfSome (end_by true (as_answer (written_gives log flight o).reply)) (λ end. is_retried end ≡ true)
+  written-fails status o is none = by flight.basis.job refl
+    where
+      by : (j : Option Job) → flight.basis.job ≡ j → IfSome (end_by true (as_answer (written_gives log flight o).reply)) (λ end. is_retried end ≡ true)
+      by None e = absurd (true≢false (sym (ap is_some (sym (none e) ∙ is))))
+      by (Some job) e =
+          status-fails job (sym as-is ∙ e) status (written_gives log flight o)
+          (subst (λ p. StatusCases log flight.basis.key job.uid flight.sends status (written_gives log flight p)) (sym is)
+          (subst (λ p. StatusCases log flight.basis.key job.uid flight.sends status (status_gives log flight status p)) (sym e)
+          (status_cases log flight.basis.key job.uid flight.sends status)))
+
+  asked-fails : (ask : Ask) (left : List Ask) → IsAt flight (ask ∷ left) → FailsAfter (reply.Stepped (as_request ask) (as_answer (answered_to log now flight ask).reply))
+  asked-fails (MakePod index) left at = other-fails (as_answer (answered_to log now flight (MakePod index)).reply)
+  asked-fails (MarkPod v) left at = other-fails (as_answer (answered_to log now flight (MarkPod v)).reply)
+  asked-fails (LetPodGo v version) left at = other-fails (as_answer (answered_to log now flight (LetPodGo v version)).reply)
+  asked-fails WriteFirst left at =
+      let ask = at_first flight left at in
+      written-fails ask.status (planned flight.basis).first ask.first (λ e. ap (λ (p : Planned). p.first) (sym (planned-here flight.basis None e)))
+  asked-fails (ReleasePod v) left at = other-fails (as_answer (answered_to log now flight (ReleasePod v)).reply)
+  asked-fails WriteSecond left at =
+      let ask = at_second flight left at in
+      written-fails ask.status (planned flight.basis).second ask.second (λ e. ap (λ (p : Planned). p.second) (sym (planned-here flight.basis None e)))
+
+  pub fails-unless : (IsAt flight [] → WritesShow log flight [] → ⊥) → (pending : Option Fault) (left : List Ask) → IsAt flight left → WritesShow log flight left → FailsAfter (stepped_at now pending log flight left).reply
+  fails-unless never pending [] at wrote = absurd (never at wrote)
+  fails-unless never None (ask ∷ left) at wrote = asked-fails ask left at
+  fails-unless never (Some Drop) (ask ∷ left) at wrote = lost-fails (asks_status (as_request ask))
+  fails-unless never (Some Lose) (ask ∷ left) at wrote = lost-fails (asks_status (as_request ask))
+
+-- ---- an ended pod of a Job that is there
 
 module _ (k : Key) (job : Job) (u : Uid) (a b : ℕ) (log : List Entry) (stored : Stored log) (there : AreThere k job u a b log) (now : ℕ) (flight : Flight) (flies : Flies log flight)
     (named : flight.basis.key ≡ k) (jobs : a ≤ flight.basis.jobs_at.0) (pods : b ≤ flight.basis.pods_at.0) where
@@ -248,32 +293,6 @@ module _ (k : Key) (job : Job) (u : Uid) (a b : ℕ) (log : List Entry) (stored 
       (sym (flies.released old-pod.pod.uid (all-released flight at old-pod.pod.uid (due (writes-nothing (unwritten [] wrote)))))
       ∙ ap (λ v. is_lost (life v log)) pod-uid ∙ held)
 
-  -- ---- nor is its Job gone
-
-  status-fails : (status : JobStatus) (given : Answered) → StatusCases log flight.basis.key job.uid flight.sends status given → IfSome (end_by true (as_answer given.reply)) (λ end. is_retried end ≡ true)
-  status-fails status given (Accepted current there own at differs e) = subst (λ (x : Answered). IfSome (end_by true (as_answer x.reply)) (λ end. is_retried end ≡ true)) (sym e) tt
-  status-fails status given (Same current there own at same e) = subst (λ (x : Answered). IfSome (end_by true (as_answer x.reply)) (λ end. is_retried end ≡ true)) (sym e) tt
-  status-fails status given (Conflicts current there own other e) = subst (λ (x : Answered). IfSome (end_by true (as_answer x.reply)) (λ end. is_retried end ≡ true)) (sym e) refl
-  status-fails status given (Absent gone e) = absurd (gone job (ap (λ q. job_in q log) named ∙ now-there) refl)
-
-  written-fails : (status : JobStatus) (o : Option JobStatus) → o ≡ Some status → IfSome (end_by true (as_answer (written_gives log flight o).reply)) (λ end. is_retried end ≡ true)
-  written-fails status o is =
-      status-fails status (written_gives log flight o)
-      (subst (λ p. StatusCases log flight.basis.key job.uid flight.sends status (written_gives log flight p)) (sym is)
-      (subst (λ p. StatusCases log flight.basis.key job.uid flight.sends status (status_gives log flight status p)) (sym saw-it)
-      (status_cases log flight.basis.key job.uid flight.sends status)))
-
-  asked-fails : (ask : Ask) (left : List Ask) → IsAt flight (ask ∷ left) → FailsAfter (reply.Stepped (as_request ask) (as_answer (answered_to log now flight ask).reply))
-  asked-fails (MakePod index) left at = other-fails (as_answer (answered_to log now flight (MakePod index)).reply)
-  asked-fails (MarkPod v) left at = other-fails (as_answer (answered_to log now flight (MarkPod v)).reply)
-  asked-fails (LetPodGo v version) left at = other-fails (as_answer (answered_to log now flight (LetPodGo v version)).reply)
-  asked-fails WriteFirst left at = let ask = at_first flight left at in written-fails ask.status (planned flight.basis).first ask.first
-  asked-fails (ReleasePod v) left at = other-fails (as_answer (answered_to log now flight (ReleasePod v)).reply)
-  asked-fails WriteSecond left at = let ask = at_second flight left at in written-fails ask.status (planned flight.basis).second ask.second
-
   -- So no step ends it but as one that failed.
   pub step-fails : (pending : Option Fault) (left : List Ask) → IsAt flight left → WritesShow log flight left → FailsAfter (stepped_at now pending log flight left).reply
-  step-fails pending [] at wrote = never-ends at wrote
-  step-fails None (ask ∷ left) at wrote = asked-fails ask left at
-  step-fails (Some Drop) (ask ∷ left) at wrote = lost-fails (asks_status (as_request ask))
-  step-fails (Some Lose) (ask ∷ left) at wrote = lost-fails (asks_status (as_request ask))
+  step-fails = fails-unless k log now flight named (saw-it ∙ sym now-there) never-ends

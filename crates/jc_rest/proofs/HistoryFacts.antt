@@ -26,16 +26,19 @@ use Rattle.jc_log.specs.Acts.{Act}
 use Rattle.jc_log.specs.Deeds.{Deed}
 use Rattle.jc_log.specs.Log.{Live, job_in, life, living, pods_of, upto}
 use Rattle.jc_log.specs.Requests.{changed_spec, grown, update_refusal}
-use Rattle.jc_log.specs.Writes.{Legal}
+use Rattle.jc_log.specs.Writes.{Legal, Stored}
 use Rattle.jc_log.proofs.WriteFacts.{Stored-from_legal}
 use Rattle.jc_log.proofs.LogFacts.{upto-all, upto-fixed}
 use Rattle.jc_log.proofs.PodFacts.{pods_of-live, pods_of-owned}
+use Rattle.jc_sync.specs.Ask.{Ask}
+use Rattle.jc_sync.specs.Flight.{Flight}
 use Rattle.jc_sync.specs.Flights.{Flies}
+use Rattle.jc_sync.specs.Places.{IsAt}
 use Rattle.jc_sync.specs.Once.{AllJustified}
 use Rattle.jc_sync.proofs.FrameFacts.{AllFly-one}
 use Rattle.jc_sync.proofs.OwnFacts.{owner-key}
 use Rattle.jc_sync.specs.Steps.{Sync, stepped_at}
-use Rattle.jc_sync.specs.Registers.{flights_of_all, put_at, register_at}
+use Rattle.jc_sync.specs.Registers.{WritesShow, flights_of_all, put_at, register_at}
 use Rattle.jc_sync.proofs.RegisterFacts.{Around, around}
 use Rattle.jc_history.specs.Available.{is_quiescent}
 use Rattle.jc_history.specs.Diaries.{end_by, moment, notes, notes_taken, on_begin, on_clock, on_delivery, on_lag, on_list, on_step, restarts}
@@ -62,27 +65,37 @@ use Rattle.jc_rest.proofs.EndFacts.{step-fails}
 use Rattle.jc_rest.proofs.LostFacts.{lost-well}
 use Rattle.jc_rest.proofs.StandFacts.{Standing, standing}
 
--- ---- what is there was there before
+-- ---- what stood before
 
-module _ (k : Key) (job : Job) (u : Uid) (a b : ℕ) where
-  there-older : (e : Entry) (log : List Entry) → AreThere k job u a b (e ∷ log) → AreThere k job u a b log
-  there-older e log h = record {
-    stays = λ n low high. ap (job_in k) (sym (upto-fixed n e log high)) ∙ h.stays n low (omega (arith, high));
-    pod = λ n low high. ap (has_forgotten k job.uid u) (sym (upto-fixed n e log high)) ∙ h.pod n low (omega (arith, high));
-  }
+-- What stands of a log stood of it before each of its entries.
+abbrev pub StoodEarlier : (List Entry → Type 0) → Type 0
+StoodEarlier Stood = (e : Entry) (log : List Entry) → Stood (e ∷ log) → Stood log
 
-  there-before : (shape : Shape) (d : Deed) (past : List Deed) → AreThere k job u a b (log_given shape (d ∷ past)) → AreThere k job u a b (log_given shape past)
-  unfolding log_given
-  there-before shape d past h = by (gives shape past (log_given shape past) d.act).entry h
-    where
-      by : (o : Option Entry) → AreThere k job u a b (grown (log_given shape past) o) → AreThere k job u a b (log_given shape past)
-      by None h = h
-      by (Some e) h = there-older e (log_given shape past) h
+stood-before : (Stood : List Entry → Type 0) → StoodEarlier Stood → (shape : Shape) (d : Deed) (past : List Deed) → Stood (log_given shape (d ∷ past)) → Stood (log_given shape past)
+unfolding log_given
+stood-before Stood older shape d past h = by (gives shape past (log_given shape past) d.act).entry h
+  where
+    by : (o : Option Entry) → Stood (grown (log_given shape past) o) → Stood (log_given shape past)
+    by None h = h
+    by (Some e) h = older e (log_given shape past) h
+
+there-older : (k : Key) (job : Job) (u : Uid) (a b : ℕ) → StoodEarlier (AreThere k job u a b)
+there-older k job u a b e log h = record {
+  stays = λ n low high. ap (job_in k) (sym (upto-fixed n e log high)) ∙ h.stays n low (omega (arith, high));
+  pod = λ n low high. ap (has_forgotten k job.uid u) (sym (upto-fixed n e log high)) ∙ h.pod n low (omega (arith, high));
+}
+
+-- Where it stands of the log, no step ends a sync that saw both but as one that failed.
+abbrev pub MustFail : Key → ℕ → ℕ → (List Entry → Type 0) → Type 0
+MustFail k a b Stood =
+    (log : List Entry) → Stored log → Stood log → (now : ℕ) (flight : Flight) → Flies log flight
+    → flight.basis.key ≡ k → a ≤ flight.basis.jobs_at.0 → b ≤ flight.basis.pods_at.0
+    → (pending : Option Fault) (left : List Ask) → IsAt flight left → WritesShow log flight left → FailsAfter (stepped_at now pending log flight left).reply
 
 -- ---- the notes of a step
 
 module _ (k : Key) (a b : ℕ) where
-  abbrev AllFail : List Note → Type 0
+  abbrev pub AllFail : List Note → Type 0
   AllFail some = Each (FailsIf k a b) some
 
   -- What the reply to a step of a sync that saw both is.
@@ -138,7 +151,8 @@ module _ (k : Key) (a b : ℕ) where
 
 -- ---- a deed of a machine
 
-module _ (shape : Shape) (past : List Deed) (d : Deed) (legal : IsLegalNext shape past d) (m : Machine shape past) (k : Key) (job : Job) (u : Uid) (a b : ℕ) (stand : AreThere k job u a b (log_given shape past)) (c w : ℕ) (e : d.act ≡ does.Step c w) where
+module _ (shape : Shape) (past : List Deed) (d : Deed) (legal : IsLegalNext shape past d) (m : Machine shape past) (k : Key) (a b : ℕ) (Stood : List Entry → Type 0) (must : MustFail k a b Stood)
+    (stand : Stood (log_given shape past)) (c w : ℕ) (e : d.act ≡ does.Step c w) where
   of_shape : (c < shape.controllers) × (w < shape.workers)
   of_shape = within shape past d legal m (does.Step c w) e
 
@@ -151,7 +165,7 @@ module _ (shape : Shape) (past : List Deed) (d : Deed) (legal : IsLegalNext shap
   -- The sync of the register, where one is.
   at-sync : (sync : Sync) → slice_get one.one.registers w ≡ Some (Some sync) → (fault : Option Fault) → (basis : Basis) → sync.flight.basis ≡ basis → IfSaw k a b basis (stepped_at m.now fault m.log sync.flight sync.left).reply
   at-sync sync mine fault basis same named jobs pods =
-      step-fails k job u a b m.log (Stored-from_legal m.log m.run.syncs.tied.legal) (subst (AreThere k job u a b) (sym m.run.log_is) stand) m.now sync.flight flies
+      must m.log (Stored-from_legal m.log m.run.syncs.tied.legal) (subst Stood (sym m.run.log_is) stand) m.now sync.flight flies
       (ap (λ (x : Basis). x.key) same ∙ same_key-eq basis.key k named)
       (subst (λ (x : Basis). a ≤ x.jobs_at.0) (sym same) jobs) (subst (λ (x : Basis). b ≤ x.pods_at.0) (sym same) pods)
       fault sync.left (m.run.syncs.each c w sync at).at (m.run.syncs.writes c w sync at)
@@ -195,12 +209,12 @@ module _ (shape : Shape) (past : List Deed) (d : Deed) (legal : IsLegalNext shap
 abbrev pub Stay : Type 0
 Stay = (spec : JobSpec) (change : SpecChange) → IsValidSpec spec → update_refusal spec change ≡ None → IsValidSpec (changed_spec spec change)
 
-module _ (stay : Stay) (shape : Shape) (k : Key) (job : Job) (u : Uid) (a b : ℕ) where
-  all-fail : (c : ℕ) (deeds : List Deed) → IsLegal shape deeds → AllAskValid deeds → AreThere k job u a b (log_given shape deeds) → AllFail k a b (notes shape c deeds (log_given shape deeds))
+module _ (stay : Stay) (shape : Shape) (k : Key) (a b : ℕ) (Stood : List Entry → Type 0) (older : StoodEarlier Stood) (must : MustFail k a b Stood) where
+  pub all-fail : (c : ℕ) (deeds : List Deed) → IsLegal shape deeds → AllAskValid deeds → Stood (log_given shape deeds) → AllFail k a b (notes shape c deeds (log_given shape deeds))
   all-fail c [] legal valid stand = tt
   all-fail c (d ∷ past) legal valid stand =
       subst (AllFail k a b) (sym (notes-next shape c past d legal.1))
-      (by (restarts c d.act) (all-fail c past legal.1 valid.1 (there-before k job u a b shape d past stand)))
+      (by (restarts c d.act) (all-fail c past legal.1 valid.1 (stood-before Stood older shape d past stand)))
     where
       old : List Note
       old = notes shape c past (log_given shape past)
@@ -208,7 +222,7 @@ module _ (stay : Stay) (shape : Shape) (k : Key) (job : Job) (u : Uid) (a b : �
       new-notes : AllFail k a b (notes_taken c d.act d.reply (moment shape past) (log_given shape (d ∷ past)) old)
       new-notes =
           other-notes k a b c d.act d.reply (moment shape past) (log_given shape (d ∷ past)) old
-          (λ w e. told-fails shape past d legal.0 (legal_run stay shape past legal.1 valid.1) k job u a b (there-before k job u a b shape d past stand) c w e)
+          (λ w e. told-fails shape past d legal.0 (legal_run stay shape past legal.1 valid.1) k a b Stood must (stood-before Stood older shape d past stand) c w e)
 
       by : (t : Bool) → AllFail k a b old → AllFail k a b (cond t [] (notes_taken c d.act d.reply (moment shape past) (log_given shape (d ∷ past)) old ++ old))
       by true more = tt
@@ -221,7 +235,9 @@ module _ (stay : Stay) (shape : Shape) (deeds : List Deed) (legal : IsLegal shap
   not-both : (k : Key) (job : Job) (u : Uid) → job_in k (log_given shape deeds) ≡ Some job → has_forgotten k job.uid u (log_given shape deeds) ≡ true → ⊥
   not-both k job u its p =
       no-rest shape deeds legal working quiet 0 some k job.uid u both.together
-      (all-fail stay shape k job u both.together.job_from both.together.pod_from 0 deeds legal valid (record { stays = both.stays; pod = both.together.pod_since }))
+      (all-fail stay shape k both.together.job_from both.together.pod_from (AreThere k job u both.together.job_from both.together.pod_from)
+      (there-older k job u both.together.job_from both.together.pod_from) (step-fails k job u both.together.job_from both.together.pod_from)
+      0 deeds legal valid (record { stays = both.stays; pod = both.together.pod_since }))
     where
       both : Standing k job u (log_given shape deeds)
       both = standing k job u (log_given shape deeds) its p

@@ -10,3 +10,5 @@ pub mod NoAskFacts
 pub mod TellFacts
 pub mod WatchFacts
 pub mod StuckFacts
+pub mod AddFacts
+pub mod OrphanFacts

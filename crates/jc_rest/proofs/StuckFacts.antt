@@ -32,7 +32,7 @@ use Rattle.jc_log.proofs.PodFacts.{pods_in-rises}
 use Rattle.jc_log.proofs.WriteFacts.{Stored-from_legal}
 use Rattle.jc_sync.proofs.OwnFacts.{own-is}
 use Rattle.jc_idle.proofs.WaitFacts.{waits}
-use Rattle.jc_idle.specs.Waits.{Waits, ForActive, ForEnding, ForEver}
+use Rattle.jc_idle.specs.Waits.{HasEnough, Waits, ForActive, ForEnding, ForEver, ForResume, ForRoom}
 use Rattle.jc_history.specs.Available.{is_quiescent}
 use Rattle.jc_history.specs.Diaries.{moment, notes}
 use Rattle.jc_history.specs.Legal.{IsLegal}
@@ -46,7 +46,7 @@ use Rattle.jc_order.proofs.ForgetFacts.{never-begins, notes-none}
 use Rattle.jc_order.proofs.RestFacts.{at-rest}
 use Rattle.jc_order.proofs.RestlessFacts.{not-busy}
 use Rattle.jc_runs.specs.Runs.{AllAskValid}
-use Rattle.jc_rest.specs.Stuck.{IsWaiting, HasEnded, IsSuspended, MayRunNone, HasPod, IsHeldBack, is_sure}
+use Rattle.jc_rest.specs.Stuck.{IsWaiting, HasEnded, IsOpen, IsSuspended, MayRunNone, HasPods, IsHeldBack, is_sure}
 use Rattle.jc_rest.proofs.HistoryFacts.{Stay}
 use Rattle.jc_runs.proofs.LegalRuns.{Machine, legal_run}
 use Rattle.jc_order.proofs.LastFacts.{last_told, last-job, last-told_at, last-within}
@@ -122,15 +122,21 @@ module _ (stay : Stay) (shape : Shape) (deeds : List Deed) (legal : IsLegal shap
         let one = first test (λ pod. Contains pods pod × P pod) pods h (Each-both (λ pod. Contains pods pod) P pods (recursion_from_All (λ pod. Contains pods pod) pods (All-contains_itself pods)) all) in
         (one.0, one.2.0, one.1, one.2.1)
 
+    -- Its own pods are as the log has them.
+    enough : HasEnough job (own_pods job basis.pods) → HasEnough job (pods_of job.uid (log_given shape deeds))
+    enough h = subst (HasEnough job) own h
+
     pub waiting : Waits job basis → IsWaiting deeds (backoff k (notes shape c deeds (log_given shape deeds))) (log_given shape deeds) job
-    waiting (ForActive h) =
+    waiting (ForResume unsettled suspended) = IsOpen unsettled (IsSuspended suspended)
+    waiting (ForRoom unsettled none) = IsOpen unsettled (MayRunNone none)
+    waiting (ForActive unsettled has h) =
         let one = found is_tracked_active (λ pod. act_on (fate deeds) pod ≡ None) (pods_of job.uid (log_given shape deeds)) (ap (list_any is_tracked_active) (sym own) ∙ h) node-left in
         let active = (and_parts (is_active one.0) (is_tracked one.0) one.2).0 in
-        HasPod one.0 one.1 active (endless one.0 active one.3)
+        IsOpen unsettled (HasPods (enough has) one.0 one.1 active (endless one.0 active one.3))
     waiting (ForEnding h) =
         let one = found is_ending (λ pod. act_on (fate deeds) pod ≡ None) (pods_of job.uid (log_given shape deeds)) (ap (list_any is_ending) (sym own) ∙ h) node-left in
         absurd (unending one.0 one.2 one.3)
-    waiting (ForEver second is past) = IsHeldBack second (ap opening (sym same) ∙ is) past
+    waiting (ForEver unsettled second is past) = IsOpen unsettled (IsHeldBack second (ap opening (sym same) ∙ is) past)
 
   machine : Machine shape deeds
   machine = legal_run stay shape deeds legal valid
@@ -204,20 +210,18 @@ module _ (stay : Stay) (shape : Shape) (deeds : List Deed) (legal : IsLegal shap
       idle = (at-rest shape deeds legal working quiet).each c within
 
   pub not-stuck : is_sure k (notes shape c deeds (log_given shape deeds)) ≡ true → IsWaiting deeds (backoff k (notes shape c deeds (log_given shape deeds))) (log_given shape deeds) job
-  not-stuck sure = by (has_end job.status.conditions) refl job.spec.suspend refl job.spec.parallelism refl
+  not-stuck sure = by (has_end job.status.conditions) refl
     where
-      stance : has_end job.status.conditions ≡ false → job.spec.suspend ≡ false → 0 < job.spec.parallelism
+      stance : has_end job.status.conditions ≡ false
           → Stance k job (pods_under k (log_given shape deeds)) (last_told Jobs k (log_given shape deeds)) (last_told Pods k (log_given shape deeds)) (notes shape c deeds (log_given shape deeds)) (length (log_given shape deeds))
           → IsWaiting deeds (backoff k (notes shape c deeds (log_given shape deeds))) (log_given shape deeds) job
-      stance unended awake wide (inl h) = absurd (well-busy h.0 sure)
-      stance unended awake wide (inr r) =
+      stance unended (inl h) = absurd (well-busy h.0 sure)
+      stance unended (inr r) =
           waiting r.0 r.1 (ap (own_pods job) r.2 ∙ own-all) r.4
-          (waits job r.0 r.1 (subst IsRising (sym r.2) rising) valid-spec unended awake wide r.3)
+          (waits job r.0 r.1 (subst IsRising (sym r.2) rising) valid-spec unended r.3)
 
-      by : (e : Bool) → has_end job.status.conditions ≡ e → (s : Bool) → job.spec.suspend ≡ s → (p : ℕ) → job.spec.parallelism ≡ p → IsWaiting deeds (backoff k (notes shape c deeds (log_given shape deeds))) (log_given shape deeds) job
-      by true e s i p j = HasEnded e
-      by false e true i p j = IsSuspended i
-      by false e false i zero j = MayRunNone j
-      by false e false i (suc p) j =
-          stance e i (omega (arith, j))
+      by : (e : Bool) → has_end job.status.conditions ≡ e → IsWaiting deeds (backoff k (notes shape c deeds (log_given shape deeds))) (log_given shape deeds) job
+      by true e = HasEnded e
+      by false e =
+          stance e
           (stands k job (pods_under k (log_given shape deeds)) (last_told Jobs k (log_given shape deeds)) (last_told Pods k (log_given shape deeds)) shape c deeds legal stored last)

@@ -1,5 +1,6 @@
 -- What a Job waits for where nothing is left to do.
---     IsWaiting deeds backoff log job    it has ended, or waits for what only the outside can give
+--     IsHalted deeds backoff log job     it waits for what only the outside can give
+--     IsWaiting deeds backoff log job    it has ended; or no target stands, and it is halted
 --     skips note older         the pod cache skips entries of the log
 --     is_sure k notes          the key was added since the pod cache last skipped entries
 use Rattle.std.specs.Prelude.{◌≡◌, ℕ, ◌≤◌, Bool, true, false, not, ◌&&◌, ◌||◌, List, [], ◌∷◌, Some, None, nat_lt}
@@ -14,31 +15,40 @@ use Rattle.jc_types.specs.declared.objects.Key.{Key}
 use Rattle.jc_types.specs.declared.objects.Kind.TheVariants.{Pods}
 use Rattle.jc_types.specs.declared.objects.Pod.{Pod}
 use Rattle.jc_types.specs.declared.syncs.Backoff.{Backoff}
-use Rattle.jc_states.specs.Conditions.{has_end}
+use Rattle.jc_states.specs.Conditions.{has_end, has_target}
 use Rattle.jc_states.specs.Pods.{is_active}
 use Rattle.jc_log.specs.Deeds.{Deed}
 use Rattle.jc_log.specs.Log.{pods_of}
 use Rattle.jc_plan.specs.Backoffs.{opening}
+use Rattle.jc_idle.specs.Waits.{HasEnough}
 use Rattle.jc_history.specs.Lines.{adds}
 use Rattle.jc_history.specs.Nodes.{fate, pod_end}
 use Rattle.jc_history.specs.Notes.{Note, Listed, Expired, Ended}
 use Rattle.jc_history.specs.Numbers.{number}
 
--- The Job has ended, or it waits for something that nothing in the cluster brings about. The backoff is that of
--- its key in a controller.
+-- What nothing in the cluster brings about. The backoff is that of the Job's key in a controller.
+pub data IsHalted (deeds : List Deed) (backoff : Backoff) (log : List Entry) (job : Job) : Type 0
+  where
+    -- It is suspended.
+    IsSuspended : job.spec.suspend ≡ true → IsHalted deeds backoff log job
+    -- It may run no pod.
+    MayRunNone : job.spec.parallelism ≡ 0 → IsHalted deeds backoff log job
+    -- It has as many active pods as it wants, and nothing says how one of them will end.
+    HasPods : HasEnough job (pods_of job.uid log) → (pod : Pod)
+        → Contains (pods_of job.uid log) pod → is_active pod ≡ true
+        → pod_end (fate deeds) pod ≡ None → IsHalted deeds backoff log job
+    -- The second before which the controller makes no pod for it lies past the last moment.
+    IsHeldBack : (second : ℕ) → opening backoff ≡ Some second → end_of_moments ≤ second
+        → IsHalted deeds backoff log job
+
+-- The Job has ended; or how it will end is not settled, and it waits for what only the outside can give. So one whose
+-- end is settled has come to it.
 pub data IsWaiting (deeds : List Deed) (backoff : Backoff) (log : List Entry) (job : Job) : Type 0
   where
     -- It is complete, or it has failed.
     HasEnded : has_end job.status.conditions ≡ true → IsWaiting deeds backoff log job
-    -- It is suspended.
-    IsSuspended : job.spec.suspend ≡ true → IsWaiting deeds backoff log job
-    -- It may run no pod.
-    MayRunNone : job.spec.parallelism ≡ 0 → IsWaiting deeds backoff log job
-    -- One of its pods is active, and nothing says how it will end.
-    HasPod : (pod : Pod) → Contains (pods_of job.uid log) pod → is_active pod ≡ true
-        → pod_end (fate deeds) pod ≡ None → IsWaiting deeds backoff log job
-    -- The second before which the controller makes no pod for it lies past the last moment.
-    IsHeldBack : (second : ℕ) → opening backoff ≡ Some second → end_of_moments ≤ second
+    -- No target stands, and it is halted.
+    IsOpen : has_target job.status.conditions ≡ false → IsHalted deeds backoff log job
         → IsWaiting deeds backoff log job
 
 -- ---- what a controller may have missed

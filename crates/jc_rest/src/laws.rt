@@ -14,6 +14,7 @@ ghost use Rattle.jc_history.specs.Replies.{diary, log_given};
 ghost use Rattle.jc_runs.specs.Runs.{AllAskValid};
 ghost use Rattle.jc_rest.specs.LetGo.{EndedAreLetGo};
 ghost use Rattle.jc_rest.specs.Lost.{AreLostWell};
+ghost use Rattle.jc_rest.specs.Orphans.{LeavesNone};
 ghost use Rattle.jc_rest.specs.Stuck.{IsWaiting, is_sure};
 
 use jc_runs::allowed_updates_stay_valid;
@@ -52,10 +53,10 @@ pub fn finalizers_are_lost_with_a_cause()
 }
 
 /// **At rest no Job is stuck (batch/v1)**: where nothing is available any more, each Job that is there has
-/// ended, or it waits for something that only the outside can give: it is suspended, it may run no pod, it
-/// has an active pod of which nothing says how it will end, or its pods are held back past the last moment.
-/// So it is for each controller that has added the Job's key since its pod cache last skipped entries of
-/// the log.
+/// ended; or how it will end is not settled, and it waits for something that only the outside can give: it is
+/// suspended, it may run no pod, it has as many active pods as it wants and nothing says how one of them will
+/// end, or its pods are held back past the last moment. So it is for each controller that has added the Job's
+/// key since its pod cache last skipped entries of the log.
 ///
 /// Without that it can be false: where the last pod of a Job comes to its end and leaves the log between
 /// two lists of the pod cache, nobody adds the Job's key.
@@ -67,6 +68,22 @@ pub fn no_job_is_stuck_at_rest()
         → (k : Key) (job : Job) → job_in k (log_given shape deeds) ≡ Some job
         → is_sure k (diary shape c deeds) ≡ true
         → IsWaiting deeds (backoff k (diary shape c deeds)) (log_given shape deeds) job }
+{
+    allowed_updates_stay_valid();
+}
+
+/// **At rest no orphan is left (KEP-2307)**: where nothing is available any more, each pod that is there and
+/// whose Job is gone has lost its finalizer, if some controller has added the key of its owner since its cache
+/// of Jobs had seen the last entry about the pod or a Job of that key.
+///
+/// Without that it can be false: where a sync saw its Job gone and the pod as it was written later than what the
+/// cache of Jobs had seen, or where the entry that took the Job away was skipped by the cache of Jobs, nobody adds
+/// the key again.
+pub fn no_orphan_is_left_at_rest()
+    ensures { (shape : Shape) (deeds : List Deed) → IsLegal shape deeds → AllAskValid deeds
+        → 0 < shape.workers
+        → is_quiescent shape deeds (log_given shape deeds) ≡ true
+        → LeavesNone shape deeds (log_given shape deeds) }
 {
     allowed_updates_stay_valid();
 }

@@ -3,6 +3,7 @@ use Rattle.std.proofs.Common.{arith, ◌+◌, ◌<◌, ◌^◌, subst, length, r
 use Rattle.jc_log.specs.Deeds.{deeds}
 use Rattle.jc_runs.specs.Runs.{AllAskValid}
 use Rattle.jc_promise.proofs.DeedFacts.{deeds-are}
+use Rattle.jc_promise.proofs.QuietFacts.{syncs-well}
 use Rattle.jc_promise.proofs.laws.legal_histories_keep_the_promises.Goals as goal
 
 pub returns : goal.returns
@@ -20,4 +21,13 @@ returns c = λ script shape history valid some working few follows.
       rests = λ quiet. c.no_ended_pod_is_forgotten_at_rest.ensures shape (deeds script history) follows.legal asks some working quiet;
       causes = c.requests_have_causes.ensures shape (deeds script history) follows.legal;
       waits = λ quiet. c.no_job_is_stuck_at_rest.ensures shape (deeds script history) follows.legal asks working quiet;
+      releases = λ quiet. c.no_orphan_is_left_at_rest.ensures shape (deeds script history) follows.legal asks working quiet;
+      syncs =
+          syncs-well
+          (record {
+            ended = c.quiet_syncs_reach_the_next_status.ensures.ended;
+            next = c.quiet_syncs_reach_the_next_status.ensures.next;
+            nothing = c.quiet_syncs_reach_the_next_status.ensures.nothing;
+          })
+          shape (deeds script history) follows.legal asks;
     }
