@@ -1,5 +1,5 @@
 -- Each quiet sync of a legal history comes to the next status of its Job: from the law on such syncs.
-use Rattle.std.proofs.Common.{◌≡◌, ℕ, true, false, cond, ◌≤◌, List, [], ◌∷◌, ◌++◌, length, Option, Some, None, is_some, refl, sym, ap, ◌∙◌, subst, arith, eq-eqb, true≢false}
+use Rattle.std.proofs.Common.{◌≡◌, ℕ, true, cond, ◌≤◌, List, [], ◌∷◌, ◌++◌, length, Option, Some, None, is_some, refl, sym, ap, ◌∙◌, subst, arith, eq-eqb, true≢false}
 use Rattle.std.specs.List.{AllByRecursion as Each}
 use Rattle.std.specs.Option.{option_map, option_or, option_to_list, unwrap_or}
 use Rattle.jc_log.specs.Acts as does

@@ -1,7 +1,7 @@
 -- A key that was added since the cache of Jobs had seen a version finds no rest, as long as each sync that saw this
 -- version, and the last entry of a pod, fails. Each sync that begins after that sees the version; and whatever brings
 -- the pod into the cache of pods adds the key.
-use Rattle.std.proofs.Common.{nat_le, ◌≡◌, ℕ, ◌+◌, ◌≤◌, ◌==◌, min, Bool, true, false, cond, not, ◌&&◌, ◌||◌, List, [], ◌∷◌, ◌++◌, length, Option, Some, None, is_some, option_and_then, refl, sym, ap, ◌∙◌, subst, arith, eqb-true, leb-true, true≢false, ◌⊎◌, inl, inr}
+use Rattle.std.proofs.Common.{◌≡◌, ℕ, ◌≤◌, ◌==◌, Bool, true, false, cond, ◌&&◌, ◌||◌, List, [], ◌∷◌, ◌++◌, length, Option, Some, None, is_some, option_and_then, refl, sym, ap, ◌∙◌, subst, arith, leb-true, true≢false, ◌⊎◌, inl, inr}
 use Rattle.std.proofs.lemmas.Bool.{and_parts, or_left, or_right}
 use Rattle.std.specs.Option.{option_map, option_or, option_to_list, unwrap_or}
 use Rattle.jc_log.specs.Acts as does
@@ -15,12 +15,9 @@ use Rattle.jc_types.specs.declared.objects.Key.{Key}
 use Rattle.jc_types.specs.declared.objects.Kind.{Kind}
 use Rattle.jc_types.specs.declared.objects.Kind.TheVariants.{Jobs, Pods}
 use Rattle.jc_types.specs.declared.objects.Pod.{Pod}
-use Rattle.jc_types.specs.declared.replies.Answer.{Answer}
 use Rattle.jc_types.specs.declared.replies.Reply.{Reply}
 use Rattle.jc_types.specs.declared.replies.Reply.TheVariants as reply
-use Rattle.jc_types.specs.declared.replies.Request.{Request}
 use Rattle.jc_types.specs.declared.runs.Shape.{Shape}
-use Rattle.jc_types.specs.Keys.{same_key}
 use Rattle.jc_states.specs.declared.bases.Basis.{Basis}
 use Rattle.jc_log.specs.Acts.{Act}
 use Rattle.jc_log.specs.Deeds.{Deed}

@@ -16,8 +16,7 @@ use Rattle.jc_types.specs.declared.objects.Kind.TheVariants.{Jobs, Pods}
 use Rattle.jc_types.specs.declared.objects.Pod.{Pod}
 use Rattle.jc_types.specs.declared.runs.Shape.{Shape}
 use Rattle.jc_types.specs.Keys.{same_key, same_uid}
-use Rattle.jc_types.proofs.KeyFacts.{same_key-either_way, same_key-itself, same_uid-itself}
-use Rattle.jc_states.specs.declared.bases.Basis.{Basis}
+use Rattle.jc_types.proofs.KeyFacts.{same_key-itself, same_uid-itself}
 use Rattle.jc_states.specs.Owners.{is_foreign}
 use Rattle.jc_states.specs.UidLists.{is_in}
 use Rattle.jc_log.specs.Deeds.{Deed}
@@ -49,7 +48,7 @@ use Rattle.jc_order.proofs.RestlessFacts.{not-busy}
 use Rattle.jc_order.proofs.RetryFacts.{all-well, none-retried}
 use Rattle.jc_history.specs.Registers.{register}
 use Rattle.jc_runs.specs.Runs.{AllAskValid}
-use Rattle.jc_runs.proofs.LegalRuns.{Machine, legal_run}
+use Rattle.jc_runs.proofs.LegalRuns.{legal_run}
 use Rattle.jc_rest.specs.Both.{FailsAfter}
 use Rattle.jc_rest.specs.Orphans.{is_about, is_sure_of, last_about}
 use Rattle.jc_rest.proofs.EndFacts.{all-released, fails-unless, found-kept}

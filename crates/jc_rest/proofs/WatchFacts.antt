@@ -38,7 +38,6 @@ use Rattle.jc_sync.specs.Flight.{Flight}
 use Rattle.jc_sync.specs.Ask.{Ask}
 use Rattle.jc_sync.specs.Ask.TheVariants.{MakePod, MarkPod, LetPodGo, WriteFirst, ReleasePod, WriteSecond}
 use Rattle.jc_sync.specs.Asks.{as_request, asks_of}
-use Rattle.jc_sync.specs.Readings.{with_marks}
 use Rattle.jc_sync.specs.Sends.{sent_first}
 use Rattle.jc_sync.specs.Steps.{answered_to, as_answer, stepped_at, written_gives}
 use Rattle.jc_history.specs.Asks.{so_far}
