@@ -26,7 +26,7 @@ use Rattle.jc_history.specs.Samples.{failing_spec, pi_key, sample_spec, uid_of}
 use Rattle.jc_promise.specs.Wrong.{in_phase, pi_job, pi_pod}
 use Rattle.jc_promise.specs.WrongCounts.{early_release, early_total, recount, stale_pod_cache, stale_write}
 use Rattle.jc_promise.specs.WrongIndexes.{crowded_list, failures_anew, index_past, index_unfailed, unseen_release}
-use Rattle.jc_promise.specs.WrongOutcomes.{early_fail_job, failing_pod, finalizer_vanishes, ignored_counted, index_twice}
+use Rattle.jc_promise.specs.WrongOutcomes.{early_fail_job, failing_pod, finalizer_vanishes, ignored_counted, index_twice, suspended_counted}
 
 -- ---- no cause
 
@@ -136,6 +136,9 @@ index_twice-refused h = let e : 2 ≡ 1 = (h.0 pi_key _ refl).size refl in omega
 
 pub ignored_counted-refused : OnceAtEach ignored_counted.deeds ignored_counted.log → ⊥
 ignored_counted-refused h = let e : 1 ≡ 0 = (h.0 pi_key _ refl).failed in omega (arith, e)
+
+pub suspended_counted-refused : OnceAtEach suspended_counted.deeds suspended_counted.log → ⊥
+suspended_counted-refused h = let e : 1 ≡ 0 = (h.0 pi_key _ refl).failed in omega (arith, e)
 
 pub early_fail_job-refused : OnceAtEach early_fail_job.deeds early_fail_job.log → ⊥
 early_fail_job-refused h =

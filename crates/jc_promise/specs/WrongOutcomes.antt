@@ -3,7 +3,8 @@
 --     ignored_counted     a failure that the failure policy ignores is counted
 --     early_fail_job      a pod that fails the Job is let go before the Job has a target
 --     finalizer_vanishes  a pod loses its finalizer by a mark
-use Rattle.std.specs.Prelude.{pos, false, [], ◌∷◌, Some, None}
+--     suspended_counted   an active pod of a Job that is suspended is counted as failed
+use Rattle.std.specs.Prelude.{pos, false, true, [], ◌∷◌, Some, None}
 use Rattle.jc_log.specs.Acts as does
 use Rattle.jc_types.specs.declared.objects.Entry.TheVariants.{PodPut}
 use Rattle.jc_types.specs.declared.objects.Phase.TheVariants.{Failed, Succeeded}
@@ -13,7 +14,7 @@ use Rattle.jc_types.specs.declared.replies.Reply.TheVariants as reply
 use Rattle.jc_types.specs.declared.specifications.JobSpec.{JobSpec}
 use Rattle.jc_types.specs.declared.specifications.Mode.TheVariants.{Indexed}
 use Rattle.jc_log.specs.Requests.{empty_status}
-use Rattle.jc_history.specs.Samples.{disruption, failing_spec, ignoring_spec, main_name, pod_made, pod_released, sample_spec, status_written, sync_begun, uid_of, version_at, written_at}
+use Rattle.jc_history.specs.Samples.{disruption, failing_spec, ignoring_spec, main_name, no_change, pi_key, pod_made, pod_released, sample_spec, status_written, sync_begun, uid_of, version_at, written_at}
 use Rattle.jc_promise.specs.Wrong.{Wrong, sync_begins, done, pod_exits, in_phase, pi_put, job_is_made, lists, pi_pod, status_put, sync_steps, stripped, with_marked}
 
 -- One index is wanted.
@@ -82,4 +83,23 @@ finalizer_vanishes = record {
   log =
       PodPut (stripped 3 (with_marked 3 (pi_pod 2 None 2))) ∷ PodPut (pi_pod 2 None 2)
       ∷ pi_put sample_spec ∷ [];
+}
+
+-- ---- suspension
+
+-- The same Job, suspended.
+abbrev pub suspended_spec : JobSpec
+suspended_spec = record sample_spec { suspend = true }
+
+-- The Job is suspended while its pod is active, and the pod is listed as failed.
+abbrev pub suspended_counted : Wrong
+suspended_counted = record {
+  deeds =
+      sync_steps (status_written 4) 4 ∷ sync_begins 3 3 3
+      ∷ done (does.Update pi_key None (record no_change { suspend = Some true })) (written_at 3) 3
+      ∷ sync_steps (pod_made None 2 2) 2 ∷ sync_begins 1 1 1 ∷ job_is_made sample_spec ∷ [];
+  log =
+      status_put 4 (lists [] (2 ∷ [])) suspended_spec
+      ∷ status_put 3 empty_status suspended_spec
+      ∷ PodPut (pi_pod 2 None 2) ∷ pi_put sample_spec ∷ [];
 }

@@ -37,7 +37,7 @@ ghost use Rattle.jc_promise.specs.WrongCounts.{early_release, early_total, recou
 ghost use Rattle.jc_promise.specs.WrongCauses.{active_released, failed_makes, index_made_twice, one_too_many, overdue_makes, same_status_written, suspended_makes, wanted_let_go, wanted_marked};
 ghost use Rattle.jc_promise.specs.WrongEnds.{early_end, failed_job, skipped_command, twice_script};
 ghost use Rattle.jc_promise.specs.WrongIndexes.{crowded_list, failures_anew, index_past, index_unfailed, unseen_release};
-ghost use Rattle.jc_promise.specs.WrongOutcomes.{early_fail_job, finalizer_vanishes, ignored_counted, index_twice};
+ghost use Rattle.jc_promise.specs.WrongOutcomes.{early_fail_job, finalizer_vanishes, ignored_counted, index_twice, suspended_counted};
 ghost use Rattle.jc_promise.specs.WrongRests.{kept_orphan, unmarked_pod, unwritten_end, wrong_status};
 ghost use Rattle.jc_promise.specs.WrongSyncs.{false_conflict, forgotten_pod, old_caches, stuck_job, two_syncs, two_workers};
 
@@ -130,12 +130,12 @@ pub fn a_sync_is_quiet()
 
 /// Each promise says something, since it refuses a history. Each of these is what a machine makes that
 /// is wrong in one place; the promise that refuses it is the clause.
-/// - That each pod is counted once, after each event: finalizers that go before a list has the UID,
-///   totals that rise too early, a sync on an old pod cache, a status that is written at an old version,
-///   a UID that is counted again, an index that is counted twice, a failure that is ignored and counts,
-///   a pod that fails its Job and goes before the Job has a target; failures of an index that start anew,
-///   an index that does not fail at its limit, an index past the completions that is completed, a pod that
-///   runs and is released as its Job was not seen yet, 501 UIDs in a list.
+/// - That each pod is counted once, after each event: finalizers that go before a list has the UID, totals that
+///   rise too early, a sync on an old pod cache, a status that is written at an old version, a UID that is
+///   counted again, an index that is counted twice, a failure that is ignored and counts, a pod of a suspended
+///   Job that counts, a pod that fails its Job and goes before the Job has a target; failures of an index that
+///   start anew, an index that does not fail at its limit, an index past the completions that is completed, a pod
+///   that runs and is released as its Job was not seen yet, 501 UIDs in a list.
 /// - That each finalizer was lost to a command or with a cause: the first of these, and a finalizer
 ///   that goes by a mark.
 /// - The bounds of one controller: a controller that goes on with its caches after a request without
@@ -161,6 +161,7 @@ pub fn wrong_histories_are_refused()
     ensures recount { OnceAtEach recount.deeds recount.log → ⊥ }
     ensures index_twice { OnceAtEach index_twice.deeds index_twice.log → ⊥ }
     ensures ignored_counted { OnceAtEach ignored_counted.deeds ignored_counted.log → ⊥ }
+    ensures suspended_counted { OnceAtEach suspended_counted.deeds suspended_counted.log → ⊥ }
     ensures early_fail_job { OnceAtEach early_fail_job.deeds early_fail_job.log → ⊥ }
     ensures failures_anew { OnceAtEach failures_anew.deeds failures_anew.log → ⊥ }
     ensures index_unfailed { OnceAtEach index_unfailed.deeds index_unfailed.log → ⊥ }
