@@ -1,4 +1,4 @@
-use Rattle.std.proofs.Common.{inr, reverse, sym, subst}
+use Rattle.std.proofs.Common.{ap, inl, inr, reverse, sym, subst, ◌∙◌}
 use Rattle.jc_runs.specs.Seen.{Seen}
 use Rattle.jc_turn.proofs.Prefixes.{prefix_trans}
 use Rattle.jc_seats.specs.Hands.{WasTaken}
@@ -37,3 +37,8 @@ returns-in-Went-clause-went g c = λ e.
 pub returns-in-Went-clause-own : goal.returns-in-Went-clause-own
 returns-in-Went-clause-own g c =
     inr (subst (λ (s : Shared). (event : Event) × HasHappened event s c.turn.new.self × IsOwnEvent c.args.seat.now s event) c.self.view_is (c.in_ok-work.ensures.went c.in-Went.is))
+
+-- A plan that is taken leaves what has happened.
+pub returns-in-Plan-clause-own : goal.returns-in-Plan-clause-own
+returns-in-Plan-clause-own g c =
+    inl (ap (λ (s : Shared). s.seen) c.errand.ensures.same ∙ (c.in_ok-work.ensures.plan c.in-Plan.work c.in-Plan.is).4 ∙ ap (λ (s : Shared). s.seen) c.self.view_is)
