@@ -3,7 +3,7 @@
 
 No word of specs/ stands in two files, and no lemma of proofs/ is stated twice, be it with other names of its variables. A crate has at
 most 100 functions and 1,500 lines of src/, but one of plain data or of tests. A line of crates.txt names at most ten crates of this
-repository.
+repository, and few paths lead down from a crate: some kits sum the files of a crate once for each.
 """
 import glob
 import os
@@ -13,7 +13,7 @@ import sys
 sys.dont_write_bytecode = True
 from checks import TOP, Checks, text_of
 
-MOST_FUNCTIONS, MOST_LINES, MOST_CRATES = 100, 1500, 10
+MOST_FUNCTIONS, MOST_LINES, MOST_CRATES, MOST_PATHS = 100, 1500, 10, 160_000
 # Those whose functions copy and compare what they declare, and those of tests.
 PLAIN = {"jc_types", "jc_stories"}
 WORD = re.compile(r"(?m)^(?:(?:abbrev|unfoldable) )?pub (?:(?:record|data|abbrev) )?([A-Za-z_][\w'-]*)")
@@ -84,6 +84,21 @@ def check_sizes(crate):
     holds(f"{crate} has {lines} lines of src/, more than {MOST_LINES}", lines <= MOST_LINES)
 
 
+def paths(crate, below, known):
+    """Returns how many paths lead from a crate to those below it, with that to itself."""
+    if crate not in known:
+        known[crate] = 1 + sum(paths(it, below, known) for it in below[crate] if it in below)
+    return known[crate]
+
+
+def check_paths():
+    rows = [line.partition("#")[0].partition(":") for line in text_of("crates.txt").split("\n")]
+    below, known = {name.split()[0]: names.split() for name, colon, names in rows if colon}, {}
+    for crate in below:
+        count = paths(crate, below, known)
+        holds(f"{count} paths of crates.txt lead down from {crate}, more than {MOST_PATHS}: let a crate hand on what it has from below", count <= MOST_PATHS)
+
+
 def check_crates():
     for line in text_of("crates.txt").split("\n"):
         name, colon, below = line.partition("#")[0].partition(":")
@@ -99,4 +114,5 @@ def check_crates():
 check_words()
 check_lemmas()
 check_crates()
+check_paths()
 checks.end(4000)
