@@ -29,7 +29,8 @@ use Rattle.jc_order.specs.Ends.{IsUpToDate}
 
 -- Both caches of each controller have seen the whole log.
 abbrev pub AreUpToDate : Shape → List Deed → List Entry → Type 0
-AreUpToDate shape past log = (c : ℕ) → c < shape.controllers → IsUpToDate (notes shape c past log) log
+AreUpToDate shape past log =
+    (c : ℕ) → c < shape.controllers → IsUpToDate (notes shape c past log) log
 
 -- No controller has a sync under way.
 abbrev pub NoSyncIsUnderWay : Shape → List Deed → List Entry → Type 0
@@ -51,11 +52,13 @@ pub data Comes (shape : Shape) (past : List Deed) (log : List Entry) (event : Sy
       → event ≡ sys.Deliver c kind → number kind (notes shape c past log) ≡ Some version
       → version.0 < length log → Comes shape past log event
   -- A sync steps.
-  Steps : AreUpToDate shape past log → (c w : ℕ) (begun : Basis) → c < shape.controllers → w < shape.workers
+  Steps : AreUpToDate shape past log → (c w : ℕ) (begun : Basis)
+      → c < shape.controllers → w < shape.workers
       → event ≡ sys.Step c w → register w (notes shape c past log) ≡ Some begun
       → Comes shape past log event
   -- One begins.
-  Begins : AreUpToDate shape past log → NoSyncIsUnderWay shape past log → (c w : ℕ) (k : Key) (rest : List Key)
+  Begins : AreUpToDate shape past log → NoSyncIsUnderWay shape past log
+      → (c w : ℕ) (k : Key) (rest : List Key)
       → c < shape.controllers → event ≡ sys.Begin c w → line (notes shape c past log) ≡ k ∷ rest
       → Comes shape past log event
   -- The node acts.
