@@ -1,0 +1,85 @@
+//! Laws on what happens in a settle. Each function is empty: what it ensures holds of every history, and its callers may
+//! cite it.
+
+ghost use Rattle.std.specs.Prelude.{◌≡◌, ◌++◌, ◌<◌, List, None, Option, Some, false, is_some, true, ℕ};
+ghost use Rattle.jc_types.specs.declared.runs.Event.TheVariants.{System};
+ghost use Rattle.jc_types.specs.declared.runs.Shape.{Shape};
+ghost use Rattle.jc_types.specs.declared.runs.Sys.{Sys};
+ghost use Rattle.jc_types.specs.declared.runs.Sys.TheVariants as sys;
+ghost use Rattle.jc_log.specs.Deeds.{Deed};
+ghost use Rattle.jc_history.specs.Available.{available};
+ghost use Rattle.jc_history.specs.Legal.{IsLegal};
+ghost use Rattle.jc_history.specs.Play.{Playing, deeds_played, first_event, settled_down};
+ghost use Rattle.jc_history.specs.Registers.{register};
+ghost use Rattle.jc_history.specs.Replies.{diary, log_given};
+ghost use Rattle.jc_history.specs.Nodes.{NodeAct, act_on, change_by};
+ghost use Rattle.jc_log.specs.Requests.{with_mark, with_report, without_finalizer};
+ghost use Rattle.jc_moment.specs.declared.moment.Moment.{Moment};
+ghost use Rattle.jc_states.specs.Pods.{is_marked, is_open};
+ghost use Rattle.jc_types.specs.declared.actions.End.{End};
+ghost use Rattle.jc_types.specs.declared.objects.Entry.{Entry};
+ghost use Rattle.jc_types.specs.declared.objects.Key.{Key};
+ghost use Rattle.jc_types.specs.declared.objects.Pod.{Pod};
+ghost use Rattle.jc_settle.specs.Comes.{Comes, SeesAll};
+ghost use Rattle.jc_settle.specs.Left.{ComesTo, pod_left};
+ghost use Rattle.jc_settle.specs.Serial.{IsAlone, IsOldOrAlone, IsSettling, SettlesTo};
+ghost use Rattle.jc_order.specs.Plays.{IsPlayed};
+ghost use Rattle.jc_types.specs.declared.actions.Script.{Script};
+ghost use Rattle.jc_states.specs.declared.bases.Basis.{Basis};
+
+/// What is known where an event is the first that is available: nothing is delivered before each cache has
+/// a number, no sync steps before each cache has seen the whole log, none begins while another is under
+/// way, the node acts where no key is in line, and the clock moves where the node does nothing.
+pub fn what_comes_first()
+    ensures { (shape : Shape) (past : List Deed) (event : Sys) → IsLegal shape past
+        → 0 < shape.workers
+        → first_event (available shape past (log_given shape past)) ≡ Some (System event)
+        → Comes shape past (log_given shape past) event }
+{}
+
+/// So a sync that begins there has no other beside it, and sees the whole log.
+pub fn begins_see_all()
+    ensures { (shape : Shape) (past : List Deed) (c w : ℕ) → IsLegal shape past
+        → 0 < shape.workers
+        → first_event (available shape past (log_given shape past)) ≡ Some (System (sys.Begin c w))
+        → SeesAll shape past c }
+{}
+
+/// What a play does in a settle is, event by event, the first that was available.
+pub fn plays_do_what_comes_first()
+    ensures { (script : Script) (shape : Shape) (start : List Deed) (p : Playing)
+        → IsPlayed script shape start p
+        → SettlesTo shape (deeds_played script p)
+        (deeds_played script (settled_down script shape p)) }
+{}
+
+/// **A settle is serial**: behind any legal history, each sync that is under way in a settle went on from before it, and
+/// none has begun since; or it began in the settle, where no other was under way. Such a sync saw the whole log, and
+/// runs alone: what was written since its begin are its own steps, and no other sync is under way. So of the registers
+/// that were free when the settle began at most one is in use at any moment, and then no other is.
+pub fn settles_are_serial()
+    ensures syncs { (shape : Shape) (run past : List Deed) → IsLegal shape (run ++ past)
+        → 0 < shape.workers → IsSettling shape run past
+        → (c w : ℕ) (basis : Basis) → c < shape.controllers → w < shape.workers
+        → register w (diary shape c (run ++ past)) ≡ Some basis
+        → IsOldOrAlone shape run past c w basis }
+    ensures alone { (shape : Shape) (run past : List Deed) → IsLegal shape (run ++ past)
+        → 0 < shape.workers → IsSettling shape run past
+        → (c w : ℕ) → c < shape.controllers → w < shape.workers
+        → register w (diary shape c past) ≡ None
+        → is_some (register w (diary shape c (run ++ past))) ≡ true
+        → IsAlone shape (run ++ past) c w }
+{}
+
+/// Each write of a pod leaves less to write of it: what the node does to it, its mark, and the loss of its
+/// finalizer. Where its containers restart after a failure its end has to be none.
+pub fn writes_leave_less_of_a_pod()
+    ensures node { (fates : Key → Option (List End)) (log : List Entry) (pod : Pod) (act : NodeAct)
+        → ComesTo fates pod → act_on fates pod ≡ Some act
+        → pod_left fates (with_report log pod (change_by pod act)) < pod_left fates pod }
+    ensures mark { (fates : Key → Option (List End)) (log : List Entry) (now : Moment) (pod : Pod)
+        → is_open pod ≡ true → is_marked pod ≡ false
+        → pod_left fates (with_mark log pod now) < pod_left fates pod }
+    ensures release { (fates : Key → Option (List End)) (log : List Entry) (pod : Pod)
+        → pod.tracked ≡ true → pod_left fates (without_finalizer log pod) < pod_left fates pod }
+{}
