@@ -81,7 +81,7 @@ def check_tutorial(program, draws):
         for name in ("docs", "examples", "tools"):
             os.symlink(f"{TOP}/{name}", f"{room}/{name}")
         os.symlink(os.path.abspath(program), f"{room}/jobctl")
-        how = {"cwd": room, "env": {**os.environ, "PYTHONDONTWRITEBYTECODE": "1"}, "text": True, "timeout": 60}
+        how = {"cwd": room, "env": {**os.environ, "PYTHONDONTWRITEBYTECODE": "1", "JOBCTL": os.path.abspath(program)}, "text": True, "timeout": 60}
         for command, lines in commands(text_of("docs/TUTORIAL.md")):
             ran = subprocess.run(["bash", "-c", command], stdin=subprocess.DEVNULL, stdout=subprocess.PIPE, stderr=subprocess.STDOUT, **how)
             want = "".join("(.*\n)*" if line == ".." else like(line) + "\n" for line in lines)
