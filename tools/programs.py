@@ -26,10 +26,10 @@ KEPT = f"{TOP}/out/unproved"
 MOST_KEPT = 6
 SIGNALS = (signal.SIGINT, signal.SIGTERM, signal.SIGHUP)
 # What things cost. All proofs, edits and tests, by `rt ci`, from nothing:
-PROCESSOR_MINUTES, CLOCK_MINUTES, CLOCK_PROCESSORS = 192, 60, 4
+PROCESSOR_MINUTES, CLOCK_MINUTES, CLOCK_PROCESSORS = 192, 90, 4
 PROOF_TAKES = f"some {CLOCK_MINUTES} minutes on {CLOCK_PROCESSORS} processors"
 # A build with nothing proved, on a free machine and on one that has other work, in minutes of the clock:
-BUILD_MINUTES, BUSY_BUILD_MINUTES = 2, 5
+BUILD_MINUTES, BUSY_BUILD_MINUTES = 3, 6
 HOW_LONG = f"some {BUILD_MINUTES} minutes, and {BUSY_BUILD_MINUTES} or more beside other work"
 
 
