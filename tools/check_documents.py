@@ -15,6 +15,7 @@ import sys
 
 sys.dont_write_bytecode = True
 from checks import TOP, Checks, text_of
+from programs import crates
 
 PAGES = ["README.md", "bench/README.md", "crates/README.md", "tools/README.md", "examples/README.md"]
 WIDTH = 120
@@ -32,16 +33,6 @@ holds = checks.holds
 
 def pages():
     return PAGES + sorted(os.path.relpath(it, TOP) for it in glob.glob(f"{TOP}/docs/*.md"))
-
-
-def crates():
-    """Returns what each crate stands on, in the order of crates.txt."""
-    found = {}
-    for line in text_of("crates.txt").split("\n"):
-        name, colon, below = line.partition("#")[0].partition(":")
-        if colon:
-            found[name.split()[0]] = below.split()
-    return found
 
 
 def anchors(path):

@@ -151,7 +151,7 @@ def new_log(name):
 
 
 def crates():
-    """Returns what each crate stands on, in the order of crates.txt."""
+    """Returns what each crate stands on, those of the kit among it, in the order of crates.txt."""
     found = {}
     with open(f"{TOP}/crates.txt", encoding="utf-8") as it:
         for line in it:

@@ -23,7 +23,9 @@ import subprocess
 import sys
 import tempfile
 
-TOP = os.path.realpath(os.path.join(os.path.dirname(os.path.abspath(__file__)), ".."))
+sys.dont_write_bytecode = True
+from programs import TOP, crates
+
 CACHE = os.environ.get("STANDINS") or os.path.join(os.environ.get("XDG_CACHE_HOME") or os.path.expanduser("~/.cache"), "standins")
 VIEW = os.path.join(CACHE, "views", hashlib.sha256(TOP.encode()).hexdigest()[:12])
 # What ends a contract's word before its clause, in braces.
@@ -37,17 +39,6 @@ def kit():
     if not shutil.which("rt"):
         sys.exit("standins.py: there is no command rt on the PATH")
     return os.path.dirname(subprocess.run(["rt", "doc"], capture_output=True, text=True, check=True).stdout.split("\n")[0])
-
-
-def crates():
-    """Returns what each crate of crates.txt stands on, those of the kit among it."""
-    found = {}
-    with open(f"{TOP}/crates.txt", encoding="utf-8") as it:
-        for line in it:
-            name, colon, below = line.partition("#")[0].partition(":")
-            if colon:
-                found[name.split()[0]] = below.split()
-    return found
 
 
 # ---- the text of a stand-in
