@@ -1,0 +1,10 @@
+//! What of statuses, moments and keys is still to come, and that each turn of a settle in which no pod is written leaves
+//! less of it.
+#![tactic(auto)]
+
+mod laws;
+
+pub use laws::{
+    a_written_status_is_no_draft, bases_of_the_whole_log_are_current, empty_syncs_take_a_key,
+    the_clock_brings_nothing_new, unwritten_plans_name_moments_to_come,
+};
