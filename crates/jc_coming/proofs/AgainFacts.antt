@@ -1,5 +1,5 @@
 -- The next status of a Job of whose pods nothing is wanted, once written, is the next one again.
-use Rattle.std.proofs.Common.{◌≡◌, ◌⊎◌, inl, inr, ℕ, ◌+◌, ◌==◌, nat_lt, Bool, true, false, cond, not, ◌&&◌, ◌||◌, List, [], ◌∷◌, map, filter, length, Option, Some, None, IsSome, is_none, is_some, unwrap_or, refl, sym, ap, ◌∙◌, subst, arith, true≢false}
+use Rattle.std.proofs.Common.{◌≡◌, ◌⊎◌, inl, inr, ℕ, ◌+◌, ◌==◌, nat_lt, Bool, true, false, cond, not, ◌&&◌, ◌||◌, List, [], map, filter, length, Option, Some, None, IsSome, is_none, is_some, unwrap_or, refl, sym, ap, ◌∙◌, arith, true≢false}
 use Rattle.std.specs.List.{AllByRecursion as Each, list_any}
 use Rattle.std.proofs.lemmas.Bool.{and_parts, or_left, or_right}
 use Rattle.jc_log.specs.Range.{as_moment}
@@ -21,22 +21,21 @@ use Rattle.jc_types.proofs.ListFacts.{filter_within}
 use Rattle.jc_states.specs.Conditions.{has_end, has_target, stands}
 use Rattle.jc_states.specs.Pods.{is_open}
 use Rattle.jc_account.specs.Accounts.{completed_in}
-use Rattle.jc_account.specs.Judged.{candidates, is_to_release, left_with, newly}
-use Rattle.jc_account.specs.Modes.{completed_after, kept_indexes, succeeded_after}
+use Rattle.jc_account.specs.Judged.{candidates, is_to_release, newly}
+use Rattle.jc_account.specs.Modes.{completed_after, succeeded_after}
 use Rattle.jc_plan.specs.Outcome.TheVariants as outcome
-use Rattle.jc_finish.specs.Decisions.{decided, first_line, has_come, is_overdue}
-use Rattle.jc_finish.specs.Settled.{end_of, is_target_kind, settled, settled_suspended, suspension, with_end, with_last, with_suspension}
+use Rattle.jc_finish.specs.Decisions.{first_line, has_come, is_overdue}
+use Rattle.jc_finish.specs.Settled.{end_of, settled, settled_suspended, suspension, with_end, with_last, with_suspension}
 use Rattle.jc_finish.specs.Starts.{begins, deadline_of, end_after, start_of}
 use Rattle.jc_finish.proofs.DecisionFacts.{decided_same}
 use Rattle.jc_finish.proofs.SettledFacts.{settled-ends, settled-keeps, settled-suspended, settled-target}
 use Rattle.jc_states.specs.UidLists.{uids_of}
-use Rattle.jc_plan.specs.Failures.{failed_set, failing_by, failing_in, failures_by, failures_in, has_failed, newly_failed, raised}
+use Rattle.jc_plan.specs.Failures.{failing_by, failing_in, failures_by, failures_in, has_failed, newly_failed, raised}
 use Rattle.jc_plan.specs.Next.{next_counted, next_decided}
-use Rattle.jc_plan.specs.Numbers.{active_after, ending_after, ready_after}
-use Rattle.jc_plan.specs.Statuses.{completed_at, conditions_at, is_over, is_settled, leaves_none}
+use Rattle.jc_plan.specs.Statuses.{conditions_at, is_over, is_settled, leaves_none}
 use Rattle.jc_plan.proofs.Targets.{target-kind}
 use Rattle.jc_plan.proofs.ValueFacts.{settled-target as target-settles}
-use Rattle.jc_coming.specs.Drafts.{deadline_is_ahead, is_ahead, next_quiet, nothing_wanted}
+use Rattle.jc_coming.specs.Drafts.{deadline_is_ahead, is_ahead, next_quiet}
 use Rattle.jc_coming.proofs.MomentFacts.{decision}
 use Rattle.jc_coming.proofs.RaisedFacts.{none-failed, raised-again}
 use Rattle.jc_coming.proofs.RoomFacts.{none-again, none-left, none-newly}

@@ -1,5 +1,5 @@
 -- The clock makes a draft of a status only where a deadline has passed that was ahead, and brings no moment.
-use Rattle.std.proofs.Common.{◌≡◌, ℕ, ◌+◌, ◌*◌, ◌<◌, ◌≤◌, nat_le, nat_lt, Bool, true, false, cond, not, ◌&&◌, ◌||◌, List, ◌∷◌, filter, length, Option, Some, None, is_some, unwrap_or, refl, sym, ap, ◌∙◌, subst, arith, true≢false, lt-ltb, ltb-true, leb-true, leb-false}
+use Rattle.std.proofs.Common.{◌≡◌, ℕ, ◌+◌, ◌*◌, ◌<◌, ◌≤◌, nat_le, nat_lt, Bool, true, false, cond, not, ◌&&◌, ◌||◌, List, ◌∷◌, Option, Some, None, refl, sym, ap, ◌∙◌, arith, true≢false, lt-ltb, ltb-true, leb-false}
 use Rattle.std.proofs.lemmas.Bool.{lt-leb, ltb-false}
 use Rattle.jc_log.specs.Range.{as_moment, end_of_moments}
 use Rattle.jc_types.specs.declared.objects.Entry.{Entry}
@@ -18,7 +18,7 @@ use Rattle.jc_finish.specs.Decisions.{has_come, is_overdue}
 use Rattle.jc_finish.specs.Starts.{begins, deadline_of, end_after, start_of}
 use Rattle.jc_plan.specs.Backoffs.{opening}
 use Rattle.jc_plan.specs.Next.{next_counted, next_decided}
-use Rattle.jc_plan.specs.Statuses.{completed_at, conditions_at, filled, is_over, is_settled}
+use Rattle.jc_plan.specs.Statuses.{conditions_at, filled, is_over, is_settled}
 use Rattle.jc_history.specs.Notes.{Note, Ticked}
 use Rattle.jc_history.specs.Registers.{backoff}
 use Rattle.jc_coming.specs.Drafts.{deadline_is_ahead, is_ahead, is_draft, next_quiet, nothing_wanted, statuses_to_come}

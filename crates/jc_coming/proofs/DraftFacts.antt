@@ -1,18 +1,16 @@
 -- A status that a plan writes, where it asks for no pod, is the next one, and no draft once it is written.
-use Rattle.std.proofs.Common.{◌≡◌, ℕ, ◌+◌, ◌*◌, ◌-◌, ◌<◌, ◌≤◌, Bool, true, false, cond, not, ◌&&◌, List, [], ◌∷◌, filter, length, Option, Some, None, is_some, unwrap_or, refl, sym, ap, ◌∙◌, subst, arith, true≢false}
+use Rattle.std.proofs.Common.{◌≡◌, ◌+◌, ◌-◌, ◌<◌, ◌≤◌, Bool, true, false, cond, not, ◌&&◌, List, [], ◌∷◌, filter, length, Option, Some, None, is_some, unwrap_or, refl, sym, ap, ◌∙◌, subst, arith, true≢false}
 use Rattle.std.proofs.lemmas.Bool.{or_left}
 use Rattle.jc_types.specs.declared.numbers.Uid.{Uid}
-use Rattle.jc_types.specs.declared.numbers.Version.{Version}
 use Rattle.jc_types.specs.declared.objects.Entry.{Entry}
-use Rattle.jc_types.specs.declared.objects.Entry.TheVariants.{JobGone, JobPut, PodGone, PodPut}
+use Rattle.jc_types.specs.declared.objects.Entry.TheVariants.{JobPut}
 use Rattle.jc_types.specs.declared.objects.Job.{Job}
 use Rattle.jc_types.specs.declared.objects.Key.{Key}
 use Rattle.jc_types.specs.declared.objects.Pod.{Pod}
 use Rattle.jc_types.specs.declared.statuses.JobStatus.{JobStatus}
 use Rattle.jc_types.specs.Equality.{same_status}
 use Rattle.jc_types.specs.Keys.{same_key, same_uid}
-use Rattle.jc_types.proofs.EqualityFacts.{status-exact}
-use Rattle.jc_types.proofs.KeyFacts.{same_key-eq, same_uid-itself}
+use Rattle.jc_types.proofs.KeyFacts.{same_uid-itself}
 use Rattle.jc_states.specs.declared.bases.Basis.{Basis}
 use Rattle.jc_states.specs.Bases.{own_pods}
 use Rattle.jc_states.specs.PodLists.{IsRising}
@@ -21,12 +19,13 @@ use Rattle.jc_states.specs.UidLists.{is_in}
 use Rattle.jc_states.proofs.PodListFacts.{rises_filter}
 use Rattle.jc_log.specs.Log.{job_in, jobs_in, pods_in, pods_under}
 use Rattle.jc_log.specs.Requests.{with_status}
-use Rattle.jc_log.specs.Tables.{at, puts}
+use Rattle.jc_log.specs.Tables.{at}
 use Rattle.jc_log.proofs.ObjectFacts.{jobs_in-at}
 use Rattle.jc_log.proofs.PodFacts.{pods_in-rises}
+use Rattle.jc_log.proofs.WriteFacts.{job_in-key}
 use Rattle.jc_account.specs.Accounts.{counted_in}
 use Rattle.jc_account.specs.Judged.{candidates}
-use Rattle.jc_plan.specs.Next.{ListsNoSuccess, next_counted, next_decided, next_status}
+use Rattle.jc_plan.specs.Next.{ListsNoSuccess, next_status}
 use Rattle.jc_plan.specs.Numbers.{active_after, ending_after, is_let_go_of, ready_after}
 use Rattle.jc_plan.specs.Plans.{changed, planned}
 use Rattle.jc_plan.specs.Statuses.{first_value, second_value, wants_in}
@@ -138,22 +137,6 @@ none-second basis asks = by basis.job refl
 
 -- ---- the log
 
--- The Job of a key has it.
-key-is : (k : Key) (log : List Entry) (job : Job) → job_in k log ≡ Some job → job.key ≡ k
-key-is k [] job e = absurd (true≢false (sym (ap is_some e)))
-key-is k (JobPut put ∷ older) job e = by (same_key put.key k) refl e (key-is k older job)
-  where
-    by : (b : Bool) → same_key put.key k ≡ b → cond b (Some put) (job_in k older) ≡ Some job → (job_in k older ≡ Some job → job.key ≡ k) → job.key ≡ k
-    by true s e more = ap (λ (j : Job). j.key) (sym (ap (λ o. unwrap_or o put) e)) ∙ same_key-eq put.key k s
-    by false s e more = more e
-key-is k (JobGone gone ∷ older) job e = by (same_key gone.key k) e (key-is k older job)
-  where
-    by : (b : Bool) → cond b None (job_in k older) ≡ Some job → (job_in k older ≡ Some job → job.key ≡ k) → job.key ≡ k
-    by true e more = absurd (true≢false (sym (ap is_some e)))
-    by false e more = more e
-key-is k (PodPut pod ∷ older) job e = key-is k older job e
-key-is k (PodGone pod ∷ older) job e = key-is k older job e
-
 pub rising : (k : Key) (log : List Entry) (pods : List Pod) → pods ≡ pods_under k log → IsRising pods
 rising k log pods e = subst IsRising (sym e) (rises_filter 0 (λ pod. same_key pod.owner k) (pods_in log) (pods_in-rises log))
 
@@ -175,7 +158,7 @@ statuses-fewer log job basis status this there saw tidy asks written =
     rises = rising basis.key log basis.pods saw
 
     key : job.key ≡ basis.key
-    key = key-is basis.key log job there
+    key = job_in-key basis.key log job there
 
     row : at same_key (jobs_in log) job.key ≡ Some job
     row = jobs_in-at job.key log ∙ ap (λ k. job_in k log) key ∙ there

@@ -1,8 +1,8 @@
 -- What a sync that asks for nothing, and the clock, leave of the keys that are to come.
-use Rattle.std.proofs.Common.{◌≡◌, ℕ, ◌+◌, ◌*◌, ◌<◌, ◌≤◌, ◌==◌, nat_le, nat_lt, min, Bool, true, false, cond, not, ◌&&◌, ◌||◌, List, [], ◌∷◌, ◌++◌, filter, length, Option, Some, None, is_some, unwrap_or, option_map, refl, sym, ap, ◌∙◌, subst, arith, true≢false, lt-ltb, ltb-true, eqb-true, le-leb, leb-true, leb-false}
+use Rattle.std.proofs.Common.{◌≡◌, ℕ, ◌+◌, ◌<◌, ◌≤◌, nat_le, nat_lt, min, Bool, true, false, cond, not, ◌&&◌, ◌||◌, List, [], ◌∷◌, ◌++◌, filter, length, Option, Some, None, is_some, unwrap_or, option_map, refl, sym, ap, ◌∙◌, subst, arith, true≢false, ltb-true, eqb-true, le-leb, leb-true, leb-false}
 use Rattle.std.specs.List.{AllByRecursion as Each, cons_option, filter_map}
 use Rattle.std.specs.Map.{keys_of}
-use Rattle.std.proofs.lemmas.Bool.{and_parts, or_left, or_right}
+use Rattle.std.proofs.lemmas.Bool.{and_parts}
 use Rattle.jc_types.specs.declared.objects.Entry.{Entry}
 use Rattle.jc_types.specs.declared.objects.Job.{Job}
 use Rattle.jc_types.specs.declared.objects.Key.{Key}
@@ -12,22 +12,23 @@ use Rattle.jc_states.specs.declared.bases.Basis.{Basis}
 use Rattle.jc_log.specs.Log.{job_in, jobs_in}
 use Rattle.jc_log.specs.Tables.{at}
 use Rattle.jc_log.proofs.ObjectFacts.{jobs_in-at}
+use Rattle.jc_account.proofs.Owned.{filter-least}
 use Rattle.jc_control.specs.declared.ends.SyncEnd.TheVariants as end
 use Rattle.jc_plan.specs.Backoffs.{opening}
 use Rattle.jc_plan.specs.Plans.{planned}
-use Rattle.jc_queue.specs.Delayed.{earlier, first_of, in_turn, is_before, is_due, put_in_turn, sooner}
+use Rattle.jc_queue.specs.Delayed.{first_of, in_turn, is_before, is_due, put_in_turn, sooner}
 use Rattle.jc_queue.specs.Queued.{has_key}
 use Rattle.jc_history.specs.Delays.{delay, delays, earlier_if, ended_key, keys_due, least_delay, not_come}
 use Rattle.jc_history.specs.Keys.{once}
 use Rattle.jc_history.specs.Lines.{OnlyAdds, is_dirty, is_processing, line}
-use Rattle.jc_history.specs.Notes.{Note, Began, Ended, Ticked}
+use Rattle.jc_history.specs.Notes.{Note, Began, Ticked}
 use Rattle.jc_history.specs.Registers.{backoff}
 use Rattle.jc_history.proofs.DelayFacts.{at-delays, at-rows, rows_of}
 use Rattle.jc_history.proofs.LineFacts.{fresh, line-added, line-began, line-ended, processing-began}
 use Rattle.jc_coming.specs.Drafts.{is_ahead}
-use Rattle.jc_coming.specs.Moments.{IsCurrent, astray, deadline_by_status, empty_sync, is_at, is_moment_of, is_moment_to_come, keys_to_come, moments_to_come}
+use Rattle.jc_coming.specs.Moments.{ShowsAll, astray, deadline_by_status, empty_sync, is_at, is_moment_of, is_moment_to_come, keys_to_come, moments_to_come}
 use Rattle.jc_coming.proofs.ClockFacts.{ahead-before}
-use Rattle.jc_coming.proofs.Lists.{as-many-same, fewer, length-first, one_if, stronger-fewer}
+use Rattle.jc_coming.proofs.Lists.{as-many-same, length-first, one_if, stronger-fewer}
 use Rattle.jc_coming.proofs.MomentFacts.{names-moment}
 
 -- ---- rows of keys that pass
@@ -45,7 +46,7 @@ passing-first : (p : Key × ℕ → Bool) (f : Key → Option ℕ) (x : Key) (ke
 passing-first p f x keys = by (f x)
   where
     by : (o : Option ℕ) → length (filter p (cons_option (option_map (λ moment. (x, moment)) o) (rows_of f keys))) ≡ weight p x o + passing p f keys
-    by None = refl
+    by None = omega arith
     by (Some m) = length-first p (x, m) (rows_of f keys)
 
 module _ (p : Key × ℕ → Bool) (f : Key → Option ℕ) (k : Key) where
@@ -117,14 +118,14 @@ earlier-weight p k (Some d) (Some m) h = by (nat_le d m) refl
         let none = ap one_if (h m refl) in
         omega (arith, same, none)
 
-module _ (w ended : ℕ) (log : List Entry) (notes : List Note) (basis : Basis) (rest : List Key) (first : line notes ≡ basis.key ∷ rest) (current : IsCurrent notes log basis) (unneeded : (planned basis).first ≡ None) where
+module _ (w ended : ℕ) (log : List Entry) (notes : List Note) (basis : Basis) (rest : List Key) (first : line notes ≡ basis.key ∷ rest) (current : ShowsAll notes log basis) (unneeded : (planned basis).first ≡ None) where
   abbrev after : List Note
   after = empty_sync w basis ended notes
 
   shorter : length (line (Began w basis ∷ notes)) ≤ length rest
   shorter =
       let is = ap length (line-began w basis notes ∙ ap (filter (λ k. not (same_key basis.key k))) first ∙ ap (λ m. cond (not m) (basis.key ∷ left) left) (same_key-itself basis.key)) in
-      let few = fewer (λ k. not (same_key basis.key k)) rest in
+      let few = filter-least (λ k. not (same_key basis.key k)) rest in
       omega (arith, is, few)
     where
       left : List Key
@@ -186,7 +187,7 @@ once-fewer : (keys : List Key) → length (once keys) ≤ length keys
 once-fewer [] = omega arith
 once-fewer (k ∷ keys) =
     let ih = once-fewer keys in
-    let few = fewer (λ j. not (same_key k j)) (once keys) in
+    let few = filter-least (λ j. not (same_key k j)) (once keys) in
     omega (arith, ih, few)
 
 put-length : (row : Key × ℕ) (rows : List (Key × ℕ)) → length (put_in_turn row rows) ≡ length rows + 1
@@ -335,7 +336,7 @@ module _ (now later : ℕ) (log : List Entry) (notes : List Note) (le : now ≤ 
     few-in-line =
         let is = ap length (line-added (Ticked later) notes (keys_due later notes) adds ∙ ap (λ keys. keys ++ once (filter (fresh notes) (keys_due later notes))) idle) in
         let each = once-fewer (filter (fresh notes) (keys_due later notes)) in
-        let some = fewer (fresh notes) (keys_due later notes) in
+        let some = filter-least (fresh notes) (keys_due later notes) in
         let due = keys-length (in_turn (filter (is_due later) (delays notes))) in
         let turn = turn-length (filter (is_due later) (delays notes)) in
         omega (arith, is, each, some, due, turn)

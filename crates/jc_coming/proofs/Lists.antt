@@ -1,5 +1,5 @@
 -- How many members of a list pass one test and another.
-use Rattle.std.proofs.Common.{◌≡◌, ℕ, suc, ◌+◌, ◌*◌, ◌≤◌, ◌<◌, Bool, true, false, cond, not, List, [], ◌∷◌, ◌++◌, filter, length, map, Option, Some, None, is_some, refl, sym, ap, ◌∙◌, subst, arith, true≢false}
+use Rattle.std.proofs.Common.{◌≡◌, ℕ, suc, ◌+◌, ◌*◌, ◌≤◌, Bool, true, false, cond, List, [], ◌∷◌, ◌++◌, filter, length, map, Option, Some, None, is_some, refl, sym, ap, ◌∙◌, arith, true≢false}
 use Rattle.std.specs.List.{AllByRecursion as Each}
 use Rattle.jc_types.specs.declared.objects.Job.{Job}
 use Rattle.jc_types.specs.declared.objects.Key.{Key}
@@ -39,21 +39,13 @@ module _ {A : Type 0} where
       by true = omega arith
       by false = omega arith
 
-  pub fewer : (p : A → Bool) (xs : List A) → length (filter p xs) ≤ length xs
-  fewer p [] = omega arith
-  fewer p (x ∷ xs) =
-      let first = length-first p x xs in
-      let one = one-most (p x) in
-      let ih = fewer p xs in
-      omega (arith, first, one, ih)
-
-  -- What a filter leaves nothing of passes it nowhere.
-  pub none-passes : (p : A → Bool) (xs : List A) → filter p xs ≡ [] → Each (λ x. p x ≡ false) xs
-  none-passes p [] e = tt
-  none-passes p (x ∷ xs) e = by (p x) refl e (none-passes p xs)
+  -- Where none passes, each fails.
+  pub none-pass : (p : A → Bool) (xs : List A) → length (filter p xs) ≡ 0 → Each (λ x. p x ≡ false) xs
+  none-pass p [] e = tt
+  none-pass p (x ∷ xs) e = by (p x) refl e (none-pass p xs)
     where
-      by : (b : Bool) → p x ≡ b → cond b (x ∷ filter p xs) (filter p xs) ≡ [] → (filter p xs ≡ [] → Each (λ y. p y ≡ false) xs) → (p x ≡ false) × Each (λ y. p y ≡ false) xs
-      by true s e more = let long = ap length e in absurd (omega (arith, long))
+      by : (b : Bool) → p x ≡ b → length (cond b (x ∷ filter p xs) (filter p xs)) ≡ 0 → (length (filter p xs) ≡ 0 → Each (λ y. p y ≡ false) xs) → (p x ≡ false) × Each (λ y. p y ≡ false) xs
+      by true s e more = absurd (omega (arith, e))
       by false s e more = (s, more e)
 
   -- Of two of one kind and one of another no more pass, where it is so of each member.
@@ -115,7 +107,7 @@ puts-one p (row ∷ rows) k old new e = by (same_key k row.0) refl e (λ h. puts
     by true s e more =
         let was = length-first p row rows in
         let is = length-first p (row.0, new) rows in
-        let as-old = ap one_if (ap (λ z. p (z, row.1)) (same_key-eq k row.0 s) ) in
+        let as-old = ap one_if (ap (λ z. p (z, row.1)) (same_key-eq k row.0 s)) in
         let as-new = ap one_if (ap (λ z. p (z, new)) (same_key-eq k row.0 s)) in
         let old-is = ap (λ o. one_if (p (k, value row.1 o))) e in
         omega (arith, was, is, as-old, as-new, old-is)

@@ -1,5 +1,5 @@
 -- Where a plan writes no status, the moment that it names is one to come.
-use Rattle.std.proofs.Common.{◌≡◌, ◌⊎◌, inl, inr, ℕ, ◌+◌, ◌<◌, ◌==◌, nat_le, nat_lt, Bool, true, false, cond, not, ◌&&◌, ◌||◌, List, Option, Some, None, is_some, unwrap_or, refl, sym, ap, ◌∙◌, subst, arith, true≢false, eq-eqb, lt-ltb}
+use Rattle.std.proofs.Common.{◌≡◌, ◌⊎◌, inl, inr, ℕ, nat_le, nat_lt, Bool, true, false, cond, not, ◌&&◌, ◌||◌, List, Option, Some, None, is_some, unwrap_or, refl, sym, ap, ◌∙◌, arith, true≢false, eq-eqb, lt-ltb}
 use Rattle.std.proofs.lemmas.Bool.{leb-false, or_left, or_right}
 use Rattle.jc_log.specs.Range.{as_moment, end_of_moments}
 use Rattle.jc_types.specs.declared.objects.Entry.{Entry}
@@ -16,20 +16,19 @@ use Rattle.jc_types.specs.Counts.{counts}
 use Rattle.jc_states.specs.declared.bases.Basis.{Basis}
 use Rattle.jc_states.specs.Bases.{own_pods}
 use Rattle.jc_states.specs.Conditions.{has_target}
-use Rattle.jc_log.specs.Log.{job_in}
 use Rattle.jc_finish.specs.Decisions.{first_line, has_come, is_complete, is_failed_by_indexes, is_failed_by_pod, is_overdue, is_past_limit, is_past_most, is_policy_met}
 use Rattle.jc_finish.specs.Starts.{deadline_of, end_after, start_of}
 use Rattle.jc_plan.specs.Backoffs.{is_held_back, opening}
-use Rattle.jc_plan.specs.Creations.{creatable, is_none_of, next}
-use Rattle.jc_plan.specs.Plans.{earlier_of, planned, planned_for}
+use Rattle.jc_plan.specs.Creations.{creatable, is_none_of}
+use Rattle.jc_plan.specs.Plans.{earlier_of, planned}
 use Rattle.jc_plan.specs.Statuses.{accounted, conditions_at, decided_in, first_value, is_first_due, is_settled, wants_in}
 use Rattle.jc_plan.proofs.BackoffFacts.{backoff-unneeded, first-unneeded}
 use Rattle.jc_plan.proofs.PartFacts.{planned-here}
 use Rattle.jc_plan.proofs.PlanFacts.{plan-backoff}
 use Rattle.jc_history.specs.Notes.{Note}
 use Rattle.jc_history.specs.Registers.{backoff}
-use Rattle.jc_coming.specs.Moments.{IsCurrent, deadline_by_status, is_at, is_moment_of, is_moment_to_come}
-use Rattle.jc_coming.proofs.StayFacts.{not-begun, target-none}
+use Rattle.jc_coming.specs.Moments.{ShowsAll, deadline_by_status, is_at, is_moment_of, is_moment_to_come}
+use Rattle.jc_coming.proofs.StayFacts.{target-none}
 
 -- ---- a decision that is not made
 
@@ -91,19 +90,16 @@ at-itself o m e = ap (λ p. is_at p m) e ∙ eq-eqb m m refl
 -- ---- a plan for its Job
 
 module _ (job : Job) (basis : Basis) (this : basis.job ≡ Some job) (unneeded : (planned basis).first ≡ None) where
-  stays : first_value job basis ≡ job.status
-  stays = first-unneeded job basis this unneeded
-
   abbrev due : Bool
   due = is_first_due (is_settled job (decided_in job basis)) (own_pods job basis.pods) (accounted job basis)
 
   start-stays : start_of basis.now job.spec job.status ≡ job.status.start
   unfolding first_value
-  start-stays = ap (λ (s : JobStatus). s.start) stays
+  start-stays = ap (λ (s : JobStatus). s.start) (first-unneeded job basis this unneeded)
 
   conditions-stay : conditions_at basis.now job (decided_in job basis) due ≡ job.status.conditions
   unfolding first_value
-  conditions-stay = ap (λ (s : JobStatus). s.conditions) stays
+  conditions-stay = ap (λ (s : JobStatus). s.conditions) (first-unneeded job basis this unneeded)
 
   undecided : decided_in job basis ≡ None
   undecided = target-none basis.now job (decided_in job basis) due start-stays conditions-stay
@@ -156,7 +152,7 @@ module _ (job : Job) (basis : Basis) (this : basis.job ≡ Some job) (unneeded :
           both (nat_lt basis.now m) (is_at (deadline_by_status job) m) (is_at (opening basis.backoff) m) is.1
           (or_left (is_at (deadline_by_status job) m) (is_at (opening basis.backoff) m) (at-itself (deadline_by_status job) m is.0))
 
-pub names-moment : (notes : List Note) (log : List Entry) (basis : Basis) (m : ℕ) → IsCurrent notes log basis → (planned basis).first ≡ None → (planned basis).next ≡ Some m
+pub names-moment : (notes : List Note) (log : List Entry) (basis : Basis) (m : ℕ) → ShowsAll notes log basis → (planned basis).first ≡ None → (planned basis).next ≡ Some m
     → is_moment_to_come basis.now log notes basis.key m ≡ true
 names-moment notes log basis m current unneeded e = by basis.job refl
   where

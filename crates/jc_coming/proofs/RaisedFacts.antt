@@ -1,5 +1,5 @@
 -- Failures by index that no pod raises are the same the second time.
-use Rattle.std.proofs.Common.{◌≡◌, ℕ, ◌+◌, ◌==◌, Bool, true, false, cond, ◌||◌, List, [], ◌∷◌, map, find, filter, length, Option, Some, None, refl, sym, ap, ◌∙◌, subst, arith, true≢false, eq-eqb, eqb-true}
+use Rattle.std.proofs.Common.{◌≡◌, ℕ, ◌+◌, ◌==◌, Bool, true, false, cond, ◌||◌, List, [], ◌∷◌, map, Option, Some, refl, sym, ap, ◌∙◌, arith, true≢false, eq-eqb, eqb-true}
 use Rattle.std.specs.List.{AllByRecursion as Each, list_any}
 use Rattle.std.specs.Option.{option_map_or}
 use Rattle.std.proofs.lemmas.Bool.{or_left, or_right}
@@ -17,9 +17,12 @@ pub none-failed : (own : List Pod) → newly_failed own [] ≡ []
 none-failed [] = refl
 none-failed (pod ∷ own) = none-failed own
 
-each-has : (xs ys : List ℕ) → ((n : ℕ) → has n xs ≡ true → has n ys ≡ true) → Each (λ n. has n ys ≡ true) xs
-each-has [] ys h = tt
-each-has (x ∷ xs) ys h = (h x (or_left (x == x) (has x xs) (eq-eqb x x refl)), each-has xs ys (λ n e. h n (or_right (x == n) (has n xs) e)))
+-- Each is among them.
+each-among : {A : Type 0} (same : A → A → Bool) → ((x : A) → same x x ≡ true) → (xs ys : List A) → ((x : A) → list_any (λ y. same y x) xs ≡ true → list_any (λ y. same y x) ys ≡ true)
+    → Each (λ x. list_any (λ y. same y x) ys ≡ true) xs
+each-among same itself [] ys h = tt
+each-among same itself (x ∷ xs) ys h =
+    (h x (or_left (same x x) (list_any (λ y. same y x) xs) (itself x)), each-among same itself xs ys (λ z e. h z (or_right (same x z) (list_any (λ y. same y z) xs) e)))
 
 same-mapped : (g h : ℕ → IndexCount) (ns : List ℕ) → Each (λ n. g n ≡ h n) ns → map g ns ≡ map h ns
 same-mapped g h [] e = refl
@@ -65,4 +68,4 @@ module _ (failure : Option FailurePolicy) (counts : List IndexCount) where
       ap (map (raised_at failure once [])) (same-indexes (map index_of counts))
       ∙ same-mapped (raised_at failure once []) raise (map index_of counts)
       (Each-weaker (λ n. has n (map index_of counts) ≡ true) (λ n. raised_at failure once [] n ≡ raise n) (λ n h. again n (found (map index_of counts) n h)) (map index_of counts)
-      (each-has (map index_of counts) (map index_of counts) (λ n h. h)))
+      (each-among (λ m n. m == n) (λ n. eq-eqb n n refl) (map index_of counts) (map index_of counts) (λ n h. h)))

@@ -1,14 +1,11 @@
 -- A Job of whose own pods none is to be released has none to judge: there is all the room, so the first would have been
 -- judged and released.
-use Rattle.std.proofs.Common.{◌≡◌, ℕ, ◌+◌, ◌-◌, Bool, true, false, not, cond, nat_lt, ◌&&◌, ◌||◌, List, [], ◌∷◌, filter, length, map, refl, sym, ap, ◌∙◌, arith, true≢false}
+use Rattle.std.proofs.Common.{◌≡◌, ◌-◌, Bool, true, false, not, nat_lt, ◌&&◌, ◌||◌, List, [], ◌∷◌, filter, length, refl, sym, ap, ◌∙◌, true≢false}
 use Rattle.std.specs.List.{AllByRecursion as Each}
-use Rattle.std.proofs.lemmas.Bool.{and_parts, or_left, or_right}
-use Rattle.std.proofs.lemmas.List.{nil_from_length}
+use Rattle.std.proofs.lemmas.Bool.{or_left, or_right}
 use Rattle.jc_types.specs.declared.limits.TheConstants.{MOST_UNCOUNTED}
-use Rattle.jc_types.specs.declared.numbers.Uid.{Uid}
 use Rattle.jc_types.specs.declared.objects.Job.{Job}
 use Rattle.jc_types.specs.declared.objects.Pod.{Pod}
-use Rattle.jc_types.specs.declared.statuses.JobStatus.{JobStatus}
 use Rattle.jc_types.proofs.ListFacts.{Each-both, Each-filter, Each-passes, Each-weaker, filter_none}
 use Rattle.jc_states.specs.Bases.{is_own, own_pods}
 use Rattle.jc_states.specs.Listed.{is_listed}
@@ -16,13 +13,13 @@ use Rattle.jc_states.specs.PodLists.{IsRising, RisesFrom}
 use Rattle.jc_states.specs.Pods.{is_tracked}
 use Rattle.jc_states.proofs.PodListFacts.{rises_filter}
 use Rattle.jc_account.specs.Accounts.{counted_in}
-use Rattle.jc_account.specs.Judged.{candidates, fits, is_candidate, is_left_over, is_staying, is_to_release, judged_now, left_over, left_with, newly, room, to_release}
+use Rattle.jc_account.specs.Judged.{candidates, fits, is_candidate, is_left_over, is_staying, is_to_release, left_with, newly, room, to_release}
 use Rattle.jc_account.specs.Rooms.{judged_within, left_beyond, precedes, takes_room}
 use Rattle.jc_account.proofs.RoomFacts.{first-preceded}
 use Rattle.jc_plan.specs.Outcome.{Outcome}
 use Rattle.jc_plan.specs.Outcome.TheVariants as outcome
 use Rattle.jc_plan.specs.Outcomes.{is_verdict, outcome_of, same_outcome}
-use Rattle.jc_coming.proofs.Lists.{length-mapped, none-passes}
+use Rattle.jc_coming.proofs.Lists.{length-mapped, none-pass}
 
 -- ---- one pod
 
@@ -54,8 +51,7 @@ module _ (job : Job) (pods : List Pod) (rises : IsRising pods) (none : (counted_
   pub unreleased : Each (λ p. is_to_release job own p ≡ false) own
   unfolding counted_in
   unreleased =
-      none-passes (is_to_release job own) own
-      (nil_from_length (to_release job own) (sym (length-mapped (λ (pod : Pod). pod.uid) (to_release job own)) ∙ ap length none))
+      none-pass (is_to_release job own) own (sym (length-mapped (λ (pod : Pod). pod.uid) (to_release job own)) ∙ ap length none)
 
   all-room : room job own ≡ MOST_UNCOUNTED
   all-room =
@@ -90,7 +86,7 @@ module _ (job : Job) (pods : List Pod) (rises : IsRising pods) (none : (counted_
               ∙ ap (λ xs. nat_lt (length xs) (room job own)) (first-preceded pod some up.1) ∙ ap (nat_lt 0) all-room)
 
   pub no-candidates : candidates job own ≡ []
-  no-candidates = by (candidates job own) (none-passes (takes_room job.spec) (candidates job own) none-takes) none-fits
+  no-candidates = by (candidates job own) (none-pass (takes_room job.spec) (candidates job own) (ap length none-takes)) none-fits
     where
       by : (some : List Pod) → Each (λ p. takes_room job.spec p ≡ false) some → Each (λ p. fits job own p ≡ false) some → some ≡ []
       by [] a b = refl
@@ -123,4 +119,4 @@ none-again job new own same none unreleased =
     (λ p h. ap (λ spec. is_tracked p && (is_verdict (outcome_of spec p) && not (is_listed new.status p.uid))) same
     ∙ fresh-none (is_tracked p) (is_verdict (outcome_of job.spec p)) (is_listed job.status p.uid) (is_listed new.status p.uid)
     (not (same_outcome (outcome_of job.spec p) outcome.Alive) && not (is_left_over job own p)) h.0 h.1) own
-    (Each-both (λ p. is_candidate job p ≡ false) (λ p. is_to_release job own p ≡ false) own (none-passes (is_candidate job) own none) unreleased))
+    (Each-both (λ p. is_candidate job p ≡ false) (λ p. is_to_release job own p ≡ false) own (none-pass (is_candidate job) own (ap length none)) unreleased))

@@ -1,6 +1,6 @@
 -- Conditions that a sync leaves as they are: then it decides nothing, its Job does not begin, and at another moment it
 -- leaves them too.
-use Rattle.std.proofs.Common.{◌≡◌, ℕ, ◌+◌, ◌≤◌, Bool, true, false, cond, not, ◌&&◌, ◌||◌, List, [], ◌∷◌, ◌++◌, map, find, length, Option, Some, None, is_none, is_some, option_map, unwrap_or, refl, sym, ap, ◌∙◌, subst, arith, true≢false}
+use Rattle.std.proofs.Common.{◌≡◌, ℕ, ◌≤◌, Bool, true, false, cond, not, ◌&&◌, ◌||◌, List, [], ◌∷◌, ◌++◌, map, find, length, Option, Some, None, is_none, is_some, option_map, refl, sym, ap, ◌∙◌, arith, true≢false}
 use Rattle.std.specs.List.{list_any}
 use Rattle.jc_types.specs.declared.objects.Job.{Job}
 use Rattle.jc_types.specs.declared.statuses.CondKind.{CondKind}
@@ -10,7 +10,7 @@ use Rattle.jc_types.specs.declared.statuses.Reason.{Reason}
 use Rattle.jc_types.specs.Equality.{same_bool}
 use Rattle.jc_types.proofs.EqualityFacts.{bool-exact}
 use Rattle.jc_states.specs.Conditions.{has_end, has_target, stands}
-use Rattle.jc_finish.specs.Settled.{end_kind, end_of, in_place, is_suspension, is_target, settled, settled_suspended, suspension, true_since, with_end, with_last, with_suspension, with_target}
+use Rattle.jc_finish.specs.Settled.{end_kind, end_of, in_place, is_suspension, is_target, settled, settled_suspended, suspension, true_since, with_end, with_last, with_suspension}
 use Rattle.jc_finish.specs.Starts.{begins, start_of}
 use Rattle.jc_finish.proofs.SettledFacts.{settled-suspended}
 use Rattle.jc_plan.specs.Statuses.{completed_at, conditions_at}

@@ -4,7 +4,7 @@
 --     moments_to_come now log notes         how many moments are ahead: deadlines, and ends of backoffs
 --     is_moment_to_come now log notes k m   m is such a moment of the Job of the key
 --     keys_to_come now log notes            2 for each key in line, and 3 for each that is delayed to another moment
---     IsCurrent notes log basis             the basis has what the log and the notes say of its key
+--     ShowsAll notes log basis              the basis has what the log and the notes say of its key
 --     empty_sync w basis ended notes        the notes after a sync that asks for nothing
 use Rattle.std.specs.Prelude.{◌≡◌, ℕ, ◌+◌, ◌*◌, ◌==◌, nat_lt, Bool, false, not, ◌&&◌, ◌||◌, List, ◌∷◌, length, filter, if◌then◌else◌, Option, Some, None}
 use Rattle.jc_types.specs.declared.objects.Entry.{Entry}
@@ -68,7 +68,7 @@ abbrev pub keys_to_come : ℕ → List Entry → List Note → ℕ
 keys_to_come now log notes = 2 * length (line notes) + 3 * length (astray now log notes)
 
 -- The basis has the Job and the pods of its key as the log has them, and the key's backoff as the notes have it.
-pub record IsCurrent (notes : List Note) (log : List Entry) (basis : Basis) : Type 0 where
+pub record ShowsAll (notes : List Note) (log : List Entry) (basis : Basis) : Type 0 where
   pub job : basis.job ≡ job_in basis.key log
   pub pods : basis.pods ≡ pods_under basis.key log
   pub backed_off : basis.backoff ≡ backoff basis.key notes

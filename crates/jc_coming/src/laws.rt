@@ -20,12 +20,12 @@ ghost use Rattle.jc_history.specs.Fresh.{basis};
 ghost use Rattle.jc_history.specs.Lines.{line};
 ghost use Rattle.jc_history.specs.Notes.{Note, Ticked};
 ghost use Rattle.jc_coming.specs.Drafts.{AsksForNoPod, next_quiet, statuses_to_come};
-ghost use Rattle.jc_coming.specs.Moments.{IsCurrent, empty_sync, is_moment_to_come, keys_to_come, moments_to_come};
+ghost use Rattle.jc_coming.specs.Moments.{ShowsAll, empty_sync, is_moment_to_come, keys_to_come, moments_to_come};
 
-/// What a sync starts from, where both caches have seen the whole log, is current.
-pub fn bases_of_the_whole_log_are_current()
+/// What a sync starts from, where both caches have seen the whole log, shows all that the log and the notes say of its key.
+pub fn bases_of_the_whole_log_show_all()
     ensures { (notes : List Note) (log : List Entry) (now : ℕ) (key : Key)
-        → IsCurrent notes log (basis notes log now key (log_end log) (log_end log)) }
+        → ShowsAll notes log (basis notes log now key (log_end log) (log_end log)) }
 {}
 
 /// **A written status is no draft any more.** Where a plan asks for no pod its first status is the next one of its Job;
@@ -48,7 +48,7 @@ pub fn a_written_status_is_no_draft()
 /// the controller holds its pods back.
 pub fn unwritten_plans_name_moments_to_come()
     ensures { (notes : List Note) (log : List Entry) (basis : Basis) (m : ℕ)
-        → IsCurrent notes log basis → (planned basis).first ≡ None
+        → ShowsAll notes log basis → (planned basis).first ≡ None
         → (planned basis).next ≡ Some m
         → is_moment_to_come basis.now log notes basis.key m ≡ true }
 {}
@@ -71,13 +71,13 @@ pub fn the_clock_brings_nothing_new()
         → keys_to_come later log (Ticked later ∷ notes) < keys_to_come now log notes }
 {}
 
-/// **An empty sync takes a key.** A sync of the first key in line that is current and writes no status leaves the moments
-/// to come as they were, and fewer keys: its key leaves the line, and is delayed to a moment to come if at all.
+/// **An empty sync takes a key.** A sync of the first key in line that saw the whole log and writes no status leaves the
+/// moments to come as they were, and fewer keys: its key leaves the line, and is delayed to a moment to come if at all.
 pub fn empty_syncs_take_a_key()
     ensures moments { (now w ended : ℕ) (log : List Entry) (notes : List Note) (basis : Basis)
         → moments_to_come now log (empty_sync w basis ended notes) ≡ moments_to_come now log notes }
     ensures keys { (w ended : ℕ) (log : List Entry) (notes : List Note) (basis : Basis) (rest : List Key)
-        → line notes ≡ basis.key ∷ rest → IsCurrent notes log basis
+        → line notes ≡ basis.key ∷ rest → ShowsAll notes log basis
         → (planned basis).first ≡ None
         → keys_to_come basis.now log (empty_sync w basis ended notes)
         < keys_to_come basis.now log notes }
