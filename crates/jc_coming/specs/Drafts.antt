@@ -58,7 +58,8 @@ held_to_deadlines now log = filter (λ row. deadline_is_ahead now row.1) (jobs_i
 
 -- The Jobs whose status is a draft.
 abbrev pub drafts : ℕ → List Entry → List (Key × Job)
-drafts now log = filter (λ row. is_draft now row.1 (own_pods row.1 (pods_under row.0 log))) (jobs_in log)
+drafts now log =
+    filter (λ row. is_draft now row.1 (own_pods row.1 (pods_under row.0 log))) (jobs_in log)
 
 -- How many statuses are still to come, at most: a Job with a deadline ahead gets one at its deadline, and one for
 -- what follows.

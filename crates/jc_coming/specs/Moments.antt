@@ -56,11 +56,13 @@ is_moment_of backoff m (Some job) = is_at (deadline_by_status job) m || is_at (o
 
 -- It is such a moment of the Job of the key, and ahead.
 abbrev pub is_moment_to_come : ℕ → List Entry → List Note → Key → ℕ → Bool
-is_moment_to_come now log notes k m = nat_lt now m && is_moment_of (backoff k notes) m (job_in k log)
+is_moment_to_come now log notes k m =
+    nat_lt now m && is_moment_of (backoff k notes) m (job_in k log)
 
 -- The keys that are delayed to another moment: one that has come, or at which nothing is to be done.
 abbrev pub astray : ℕ → List Entry → List Note → List (Key × ℕ)
-astray now log notes = filter (λ row. not (is_moment_to_come now log notes row.0 row.1)) (delays notes)
+astray now log notes =
+    filter (λ row. not (is_moment_to_come now log notes row.0 row.1)) (delays notes)
 
 -- How many turns of keys are still to come, at most. A key that is astray costs one more: once its moment has come
 -- it goes into line.

@@ -1,5 +1,5 @@
-//! Laws on what is still to come in a settle in which no pod is written. Each function is empty: what it ensures holds of
-//! every log, all notes and every plan, and its callers may cite it.
+//! Laws on what is still to come where no pod is written. Each function is empty: what it ensures holds of every log, all
+//! notes and every plan, and its callers may cite it.
 
 ghost use Rattle.std.specs.Prelude.{◌≡◌, ◌<◌, ◌≤◌, ◌∷◌, List, None, Some, [], true, ℕ};
 ghost use Rattle.jc_types.specs.declared.objects.Entry.{Entry};
@@ -22,7 +22,8 @@ ghost use Rattle.jc_history.specs.Notes.{Note, Ticked};
 ghost use Rattle.jc_coming.specs.Drafts.{AsksForNoPod, next_quiet, statuses_to_come};
 ghost use Rattle.jc_coming.specs.Moments.{ShowsAll, empty_sync, is_moment_to_come, keys_to_come, moments_to_come};
 
-/// What a sync starts from, where both caches have seen the whole log, shows all that the log and the notes say of its key.
+/// What a sync starts from, where both caches have seen the whole log, shows all that the log and the notes say of its
+/// key.
 pub fn bases_of_the_whole_log_show_all()
     ensures { (notes : List Note) (log : List Entry) (now : ℕ) (key : Key)
         → ShowsAll notes log (basis notes log now key (log_end log) (log_end log)) }
@@ -71,13 +72,14 @@ pub fn the_clock_brings_nothing_new()
         → keys_to_come later log (Ticked later ∷ notes) < keys_to_come now log notes }
 {}
 
-/// **An empty sync takes a key.** A sync of the first key in line that saw the whole log and writes no status leaves the
-/// moments to come as they were, and fewer keys: its key leaves the line, and is delayed to a moment to come if at all.
+/// **An empty sync takes a key.** A sync of the first key in line that saw the whole log and writes no status leaves
+/// the moments to come as they were, and fewer keys: its key leaves the line, and is delayed to a moment to come if at
+/// all.
 pub fn empty_syncs_take_a_key()
     ensures moments { (now w ended : ℕ) (log : List Entry) (notes : List Note) (basis : Basis)
         → moments_to_come now log (empty_sync w basis ended notes) ≡ moments_to_come now log notes }
-    ensures keys { (w ended : ℕ) (log : List Entry) (notes : List Note) (basis : Basis) (rest : List Key)
-        → line notes ≡ basis.key ∷ rest → ShowsAll notes log basis
+    ensures keys { (w ended : ℕ) (log : List Entry) (notes : List Note) (basis : Basis)
+        (rest : List Key) → line notes ≡ basis.key ∷ rest → ShowsAll notes log basis
         → (planned basis).first ≡ None
         → keys_to_come basis.now log (empty_sync w basis ended notes)
         < keys_to_come basis.now log notes }

@@ -1,5 +1,5 @@
-//! What of statuses, moments and keys is still to come, and that each turn of a settle in which no pod is written leaves
-//! less of it.
+//! What of statuses, moments and keys is still to come where no pod is written, and that a written status, an empty sync
+//! and the clock leave less of it.
 #![tactic(auto)]
 
 mod laws;
