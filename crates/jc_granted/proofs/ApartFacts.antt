@@ -1,60 +1,20 @@
 -- The requests of a plan find what they ask for and are of different pods, where its parts are so.
-use Rattle.std.proofs.Common.{◌≡◌, ◌⊎◌, inl, inr, ℕ, ◌+◌, ◌≤◌, Bool, true, false, not, cond, ◌&&◌, ◌||◌, List, [], ◌∷◌, ◌++◌, map, filter, length, Option, Some, None, is_some, IfSome, refl, sym, ap, ◌∙◌, subst, arith, true≢false, append_assoc}
+use Rattle.std.proofs.Common.{◌≡◌, ℕ, ◌+◌, ◌≤◌, true, false, List, [], ◌∷◌, ◌++◌, map, Option, Some, None, is_some, IfSome, refl, sym, ap, subst, arith}
 use Rattle.std.specs.List.{AllByRecursion as Each}
-use Rattle.std.specs.Option.{IsSomeAnd, unwrap_or}
-use Rattle.std.proofs.lemmas.Bool.{and_from, and_parts, both_ways, false_from_ne_true, ne_eqb, not-true}
-use Rattle.std.proofs.lemmas.List.Elements.{All-contains, All-from_recursion, recursion_from_All}
-use Rattle.jc_types.proofs.KeyFacts.{same_uid-eq}
-use Rattle.jc_types.proofs.ListFacts.{Each-append, Each-both, Each-filter, Each-map, Each-passes, Each-weaker, find_passes}
+use Rattle.std.proofs.lemmas.Bool.{ne_eqb}
+use Rattle.jc_types.proofs.ListFacts.{Each-append, Each-map, Each-weaker}
 use Rattle.jc_types.specs.Keys.{same_uid}
 use Rattle.jc_types.specs.declared.numbers.Uid.{Uid}
-use Rattle.jc_types.specs.declared.numbers.Version.{Version}
 use Rattle.jc_types.specs.declared.objects.Entry.{Entry}
-use Rattle.jc_types.specs.declared.objects.Job.{Job}
-use Rattle.jc_types.specs.declared.objects.Pod.{Pod}
-use Rattle.jc_types.specs.declared.specifications.Mode.TheVariants.{Indexed}
 use Rattle.jc_types.specs.declared.statuses.JobStatus.{JobStatus}
-use Rattle.jc_states.specs.declared.bases.Basis.{Basis}
-use Rattle.jc_states.specs.Bases.{is_own, own_pods}
-use Rattle.jc_states.specs.Owners.{is_foreign}
-use Rattle.jc_states.specs.Pods.{is_active, is_tracked, is_tracked_active}
-use Rattle.jc_states.specs.PodLists.{IsRising}
-use Rattle.jc_states.specs.UidLists.{Ascends, AscendsFrom, is_in}
-use Rattle.jc_states.proofs.ObjectChangeFacts.{PodStep-itself}
-use Rattle.jc_states.proofs.PodListFacts.{pod_among, rises-found}
-use Rattle.jc_log.specs.Deeds.{Deed}
-use Rattle.jc_log.specs.Log.{Live, job_in, life, made_for, upto}
-use Rattle.jc_log.specs.Writes.{Stored}
-use Rattle.jc_log.proofs.LogFacts.{upto-all}
-use Rattle.jc_log.proofs.PlaceFacts.{job_in-entry}
-use Rattle.jc_log.proofs.WriteFacts.{Stored-from_legal}
-use Rattle.jc_ledger.specs.Tied.{Tied, made_as}
-use Rattle.jc_ledger.proofs.DueFacts.{Due as WasDue, seen_ended}
-use Rattle.jc_ledger.proofs.DuePods.{IsDue, due_from}
-use Rattle.jc_ledger.proofs.FrameFacts.{PodsHaveIndexes-now}
-use Rattle.jc_ledger.proofs.MadeFacts.{WasMade, job_in-was_made}
-use Rattle.jc_ledger.proofs.OwnFacts.{basis-rises}
-use Rattle.jc_ledger.proofs.PutFacts.{ties_of}
-use Rattle.jc_ledger.proofs.QuietFacts.{IfSome-at}
-use Rattle.jc_ledger.proofs.SeenFacts.{Saw, active_alive, saw}
-use Rattle.jc_plan.specs.Accounts.{counted_in}
-use Rattle.jc_plan.specs.Judged.{is_to_release}
-use Rattle.jc_plan.specs.LetGoes.{is_to_mark, let_goes, marks, seen, seen_uids}
-use Rattle.jc_plan.specs.SeenPods.{IsSeen}
+use Rattle.jc_states.specs.Pods.{is_active}
+use Rattle.jc_states.specs.UidLists.{Ascends, AscendsFrom}
+use Rattle.jc_plan.specs.LetGoes.{seen_uids}
 use Rattle.jc_plan.specs.declared.plans.Planned.{Planned}
-use Rattle.jc_plan.specs.Plans.{planned, planned_for}
-use Rattle.jc_plan.specs.Releases.{ReleasedPod, is_orphan}
-use Rattle.jc_plan.specs.Statuses.{accounted, decided_in, is_settled, wants_in}
-use Rattle.jc_plan.proofs.OneWay.{goes-seen}
-use Rattle.jc_plan.proofs.OrderFacts.{let_goes-ascend, marks-ascend, released-seen, releases-ascend}
-use Rattle.jc_plan.proofs.PartFacts.{planned-here}
 use Rattle.jc_sync.specs.Ask.{Ask}
-use Rattle.jc_sync.specs.Ask.TheVariants.{MakePod, MarkPod, LetPodGo, WriteFirst, ReleasePod, WriteSecond}
+use Rattle.jc_sync.specs.Ask.TheVariants.{MakePod, MarkPod, ReleasePod}
 use Rattle.jc_sync.specs.Asks.{asks_of, early_asks, first_asks, last_asks, late_asks, let_go_ask, second_asks}
 use Rattle.jc_sync.specs.Flight.{Flight}
-use Rattle.jc_sync.specs.Flights.{Flies}
-use Rattle.jc_sync.specs.Sends.{sent_first}
-use Rattle.jc_sync.proofs.SeenFacts.{in_middle}
 use Rattle.jc_granted.specs.Ready.{NoneTwice, AreReady, IsOther, IsReady, IsThere, JobIsAt, IsActiveAt, pod_asked}
 
 -- ---- requests of different pods

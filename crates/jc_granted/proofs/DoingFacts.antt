@@ -1,5 +1,5 @@
 -- What a sync does, request by request, until its plan is done.
-use Rattle.std.proofs.Common.{◌≡◌, ◌⊎◌, inl, inr, ℕ, ◌+◌, ◌≤◌, Bool, true, false, cond, List, [], ◌∷◌, ◌++◌, map, length, Option, Some, None, is_some, IfSome, refl, sym, ap, ◌∙◌, subst, arith, true≢false, append_assoc}
+use Rattle.std.proofs.Common.{◌≡◌, ◌⊎◌, inl, inr, ℕ, ◌+◌, ◌≤◌, Bool, true, false, cond, List, [], ◌∷◌, ◌++◌, map, length, Option, Some, None, is_some, refl, sym, ap, ◌∙◌, subst, arith, true≢false, append_assoc}
 use Rattle.std.specs.List.{AllByRecursion as Each}
 use Rattle.std.specs.Option.{unwrap_or}
 use Rattle.jc_types.proofs.ListFacts.{Each-weaker}
@@ -10,7 +10,6 @@ use Rattle.jc_types.specs.declared.objects.Job.{Job}
 use Rattle.jc_types.specs.declared.replies.Answer.{Answer}
 use Rattle.jc_types.specs.declared.replies.Answer.TheVariants as answer
 use Rattle.jc_types.specs.declared.statuses.JobStatus.{JobStatus}
-use Rattle.jc_states.specs.ObjectChanges.{PodStep}
 use Rattle.jc_states.specs.Pods.{is_marked}
 use Rattle.jc_states.specs.declared.bases.Basis.{Basis}
 use Rattle.jc_log.specs.Log.{Life, Never, Live, Gone, is_lost, job_in, life, made_for, upto}
@@ -31,7 +30,7 @@ use Rattle.jc_sync.specs.Flights.{Flies}
 use Rattle.jc_sync.specs.Places.{IfGoesOn, IsAt}
 use Rattle.jc_sync.specs.Steps.{SyncEnd, answered_to, as_answer, end_given, flight_after, next_unless, stepped_at}
 use Rattle.jc_sync.proofs.StepFacts.{after_basis}
-use Rattle.jc_granted.specs.Done.{ComesToSecond, HasItsPlan, HasStatus, IsAmong, IsDoing, is_marked_or_gone, makes, status_after}
+use Rattle.jc_granted.specs.Done.{HasItsPlan, HasStatus, IsAmong, IsDoing, is_marked_or_gone, makes, status_after}
 use Rattle.jc_granted.specs.Granted.{grants}
 use Rattle.jc_granted.specs.Ready.{AreReady}
 use Rattle.jc_granted.proofs.GrantFacts.{Counts, Does, counts-well, does-well, is-granted}

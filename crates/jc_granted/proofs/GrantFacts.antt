@@ -1,5 +1,5 @@
 -- A request that finds what it asks for is granted, and leaves those of other pods so.
-use Rattle.std.proofs.Common.{◌≡◌, ℕ, ◌+◌, ◌==◌, Bool, true, false, not, cond, ◌&&◌, List, [], ◌∷◌, Option, Some, None, is_some, refl, sym, ap, ◌∙◌, subst, eq-eqb, true≢false, IfSome, arith}
+use Rattle.std.proofs.Common.{◌≡◌, ℕ, ◌+◌, ◌==◌, Bool, true, false, not, cond, ◌&&◌, List, ◌∷◌, Option, Some, None, is_some, refl, sym, ap, ◌∙◌, subst, eq-eqb, true≢false, arith}
 use Rattle.std.specs.Option.{unwrap_or}
 use Rattle.std.specs.List.{AllByRecursion as Each}
 use Rattle.std.proofs.Math.Bool.{and-false}
@@ -12,9 +12,7 @@ use Rattle.jc_types.specs.declared.numbers.Version.{Version}
 use Rattle.jc_types.specs.declared.objects.Entry.{Entry}
 use Rattle.jc_types.specs.declared.objects.Entry.TheVariants.{JobPut, JobGone, PodPut, PodGone}
 use Rattle.jc_types.specs.declared.objects.Job.{Job}
-use Rattle.jc_types.specs.declared.objects.Key.{Key}
 use Rattle.jc_types.specs.declared.objects.Pod.{Pod}
-use Rattle.jc_types.specs.declared.replies.Reply.{Reply}
 use Rattle.jc_types.specs.declared.replies.Reply.TheVariants as reply
 use Rattle.jc_types.specs.declared.statuses.JobStatus.{JobStatus}
 use Rattle.jc_states.specs.declared.bases.Basis.{Basis}
@@ -24,7 +22,7 @@ use Rattle.jc_log.specs.Requests.{Answered, accepted, create_pod_gives, grown, l
 use Rattle.jc_log.specs.Writes.{Stored}
 use Rattle.jc_log.proofs.BirthFacts.{fresh_never}
 use Rattle.jc_log.proofs.WriteFacts.{job_in-key, life-uid}
-use Rattle.jc_ledger.specs.EventKinds.{pod_of, with_released}
+use Rattle.jc_ledger.specs.EventKinds.{pod_of}
 use Rattle.jc_plan.specs.Plans.{planned}
 use Rattle.jc_sync.specs.Ask.{Ask}
 use Rattle.jc_sync.specs.Ask.TheVariants.{MakePod, MarkPod, LetPodGo, WriteFirst, ReleasePod, WriteSecond}
@@ -39,7 +37,7 @@ use Rattle.jc_sync.proofs.ConflictFacts.{status_changes}
 use Rattle.jc_sync.proofs.EntryFacts.{pod_entry-pod}
 use Rattle.jc_sync.proofs.PlaceFacts.{IsFirstAsk, IsSecondAsk, at_first, at_second}
 use Rattle.jc_granted.specs.Done.{ComesToSecond, is_marked_or_gone, makes, status_after}
-use Rattle.jc_granted.specs.Ready.{NoneTwice, AreReady, Grants, IsOther, IsReady, IsThere, JobIsAt, IsActiveAt, StayReady, pod_asked}
+use Rattle.jc_granted.specs.Ready.{NoneTwice, AreReady, Grants, IsOther, IsReady, IsThere, JobIsAt, IsActiveAt, StayReady}
 
 -- ---- what a write of a pod leaves
 

@@ -1,6 +1,5 @@
 -- Along a settle: a sync that began in it has requests left that find what they ask for.
-use Rattle.std.proofs.Common.{◌≡◌, ◌⊎◌, inl, inr, ℕ, ◌-◌, ◌<◌, ◌==◌, ◌&&◌, Bool, true, false, cond, List, [], ◌∷◌, ◌++◌, length, Option, Some, None, is_some, refl, sym, ap, ◌∙◌, subst, arith, eq-eqb, true≢false}
-use Rattle.std.specs.List.{AllByRecursion as Each}
+use Rattle.std.proofs.Common.{◌≡◌, ◌⊎◌, inl, inr, ℕ, ◌-◌, ◌<◌, ◌&&◌, false, cond, List, [], ◌∷◌, ◌++◌, length, Some, None, is_some, refl, sym, ap, ◌∙◌, subst, arith, eq-eqb, true≢false}
 use Rattle.std.proofs.lemmas.Option.{none-some as none_some}
 use Rattle.jc_types.specs.declared.actions.SpecChange.{SpecChange}
 use Rattle.jc_types.specs.declared.objects.Entry.{Entry}
@@ -41,7 +40,7 @@ use Rattle.jc_runs.specs.Runs.{AllAskValid}
 use Rattle.jc_runs.specs.Teams.{registers_of}
 use Rattle.jc_runs.proofs.LegalRuns.{Machine, legal_run}
 use Rattle.jc_settle.specs.Comes.{AreUpToDate, Comes, NoSyncIsUnderWay, Lists, Delivers, Steps, Begins, Acts, Ticks}
-use Rattle.jc_settle.specs.Serial.{IsAlone, IsOldOrAlone, IsSettling, NoneBegan, RunsAlone, is_begin_of_any}
+use Rattle.jc_settle.specs.Serial.{IsOldOrAlone, IsSettling, NoneBegan, RunsAlone, is_begin_of_any}
 use Rattle.jc_settle.proofs.ComesFacts.{first-comes}
 use Rattle.jc_settle.proofs.SerialFacts.{begun-nothing, first-of-act, listed-nothing, only, register-kept, reply-is, serial, told-nothing}
 use Rattle.jc_granted.specs.Done.{HasItsPlan, IsDoing}

@@ -1,10 +1,9 @@
 -- A step of such a sync: its request is granted, and it goes on with what finds what it asks for.
-use Rattle.std.proofs.Common.{◌≡◌, ℕ, ◌+◌, ◌<◌, ◌==◌, Bool, true, false, cond, List, [], ◌∷◌, ◌++◌, length, Option, Some, None, is_some, refl, sym, ap, ◌∙◌, subst, arith, eq-eqb, true≢false}
+use Rattle.std.proofs.Common.{◌≡◌, ℕ, ◌+◌, ◌<◌, Bool, true, false, cond, List, [], ◌∷◌, ◌++◌, length, Option, Some, None, is_some, refl, sym, ap, ◌∙◌, subst, arith, eq-eqb, true≢false}
 use Rattle.std.specs.Option.{option_map, option_or, option_to_list, unwrap_or}
 use Rattle.jc_types.specs.declared.actions.Fault.{Fault}
 use Rattle.jc_types.specs.declared.actions.Fault.TheVariants.{Drop, Lose}
 use Rattle.jc_types.specs.declared.objects.Entry.{Entry}
-use Rattle.jc_types.specs.declared.replies.Answer.{Answer}
 use Rattle.jc_types.specs.declared.replies.Answer.TheVariants as answer
 use Rattle.jc_types.specs.declared.replies.Reply.{Reply}
 use Rattle.jc_types.specs.declared.replies.Reply.TheVariants as reply
@@ -25,16 +24,16 @@ use Rattle.jc_sync.specs.Ask.{Ask}
 use Rattle.jc_sync.specs.Asks.{as_request}
 use Rattle.jc_sync.specs.Places.{IfGoesOn, IsAt}
 use Rattle.jc_sync.specs.Quiet.{GoesOnTo}
-use Rattle.jc_sync.specs.Registers.{HasSyncs, IsRegister, put_at, register_at, register_of}
+use Rattle.jc_sync.specs.Registers.{HasSyncs, put_at, register_at, register_of}
 use Rattle.jc_sync.specs.Steps.{Ends, GoesOn, Next, Sync, answered_to, as_answer, stepped_at}
 use Rattle.jc_sync.proofs.RegisterFacts.{step_basis, step_syncs}
-use Rattle.jc_runs.specs.Teams.{Team, registers_of, stride_at}
+use Rattle.jc_runs.specs.Teams.{registers_of}
 use Rattle.jc_runs.proofs.LegalRuns.{Given, Machine, given}
 use Rattle.jc_runs.proofs.QuietSteps.{put-same}
 use Rattle.jc_runs.proofs.StepRuns.{step_gives-at}
 use Rattle.jc_granted.specs.Done.{HasItsPlan, IsDoing}
 use Rattle.jc_granted.specs.Granted.{Granted, IsGranted, NoneLeft}
-use Rattle.jc_granted.specs.Ready.{AreReady, Grants, StayReady}
+use Rattle.jc_granted.specs.Ready.{AreReady, Grants}
 use Rattle.jc_granted.proofs.DoingFacts.{done-all, step-doing}
 use Rattle.jc_granted.proofs.GrantFacts.{is-granted, stays-ready}
 use Rattle.jc_granted.proofs.UnderWay.{IsGoing, IsUnderWay, going-doing, going-ready, under-way}

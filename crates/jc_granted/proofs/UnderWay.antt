@@ -17,7 +17,6 @@ use Rattle.jc_ledger.proofs.FrameFacts.{AllFly-one}
 use Rattle.jc_plan.specs.Plans.{planned}
 use Rattle.jc_plan.specs.declared.plans.Planned.{Planned}
 use Rattle.jc_sync.specs.Ask.{Ask}
-use Rattle.jc_sync.specs.Flight.{Flight}
 use Rattle.jc_sync.specs.Flights.{Flies}
 use Rattle.jc_sync.specs.Leftovers.{IsLeftBy}
 use Rattle.jc_sync.specs.Readings.{gone_in, requests, steps_of}
