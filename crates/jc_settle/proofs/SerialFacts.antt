@@ -111,18 +111,18 @@ used (Some x) e = (x, refl)
 
 -- ---- what is first
 
-first-of-act : (act : Act) (events : List Sys) → IsFirst act events → (x : Sys) × (first_event events ≡ Some (event.System x)) × (act_of_system x ≡ act)
+pub first-of-act : (act : Act) (events : List Sys) → IsFirst act events → (x : Sys) × (first_event events ≡ Some (event.System x)) × (act_of_system x ≡ act)
 first-of-act act [] h = absurd h
 first-of-act act (x ∷ xs) h = (x, refl, h)
 
 -- ---- deeds that write nothing
 
 module _ (shape : Shape) (past : List Deed) (d : Deed) where
-  listed-nothing : (c : ℕ) (kind : Kind) → d.act ≡ does.List c kind → AppendsNothing shape past d
+  pub listed-nothing : (c : ℕ) (kind : Kind) → d.act ≡ does.List c kind → AppendsNothing shape past d
   unfolding log_given gives
   listed-nothing c kind a = ap (λ act. grown (log_given shape past) (gives shape past (log_given shape past) act).entry) a
 
-  told-nothing : (c : ℕ) (kind : Kind) → d.act ≡ does.Deliver c kind → AppendsNothing shape past d
+  pub told-nothing : (c : ℕ) (kind : Kind) → d.act ≡ does.Deliver c kind → AppendsNothing shape past d
   unfolding log_given gives
   told-nothing c kind a = ap (λ act. grown (log_given shape past) (gives shape past (log_given shape past) act).entry) a ∙ by (number kind (diary shape c past))
     where
@@ -140,7 +140,7 @@ module _ (shape : Shape) (past : List Deed) (d : Deed) where
     unfolding gives
     begun-gives = ap (gives shape past (log_given shape past)) a ∙ ap (λ o. begin_gives o (begin_now shape c past)) free
 
-    begun-nothing : AppendsNothing shape past d
+    pub begun-nothing : AppendsNothing shape past d
     unfolding log_given
     begun-nothing = ap (λ (x : Answered). grown (log_given shape past) x.entry) begun-gives
 
@@ -154,7 +154,7 @@ module _ (shape : Shape) (past : List Deed) (legal : IsLegal shape past) (d : De
   abbrev new : ℕ → Basis
   new e = basis_of (diary shape e past) log (moment shape past) k (log_end log) (log_end log)
 
-  reply-is : d.reply ≡ reply.Begun k (log_end log) (log_end log)
+  pub reply-is : d.reply ≡ reply.Begun k (log_end log) (log_end log)
   reply-is =
       next.reply ∙ ap (λ (x : Answered). x.reply) (begun-gives shape past d c w a (free c lt w less))
       ∙ ap reply_of_begin (end-begins shape c past legal (up c lt) (moment shape past) k rest first)
@@ -165,7 +165,7 @@ module _ (shape : Shape) (past : List Deed) (legal : IsLegal shape past) (d : De
       ∙ (λ i. cond (restarts e (a i)) [] (notes_taken e (a i) (reply-is i) (moment shape past) (begun-nothing shape past d c w a (free c lt w less) i) (diary shape e past) ++ diary shape e past))
 
   -- It is the only sync that is under way then.
-  only : (e v : ℕ) (b : Basis) → e < shape.controllers → v < shape.workers → register v (diary shape e (d ∷ past)) ≡ Some b → (c ≡ e) × (w ≡ v) × (new e ≡ b)
+  pub only : (e v : ℕ) (b : Basis) → e < shape.controllers → v < shape.workers → register v (diary shape e (d ∷ past)) ≡ Some b → (c ≡ e) × (w ≡ v) × (new e ≡ b)
   only e v b lt' less' r = by (c == e) refl (sym (ap (register v) (notes-are e)) ∙ r)
     where
       by : (t : Bool) → (c == e) ≡ t → register v (cond t (Began w (new e) ∷ []) [] ++ diary shape e past) ≡ Some b → (c ≡ e) × (w ≡ v) × (new e ≡ b)

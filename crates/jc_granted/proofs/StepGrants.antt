@@ -1,0 +1,175 @@
+-- A step of such a sync: its request is granted, and it goes on with what finds what it asks for.
+use Rattle.std.proofs.Common.{◌≡◌, ℕ, ◌+◌, ◌<◌, Bool, true, false, cond, List, [], ◌∷◌, ◌++◌, length, Option, Some, None, is_some, refl, sym, ap, ◌∙◌, subst, arith, eq-eqb, true≢false}
+use Rattle.std.specs.Option.{option_map, option_or, option_to_list, unwrap_or}
+use Rattle.jc_types.specs.declared.actions.Fault.{Fault}
+use Rattle.jc_types.specs.declared.actions.Fault.TheVariants.{Drop, Lose}
+use Rattle.jc_types.specs.declared.objects.Entry.{Entry}
+use Rattle.jc_types.specs.declared.replies.Answer.TheVariants as answer
+use Rattle.jc_types.specs.declared.replies.Reply.{Reply}
+use Rattle.jc_types.specs.declared.replies.Reply.TheVariants as reply
+use Rattle.jc_types.specs.declared.runs.Shape.{Shape}
+use Rattle.jc_states.specs.declared.bases.Basis.{Basis}
+use Rattle.jc_log.specs.Acts as does
+use Rattle.jc_log.specs.Deeds.{Deed}
+use Rattle.jc_log.specs.Requests.{grown}
+use Rattle.jc_log.specs.Writes.{Stored}
+use Rattle.jc_log.proofs.WriteFacts.{Stored-from_legal}
+use Rattle.jc_history.specs.Diaries.{end_by, moment, notes, notes_taken, on_step, restarts}
+use Rattle.jc_history.specs.Legal.{IsLegal, IsLegalNext}
+use Rattle.jc_history.specs.Notes.{Note, Asked, Ended, newest}
+use Rattle.jc_history.specs.Registers.{asks_status, pending, register, register_told}
+use Rattle.jc_history.specs.Replies.{diary, log_given}
+use Rattle.jc_history.proofs.LegalFacts.{notes-next}
+use Rattle.jc_sync.specs.Ask.{Ask}
+use Rattle.jc_sync.specs.Asks.{as_request}
+use Rattle.jc_sync.specs.Places.{IfGoesOn, IsAt}
+use Rattle.jc_sync.specs.Quiet.{GoesOnTo}
+use Rattle.jc_sync.specs.Registers.{HasSyncs, put_at, register_at, register_of}
+use Rattle.jc_sync.specs.Steps.{Ends, GoesOn, Next, Sync, answered_to, as_answer, stepped_at}
+use Rattle.jc_sync.proofs.RegisterFacts.{step_basis, step_syncs}
+use Rattle.jc_runs.specs.Teams.{registers_of}
+use Rattle.jc_runs.proofs.LegalRuns.{Given, Machine, given}
+use Rattle.jc_runs.proofs.QuietSteps.{put-same}
+use Rattle.jc_runs.proofs.StepRuns.{step_gives-at}
+use Rattle.jc_granted.specs.Done.{HasItsPlan, IsDoing}
+use Rattle.jc_granted.specs.Granted.{Granted, IsGranted, NoneLeft}
+use Rattle.jc_granted.specs.Ready.{AreReady, Grants}
+use Rattle.jc_granted.proofs.DoingFacts.{done-all, step-doing}
+use Rattle.jc_granted.proofs.GrantFacts.{is-granted, stays-ready}
+use Rattle.jc_granted.proofs.UnderWay.{IsGoing, IsUnderWay, going-doing, going-ready, under-way}
+
+module _ (shape : Shape) (past : List Deed) (d : Deed) (before : IsLegal shape past) (legal : IsLegalNext shape past d) (m : Machine shape past) (c w : ℕ) (basis : Basis) (act : d.act ≡ does.Step c w)
+    (lt : c < shape.controllers) (less : w < shape.workers) (begun : register w (diary shape c past) ≡ Some basis) (h : IsGoing shape c w basis past) where
+  its : IsUnderWay shape past m c w basis
+  its = under-way shape past m c w basis lt less begun
+
+  stored : Stored m.log
+  stored = Stored-from_legal m.log m.run.syncs.tied.legal
+
+  gave : (left : List Ask) → its.sync.left ≡ left → (fault : Option Fault) → its.fault ≡ fault
+      → Given shape past d legal m (record { reply = (stepped_at m.now fault m.log its.sync.flight left).reply; entry = (stepped_at m.now fault m.log its.sync.flight left).entry })
+  gave left is fault fault-is =
+      given shape past d legal m (does.Step c w) (record { reply = (stepped_at m.now fault m.log its.sync.flight left).reply; entry = (stepped_at m.now fault m.log its.sync.flight left).entry }) act
+      (step_gives-at shape past m.log m.teams m.fates m.now m.run c its.team its.there w its.fault its.fault_is (Some its.sync) its.mine
+      ∙ (λ i. record { reply = (stepped_at m.now (fault-is i) m.log its.sync.flight (is i)).reply; entry = (stepped_at m.now (fault-is i) m.log its.sync.flight (is i)).entry }))
+
+  ready : (left : List Ask) → its.sync.left ≡ left → AreReady m.log its.sync.flight left
+  ready left is = subst (λ l. AreReady m.log its.sync.flight l) is (subst (λ log. AreReady log its.sync.flight its.sync.left) (sym m.run.log_is) (going-ready shape c w basis past its.sync its.of_basis its.known h))
+
+  doing : (left : List Ask) → its.sync.left ≡ left → IsDoing m.log its.sync.flight.basis left
+  doing left is = subst (λ l. IsDoing m.log its.sync.flight.basis l) is (subst (λ log. IsDoing log its.sync.flight.basis its.sync.left) (sym m.run.log_is) (going-doing shape c w basis past its.sync its.of_basis its.known h))
+
+  longer : (log new : List Entry) (o : Option Entry) → is_some o ≡ true → new ≡ grown log o → length new ≡ length log + 1
+  longer log new None some e = absurd (true≢false (sym some))
+  longer log new (Some entry) some e = let same = ap (λ (l : List Entry). length l) e in omega (arith, same)
+
+  -- ---- without a fault the request is granted
+
+  module _ (fine : its.fault ≡ None) where
+    at-ask : (ask : Ask) (left : List Ask) → its.sync.left ≡ ask ∷ left → IsGranted shape past d
+    at-ask ask left is =
+        Granted (as_request ask) (as_answer (answered_to m.log m.now its.sync.flight ask).reply) g.told grants.granted
+        (longer (log_given shape past) (log_given shape (d ∷ past)) (answered_to m.log m.now its.sync.flight ask).entry grants.appends
+        (g.grew ∙ ap (λ log. grown log (answered_to m.log m.now its.sync.flight ask).entry) m.run.log_is))
+      where
+        g : Given shape past d legal m (record { reply = (stepped_at m.now None m.log its.sync.flight (ask ∷ left)).reply; entry = (stepped_at m.now None m.log its.sync.flight (ask ∷ left)).entry })
+        g = gave (ask ∷ left) is None fine
+
+        grants : Grants (as_request ask) (answered_to m.log m.now its.sync.flight ask)
+        grants = is-granted m.log m.now its.sync.flight stored its.flies ask left (subst (IsAt its.sync.flight) is its.known.at) (ready (ask ∷ left) is)
+
+    granted : IsGranted shape past d
+    granted = by its.sync.left refl
+      where
+        by : (left : List Ask) → its.sync.left ≡ left → IsGranted shape past d
+        by [] is = NoneLeft (gave [] is None fine).told
+        by (ask ∷ left) is = at-ask ask left is
+
+  pub step-granted : pending w (diary shape c past) ≡ None → IsGranted shape past d
+  step-granted none = granted (sym ((m.run.each c its.team its.there).workers.faults w its.fault its.fault_is) ∙ ap (λ log. pending w (notes shape c past log)) m.run.log_is ∙ none)
+
+  -- ---- where it ends all is done
+
+  abbrev is_ended : Reply → Bool
+  is_ended reply.Ended = true
+  is_ended other = false
+
+  pub step-ended : d.reply ≡ reply.Ended → HasItsPlan (log_given shape past) basis
+  step-ended ended = by its.sync.left refl its.fault refl
+    where
+      told-else : (r : Reply) → is_ended r ≡ false → d.reply ≡ r → ⊥
+      told-else r not told = true≢false (sym (ap is_ended ended) ∙ ap is_ended told ∙ not)
+
+      by : (left : List Ask) → its.sync.left ≡ left → (fault : Option Fault) → its.fault ≡ fault → HasItsPlan (log_given shape past) basis
+      by [] is fault fault-is = subst (λ b. HasItsPlan (log_given shape past) b) its.of_basis (subst (λ log. HasItsPlan log its.sync.flight.basis) m.run.log_is (done-all m.log its.sync.flight.basis (doing [] is)))
+      by (ask ∷ left) is None fault-is = absurd (told-else _ refl (gave (ask ∷ left) is None fault-is).told)
+      by (ask ∷ left) is (Some Drop) fault-is = absurd (told-else _ refl (gave (ask ∷ left) is (Some Drop) fault-is).told)
+      by (ask ∷ left) is (Some Lose) fault-is = absurd (told-else _ refl (gave (ask ∷ left) is (Some Lose) fault-is).told)
+
+  -- ---- where the sync is still under way it goes on so
+
+  module _ (still : register w (diary shape c (d ∷ past)) ≡ Some basis) (stays : Stored (log_given shape (d ∷ past))) where
+    notes-are : (r : Reply) → d.reply ≡ r → diary shape c (d ∷ past) ≡ on_step w (moment shape past) (Some basis) r ++ diary shape c past
+    notes-are r told =
+        notes-next shape c past d before
+        ∙ (λ i. cond (restarts c (act i)) [] (notes_taken c (act i) (told i) (moment shape past) (log_given shape (d ∷ past)) (diary shape c past) ++ diary shape c past))
+        ∙ (λ i. cond (eq-eqb c c refl i) (on_step w (moment shape past) (begun i) r) [] ++ diary shape c past)
+
+    -- An end frees the register.
+    not-free : is_some (register w (diary shape c (d ∷ past))) ≡ false → ⊥
+    not-free free = true≢false (sym (ap is_some still) ∙ free)
+
+    no-end : d.reply ≡ reply.Ended → ⊥
+    no-end told =
+        not-free
+        (ap (λ some. is_some (register w some)) (notes-are reply.Ended told)
+        ∙ ap (λ b. is_some (unwrap_or (option_or (cond b (Some None) None) (newest (register_told w) (diary shape c past))) None)) (eq-eqb w w refl))
+
+    no-fault : (ask : Ask) → d.reply ≡ reply.Stepped (as_request ask) answer.Unavailable → ⊥
+    no-fault ask told = by (asks_status (as_request ask)) (ap (λ some. is_some (register w some)) (notes-are (reply.Stepped (as_request ask) answer.Unavailable) told))
+      where
+        behind : List Note
+        behind = Asked w basis (as_request ask) answer.Unavailable ∷ diary shape c past
+
+        by : (b : Bool)
+            → is_some (register w (diary shape c (d ∷ past)))
+            ≡ is_some (register w ((option_to_list (option_map (λ end. Ended w basis end (moment shape past)) (end_by b answer.Unavailable)) ++ Asked w basis (as_request ask) answer.Unavailable ∷ []) ++ diary shape c past)) → ⊥
+        by true e = not-free (e ∙ ap (λ b. is_some (unwrap_or (option_or (cond b (Some None) None) (newest (register_told w) behind)) None)) (eq-eqb w w refl))
+        by false e = not-free (e ∙ ap (λ b. is_some (unwrap_or (option_or (cond b (Some None) None) (newest (register_told w) behind)) None)) (eq-eqb w w refl))
+
+    goes-to : (entry : Option Entry) (next : Next) → log_given shape (d ∷ past) ≡ grown m.log entry → GoesOnTo next (λ s. AreReady (grown m.log entry) s.flight s.left) → IfGoesOn next (λ s. s.flight.basis ≡ its.sync.flight.basis) → IfGoesOn next (λ s. IsDoing (grown m.log entry) s.flight.basis s.left)
+        → HasSyncs (d ∷ past) (grown m.log entry) (put_at c w (register_of next) (registers_of m.teams)) → IsGoing shape c w basis (d ∷ past)
+    goes-to entry (Ends end) grew ready same doing has = absurd ready
+    goes-to entry (GoesOn s) grew ready same doing has =
+        let known = has.each c w s (put-same c w (Some its.sync) (Some s) (registers_of m.teams) its.in_register) in
+        record {
+          sync = s;
+          of_basis = same ∙ its.of_basis;
+          reads = known.reads;
+          sends = known.sends;
+          ready = subst (λ log. AreReady log s.flight s.left) (sym grew) ready;
+          doing = subst (λ log. IsDoing log s.flight.basis s.left) (sym grew) doing;
+        }
+
+    pub further : IsGoing shape c w basis (d ∷ past)
+    further = by its.sync.left refl its.fault refl
+      where
+        by : (left : List Ask) → its.sync.left ≡ left → (fault : Option Fault) → its.fault ≡ fault → IsGoing shape c w basis (d ∷ past)
+        by [] is fault fault-is = absurd (no-end (gave [] is fault fault-is).told)
+        by (ask ∷ left) is (Some Drop) fault-is = absurd (no-fault ask (gave (ask ∷ left) is (Some Drop) fault-is).told)
+        by (ask ∷ left) is (Some Lose) fault-is = absurd (no-fault ask (gave (ask ∷ left) is (Some Lose) fault-is).told)
+        by (ask ∷ left) is None fault-is =
+            goes-to (stepped_at m.now None m.log its.sync.flight (ask ∷ left)).entry (stepped_at m.now None m.log its.sync.flight (ask ∷ left)).next g.grew
+            (stays-ready m.log m.now its.sync.flight stored its.flies ask left (subst (IsAt its.sync.flight) is its.known.at) (ready (ask ∷ left) is))
+            (step_basis m.now None m.log its.sync.flight (ask ∷ left))
+            (step-doing m.log m.now its.sync.flight stored its.flies ask left (subst (IsAt its.sync.flight) is its.known.at) (ready (ask ∷ left) is) its.flies.basis.pods_at (subst Stored g.grew stays) (doing (ask ∷ left) is))
+            (step_syncs d past m.log (registers_of m.teams) c w m.now None sync-now m.run.syncs in-register act g.told g.long (subst Stored g.grew stays))
+          where
+            g : Given shape past d legal m (record { reply = (stepped_at m.now None m.log its.sync.flight (ask ∷ left)).reply; entry = (stepped_at m.now None m.log its.sync.flight (ask ∷ left)).entry })
+            g = gave (ask ∷ left) is None fault-is
+
+            sync-now : Sync
+            sync-now = record { flight = its.sync.flight; left = ask ∷ left }
+
+            in-register : register_at c w (registers_of m.teams) ≡ Some (Some (record { flight = its.sync.flight; left = ask ∷ left }))
+            in-register = its.in_register ∙ (λ i. Some (Some (record { flight = its.sync.flight; left = is i })))
