@@ -1,22 +1,24 @@
 -- What a sync does, request by request, until its plan is done.
-use Rattle.std.proofs.Common.{◌≡◌, ◌⊎◌, inl, inr, ℕ, ◌+◌, ◌≤◌, Bool, true, false, cond, List, [], ◌∷◌, ◌++◌, map, length, Option, Some, None, is_some, refl, sym, ap, ◌∙◌, subst, arith, true≢false, append_assoc}
+use Rattle.std.proofs.Common.{◌≡◌, ◌⊎◌, inl, inr, ℕ, ◌+◌, ◌≤◌, Bool, true, false, cond, List, [], ◌∷◌, ◌++◌, map, length, Option, Some, None, is_some, IfSome, refl, sym, ap, ◌∙◌, subst, arith, true≢false, append_assoc}
 use Rattle.std.specs.List.{AllByRecursion as Each}
 use Rattle.std.specs.Option.{unwrap_or}
+use Rattle.jc_types.proofs.KeyFacts.{same_uid-either_way}
 use Rattle.jc_types.proofs.ListFacts.{Each-weaker}
+use Rattle.jc_types.specs.Keys.{same_uid}
 use Rattle.jc_types.specs.declared.numbers.Uid.{Uid}
 use Rattle.jc_types.specs.declared.numbers.Version.{Version}
 use Rattle.jc_types.specs.declared.objects.Entry.{Entry}
 use Rattle.jc_types.specs.declared.objects.Job.{Job}
+use Rattle.jc_types.specs.declared.objects.Pod.{Pod}
 use Rattle.jc_types.specs.declared.replies.Answer.{Answer}
 use Rattle.jc_types.specs.declared.replies.Answer.TheVariants as answer
 use Rattle.jc_types.specs.declared.statuses.JobStatus.{JobStatus}
-use Rattle.jc_states.specs.Pods.{is_marked}
 use Rattle.jc_states.specs.declared.bases.Basis.{Basis}
-use Rattle.jc_log.specs.Log.{Life, Never, Live, Gone, is_lost, job_in, life, made_for, upto}
+use Rattle.jc_log.specs.Log.{is_lost, job_in, life, living, made_for, upto}
 use Rattle.jc_log.specs.Requests.{grown}
 use Rattle.jc_log.specs.Writes.{Stored}
 use Rattle.jc_log.proofs.LogFacts.{upto-all, upto-fixed}
-use Rattle.jc_log.proofs.WriteFacts.{Kept, kept_entry, lost_entry}
+use Rattle.jc_log.proofs.WriteFacts.{lost_entry}
 use Rattle.jc_ledger.proofs.QuietFacts.{IfSome-of}
 use Rattle.jc_plan.specs.Plans.{last_status, planned}
 use Rattle.jc_plan.specs.Statuses.{second_value}
@@ -30,10 +32,10 @@ use Rattle.jc_sync.specs.Flights.{Flies}
 use Rattle.jc_sync.specs.Places.{IfGoesOn, IsAt}
 use Rattle.jc_sync.specs.Steps.{SyncEnd, answered_to, as_answer, end_given, flight_after, next_unless, stepped_at}
 use Rattle.jc_sync.proofs.StepFacts.{after_basis}
-use Rattle.jc_granted.specs.Done.{HasItsPlan, HasStatus, IsAmong, IsDoing, is_marked_or_gone, makes, status_after}
+use Rattle.jc_granted.specs.Done.{HasItsPlan, HasStatus, IsAmong, IsDoing, IsDoneOrLeft, IsMarked, IsStopped, IsUntracked, makes, status_after}
 use Rattle.jc_granted.specs.Granted.{grants}
-use Rattle.jc_granted.specs.Ready.{AreReady}
-use Rattle.jc_granted.proofs.GrantFacts.{Counts, Does, counts-well, does-well, is-granted}
+use Rattle.jc_granted.specs.Ready.{AreReady, IsOther, IsThere, NoneTwice, pod_asked}
+use Rattle.jc_granted.proofs.GrantFacts.{Counts, Does, DoesTo, Marks, counts-well, does-well, is-granted}
 
 -- ---- requests among others
 
@@ -60,48 +62,63 @@ each-among : {X : Type 0} (f : X → Ask) (xs : List X) → Each (λ x. IsAmong 
 each-among f [] = tt
 each-among f (x ∷ xs) = (inl refl, Each-weaker (λ y. IsAmong (f y) (map f xs)) (λ y. IsAmong (f y) (f x ∷ map f xs)) (λ y h. inr h) xs (each-among f xs))
 
--- ---- what lasts
+-- What holds of each holds of one that is among them.
+each-at : (P : Ask → Type 0) (ask : Ask) (left : List Ask) → IsAmong ask left → Each P left → P ask
+each-at P ask [] h all = absurd h
+each-at P ask (x ∷ left) (inl is) all = subst P is all.0
+each-at P ask (x ∷ left) (inr h) all = each-at P ask left h all.1
 
--- A pod that is marked or gone stays so.
-as-kept : (l : Life) → is_marked_or_gone l ≡ true → Kept (λ pod. is_marked pod ≡ true) l
-as-kept Never h = absurd (true≢false (sym h))
-as-kept (Live pod) h = h
-as-kept Gone h = tt
-
-from-kept : (l : Life) → Kept (λ pod. is_marked pod ≡ true) l → is_marked_or_gone l ≡ true
-from-kept Never h = absurd h
-from-kept (Live pod) h = h
-from-kept Gone h = refl
-
-marked-stays : (u : Uid) (e : Entry) (log : List Entry) → Stored (e ∷ log) → is_marked_or_gone (life u log) ≡ true → is_marked_or_gone (life u (e ∷ log)) ≡ true
-marked-stays u e log stored h =
-    from-kept (life u (e ∷ log))
-    (kept_entry (λ pod. is_marked pod ≡ true) (λ old new step m. ap is_some (step.marked m) ∙ m) u e log stored.0 (as-kept (life u log) h))
+-- The mark behind a let-go is about no other pod.
+others-left : (u : Uid) (a : Ask) (b : Bool) (left : List Ask) → Each (IsOther u) (a ∷ left) → Each (IsOther u) (left_when a b left)
+others-left u (LetPodGo v version) true left all = (all.0, all.1)
+others-left u (LetPodGo v version) false left all = all.1
+others-left u (MakePod index) b left all = all.1
+others-left u (MarkPod v) b left all = all.1
+others-left u WriteFirst b left all = all.1
+others-left u (ReleasePod v) b left all = all.1
+others-left u WriteSecond b left all = all.1
 
 -- ---- a step
 
-module _ (log : List Entry) (basis : Basis) (a : Ask) (left : List Ask) (given : Answer) (e : Entry) (stored : Stored (e ∷ log)) (granted : grants (as_request a) given ≡ true)
-    (does : Does (e ∷ log) a) (counts : (job : Job) → basis.job ≡ Some job → Counts log (e ∷ log) basis (a ∷ left) (asks_after a given left) job) (seen : basis.pods_at.0 ≤ length log) where
+module _ (log : List Entry) (basis : Basis) (a : Ask) (left : List Ask) (given : Answer) (e : Entry) (stored : Stored (e ∷ log)) (granted : grants (as_request a) given ≡ true) (apart : NoneTwice (a ∷ left))
+    (does : Does log (e ∷ log) a) (counts : (job : Job) → basis.job ≡ Some job → Counts log (e ∷ log) basis (a ∷ left) (asks_after a given left) job) (seen : basis.pods_at.0 ≤ length log) where
   abbrev next : List Ask
   next = asks_after a given left
-
-  lost : (u : Uid) → is_lost (life u log) ≡ true → is_lost (life u (e ∷ log)) ≡ true
-  lost u h = lost_entry u e log stored.0 h
-
-  marked : (u : Uid) → is_marked_or_gone (life u log) ≡ true → is_marked_or_gone (life u (e ∷ log)) ≡ true
-  marked u h = marked-stays u e log stored h
 
   still : (ask : Ask) → IsAmong ask left → IsAmong ask next
   still ask h = among-left a (is_gone given) ask left h
 
-  -- A mark.
-  mark-next : (u : Uid) → IsAmong (MarkPod u) (a ∷ left) → (is_marked_or_gone (life u (e ∷ log)) ≡ true) ⊎ IsAmong (MarkPod u) next
-  mark-next u (inl is) = inl (subst (Does (e ∷ log)) is does)
-  mark-next u (inr h) = inr (still (MarkPod u) h)
+  -- Another pod that is there stays.
+  there-still : (P : Pod → Type 0) (u : Uid) → IsOther u a → IsThere P u log → IsThere P u (e ∷ log)
+  there-still P u other h = record { pod = h.pod; there = does.others u h.pod h.there other; has = h.has }
 
-  one-mark : (u : Uid) → (is_marked_or_gone (life u log) ≡ true) ⊎ IsAmong (MarkPod u) (a ∷ left) → (is_marked_or_gone (life u (e ∷ log)) ≡ true) ⊎ IsAmong (MarkPod u) next
-  one-mark u (inl done) = inl (marked u done)
-  one-mark u (inr h) = mark-next u h
+  -- A request of which another is left is not about its pod.
+  apart-from : (u : Uid) → IsAmong (MarkPod u) left → IsOther u a
+  apart-from u h = by (pod_asked a) apart.0
+    where
+      by : (o : Option Uid) → IfSome o (λ v. Each (IsOther v) left) → IfSome o (λ v. same_uid u v ≡ false)
+      by None all = tt
+      by (Some v) all = same_uid-either_way u v ∙ each-at (IsOther v) (MarkPod u) left h all
+
+  -- What was done stays done.
+  done-still : (P : Pod → Type 0) (u : Uid) → IsThere P u log × Each (IsOther u) (a ∷ left) → IsThere P u (e ∷ log) × Each (IsOther u) next
+  done-still P u h = (there-still P u h.1.0 h.0, others-left u a (is_gone given) left h.1)
+
+  -- A mark is put.
+  others-behind : (u : Uid) → a ≡ MarkPod u → Each (IsOther u) next
+  others-behind u is =
+      subst (λ x. Each (IsOther u) (asks_after x given left)) (sym is)
+      (subst (λ x. IfSome (pod_asked x) (λ v. Each (IsOther v) left)) is apart.0)
+
+  marks-now : (u : Uid) → a ≡ MarkPod u → Marks log (e ∷ log) u
+  marks-now u is = subst (DoesTo log (e ∷ log)) is does.own
+
+  one-mark : (u : Uid) → IsDoneOrLeft IsMarked u log (a ∷ left) (MarkPod u) → IsDoneOrLeft IsMarked u (e ∷ log) next (MarkPod u)
+  one-mark u (inl done) = inl (done-still IsMarked u done)
+  one-mark u (inr (inl is)) =
+      let m = marks-now u is in
+      inl (record { pod = m.now.pod; there = m.now.there; has = m.now.has.marked }, others-behind u is)
+  one-mark u (inr (inr h)) = inr (still (MarkPod u) h)
 
   -- A let-go, and the mark behind it.
   behind : (u : Uid) (version : Version) → a ≡ LetPodGo u version → IsAmong (MarkPod u) next
@@ -114,24 +131,39 @@ module _ (log : List Entry) (basis : Basis) (a : Ask) (left : List Ask) (given :
       by : (g : Answer) → grants (as_request (LetPodGo u version)) g ≡ true → IsAmong (MarkPod u) (asks_after (LetPodGo u version) g left)
       by g h = subst (λ b. IsAmong (MarkPod u) (cond b (MarkPod u ∷ left) left)) (sym (gone g h)) (inl refl)
 
+  -- A pod that has lost its finalizer is marked.
+  stopped : (u : Uid) → a ≡ MarkPod u → IsThere IsUntracked u log → IsThere IsStopped u (e ∷ log)
+  stopped u is h =
+      let m = marks-now u is in
+      record {
+        pod = m.now.pod;
+        there = m.now.there;
+        has = record { marked = m.now.has.marked; untracked = m.now.has.tracked ∙ ap (λ (o : Option Pod). (unwrap_or o m.old).tracked) (ap living (sym m.was ∙ h.there)) ∙ h.has };
+      }
+
   abbrev LetGo : List Entry → List Ask → Uid × Version → Type 0
-  LetGo l some row = ((is_lost (life row.0 l) ≡ true) × ((is_marked_or_gone (life row.0 l) ≡ true) ⊎ IsAmong (MarkPod row.0) some)) ⊎ IsAmong (LetPodGo row.0 row.1) some
+  LetGo l some row = IsDoneOrLeft IsStopped row.0 l some (LetPodGo row.0 row.1) ⊎ (IsThere IsUntracked row.0 l × IsAmong (MarkPod row.0) some)
+
+  marked-behind : (u : Uid) (version : Version) → IsThere IsUntracked u log → IsAmong (MarkPod u) (a ∷ left) → LetGo (e ∷ log) next (u, version)
+  marked-behind u version there (inl is) = inl (inl (stopped u is there, others-behind u is))
+  marked-behind u version there (inr h) = inr (there-still IsUntracked u (apart-from u h) there, still (MarkPod u) h)
 
   one-let_go : (row : Uid × Version) → LetGo log (a ∷ left) row → LetGo (e ∷ log) next row
-  one-let_go row (inl h) = inl (lost row.0 h.0, one-mark row.0 h.1)
-  one-let_go row (inr (inl is)) = inl (subst (Does (e ∷ log)) is does, inr (behind row.0 row.1 is))
-  one-let_go row (inr (inr h)) = inr (still (LetPodGo row.0 row.1) h)
+  one-let_go row (inl (inl done)) = inl (inl (done-still IsStopped row.0 done))
+  one-let_go row (inl (inr (inl is))) = inr (subst (DoesTo log (e ∷ log)) is does.own, behind row.0 row.1 is)
+  one-let_go row (inl (inr (inr h))) = inl (inr (still (LetPodGo row.0 row.1) h))
+  one-let_go row (inr h) = marked-behind row.0 row.1 h.0 h.1
 
   -- A release.
   one-release : (u : Uid) → (is_lost (life u log) ≡ true) ⊎ IsAmong (ReleasePod u) (a ∷ left) → (is_lost (life u (e ∷ log)) ≡ true) ⊎ IsAmong (ReleasePod u) next
-  one-release u (inl done) = inl (lost u done)
-  one-release u (inr (inl is)) = inl (subst (Does (e ∷ log)) is does)
+  one-release u (inl done) = inl (lost_entry u e log stored.0 done)
+  one-release u (inr (inl is)) = inl (subst (DoesTo log (e ∷ log)) is does.own)
   one-release u (inr (inr h)) = inr (still (ReleasePod u) h)
 
   pub doing-next : IsDoing log basis (a ∷ left) → IsDoing (e ∷ log) basis next
   doing-next h = record {
     marks =
-        Each-weaker (λ u. (is_marked_or_gone (life u log) ≡ true) ⊎ IsAmong (MarkPod u) (a ∷ left)) (λ u. (is_marked_or_gone (life u (e ∷ log)) ≡ true) ⊎ IsAmong (MarkPod u) next)
+        Each-weaker (λ u. IsDoneOrLeft IsMarked u log (a ∷ left) (MarkPod u)) (λ u. IsDoneOrLeft IsMarked u (e ∷ log) next (MarkPod u))
         one-mark (planned basis).marks h.marks;
     let_goes = Each-weaker (LetGo log (a ∷ left)) (LetGo (e ∷ log) next) one-let_go (planned basis).let_goes h.let_goes;
     releases =
@@ -224,13 +256,13 @@ module _ (log : List Entry) (basis : Basis) (whole : length log ≤ basis.pods_a
   pub doing-all : IsDoing log basis (asks_of (planned basis))
   doing-all = record {
     marks =
-        Each-weaker (λ u. IsAmong (MarkPod u) (map MarkPod (planned basis).marks)) (λ u. (is_marked_or_gone (life u log) ≡ true) ⊎ IsAmong (MarkPod u) (asks_of (planned basis)))
+        Each-weaker (λ u. IsAmong (MarkPod u) (map MarkPod (planned basis).marks)) (λ u. IsDoneOrLeft IsMarked u log (asks_of (planned basis)) (MarkPod u))
         (λ u h. inr (in-early (MarkPod u) (among-front (MarkPod u) (map MarkPod (planned basis).marks) (map let_go_ask (planned basis).let_goes) h)))
         (planned basis).marks (each-among MarkPod (planned basis).marks);
     let_goes =
         Each-weaker (λ row. IsAmong (let_go_ask row) (map let_go_ask (planned basis).let_goes))
-        (λ row. ((is_lost (life row.0 log) ≡ true) × ((is_marked_or_gone (life row.0 log) ≡ true) ⊎ IsAmong (MarkPod row.0) (asks_of (planned basis)))) ⊎ IsAmong (LetPodGo row.0 row.1) (asks_of (planned basis)))
-        (λ row h. inr (in-early (let_go_ask row) (among-right (let_go_ask row) (map MarkPod (planned basis).marks) (map let_go_ask (planned basis).let_goes) h)))
+        (λ row. IsDoneOrLeft IsStopped row.0 log (asks_of (planned basis)) (LetPodGo row.0 row.1) ⊎ (IsThere IsUntracked row.0 log × IsAmong (MarkPod row.0) (asks_of (planned basis))))
+        (λ row h. inl (inr (in-early (let_go_ask row) (among-right (let_go_ask row) (map MarkPod (planned basis).marks) (map let_go_ask (planned basis).let_goes) h))))
         (planned basis).let_goes (each-among let_go_ask (planned basis).let_goes);
     releases =
         Each-weaker (λ u. IsAmong (ReleasePod u) (map ReleasePod (planned basis).releases)) (λ u. (is_lost (life u log) ≡ true) ⊎ IsAmong (ReleasePod u) (asks_of (planned basis)))
@@ -250,30 +282,34 @@ module _ (log : List Entry) (basis : Basis) (whole : length log ≤ basis.pods_a
 -- ---- the end
 
 -- Where nothing is left all is done.
-none-left : (P : Type 0) (ask : Ask) → P ⊎ IsAmong ask [] → P
-none-left P ask (inl done) = done
-none-left P ask (inr h) = absurd h
+none-left : (P : Pod → Type 0) (u : Uid) (log : List Entry) (ask : Ask) → IsDoneOrLeft P u log [] ask → IsThere P u log
+none-left P u log ask (inl done) = done.0
+none-left P u log ask (inr h) = absurd h
 
 pub done-all : (log : List Entry) (basis : Basis) → IsDoing log basis [] → HasItsPlan log basis
 done-all log basis h = record {
   marks =
-      Each-weaker (λ u. (is_marked_or_gone (life u log) ≡ true) ⊎ IsAmong (MarkPod u) []) (λ u. is_marked_or_gone (life u log) ≡ true)
-      (λ u. none-left (is_marked_or_gone (life u log) ≡ true) (MarkPod u)) (planned basis).marks h.marks;
+      Each-weaker (λ u. IsDoneOrLeft IsMarked u log [] (MarkPod u)) (λ u. IsThere IsMarked u log)
+      (λ u. none-left IsMarked u log (MarkPod u)) (planned basis).marks h.marks;
   let_goes =
-      Each-weaker (λ row. ((is_lost (life row.0 log) ≡ true) × ((is_marked_or_gone (life row.0 log) ≡ true) ⊎ IsAmong (MarkPod row.0) [])) ⊎ IsAmong (LetPodGo row.0 row.1) [])
-      (λ row. (is_lost (life row.0 log) ≡ true) × (is_marked_or_gone (life row.0 log) ≡ true))
-      (λ row g.
-      let both = none-left ((is_lost (life row.0 log) ≡ true) × ((is_marked_or_gone (life row.0 log) ≡ true) ⊎ IsAmong (MarkPod row.0) [])) (LetPodGo row.0 row.1) g in
-      (both.0, none-left (is_marked_or_gone (life row.0 log) ≡ true) (MarkPod row.0) both.1))
-      (planned basis).let_goes h.let_goes;
+      Each-weaker (λ row. IsDoneOrLeft IsStopped row.0 log [] (LetPodGo row.0 row.1) ⊎ (IsThere IsUntracked row.0 log × IsAmong (MarkPod row.0) []))
+      (λ row. IsThere IsStopped row.0 log) let-gone (planned basis).let_goes h.let_goes;
   releases =
       Each-weaker (λ u. (is_lost (life u log) ≡ true) ⊎ IsAmong (ReleasePod u) []) (λ u. is_lost (life u log) ≡ true)
-      (λ u. none-left (is_lost (life u log) ≡ true) (ReleasePod u)) (planned basis).releases h.releases;
+      released (planned basis).releases h.releases;
   made = IfSome-of basis.job (λ job. made_for job.uid log ≡ made_for job.uid (upto basis.pods_at.0 log) + length (planned basis).creates)
       (λ job saw. let all = h.made job saw in omega (arith, all));
   status = IfSome-of basis.job (λ job. HasStatus log basis job (second_value job basis))
       (λ job saw. let s = h.status job saw in record { current = s.current; there = s.there; uid = s.uid; status = s.comes });
 }
+  where
+    let-gone : (row : Uid × Version) → IsDoneOrLeft IsStopped row.0 log [] (LetPodGo row.0 row.1) ⊎ (IsThere IsUntracked row.0 log × IsAmong (MarkPod row.0) []) → IsThere IsStopped row.0 log
+    let-gone row (inl g) = none-left IsStopped row.0 log (LetPodGo row.0 row.1) g
+    let-gone row (inr g) = absurd g.1
+
+    released : (u : Uid) → (is_lost (life u log) ≡ true) ⊎ IsAmong (ReleasePod u) [] → is_lost (life u log) ≡ true
+    released u (inl done) = done
+    released u (inr g) = absurd g
 
 -- ---- a step of the sync
 
@@ -282,8 +318,8 @@ module _ (log : List Entry) (now : ℕ) (flight : Flight) (stored : Stored log) 
       → IsDoing (grown log o) flight.basis (asks_after ask (as_answer (answered_to log now flight ask).reply) left)
   next-doing None is some all h = absurd (true≢false (sym some))
   next-doing (Some e) is some all h =
-      doing-next log flight.basis ask left (as_answer (answered_to log now flight ask).reply) e all (is-granted log now flight stored flies ask left at ready).granted
-      (subst (λ o. Does (grown log o) ask) is (does-well log now flight stored flies ask left at ready))
+      doing-next log flight.basis ask left (as_answer (answered_to log now flight ask).reply) e all (is-granted log now flight stored flies ask left at ready).granted ready.apart
+      (subst (λ o. Does log (grown log o) ask) is (does-well log now flight stored flies ask left at ready))
       (λ job saw. subst (λ o. Counts log (grown log o) flight.basis (ask ∷ left) (asks_after ask (as_answer (answered_to log now flight ask).reply) left) job) is (counts-well log now flight stored flies ask left at ready job saw))
       seen h
 

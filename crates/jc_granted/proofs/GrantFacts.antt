@@ -4,7 +4,7 @@ use Rattle.std.specs.Option.{unwrap_or}
 use Rattle.std.specs.List.{AllByRecursion as Each}
 use Rattle.std.proofs.Math.Bool.{and-false}
 use Rattle.std.proofs.lemmas.Bool.{and_from, and_parts, cond-true, false_from_ne_true, not-true}
-use Rattle.jc_types.proofs.KeyFacts.{same_key-itself, same_uid-eq, same_uid-itself}
+use Rattle.jc_types.proofs.KeyFacts.{same_key-itself, same_uid-either_way, same_uid-eq, same_uid-itself}
 use Rattle.jc_types.proofs.ListFacts.{Each-both, Each-weaker}
 use Rattle.jc_types.specs.Keys.{same_key, same_uid}
 use Rattle.jc_types.specs.declared.numbers.Uid.{Uid}
@@ -36,7 +36,7 @@ use Rattle.jc_sync.proofs.ApiFacts.{StatusCases, Accepted, Same, Conflicts, Abse
 use Rattle.jc_sync.proofs.ConflictFacts.{status_changes}
 use Rattle.jc_sync.proofs.EntryFacts.{pod_entry-pod}
 use Rattle.jc_sync.proofs.PlaceFacts.{IsFirstAsk, IsSecondAsk, at_first, at_second}
-use Rattle.jc_granted.specs.Done.{ComesToSecond, is_marked_or_gone, makes, status_after}
+use Rattle.jc_granted.specs.Done.{ComesToSecond, IsUntracked, makes, status_after}
 use Rattle.jc_granted.specs.Ready.{NoneTwice, AreReady, Grants, IsOther, IsReady, IsThere, JobIsAt, IsActiveAt, StayReady}
 
 -- ---- what a write of a pod leaves
@@ -114,12 +114,28 @@ module _ (log : List Entry) (basis : Basis) (sends : Version) where
 
 -- ---- what it does
 
+-- A pod is the one that was there, and marked.
+pub record IsMarkOf (old pod : Pod) : Type 0 where
+  pub marked : is_marked pod ≡ true
+  pub tracked : pod.tracked ≡ old.tracked
+
+-- A pod that was there is marked.
+pub record Marks (log new : List Entry) (u : Uid) : Type 0 where
+  pub old : Pod
+  pub was : life u log ≡ Live old
+  pub now : IsThere (IsMarkOf old) u new
+
 -- What the request does to its pod.
-abbrev pub Does : List Entry → Ask → Type 0
-Does log (MarkPod u) = is_marked_or_gone (life u log) ≡ true
-Does log (LetPodGo u version) = is_lost (life u log) ≡ true
-Does log (ReleasePod u) = is_lost (life u log) ≡ true
-Does log other = Unit {0}
+abbrev pub DoesTo : List Entry → List Entry → Ask → Type 0
+DoesTo log new (MarkPod u) = Marks log new u
+DoesTo log new (LetPodGo u version) = IsThere IsUntracked u new
+DoesTo log new (ReleasePod u) = is_lost (life u new) ≡ true
+DoesTo log new other = Unit {0}
+
+-- And that it leaves each other pod that was there.
+pub record Does (log new : List Entry) (ask : Ask) : Type 0 where
+  pub own : DoesTo log new ask
+  pub others : (u : Uid) (pod : Pod) → life u log ≡ Live pod → IsOther u ask → life u new ≡ Live pod
 
 -- What it does to the number of pods and to the Job.
 pub record Counts (log new : List Entry) (basis : Basis) (before after : List Ask) (job : Job) : Type 0 where
@@ -136,6 +152,17 @@ own-life test u pod log uid live gone = by (goes pod)
     by : (b : Bool) → test (life u (cond b (PodGone pod) (PodPut pod) ∷ log)) ≡ true
     by true = ap test (cond-true (same_uid pod.uid u) Gone (life u log) same) ∙ gone
     by false = ap test (cond-true (same_uid pod.uid u) (Live pod) (life u log) same) ∙ live
+
+-- A pod that does not go is put.
+put-lives : (u : Uid) (pod : Pod) (log : List Entry) → pod.uid ≡ u → goes pod ≡ false → life u (pod_entry pod ∷ log) ≡ Live pod
+put-lives u pod log uid stays =
+    ap (λ b. life u (cond b (PodGone pod) (PodPut pod) ∷ log)) stays
+    ∙ cond-true (same_uid pod.uid u) (Live pod) (life u log) (ap (λ v. same_uid v u) uid ∙ same_uid-itself u)
+
+-- A write of the pod leaves each other one.
+others-live : (v : Uid) (new : Pod) (log : List Entry) → new.uid ≡ v → (u : Uid) (pod : Pod) → life u log ≡ Live pod → same_uid u v ≡ false → life u (pod_entry new ∷ log) ≡ Live pod
+others-live v new log uid u pod there other =
+    other-lives u (pod_entry new) log new (pod_entry-pod new) (ap (λ w. same_uid w u) uid ∙ same_uid-either_way v u ∙ other) ∙ there
 
 -- A write of a pod that is there makes none, and leaves the Job.
 counts-still : (log : List Entry) (basis : Basis) (before after : List Ask) (job : Job) (pod old : Pod) → life pod.uid log ≡ Live old → makes after ≡ makes before
@@ -161,7 +188,7 @@ counts-still log basis before after job pod old there same-makes same-status = b
 record GoesWell (log : List Entry) (flight : Flight) (ask : Ask) (left : List Ask) (a : Answered) : Type 0 where
   granted : Grants (as_request ask) a
   onward : GoesOnTo (next_after flight ask left (as_answer a.reply)) (λ s. AreReady (grown log a.entry) s.flight s.left)
-  does : Does (grown log a.entry) ask
+  does : Does log (grown log a.entry) ask
   counts : (job : Job) → flight.basis.job ≡ Some job
       → Counts log (grown log a.entry) flight.basis (ask ∷ left) (asks_after ask (as_answer a.reply) left) job
 
@@ -193,7 +220,12 @@ module _ (log : List Entry) (now : ℕ) (flight : Flight) (stored : Stored log) 
             rest (PodPut (made_pod log job index now)) (made_pod log job index now) left refl
             (Each-weaker (IsReady log flight.basis flight.sends) (IsOther (next_uid log)) (new-other log flight.basis flight.sends (next_uid log) (fresh_never (next_uid log) log stored refl)) left h.each.1)
             h.each.1 h.apart.1;
-        does = tt;
+        does = record {
+          own = tt;
+          others = λ u pod there other.
+              other-lives u (PodPut (made_pod log job index now)) log (made_pod log job index now) refl
+              (never-there log flight.basis flight.sends (λ p. Unit {0}) (next_uid log) u (fresh_never (next_uid log) log stored refl) (record { pod = pod; there = there; has = tt })) ∙ there;
+        };
         counts = λ owner saw. record {
           made = let one = one-more owner saw in omega (arith, one);
           status = λ s. record { current = s.current; there = s.there; uid = s.uid; comes = s.comes };
@@ -219,7 +251,14 @@ module _ (log : List Entry) (now : ℕ) (flight : Flight) (stored : Stored log) 
   marked u left h = subst (Well (MarkPod u) left) (sym is) (record {
     granted = record { granted = refl; appends = refl };
     onward = rest entry new left (pod_entry-pod new) (subst (λ v. Each (IsOther v) left) (sym uid) h.apart.0) h.each.1 h.apart.1;
-    does = own-life is_marked_or_gone u new log uid refl refl;
+    does = record {
+      own = record {
+        old = found.pod;
+        was = found.there;
+        now = record { pod = with_mark log found.pod now; there = put-lives u (with_mark log found.pod now) log uid stays; has = record { marked = refl; tracked = refl } };
+      };
+      others = others-live u (with_mark log found.pod now) log uid;
+    };
     counts = λ job saw. counts-still log flight.basis (MarkPod u ∷ left) left job new found.pod (ap (λ v. life v log) uid ∙ found.there) refl (λ status. refl);
   })
     where
@@ -235,6 +274,10 @@ module _ (log : List Entry) (now : ℕ) (flight : Flight) (stored : Stored log) 
       uid : found.pod.uid ≡ u
       uid = life-uid u log found.pod found.there
 
+      -- It stays, since it is open.
+      stays : goes (with_mark log found.pod now) ≡ false
+      stays = ap (λ b. not found.pod.tracked && b) (not-true (is_final found.pod.phase) (and_parts (is_open found.pod) (not (is_marked found.pod)) found.has).0) ∙ and-false (not found.pod.tracked)
+
       is : mark_pod_gives log u now ≡ accepted (reply.Written (next_version log)) (pod_entry (with_mark log found.pod now))
       is =
           ap (λ l. mark_pod_at log now (living l)) found.there
@@ -248,7 +291,10 @@ module _ (log : List Entry) (now : ℕ) (flight : Flight) (stored : Stored log) 
       each = (mark-ready, others.each);
       apart = (h.apart.0, others.apart);
     };
-    does = own-life is_lost u new log uid refl refl;
+    does = record {
+      own = record { pod = without_finalizer log found.pod; there = put-lives u (without_finalizer log found.pod) log uid stays; has = refl };
+      others = others-live u (without_finalizer log found.pod) log uid;
+    };
     counts = λ job saw. counts-still log flight.basis (LetPodGo u version ∷ left) (MarkPod u ∷ left) job new found.pod (ap (λ v. life v log) uid ∙ found.there) refl (λ status. refl);
   })
     where
@@ -278,13 +324,8 @@ module _ (log : List Entry) (now : ℕ) (flight : Flight) (stored : Stored log) 
       stays : goes (without_finalizer log found.pod) ≡ false
       stays = ap (λ b. b && is_final found.pod.phase) (unmarked found.pod parts.0)
 
-      lives : life u (pod_entry (without_finalizer log found.pod) ∷ log) ≡ Live (without_finalizer log found.pod)
-      lives =
-          ap (λ b. life u (cond b (PodGone (without_finalizer log found.pod)) (PodPut (without_finalizer log found.pod)) ∷ log)) stays
-          ∙ cond-true (same_uid found.pod.uid u) (Live (without_finalizer log found.pod)) (life u log) (ap (λ v. same_uid v u) uid ∙ same_uid-itself u)
-
       mark-ready : IsThere (λ pod. is_active pod ≡ true) u (pod_entry (without_finalizer log found.pod) ∷ log)
-      mark-ready = record { pod = without_finalizer log found.pod; there = lives; has = parts.0 }
+      mark-ready = record { pod = without_finalizer log found.pod; there = put-lives u (without_finalizer log found.pod) log uid stays; has = parts.0 }
 
       others : AreReady (pod_entry (without_finalizer log found.pod) ∷ log) flight left
       others =
@@ -295,7 +336,10 @@ module _ (log : List Entry) (now : ℕ) (flight : Flight) (stored : Stored log) 
   release u left h = subst (Well (ReleasePod u) left) (sym is) (record {
     granted = record { granted = refl; appends = refl };
     onward = record { each = others.each; apart = others.apart };
-    does = own-life is_lost u new log (life-uid u log found.pod found.there) refl refl;
+    does = record {
+      own = own-life is_lost u new log (life-uid u log found.pod found.there) refl refl;
+      others = others-live u (without_finalizer log found.pod) log (life-uid u log found.pod found.there);
+    };
     counts = λ job saw. counts-still log flight.basis (ReleasePod u ∷ left) left job new found.pod (ap (λ v. life v log) (life-uid u log found.pod found.there) ∙ found.there) refl (λ status. refl);
   })
     where
@@ -361,7 +405,7 @@ module _ (log : List Entry) (now : ℕ) (flight : Flight) (stored : Stored log) 
             (ready-written log flight.basis flight.sends p.job p.current ask.status p.saw p.there p.uid) left h.each.1;
         apart = h.apart.1;
       };
-      does = tt;
+      does = record { own = tt; others = λ u pod there other. there };
       counts = λ job saw. counts-written WriteFirst left ask.status job p.job p.current saw p.saw p.there p.uid refl
           (λ old. ap (λ (o : Option JobStatus). status_after (planned flight.basis) left (unwrap_or o old)) (sym ask.first));
     })
@@ -381,7 +425,7 @@ module _ (log : List Entry) (now : ℕ) (flight : Flight) (stored : Stored log) 
         each = subst (λ l. Each (IsReady (JobPut (with_status log p.current ask.status) ∷ log) flight.basis flight.sends) l) (sym ask.is) tt;
         apart = h.apart.1;
       };
-      does = tt;
+      does = record { own = tt; others = λ u pod there other. there };
       counts = λ job saw. counts-written WriteSecond left ask.status job p.job p.current saw p.saw p.there p.uid refl
           (λ old. ap (λ (o : Option JobStatus). status_after (planned flight.basis) left (unwrap_or o old)) (sym ask.second));
     })
@@ -405,7 +449,7 @@ module _ (log : List Entry) (now : ℕ) (flight : Flight) (stored : Stored log) 
     goes-well WriteSecond left at h = second left at h
 
     -- What its grant does.
-    pub does-well : (ask : Ask) (left : List Ask) → IsAt flight (ask ∷ left) → AreReady log flight (ask ∷ left) → Does (grown log (answered_to log now flight ask).entry) ask
+    pub does-well : (ask : Ask) (left : List Ask) → IsAt flight (ask ∷ left) → AreReady log flight (ask ∷ left) → Does log (grown log (answered_to log now flight ask).entry) ask
     does-well ask left at h = (goes-well ask left at h).does
 
     pub counts-well : (ask : Ask) (left : List Ask) → IsAt flight (ask ∷ left) → AreReady log flight (ask ∷ left) → (job : Job) → flight.basis.job ≡ Some job

@@ -4,9 +4,12 @@ use Rattle.std.specs.Option.{option_map, option_or, option_to_list, unwrap_or}
 use Rattle.jc_types.specs.declared.actions.Fault.{Fault}
 use Rattle.jc_types.specs.declared.actions.Fault.TheVariants.{Drop, Lose}
 use Rattle.jc_types.specs.declared.objects.Entry.{Entry}
+use Rattle.jc_types.specs.declared.replies.Answer.{Answer}
 use Rattle.jc_types.specs.declared.replies.Answer.TheVariants as answer
 use Rattle.jc_types.specs.declared.replies.Reply.{Reply}
 use Rattle.jc_types.specs.declared.replies.Reply.TheVariants as reply
+use Rattle.jc_types.specs.declared.replies.Request.{Request}
+use Rattle.jc_types.specs.declared.replies.Request.TheVariants as request
 use Rattle.jc_types.specs.declared.runs.Shape.{Shape}
 use Rattle.jc_states.specs.declared.bases.Basis.{Basis}
 use Rattle.jc_log.specs.Acts as does
@@ -32,11 +35,49 @@ use Rattle.jc_runs.proofs.LegalRuns.{Given, Machine, given}
 use Rattle.jc_runs.proofs.QuietSteps.{put-same}
 use Rattle.jc_runs.proofs.StepRuns.{step_gives-at}
 use Rattle.jc_granted.specs.Done.{HasItsPlan, IsDoing}
-use Rattle.jc_granted.specs.Granted.{Granted, IsGranted, NoneLeft}
+use Rattle.jc_granted.specs.Granted.{Granted, IsGranted, NoneLeft, grants}
 use Rattle.jc_granted.specs.Ready.{AreReady, Grants}
 use Rattle.jc_granted.proofs.DoingFacts.{done-all, step-doing}
 use Rattle.jc_granted.proofs.GrantFacts.{is-granted, stays-ready}
 use Rattle.jc_granted.proofs.UnderWay.{IsGoing, IsUnderWay, going-doing, going-ready, under-way}
+
+-- ---- what a step leaves of its register
+
+-- An answer that grants a request ends no sync.
+no-end-by : (asked : Request) (given : Answer) → grants asked given ≡ true → end_by (asks_status asked) given ≡ None
+no-end-by (request.CreatePod index) (answer.Created u version) h = refl
+no-end-by (request.CreatePod index) other h = absurd (true≢false (sym h))
+no-end-by (request.MarkPod u) (answer.Written version) h = refl
+no-end-by (request.MarkPod u) other h = absurd (true≢false (sym h))
+no-end-by (request.LetGo u) (answer.Released version) h = refl
+no-end-by (request.LetGo u) other h = absurd (true≢false (sym h))
+no-end-by request.Status (answer.Written version) h = refl
+no-end-by request.Status other h = absurd (true≢false (sym h))
+no-end-by (request.Release u) (answer.Released version) h = refl
+no-end-by (request.Release u) other h = absurd (true≢false (sym h))
+
+module _ (shape : Shape) (past : List Deed) (d : Deed) (before : IsLegal shape past) (c w : ℕ) (basis : Basis) (act : d.act ≡ does.Step c w) (begun : register w (diary shape c past) ≡ Some basis) where
+  -- What the controller notes of the step.
+  notes-are : (r : Reply) → d.reply ≡ r → diary shape c (d ∷ past) ≡ on_step w (moment shape past) (Some basis) r ++ diary shape c past
+  notes-are r told =
+      notes-next shape c past d before
+      ∙ (λ i. cond (restarts c (act i)) [] (notes_taken c (act i) (told i) (moment shape past) (log_given shape (d ∷ past)) (diary shape c past) ++ diary shape c past))
+      ∙ (λ i. cond (eq-eqb c c refl i) (on_step w (moment shape past) (begun i) r) [] ++ diary shape c past)
+
+  -- An end frees it.
+  pub end-frees : d.reply ≡ reply.Ended → register w (diary shape c (d ∷ past)) ≡ None
+  end-frees told =
+      ap (register w) (notes-are reply.Ended told)
+      ∙ ap (λ b. unwrap_or (option_or (cond b (Some None) None) (newest (register_told w) (diary shape c past))) None) (eq-eqb w w refl)
+
+  -- A request that is granted leaves it.
+  pub grant-keeps : (asked : Request) (given : Answer) → d.reply ≡ reply.Stepped asked given → grants asked given ≡ true → register w (diary shape c (d ∷ past)) ≡ Some basis
+  grant-keeps asked given told granted =
+      ap (register w) (notes-are (reply.Stepped asked given) told)
+      ∙ ap (λ o. register w ((option_to_list (option_map (λ end. Ended w basis end (moment shape past)) o) ++ Asked w basis asked given ∷ []) ++ diary shape c past)) (no-end-by asked given granted)
+      ∙ begun
+
+-- ---- a step
 
 module _ (shape : Shape) (past : List Deed) (d : Deed) (before : IsLegal shape past) (legal : IsLegalNext shape past d) (m : Machine shape past) (c w : ℕ) (basis : Basis) (act : d.act ≡ does.Step c w)
     (lt : c < shape.controllers) (less : w < shape.workers) (begun : register w (diary shape c past) ≡ Some basis) (h : IsGoing shape c w basis past) where
@@ -109,24 +150,15 @@ module _ (shape : Shape) (past : List Deed) (d : Deed) (before : IsLegal shape p
   -- ---- where the sync is still under way it goes on so
 
   module _ (still : register w (diary shape c (d ∷ past)) ≡ Some basis) (stays : Stored (log_given shape (d ∷ past))) where
-    notes-are : (r : Reply) → d.reply ≡ r → diary shape c (d ∷ past) ≡ on_step w (moment shape past) (Some basis) r ++ diary shape c past
-    notes-are r told =
-        notes-next shape c past d before
-        ∙ (λ i. cond (restarts c (act i)) [] (notes_taken c (act i) (told i) (moment shape past) (log_given shape (d ∷ past)) (diary shape c past) ++ diary shape c past))
-        ∙ (λ i. cond (eq-eqb c c refl i) (on_step w (moment shape past) (begun i) r) [] ++ diary shape c past)
-
     -- An end frees the register.
     not-free : is_some (register w (diary shape c (d ∷ past))) ≡ false → ⊥
     not-free free = true≢false (sym (ap is_some still) ∙ free)
 
     no-end : d.reply ≡ reply.Ended → ⊥
-    no-end told =
-        not-free
-        (ap (λ some. is_some (register w some)) (notes-are reply.Ended told)
-        ∙ ap (λ b. is_some (unwrap_or (option_or (cond b (Some None) None) (newest (register_told w) (diary shape c past))) None)) (eq-eqb w w refl))
+    no-end told = not-free (ap is_some (end-frees shape past d before c w basis act begun told))
 
     no-fault : (ask : Ask) → d.reply ≡ reply.Stepped (as_request ask) answer.Unavailable → ⊥
-    no-fault ask told = by (asks_status (as_request ask)) (ap (λ some. is_some (register w some)) (notes-are (reply.Stepped (as_request ask) answer.Unavailable) told))
+    no-fault ask told = by (asks_status (as_request ask)) (ap (λ some. is_some (register w some)) (notes-are shape past d before c w basis act begun (reply.Stepped (as_request ask) answer.Unavailable) told))
       where
         behind : List Note
         behind = Asked w basis (as_request ask) answer.Unavailable ∷ diary shape c past

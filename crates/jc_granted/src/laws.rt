@@ -1,9 +1,11 @@
 //! Laws on the requests of a sync that began in a settle. Each function is empty: what it ensures holds of every history,
 //! and its callers may cite it.
 
-ghost use Rattle.std.specs.Prelude.{◌≡◌, ◌<◌, ◌∷◌, ◌++◌, List, None, Some, length, ℕ};
+ghost use Rattle.std.specs.Prelude.{◌≡◌, ◌<◌, ◌∷◌, ◌++◌, List, None, Some, length, true, ℕ};
 ghost use Rattle.jc_types.specs.declared.objects.Entry.{Entry};
+ghost use Rattle.jc_types.specs.declared.replies.Answer.{Answer};
 ghost use Rattle.jc_types.specs.declared.replies.Reply.TheVariants as reply;
+ghost use Rattle.jc_types.specs.declared.replies.Request.{Request};
 ghost use Rattle.jc_types.specs.declared.runs.Shape.{Shape};
 ghost use Rattle.jc_states.specs.declared.bases.Basis.{Basis};
 ghost use Rattle.jc_log.specs.Acts as does;
@@ -24,7 +26,7 @@ ghost use Rattle.jc_sync.specs.Steps.{answered_to, stepped_at};
 ghost use Rattle.jc_runs.specs.Runs.{AllAskValid};
 ghost use Rattle.jc_settle.specs.Serial.{IsSettling, RunsAlone};
 ghost use Rattle.jc_granted.specs.Done.{HasItsPlan};
-ghost use Rattle.jc_granted.specs.Granted.{IsGranted};
+ghost use Rattle.jc_granted.specs.Granted.{IsGranted, grants};
 ghost use Rattle.jc_granted.specs.Ready.{AreReady, Grants, StayReady};
 
 use jc_runs::allowed_updates_stay_valid;
@@ -51,6 +53,18 @@ pub fn plans_on_the_whole_log_are_ready()
         → AreReady log flight (asks_of (planned flight.basis)) }
 {}
 
+/// A sync goes on with each request that is granted, in every legal history; it ends where none is left.
+pub fn granted_syncs_go_on()
+    ensures on { (shape : Shape) (past : List Deed) (d : Deed) (c w : ℕ) (basis : Basis)
+        (asked : Request) (given : Answer) → IsLegal shape past → d.act ≡ does.Step c w
+        → register w (diary shape c past) ≡ Some basis → d.reply ≡ reply.Stepped asked given
+        → grants asked given ≡ true → register w (diary shape c (d ∷ past)) ≡ Some basis }
+    ensures ends { (shape : Shape) (past : List Deed) (d : Deed) (c w : ℕ) (basis : Basis)
+        → IsLegal shape past → d.act ≡ does.Step c w
+        → register w (diary shape c past) ≡ Some basis → d.reply ≡ reply.Ended
+        → register w (diary shape c (d ∷ past)) ≡ None }
+{}
+
 /// **In a settle no request is refused without a fault**: of a sync that began there, and before whose next request no
 /// fault is pending, the next step's request is granted and its entry appended, or none is left and the sync ends. So
 /// it meets no conflict, no object that is gone, and none that it would leave as it is.
@@ -67,9 +81,9 @@ pub fn requests_in_a_settle_are_granted()
     allowed_updates_stay_valid();
 }
 
-/// **And where it ends, all that it planned is so**: each pod to mark is marked, or gone since; each to let go has lost
-/// its finalizer and is marked, each to release has lost it; so many pods more of its Job were made as it was to make;
-/// and its Job has the second status of what it saw.
+/// **And where it ends, all that it planned is so**: each pod to mark is marked, each to let go has lost its finalizer
+/// and is marked, each to release has lost it; so many pods more of its Job were made as it was to make; and its Job
+/// has the second status of what it saw.
 pub fn syncs_in_a_settle_do_what_they_plan()
     ensures { (shape : Shape) (run past : List Deed) (c w : ℕ) (basis : Basis) (d : Deed)
         → IsLegal shape (run ++ past) → AllAskValid (run ++ past) → 0 < shape.workers

@@ -4,6 +4,6 @@
 mod laws;
 
 pub use laws::{
-    plans_on_the_whole_log_are_ready, ready_requests_are_granted, requests_in_a_settle_are_granted,
-    syncs_in_a_settle_do_what_they_plan,
+    granted_syncs_go_on, plans_on_the_whole_log_are_ready, ready_requests_are_granted,
+    requests_in_a_settle_are_granted, syncs_in_a_settle_do_what_they_plan,
 };
