@@ -118,11 +118,11 @@ first-of-act act (x ∷ xs) h = (x, refl, h)
 -- ---- deeds that write nothing
 
 module _ (shape : Shape) (past : List Deed) (d : Deed) where
-  listed-nothing : (c : ℕ) (kind : Kind) → d.act ≡ does.List c kind → AppendsNothing shape past d
+  pub listed-nothing : (c : ℕ) (kind : Kind) → d.act ≡ does.List c kind → AppendsNothing shape past d
   unfolding log_given gives
   listed-nothing c kind a = ap (λ act. grown (log_given shape past) (gives shape past (log_given shape past) act).entry) a
 
-  told-nothing : (c : ℕ) (kind : Kind) → d.act ≡ does.Deliver c kind → AppendsNothing shape past d
+  pub told-nothing : (c : ℕ) (kind : Kind) → d.act ≡ does.Deliver c kind → AppendsNothing shape past d
   unfolding log_given gives
   told-nothing c kind a = ap (λ act. grown (log_given shape past) (gives shape past (log_given shape past) act).entry) a ∙ by (number kind (diary shape c past))
     where
@@ -140,7 +140,7 @@ module _ (shape : Shape) (past : List Deed) (d : Deed) where
     unfolding gives
     begun-gives = ap (gives shape past (log_given shape past)) a ∙ ap (λ o. begin_gives o (begin_now shape c past)) free
 
-    begun-nothing : AppendsNothing shape past d
+    pub begun-nothing : AppendsNothing shape past d
     unfolding log_given
     begun-nothing = ap (λ (x : Answered). grown (log_given shape past) x.entry) begun-gives
 
@@ -154,18 +154,18 @@ module _ (shape : Shape) (past : List Deed) (legal : IsLegal shape past) (d : De
   abbrev new : ℕ → Basis
   new e = basis_of (diary shape e past) log (moment shape past) k (log_end log) (log_end log)
 
-  reply-is : d.reply ≡ reply.Begun k (log_end log) (log_end log)
+  pub reply-is : d.reply ≡ reply.Begun k (log_end log) (log_end log)
   reply-is =
       next.reply ∙ ap (λ (x : Answered). x.reply) (begun-gives shape past d c w a (free c lt w less))
       ∙ ap reply_of_begin (end-begins shape c past legal (up c lt) (moment shape past) k rest first)
 
-  notes-are : (e : ℕ) → diary shape e (d ∷ past) ≡ cond (c == e) (Began w (new e) ∷ []) [] ++ diary shape e past
+  pub notes-are : (e : ℕ) → diary shape e (d ∷ past) ≡ cond (c == e) (Began w (new e) ∷ []) [] ++ diary shape e past
   notes-are e =
       notes-next shape e past d legal
       ∙ (λ i. cond (restarts e (a i)) [] (notes_taken e (a i) (reply-is i) (moment shape past) (begun-nothing shape past d c w a (free c lt w less) i) (diary shape e past) ++ diary shape e past))
 
   -- It is the only sync that is under way then.
-  only : (e v : ℕ) (b : Basis) → e < shape.controllers → v < shape.workers → register v (diary shape e (d ∷ past)) ≡ Some b → (c ≡ e) × (w ≡ v) × (new e ≡ b)
+  pub only : (e v : ℕ) (b : Basis) → e < shape.controllers → v < shape.workers → register v (diary shape e (d ∷ past)) ≡ Some b → (c ≡ e) × (w ≡ v) × (new e ≡ b)
   only e v b lt' less' r = by (c == e) refl (sym (ap (register v) (notes-are e)) ∙ r)
     where
       by : (t : Bool) → (c == e) ≡ t → register v (cond t (Began w (new e) ∷ []) [] ++ diary shape e past) ≡ Some b → (c ≡ e) × (w ≡ v) × (new e ≡ b)
@@ -176,7 +176,7 @@ module _ (shape : Shape) (past : List Deed) (legal : IsLegal shape past) (d : De
           here true q r = (eqb-true c e s, eqb-true w v q, some_is (new e) b r)
           here false q r = absurd (none_some b (sym (free e lt' v less') ∙ r))
 
-  begun-alone : (e v : ℕ) (b : Basis) → e < shape.controllers → v < shape.workers → register v (diary shape e (d ∷ past)) ≡ Some b → IsAlone shape (d ∷ past) e v
+  pub begun-alone : (e v : ℕ) (b : Basis) → e < shape.controllers → v < shape.workers → register v (diary shape e (d ∷ past)) ≡ Some b → IsAlone shape (d ∷ past) e v
   begun-alone e v b lt' less' r f u lt'' less'' s =
       let it = only e v b lt' less' r in let x = used (register u (diary shape f (d ∷ past))) s in let other = only f u x.0 lt'' less'' x.1 in
       (sym it.0 ∙ other.0, sym it.1 ∙ other.1)
