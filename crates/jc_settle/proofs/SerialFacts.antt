@@ -159,7 +159,7 @@ module _ (shape : Shape) (past : List Deed) (legal : IsLegal shape past) (d : De
       next.reply ∙ ap (λ (x : Answered). x.reply) (begun-gives shape past d c w a (free c lt w less))
       ∙ ap reply_of_begin (end-begins shape c past legal (up c lt) (moment shape past) k rest first)
 
-  notes-are : (e : ℕ) → diary shape e (d ∷ past) ≡ cond (c == e) (Began w (new e) ∷ []) [] ++ diary shape e past
+  pub notes-are : (e : ℕ) → diary shape e (d ∷ past) ≡ cond (c == e) (Began w (new e) ∷ []) [] ++ diary shape e past
   notes-are e =
       notes-next shape e past d legal
       ∙ (λ i. cond (restarts e (a i)) [] (notes_taken e (a i) (reply-is i) (moment shape past) (begun-nothing shape past d c w a (free c lt w less) i) (diary shape e past) ++ diary shape e past))
@@ -176,7 +176,7 @@ module _ (shape : Shape) (past : List Deed) (legal : IsLegal shape past) (d : De
           here true q r = (eqb-true c e s, eqb-true w v q, some_is (new e) b r)
           here false q r = absurd (none_some b (sym (free e lt' v less') ∙ r))
 
-  begun-alone : (e v : ℕ) (b : Basis) → e < shape.controllers → v < shape.workers → register v (diary shape e (d ∷ past)) ≡ Some b → IsAlone shape (d ∷ past) e v
+  pub begun-alone : (e v : ℕ) (b : Basis) → e < shape.controllers → v < shape.workers → register v (diary shape e (d ∷ past)) ≡ Some b → IsAlone shape (d ∷ past) e v
   begun-alone e v b lt' less' r f u lt'' less'' s =
       let it = only e v b lt' less' r in let x = used (register u (diary shape f (d ∷ past))) s in let other = only f u x.0 lt'' less'' x.1 in
       (sym it.0 ∙ other.0, sym it.1 ∙ other.1)

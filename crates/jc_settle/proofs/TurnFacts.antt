@@ -20,14 +20,14 @@ earlier shape (x ∷ run) d past h first = (
   earlier shape run d past h.1 first,
 )
 
-with-first : (shape : Shape) (d : Deed) (past now : List Deed) → IsFirst d.act (available shape past (log_given shape past)) → SettlesTo shape (d ∷ past) now → SettlesTo shape past now
+pub with-first : (shape : Shape) (d : Deed) (past now : List Deed) → IsFirst d.act (available shape past (log_given shape past)) → SettlesTo shape (d ∷ past) now → SettlesTo shape past now
 with-first shape d past now first h = record {
   run = h.run ++ d ∷ [];
   are = h.are ∙ sym (append_assoc h.run (d ∷ []) past);
   settling = earlier shape h.run d past h.settling first;
 }
 
-none-yet : (shape : Shape) (past : List Deed) → SettlesTo shape past past
+pub none-yet : (shape : Shape) (past : List Deed) → SettlesTo shape past past
 none-yet shape past = record { run = []; are = refl; settling = tt }
 
 module _ (script : Script) (shape : Shape) where

@@ -1,14 +1,14 @@
 //! Laws on what happens in a settle. Each function is empty: what it ensures holds of every history, and its callers may
 //! cite it.
 
-ghost use Rattle.std.specs.Prelude.{◌≡◌, ◌++◌, ◌<◌, List, None, Option, Some, false, is_some, true, ℕ};
+ghost use Rattle.std.specs.Prelude.{◌≡◌, ◌+◌, ◌++◌, ◌∷◌, ◌<◌, List, None, Option, Some, false, is_some, true, ℕ};
 ghost use Rattle.jc_types.specs.declared.runs.Event.TheVariants.{System};
 ghost use Rattle.jc_types.specs.declared.runs.Shape.{Shape};
 ghost use Rattle.jc_types.specs.declared.runs.Sys.{Sys};
 ghost use Rattle.jc_types.specs.declared.runs.Sys.TheVariants as sys;
 ghost use Rattle.jc_log.specs.Deeds.{Deed};
-ghost use Rattle.jc_history.specs.Available.{available};
-ghost use Rattle.jc_history.specs.Legal.{IsLegal};
+ghost use Rattle.jc_history.specs.Available.{available, is_quiescent};
+ghost use Rattle.jc_history.specs.Legal.{IsLegal, IsLegalNext};
 ghost use Rattle.jc_history.specs.Play.{Playing, deeds_played, first_event, settled_down};
 ghost use Rattle.jc_history.specs.Registers.{register};
 ghost use Rattle.jc_history.specs.Replies.{diary, log_given};
@@ -23,6 +23,7 @@ ghost use Rattle.jc_types.specs.declared.objects.Pod.{Pod};
 ghost use Rattle.jc_settle.specs.Comes.{Comes, SeesAll};
 ghost use Rattle.jc_settle.specs.Left.{ComesTo, pod_left};
 ghost use Rattle.jc_settle.specs.Serial.{IsAlone, IsOldOrAlone, IsSettling, SettlesTo};
+ghost use Rattle.jc_settle.specs.Settles.{CalmsDown, CatchesUp, ComesToRest, next_of_settle, settled_on};
 ghost use Rattle.jc_order.specs.Plays.{IsPlayed};
 ghost use Rattle.jc_types.specs.declared.actions.Script.{Script};
 ghost use Rattle.jc_states.specs.declared.bases.Basis.{Basis};
@@ -69,6 +70,37 @@ pub fn settles_are_serial()
         → register w (diary shape c past) ≡ None
         → is_some (register w (diary shape c (run ++ past))) ≡ true
         → IsAlone shape (run ++ past) c w }
+{}
+
+/// A settle goes on: its next deed is what the table of events gives, so it stays legal, and what it adds is a settle;
+/// so many events and so many more are as many together. Where there is no next deed nothing is available; and what comes
+/// to rest after some of its events does before them.
+pub fn settles_go_on()
+    ensures next { (shape : Shape) (past : List Deed) (d : Deed)
+        → next_of_settle shape past ≡ Some d → IsLegalNext shape past d }
+    ensures legal { (shape : Shape) (n : ℕ) (past : List Deed)
+        → IsLegal shape past → IsLegal shape (settled_on shape n past) }
+    ensures settling { (shape : Shape) (n : ℕ) (past : List Deed)
+        → SettlesTo shape past (settled_on shape n past) }
+    ensures adds { (shape : Shape) (n m : ℕ) (past : List Deed)
+        → settled_on shape (n + m) past ≡ settled_on shape m (settled_on shape n past) }
+    ensures none { (shape : Shape) (past : List Deed) → next_of_settle shape past ≡ None
+        → is_quiescent shape past (log_given shape past) ≡ true }
+    ensures before { (shape : Shape) (past : List Deed) (d : Deed)
+        → next_of_settle shape past ≡ Some d → ComesToRest shape (d ∷ past)
+        → ComesToRest shape past }
+    ensures earlier { (shape : Shape) (n : ℕ) (past : List Deed)
+        → ComesToRest shape (settled_on shape n past) → ComesToRest shape past }
+{}
+
+/// **A settle comes to be calm**: behind any legal history there are so many events after which the caches have seen the
+/// whole log and no sync is under way. On the way each deed is a list, a delivery or a step of a sync that was under way;
+/// so nothing begins, the node does nothing and the moment stays. First each cache is told of all.
+pub fn settles_calm_down()
+    ensures caches { (shape : Shape) (past : List Deed) → IsLegal shape past → 0 < shape.workers
+        → CatchesUp shape past }
+    ensures calm { (shape : Shape) (past : List Deed) → IsLegal shape past → 0 < shape.workers
+        → CalmsDown shape past }
 {}
 
 /// Each write of a pod leaves less to write of it: what the node does to it, its mark, and the loss of its
