@@ -1,8 +1,9 @@
 -- The items of an array as a list.
 use Rattle.std.proofs.Common.{◌≡◌, List, [], ◌∷◌, map, refl, ap}
 use Rattle.serde_json.specs.Data.{Data}
-use Rattle.serde_json.specs.View.{view, items_of, items_view}
-use Rattle.serde_json.specs.declared.value.Value.{Value}
+use Rattle.serde_json.specs.View.{items_of}
+use Rattle.jc_json.specs.View.{view, items_view}
+use Rattle.jc_json.specs.declared.value.Value.{Value}
 use Rattle.jc_json.specs.Field.{listed_items}
 
 pub items_listed : (ds : List Data) → listed_items (items_of ds) ≡ ds

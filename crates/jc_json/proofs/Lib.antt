@@ -1,4 +1,6 @@
 pub mod Items
 pub mod Lines
 pub mod Members
+pub mod Reading
+pub mod Views
 pub mod Written

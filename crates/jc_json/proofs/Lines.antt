@@ -1,9 +1,10 @@
 -- What a line spells, by whether its bytes are text.
-use Rattle.std.proofs.Common.{◌≡◌, ℕ, List, Bool, true, false, IsUtf8, Some, None, if◌then◌else◌, refl}
+use Rattle.std.proofs.Common.{◌≡◌, ◌≤◌, ℕ, List, Bool, true, false, IsUtf8, Some, None, if◌then◌else◌, refl}
 use Rattle.std.proofs.lemmas.Str.{is_utf8-from_IsUtf8, IsUtf8-from_is_utf8}
 use Rattle.std.specs.Str.{is_utf8}
-use Rattle.serde_json.specs.Data.{Data}
-use Rattle.serde_json.specs.Read.{read}
+use Rattle.serde_json.specs.Data.{Data, depth}
+use Rattle.serde_json.specs.Read.{max_depth, read}
+use Rattle.serde_json.proofs.Nesting.{depth-read}
 use Rattle.jc_json.specs.Line.{data_of}
 
 -- what a text spells, its line spells
@@ -19,3 +20,7 @@ nothing_at line false is nothing = refl
 pub nothing_spelled : (line : List ℕ) → (IsUtf8 line → read line ≡ None) → data_of line ≡ None
 unfolding data_of
 nothing_spelled line nothing = nothing_at line _ refl nothing
+
+-- what a text spells nests no deeper than a text may
+pub whole_nests : (text : List ℕ) (d : Data) → read text ≡ Some d → depth d ≤ max_depth
+whole_nests text d spelled = depth-read text d spelled

@@ -3,3 +3,4 @@ pub mod Field
 pub mod Given
 pub mod Line
 pub mod Place
+pub mod View

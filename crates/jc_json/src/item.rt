@@ -1,14 +1,14 @@
 //! Readers of the items of a list.
 
 ghost use Rattle.std.specs.Prelude.{◌≤ℤ◌, IfOk};
-ghost use Rattle.serde_json.specs.View.{view};
 ghost use Rattle.jc_json.specs.Field.{item_number, item_object};
 ghost use Rattle.jc_json.specs.Exact.{Gives};
+ghost use Rattle.jc_json.specs.View.{view};
 
 use crate::field::FieldFault;
 use crate::numbers::{Unfit, number_within};
 use crate::path::Path;
-use serde_json::Value;
+use crate::value::Value;
 use std::alloc::Global;
 
 /// The whole number that an item is, from `least` to `greatest`. `list` is the path of the list, and
@@ -49,7 +49,11 @@ pub fn item_number(
 ///
 /// `WrongType` exactly where the item is no object. `Want`: memory ran out.
 #[tactic(auto, unfolding(crate::specs::Field::item_object))]
-pub fn item_object<'v>(item: &'v Value, list: &Path, index: usize) -> Result<&'v Value, FieldFault>
+pub fn item_object<'v, 'a>(
+    item: &'v Value<'a>,
+    list: &Path,
+    index: usize,
+) -> Result<&'v Value<'a>, FieldFault>
     ensures { Gives (λ found. view found.now) result (item_object list.now index (view item.now)) }
 {
     if item.is_object() {

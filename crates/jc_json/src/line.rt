@@ -1,11 +1,17 @@
+//! Lines of JSON.
+
 ghost use Rattle.std.specs.Prelude.{◌≡◌, ◌≤◌, Some, None, IfOk, IsErrOf};
 ghost use Rattle.serde_json.specs.Data.{depth};
 ghost use Rattle.serde_json.specs.Read.{max_depth};
-ghost use Rattle.serde_json.specs.View.{view};
+ghost use Rattle.serde_json.specs.View as owned;
 ghost use Rattle.jc_json.specs.Line.{data_of};
+ghost use Rattle.jc_json.specs.View.{view};
 
-use serde_json::Value;
-use std::alloc::Global;
+use crate::reader::read_all;
+use crate::value::Value;
+use json::{Invalid, Scratch};
+use serde_json::Value as Owned;
+use std::alloc::{AllocError, AllocFailed, Global};
 
 /// Why a line gives no value.
 #[derive(Clone, Copy, Debug, PartialEq, Eq)]
@@ -17,17 +23,77 @@ pub enum JsonFault {
     Want,
 }
 
+impl From<AllocError> for JsonFault {
+    ghost use Rattle.std.specs.Prelude.{◌≡◌};
+    ghost use Rattle.jc_json.specs.declared.line.JsonFault.TheVariants.{Want};
+
+    ghost from_gives = { λ _ fault. fault ≡ Want };
+
+    fn from(_refused: AllocError) -> JsonFault {
+        JsonFault::Want
+    }
+}
+
+impl<T: Drop> From<AllocFailed<T>> for JsonFault {
+    ghost use Rattle.std.specs.Prelude.{◌≡◌};
+    ghost use Rattle.jc_json.specs.declared.line.JsonFault.TheVariants.{Want};
+
+    ghost from_gives = { λ _ fault. fault ≡ Want };
+
+    fn from(_refused: AllocFailed<T>) -> JsonFault {
+        JsonFault::Want
+    }
+}
+
+impl From<Invalid> for JsonFault {
+    ghost use Rattle.std.specs.Prelude.{◌≡◌};
+    ghost use Rattle.jc_json.specs.declared.line.JsonFault.TheVariants.{NotJson};
+
+    ghost from_gives = { λ _ fault. fault ≡ NotJson };
+
+    fn from(_refused: Invalid) -> JsonFault {
+        JsonFault::NotJson
+    }
+}
+
+/// The memory that reading needs beside a value. One is kept from line to line.
+pub type Room = Scratch;
+
+/// Room for the first line. It takes no memory.
+pub fn new_room(alloc: Global) -> Room {
+    Scratch::new(alloc)
+}
+
 /// Reads a line of one JSON value, which may stand between blanks. Of a member that stands twice
-/// the last counts.
+/// the last counts. The texts of the value lie in the line, or in the room where they have escapes.
 #[tactic(auto, using(crate::proofs::Lines::text_spells, crate::proofs::Lines::nothing_spelled))]
-pub fn read_line(alloc: Global, line: &[u8]) -> Result<Value, JsonFault>
+pub fn read_line<'a>(
+    alloc: Global,
+    line: &'a [u8],
+    room: &'a mut Room,
+) -> Result<Value<'a>, JsonFault>
     ensures value { IfOk result (λ v. data_of line.now ≡ Some (view v)) }
     ensures not_json { IsErrOf result JsonFault.NotJson → data_of line.now ≡ None }
 
     // So the value may be printed and read again.
     ensures nests { IfOk result (λ v. depth (view v) ≤ max_depth) }
 {
-    match Value::from_slice(alloc, line) {
+    match simdutf8::compat::from_utf8(line) {
+        Ok(text) => read_all(alloc, text, room),
+        Err(_) => Err(JsonFault::NotJson),
+    }
+}
+
+/// Reads a line as `read_line` does, into a value that owns its texts.
+#[tactic(auto, using(crate::proofs::Lines::text_spells, crate::proofs::Lines::nothing_spelled))]
+pub fn read_owned(alloc: Global, line: &[u8]) -> Result<Owned, JsonFault>
+    ensures value { IfOk result (λ v. data_of line.now ≡ Some (owned.view v)) }
+    ensures not_json { IsErrOf result JsonFault.NotJson → data_of line.now ≡ None }
+
+    // So the value may be printed and read again.
+    ensures nests { IfOk result (λ v. depth (owned.view v) ≤ max_depth) }
+{
+    match Owned::from_slice(alloc, line) {
         Ok(value) => Ok(value),
         Err(fault) if fault.is_memory() => Err(JsonFault::Want),
         Err(_) => Err(JsonFault::NotJson),

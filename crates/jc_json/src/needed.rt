@@ -1,14 +1,14 @@
 //! Readers of members that must be there.
 
 ghost use Rattle.std.specs.Prelude.{◌≤ℤ◌, IfOk, map};
-ghost use Rattle.serde_json.specs.View.{view};
 ghost use Rattle.jc_json.specs.Field.{needed_text, needed_bool, needed_number, needed_list, needed_object};
 ghost use Rattle.jc_json.specs.Exact.{Gives};
+ghost use Rattle.jc_json.specs.View.{view};
 
 use crate::field::FieldFault;
-use crate::optional::{may_bool, may_list, may_number, may_object, may_text};
+use crate::optional::{may_bool, may_items, may_number, may_object, may_text};
 use crate::path::Path;
-use serde_json::Value;
+use crate::value::Value;
 use std::alloc::Global;
 
 /// The text of a member that must be there. `path` is that of the object.
@@ -17,9 +17,9 @@ use std::alloc::Global;
 ///
 /// `Missing` exactly where the member is absent, and the refusals of `may_text`.
 #[tactic(auto, unfolding(crate::specs::Field::needed_text, crate::specs::Field::optional_text))]
-pub fn need_text<'v>(
+pub fn need_text<'v, 'a>(
     alloc: Global,
-    object: &'v Value,
+    object: &'v Value<'a>,
     path: &Path,
     name: &str,
 ) -> Result<&'v str, FieldFault>
@@ -85,16 +85,16 @@ pub fn need_number(
 ///
 /// `Missing` exactly where the member is absent, and the refusals of `may_list`.
 #[tactic(auto, unfolding(crate::specs::Field::needed_list, crate::specs::Field::optional_list))]
-pub fn need_list<'v>(
+pub fn need_list<'v, 'a>(
     alloc: Global,
-    object: &'v Value,
+    object: &'v Value<'a>,
     path: &Path,
     name: &str,
-) -> Result<&'v [Value], FieldFault>
-    ensures { Gives (λ items. map view items.now) result
+) -> Result<&'v Vec<Value<'a>>, FieldFault>
+    ensures { Gives (λ items. map view items.now.items) result
         (needed_list path.now name.now (view object.now)) }
 {
-    match may_list(alloc, object, path, name)? {
+    match may_items(alloc, object, path, name)? {
         Some(found) => Ok(found),
         None => Err(FieldFault::Missing {
             path: Path::of_member(alloc, path, name)?,
@@ -108,12 +108,12 @@ pub fn need_list<'v>(
 ///
 /// `Missing` exactly where the member is absent, and the refusals of `may_object`.
 #[tactic(auto, unfolding(crate::specs::Field::needed_object, crate::specs::Field::optional_object))]
-pub fn need_object<'v>(
+pub fn need_object<'v, 'a>(
     alloc: Global,
-    object: &'v Value,
+    object: &'v Value<'a>,
     path: &Path,
     name: &str,
-) -> Result<&'v Value, FieldFault>
+) -> Result<&'v Value<'a>, FieldFault>
     ensures { Gives (λ found. view found.now) result
         (needed_object path.now name.now (view object.now)) }
 {

@@ -1,11 +1,11 @@
 //! Whole numbers.
 
 ghost use Rattle.std.specs.Prelude.{◌≡◌, ◌≤ℤ◌, List, ℕ, IfOk};
-ghost use Rattle.serde_json.specs.View.{view};
 ghost use Rattle.jc_json.specs.Field.{bounded_number};
 ghost use Rattle.jc_json.specs.Exact.{refused_number};
+ghost use Rattle.jc_json.specs.View.{view};
 
-use serde_json::Value;
+use crate::value::Value;
 
 // Why a value is no number that is wanted.
 #[derive(Clone, Copy)]
@@ -22,10 +22,13 @@ pub fn number_within(value: &Value, least: i64, greatest: i64) -> Result<i64, Un
         ≡ bounded_number path least greatest (view value.now) }
     ensures fits { IfOk result (λ n. (least ≤ℤ n) × (n ≤ℤ greatest)) }
 {
-    match value.as_i64() {
+    let Value::Number(number) = value else {
+        return Err(Unfit::OfType);
+    };
+    match number.as_i64() {
         Some(number) if least <= number && number <= greatest => Ok(number),
         // One that only fits 64 bits without a sign lies above every bound.
-        None if !value.is_u64() => Err(Unfit::OfType),
+        None if !number.is_u64() => Err(Unfit::OfType),
         _ => Err(Unfit::OfRange),
     }
 }

@@ -1,20 +1,20 @@
 //! Readers of members that may be absent.
 
-ghost use Rattle.std.specs.Prelude.{◌≡◌, ◌≤ℤ◌, IfOk, IfSome, map, option_map};
+ghost use Rattle.std.specs.Prelude.{◌≡◌, ◌≤ℤ◌, [], IfOk, IfSome, map, option_map, unwrap_or};
 ghost use Rattle.serde_json.specs.Find.{as_array};
-ghost use Rattle.serde_json.specs.View.{view};
 ghost use Rattle.jc_json.specs.Field.{listed_items, member_of, optional_text, optional_bool, optional_number, optional_list, optional_object};
 ghost use Rattle.jc_json.specs.Exact.{Gives};
+ghost use Rattle.jc_json.specs.View.{view};
 
 use crate::field::FieldFault;
 use crate::numbers::{Unfit, number_within};
 use crate::path::Path;
-use serde_json::Value;
+use crate::value::Value;
 use std::alloc::Global;
 
 /// The member of that name, where it is there and not null. A value that is no object has no members.
 #[tactic(auto, unfolding(crate::specs::Field::member_of))]
-pub fn member<'v>(object: &'v Value, name: &str) -> Option<&'v Value>
+pub fn member<'v, 'a>(object: &'v Value<'a>, name: &str) -> Option<&'v Value<'a>>
     ensures { option_map (λ v. view v.now) result ≡ member_of name.now (view object.now) }
 {
     match object.get(name) {
@@ -25,13 +25,23 @@ pub fn member<'v>(object: &'v Value, name: &str) -> Option<&'v Value>
 
 // The items of a value that is a list.
 #[tactic(auto, using(crate::proofs::Items::items_seen))]
-fn listed(value: &Value) -> Option<&[Value]>
-    ensures { option_map (λ items. map view items.now) result
+fn listed<'v, 'a>(value: &'v Value<'a>) -> Option<&'v Vec<Value<'a>>>
+    ensures { option_map (λ items. map view items.now.items) result
         ≡ option_map listed_items (as_array (view value.now)) }
 {
     match value.as_array() {
-        Some(items) => Some(items.as_slice()),
+        Some(items) => Some(items),
         None => None,
+    }
+}
+
+/// The items of a list that may be given; none of one that is not.
+pub fn given_items<'v, 'a>(given: Option<&'v [Value<'a>]>) -> &'v [Value<'a>]
+    ensures { map view result.now ≡ unwrap_or (option_map (λ items. map view items.now) given.entry) [] }
+{
+    match given {
+        Some(items) => items,
+        None => &[],
     }
 }
 
@@ -41,9 +51,9 @@ fn listed(value: &Value) -> Option<&[Value]>
 ///
 /// `WrongType` exactly where the member is no text. `Want`: memory ran out.
 #[tactic(auto, unfolding(crate::specs::Field::optional_text))]
-pub fn may_text<'v>(
+pub fn may_text<'v, 'a>(
     alloc: Global,
-    object: &'v Value,
+    object: &'v Value<'a>,
     path: &Path,
     name: &str,
 ) -> Result<Option<&'v str>, FieldFault>
@@ -52,7 +62,7 @@ pub fn may_text<'v>(
 {
     match member(object, name) {
         None => Ok(None),
-        Some(Value::String(text)) => Ok(Some(text.as_str())),
+        Some(Value::String(text)) => Ok(Some(*text)),
         Some(_) => Err(FieldFault::WrongType {
             path: Path::of_member(alloc, path, name)?,
         }),
@@ -116,19 +126,15 @@ pub fn may_number(
     }
 }
 
-/// The items of a member that is a list, or `None` where it is absent. `path` is that of the object.
-///
-/// # Errors
-///
-/// `WrongType` exactly where the member is no list. `Want`: memory ran out.
+// The items of a member that is a list, as `may_list` does.
 #[tactic(auto, unfolding(crate::specs::Field::optional_list))]
-pub fn may_list<'v>(
+pub(crate) fn may_items<'v, 'a>(
     alloc: Global,
-    object: &'v Value,
+    object: &'v Value<'a>,
     path: &Path,
     name: &str,
-) -> Result<Option<&'v [Value]>, FieldFault>
-    ensures { Gives (option_map (λ items. map view items.now)) result
+) -> Result<Option<&'v Vec<Value<'a>>>, FieldFault>
+    ensures { Gives (option_map (λ items. map view items.now.items)) result
         (optional_list path.now name.now (view object.now)) }
 {
     let Some(found) = member(object, name) else {
@@ -142,6 +148,26 @@ pub fn may_list<'v>(
     }
 }
 
+/// The items of a member that is a list, or `None` where it is absent. `path` is that of the object.
+///
+/// # Errors
+///
+/// `WrongType` exactly where the member is no list. `Want`: memory ran out.
+pub fn may_list<'v, 'a>(
+    alloc: Global,
+    object: &'v Value<'a>,
+    path: &Path,
+    name: &str,
+) -> Result<Option<&'v [Value<'a>]>, FieldFault>
+    ensures { Gives (option_map (λ items. map view items.now)) result
+        (optional_list path.now name.now (view object.now)) }
+{
+    match may_items(alloc, object, path, name)? {
+        Some(items) => Ok(Some(items.as_slice())),
+        None => Ok(None),
+    }
+}
+
 /// A member that is an object, or `None` where it is absent. `path` is that of the object that has
 /// the member.
 ///
@@ -149,12 +175,12 @@ pub fn may_list<'v>(
 ///
 /// `WrongType` exactly where the member is no object. `Want`: memory ran out.
 #[tactic(auto, unfolding(crate::specs::Field::optional_object))]
-pub fn may_object<'v>(
+pub fn may_object<'v, 'a>(
     alloc: Global,
-    object: &'v Value,
+    object: &'v Value<'a>,
     path: &Path,
     name: &str,
-) -> Result<Option<&'v Value>, FieldFault>
+) -> Result<Option<&'v Value<'a>>, FieldFault>
     ensures { Gives (option_map (λ found. view found.now)) result
         (optional_object path.now name.now (view object.now)) }
 {

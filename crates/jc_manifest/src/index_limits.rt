@@ -1,15 +1,14 @@
 //! What bounds the failures of each index, and the indexes that fail (KEP-3850).
 
 ghost use Rattle.std.specs.Prelude.{◌≡◌, codes};
-ghost use Rattle.serde_json.specs.View.{view};
+ghost use Rattle.jc_json.specs.View.{view};
 ghost use Rattle.jc_json.specs.Place.{path_to};
 ghost use Rattle.jc_manifest.specs.IndexLimits.{index_limits_refusal, index_limits_in, is_by_index, has_indexes_to_limit, has_indexes_to_fail, by_index_refusal};
 ghost use Rattle.jc_rows.specs.Rows.{Checks, Reads, rule_row};
 
-use jc_json::Path;
+use jc_json::{Path, Value};
 use jc_rows::{Counts, ManifestFault, broken, may_count};
 use jc_types::{GREATEST_COMPLETIONS, GREATEST_LIMIT, Mode};
-use serde_json::Value;
 use std::alloc::Global;
 
 /// What bounds the failures of each index, and how many indexes fail; each where it is given.

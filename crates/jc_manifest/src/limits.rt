@@ -1,14 +1,13 @@
 //! Who manages a Job, and what bounds its run.
 
 ghost use Rattle.std.specs.Prelude.{◌≡◌, codes};
-ghost use Rattle.serde_json.specs.View.{view};
+ghost use Rattle.jc_json.specs.View.{view};
 ghost use Rattle.jc_rows.specs.Rows.{Checks, Reads, bool_row};
 ghost use Rattle.jc_manifest.specs.Limits.{managed_row, limits_refusal, suspend_in, usual_backoff, limits_in};
 
-use jc_json::{Path, may_bool, may_text};
+use jc_json::{Path, Value, may_bool, may_text};
 use jc_rows::{ManifestFault, broken, may_count};
 use jc_types::GREATEST_LIMIT;
-use serde_json::Value;
 use std::alloc::Global;
 
 /// What bounds the run of a Job.

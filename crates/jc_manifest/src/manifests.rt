@@ -1,7 +1,7 @@
 //! Reading the manifest of a Job.
 
 ghost use Rattle.std.specs.Prelude.{◌≡◌, ◌&&◌, IfOk, codes, is_some, not};
-ghost use Rattle.serde_json.specs.View.{view};
+ghost use Rattle.jc_json.specs.View.{view};
 ghost use Rattle.jc_json.specs.Place.{path_to};
 ghost use Rattle.jc_types.specs.ValidSpecs.{IsValidSpec};
 ghost use Rattle.jc_rows.specs.Counts.{counts_in};
@@ -11,11 +11,10 @@ ghost use Rattle.jc_manifest.specs.Manifests.{replacement_of, is_replacement, us
 use crate::index_limits::{IndexLimits, check_by_index, is_by_index, read_index_limits};
 use crate::limits::{Limits, check_managed, read_limits};
 use crate::metadata::{check_type, read_key};
-use jc_json::{Path, may_text};
+use jc_json::{Path, Value, may_text};
 use jc_policies::{read_failure, read_success};
 use jc_rows::{Counts, ManifestFault, broken, read_counts, read_object, read_template};
 use jc_types::{FailurePolicy, JobSpec, Key, Replacement, SuccessPolicy, Template};
-use serde_json::Value;
 use std::alloc::Global;
 
 // How many pods are wanted, and what bounds the run.

@@ -1,15 +1,14 @@
 //! What a manifest is, and what it names.
 
 ghost use Rattle.std.specs.Prelude.{bytes_eq, codes};
-ghost use Rattle.serde_json.specs.View.{view};
+ghost use Rattle.jc_json.specs.View.{view};
 ghost use Rattle.jc_rows.specs.Rows.{Checks, Reads, text_row, given_text_row};
 ghost use Rattle.jc_rows.specs.Words.{is_label, is_subdomain};
 ghost use Rattle.jc_manifest.specs.Metadata.{type_refusal, metadata_refusal, name_in, namespace_in, key_in};
 
-use jc_json::{Path, may_text, need_text};
+use jc_json::{Path, Value, may_text, need_text};
 use jc_rows::{ManifestFault, broken, is_label, is_subdomain};
 use jc_types::{Key, Name};
-use serde_json::Value;
 use std::alloc::Global;
 
 // That a member is that word.

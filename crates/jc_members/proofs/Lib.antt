@@ -1,2 +1,4 @@
 pub mod Fronts
+pub mod Known
+pub mod Named
 pub mod Within

@@ -1,7 +1,7 @@
 //! The conditions that a pod is reported to have.
 
 ghost use Rattle.std.specs.Prelude.{◌≡◌, codes, map};
-ghost use Rattle.serde_json.specs.View.{view};
+ghost use Rattle.jc_json.specs.View.{view};
 ghost use Rattle.jc_policies.specs.FailurePolicies.{is_type, truth_of};
 ghost use Rattle.jc_members.specs.Causes.{Says};
 ghost use Rattle.jc_members.specs.Items.{each_said};
@@ -10,10 +10,9 @@ ghost use Rattle.jc_members.specs.Phases.{condition_members, condition_truth, co
 
 use crate::causes::{LineFault, broken};
 use crate::members::check_known;
-use jc_json::{Path, item_object, may_list, may_text, need_text};
+use jc_json::{Path, Value, given_items, item_object, may_list, may_text, need_text};
 use jc_policies::{is_type, truth_of};
 use jc_types::{PodCondition, PodConditions, Text, Truth};
-use serde_json::Value;
 use std::alloc::Global;
 
 // The type of a condition.
@@ -54,11 +53,11 @@ fn read_members(alloc: Global, condition: &Value, path: &Path) -> Result<PodCond
 }
 
 // That a condition has no other member.
-fn check_members(condition: &Value, path: &Path) -> Result<(), LineFault>
+fn check_members(alloc: Global, condition: &Value, path: &Path) -> Result<(), LineFault>
     ensures { Says (λ u. u) result
         (only_known path.now condition_members (view condition.now)) }
 {
-    check_known(condition, path, &["type", "status"])
+    check_known(alloc, condition, path, &["type", "status"])
 }
 
 // One condition, at its place in the list.
@@ -73,7 +72,7 @@ fn read_condition(
 {
     let condition = item_object(item, list, place)?;
     let path = list.place(place)?;
-    check_members(condition, &path)?;
+    check_members(alloc, condition, &path)?;
     read_members(alloc, condition, &path)
 }
 
@@ -97,9 +96,6 @@ pub fn read_conditions(alloc: Global, value: &Value) -> Result<PodConditions, Li
     ensures { Says (λ conditions. conditions) result (conditions_in (view value.now)) }
 {
     let path = Path::new(alloc);
-    let items = match may_list(alloc, value, &path, "conditions")? {
-        Some(items) => items,
-        None => &[],
-    };
-    read_items(alloc, items, &path.member("conditions")?)
+    let given = may_list(alloc, value, &path, "conditions")?;
+    read_items(alloc, given_items(given), &path.member("conditions")?)
 }

@@ -1,18 +1,17 @@
 //! What is reported of a pod's containers.
 
-ghost use Rattle.std.specs.Prelude.{◌≡◌, ◌≤◌, ◌<◌, ◌≤ℤ◌, IfOk, IfSome, OnOk, is_some, length, map, pos};
-ghost use Rattle.serde_json.specs.Data.{null, object, no_members};
-ghost use Rattle.serde_json.specs.View.{view, members_view};
+ghost use Rattle.std.specs.Prelude.{◌≡◌, ◌≤◌, ◌<◌, ◌≤ℤ◌, true, IfOk, IfSome, OnOk, is_some, length, map, pos};
+ghost use Rattle.serde_json.specs.Data.{boolean, null, no_members, put};
+ghost use Rattle.jc_json.specs.View.{view, ordered_view};
 ghost use Rattle.jc_json.specs.Field.{unless_null};
 ghost use Rattle.jc_members.specs.Causes.{Says};
 ghost use Rattle.jc_members.specs.Items.{all_said};
 ghost use Rattle.jc_members.specs.Phases.{given_names, member_names, entry_in, entries_fit, container_numbers, put_names, names_in_either, exit_in, container_restarts, container_count, container_change, containers_in};
 
 use crate::causes::{LineFault, broken};
-use jc_json::{Path, may_number, may_object};
+use jc_json::{Ordered, Path, Value, in_order, may_number, may_object};
 use jc_rows::is_label;
 use jc_types::{ContainerChange, ContainerChanges, Name, Want};
-use serde_json::{Map, Value};
 use std::alloc::Global;
 
 // Exit codes and numbers of restarts are those of 32 bits.
@@ -31,14 +30,14 @@ fn is_given(value: &Value) -> bool
 }
 
 // The names of the members that are given.
-fn given_names<'v>(alloc: Global, members: &'v Map<String, Value>) -> Result<Vec<&'v str>, Want>
+fn given_names<'v, 'a>(alloc: Global, members: &Ordered<'v, 'a>) -> Result<Vec<&'v str>, Want>
     ensures { IfOk result (λ names. map (λ name. name.now) names.items
-        ≡ given_names (members_view members.now.entries)) }
+        ≡ given_names (ordered_view members.now.entries)) }
 {
     let mut names = Vec::new(alloc);
     for (name, value) in members.iter() {
-        if is_given(value) {
-            names.push(name.as_str())?;
+        if is_given(*value) {
+            names.push(*name)?;
         }
     }
     Ok(names)
@@ -46,12 +45,12 @@ fn given_names<'v>(alloc: Global, members: &'v Map<String, Value>) -> Result<Vec
 
 // The names of the members of an object that are given.
 #[tactic(auto, unfolding(crate::specs::Phases::member_names))]
-fn names_in<'v>(alloc: Global, value: &'v Value) -> Result<Vec<&'v str>, Want>
+fn names_in<'v, 'a>(alloc: Global, value: &'v Value<'a>) -> Result<Vec<&'v str>, Want>
     ensures { IfOk result (λ names. map (λ name. name.now) names.items
         ≡ member_names (view value.now)) }
 {
     match value.as_object() {
-        Some(members) => given_names(alloc, members),
+        Some(members) => given_names(alloc, &in_order(alloc, members.as_slice())?),
         None => Ok(Vec::new(alloc)),
     }
 }
@@ -99,14 +98,14 @@ fn check_entries(
 
 // An object of numbers, each of which is right; `nothing` where none is given.
 #[tactic(auto, unfolding(crate::specs::Phases::container_numbers))]
-fn read_numbers<'v>(
+fn read_numbers<'v, 'a>(
     alloc: Global,
-    value: &'v Value,
-    nothing: &'v Value,
+    value: &'v Value<'a>,
+    nothing: &'v Value<'a>,
     name: &str,
     least: i64,
     greatest: i64,
-) -> Result<&'v Value, LineFault>
+) -> Result<&'v Value<'a>, LineFault>
     requires { view nothing.now ≡ null }
     ensures { Says (λ numbers. view numbers.now) result
         (container_numbers name.now least greatest (view value.now)) }
@@ -128,27 +127,52 @@ fn read_numbers<'v>(
     Ok(numbers)
 }
 
-// Puts names among the members.
-fn put_names(alloc: Global, members: &mut Map<String, Value>, names: &[&str]) -> Result<(), Want>
-    ensures { OnOk result (members_view members.new.entries
-        ≡ put_names (map (λ name. name.now) names.now) (members_view members.old.entries)) }
+// Puts a name among the members, with a value that is true.
+fn put_name<'v, 'a>(
+    members: &mut Ordered<'v, 'a>,
+    name: &'v str,
+    value: &'v Value<'a>,
+) -> Result<(), Want>
+    requires { view value.now ≡ boolean true }
+    ensures { OnOk result (ordered_view members.new.entries
+        ≡ put name.now (boolean true) (ordered_view members.old.entries)) }
+{
+    drop(members.insert(name, value)?);
+    Ok(())
+}
+
+// Puts names among the members, each with a value that is true.
+fn put_names<'v, 'a>(
+    members: &mut Ordered<'v, 'a>,
+    names: &[&'v str],
+    value: &'v Value<'a>,
+) -> Result<(), Want>
+    requires { view value.now ≡ boolean true }
+    ensures { OnOk result (ordered_view members.new.entries
+        ≡ put_names (map (λ name. name.now) names.now) (ordered_view members.old.entries)) }
 {
     for name in names {
-        serde_json::put(members, alloc, name, Value::Bool(true))?;
+        put_name(members, *name, value)?;
     }
     Ok(())
 }
 
-// An object whose members are named as those of both.
-fn both_of(alloc: Global, exits: &Value, restarts: &Value) -> Result<Value, Want>
-    ensures { IfOk result (λ both. view both ≡ object
-        (put_names (member_names (view restarts.now))
-        (put_names (member_names (view exits.now)) no_members))) }
+// Members that are named as those of both, each with that value.
+fn both_of<'v, 'a>(
+    alloc: Global,
+    exits: &[&'v str],
+    restarts: &[&'v str],
+    value: &'v Value<'a>,
+) -> Result<Ordered<'v, 'a>, Want>
+    requires { view value.now ≡ boolean true }
+    ensures { IfOk result (λ both. ordered_view both.entries
+        ≡ put_names (map (λ name. name.now) restarts.now)
+        (put_names (map (λ name. name.now) exits.now) no_members)) }
 {
-    let mut both = Map::new(alloc);
-    put_names(alloc, &mut both, names_in(alloc, exits)?.as_slice())?;
-    put_names(alloc, &mut both, names_in(alloc, restarts)?.as_slice())?;
-    Ok(Value::Object(both))
+    let mut both = Ordered::new(alloc);
+    put_names(&mut both, exits, value)?;
+    put_names(&mut both, restarts, value)?;
+    Ok(both)
 }
 
 // The exit code of a container, where one is given.
@@ -227,13 +251,22 @@ fn read_changes(
 }
 
 // What is said of each container that either object names.
+#[tactic(auto, using(crate::proofs::Named::either_named))]
 fn read_both(alloc: Global, exits: &Value, restarts: &Value) -> Result<ContainerChanges, LineFault>
     ensures { Says (λ changes. changes) result
         (all_said (container_change (view exits.now) (view restarts.now))
         (names_in_either (view exits.now) (view restarts.now))) }
 {
-    let both = both_of(alloc, exits, restarts)?;
-    let names = names_in(alloc, &both)?;
+    let given = Value::Bool(true);
+    let exit_names = names_in(alloc, exits)?;
+    let restart_names = names_in(alloc, restarts)?;
+    let both = both_of(
+        alloc,
+        exit_names.as_slice(),
+        restart_names.as_slice(),
+        &given,
+    )?;
+    let names = given_names(alloc, &both)?;
     read_changes(alloc, exits, restarts, names.as_slice())
 }
 

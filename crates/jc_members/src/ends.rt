@@ -1,7 +1,7 @@
 //! How the pods of a Job are to end.
 
 ghost use Rattle.std.specs.Prelude.{◌≡◌, codes, map};
-ghost use Rattle.serde_json.specs.View.{view};
+ghost use Rattle.jc_json.specs.View.{view};
 ghost use Rattle.jc_policies.specs.FailurePolicies.{is_type};
 ghost use Rattle.jc_members.specs.Causes.{Says};
 ghost use Rattle.jc_members.specs.Ends.{end_members, end_said, end_said_at, rightly_many, ends_said};
@@ -10,10 +10,9 @@ ghost use Rattle.jc_members.specs.Members.{only_known, given_text_in};
 
 use crate::causes::{Cause, LineFault, broken};
 use crate::members::{check_known, read_given_number, read_list};
-use jc_json::{Path, item_object, may_text, need_number};
+use jc_json::{Path, Value, item_object, may_text, need_number};
 use jc_policies::is_type;
 use jc_types::{End, Ends, GREATEST_LIMIT, Text};
-use serde_json::Value;
 use std::alloc::Global;
 
 // The condition that a pod then has, where one is given.
@@ -47,10 +46,10 @@ fn read_members(alloc: Global, end: &Value, path: &Path) -> Result<End, LineFaul
 }
 
 // That an end has no other member.
-fn check_members(end: &Value, path: &Path) -> Result<(), LineFault>
+fn check_members(alloc: Global, end: &Value, path: &Path) -> Result<(), LineFault>
     ensures { Says (λ u. u) result (only_known path.now end_members (view end.now)) }
 {
-    check_known(end, path, &["exitCode", "restarts", "condition"])
+    check_known(alloc, end, path, &["exitCode", "restarts", "condition"])
 }
 
 // One end, at its place in the list.
@@ -60,7 +59,7 @@ fn read_end(alloc: Global, item: &Value, list: &Path, place: usize) -> Result<En
 {
     let end = item_object(item, list, place)?;
     let path = list.place(place)?;
-    check_members(end, &path)?;
+    check_members(alloc, end, &path)?;
     read_members(alloc, end, &path)
 }
 
@@ -101,6 +100,6 @@ pub fn read_ends(alloc: Global, value: &Value) -> Result<Ends, LineFault>
     let path = Path::new(alloc);
     let items = read_list(alloc, value, &path, "ends")?;
     let at = path.member("ends")?;
-    check_many(items, &at)?;
-    read_items(alloc, items, &at)
+    check_many(items.as_slice(), &at)?;
+    read_items(alloc, items.as_slice(), &at)
 }

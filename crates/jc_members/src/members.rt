@@ -1,16 +1,17 @@
 //! The members of a line.
 
-ghost use Rattle.std.specs.Prelude.{◌≡◌, bytes_eq, map, option_map};
+ghost use Rattle.std.specs.Prelude.{◌≡◌, IfOk, IsTrue, None, bytes_eq, map, option_map};
 ghost use Rattle.std.specs.List.{list_any};
-ghost use Rattle.serde_json.specs.View.{view, members_view};
+ghost use Rattle.serde_json.specs.Data.{no_members};
+ghost use Rattle.jc_json.specs.View.{view, members_view, ordered_view};
 ghost use Rattle.jc_json.specs.Field.{needed_object, needed_list};
 ghost use Rattle.jc_rows.specs.Templates.{is_among};
 ghost use Rattle.jc_members.specs.Causes.{Says, read_as};
 ghost use Rattle.jc_members.specs.Members.{is_unknown, unknown_among, unknown_in, only_known, whole_number_in, given_number_in};
 
 use crate::causes::{LineFault, broken};
-use jc_json::{Path, may_number, need_list, need_number, need_object};
-use serde_json::{Map, Value};
+use jc_json::{Ordered, Path, Value, in_order, may_number, need_list, need_number, need_object};
+use jc_types::Want;
 use std::alloc::Global;
 
 // Whether a name is one of the known ones.
@@ -37,38 +38,76 @@ fn is_unknown(known: &[&str], name: &str, value: &Value) -> bool
     }
 }
 
+// Whether each member is known; so no order of them need be made.
+fn are_known(members: &[(&str, Value)], known: &[&str]) -> bool
+    ensures { IsTrue result
+        → unknown_among (map (λ k. k.now) known.now) (members_view members.now no_members) ≡ None }
+{
+    for member in members {
+        if is_unknown(known, member.0, &member.1) {
+            return false;
+        }
+    }
+    true
+}
+
 // The name of the first member that is not known.
-fn first_unknown<'v>(members: &'v Map<String, Value>, known: &[&str]) -> Option<&'v str>
+fn first_unknown<'v, 'a>(members: &Ordered<'v, 'a>, known: &[&str]) -> Option<&'v str>
     ensures { option_map (λ name. name.now) result
-        ≡ unknown_among (map (λ k. k.now) known.now) (members_view members.now.entries) }
+        ≡ unknown_among (map (λ k. k.now) known.now) (ordered_view members.now.entries) }
 {
     for (name, value) in members.iter() {
-        if is_unknown(known, name.as_str(), value) {
-            return Some(name.as_str());
+        if is_unknown(known, *name, *value) {
+            return Some(*name);
         }
     }
     None
 }
 
+// The name of the first of these members that is not known.
+fn unknown_of<'v, 'a>(
+    alloc: Global,
+    members: &'v [(&'a str, Value<'a>)],
+    known: &[&str],
+) -> Result<Option<&'v str>, Want>
+    ensures { IfOk result (λ o. option_map (λ name. name.now) o
+        ≡ unknown_among (map (λ k. k.now) known.now) (members_view members.now no_members)) }
+{
+    if are_known(members, known) {
+        return Ok(None);
+    }
+    let ordered = in_order(alloc, members)?;
+    Ok(first_unknown(&ordered, known))
+}
+
 // The name of the first member of an object that is not known.
 #[tactic(auto, unfolding(crate::specs::Members::unknown_in))]
-fn unknown_in<'v>(object: &'v Value, known: &[&str]) -> Option<&'v str>
-    ensures { option_map (λ name. name.now) result
-        ≡ unknown_in (map (λ k. k.now) known.now) (view object.now) }
+fn unknown_in<'v, 'a>(
+    alloc: Global,
+    object: &'v Value<'a>,
+    known: &[&str],
+) -> Result<Option<&'v str>, Want>
+    ensures { IfOk result (λ o. option_map (λ name. name.now) o
+        ≡ unknown_in (map (λ k. k.now) known.now) (view object.now)) }
 {
     match object.as_object() {
-        Some(members) => first_unknown(members, known),
-        None => None,
+        Some(members) => unknown_of(alloc, members.as_slice(), known),
+        None => Ok(None),
     }
 }
 
 /// That an object has no member but the known ones.
 #[tactic(auto, unfolding(crate::specs::Members::only_known))]
-pub fn check_known(object: &Value, path: &Path, known: &[&str]) -> Result<(), LineFault>
+pub fn check_known(
+    alloc: Global,
+    object: &Value,
+    path: &Path,
+    known: &[&str],
+) -> Result<(), LineFault>
     ensures { Says (λ u. u) result
         (only_known path.now (map (λ k. k.now) known.now) (view object.now)) }
 {
-    match unknown_in(object, known) {
+    match unknown_in(alloc, object, known)? {
         None => Ok(()),
         Some(name) => Err(broken(path, name, 28)),
     }
@@ -125,12 +164,12 @@ pub fn read_given_number(
 }
 
 /// A member that must be an object.
-pub fn read_object<'v>(
+pub fn read_object<'v, 'a>(
     alloc: Global,
-    object: &'v Value,
+    object: &'v Value<'a>,
     path: &Path,
     name: &str,
-) -> Result<&'v Value, LineFault>
+) -> Result<&'v Value<'a>, LineFault>
     ensures { Says (λ found. view found.now) result
         (read_as (needed_object path.now name.now (view object.now))) }
 {
@@ -138,13 +177,13 @@ pub fn read_object<'v>(
 }
 
 /// The items of a member that must be a list.
-pub fn read_list<'v>(
+pub fn read_list<'v, 'a>(
     alloc: Global,
-    object: &'v Value,
+    object: &'v Value<'a>,
     path: &Path,
     name: &str,
-) -> Result<&'v [Value], LineFault>
-    ensures { Says (λ items. map view items.now) result
+) -> Result<&'v Vec<Value<'a>>, LineFault>
+    ensures { Says (λ items. map view items.now.items) result
         (read_as (needed_list path.now name.now (view object.now))) }
 {
     Ok(need_list(alloc, object, path, name)?)

@@ -1,15 +1,14 @@
 //! What a line names: Jobs, pods, controllers and workers.
 
-ghost use Rattle.serde_json.specs.View.{view};
+ghost use Rattle.jc_json.specs.View.{view};
 ghost use Rattle.jc_members.specs.Causes.{Says};
 ghost use Rattle.jc_members.specs.Named.{job_name_in, job_namespace_in, job_key_in, pod_named, controller_in, worker_in, seat_in, times_in};
 
 use crate::causes::{LineFault, broken};
 use crate::members::{read_given_number, read_number};
-use jc_json::{Path, may_text, need_text};
+use jc_json::{Path, Value, may_text, need_text};
 use jc_rows::{is_label, is_subdomain};
 use jc_types::{Key, Name, Shape, Uid};
-use serde_json::Value;
 use std::alloc::Global;
 
 /// A worker of a controller.

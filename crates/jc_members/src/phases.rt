@@ -1,7 +1,7 @@
 //! What a line reports of a pod.
 
 ghost use Rattle.std.specs.Prelude.{◌≡◌, codes};
-ghost use Rattle.serde_json.specs.View.{view};
+ghost use Rattle.jc_json.specs.View.{view};
 ghost use Rattle.jc_members.specs.Causes.{Says};
 ghost use Rattle.jc_members.specs.Members.{word_in};
 ghost use Rattle.jc_members.specs.Phases.{phase_of, report_in};
@@ -9,9 +9,8 @@ ghost use Rattle.jc_members.specs.Phases.{phase_of, report_in};
 use crate::causes::{LineFault, broken};
 use crate::conditions::read_conditions;
 use crate::containers::read_containers;
-use jc_json::{Path, need_text};
+use jc_json::{Path, Value, need_text};
 use jc_types::{Phase, PhaseChange};
-use serde_json::Value;
 use std::alloc::Global;
 
 // The phase of that word.

@@ -2,8 +2,8 @@
 use Rattle.std.proofs.Common.{◌≡◌, sym, ◌∙◌, ap, subst, ℕ, List, Option, Some, None, option_map, Result, Ok, Bor}
 use Rattle.std.specs.Result.{result_unwrap_or}
 use Rattle.serde_json.specs.Data.{Data}
-use Rattle.serde_json.specs.View.{view}
-use Rattle.serde_json.specs.declared.value.Value.{Value}
+use Rattle.jc_json.specs.View.{view}
+use Rattle.jc_json.specs.declared.value.Value.{Value}
 use Rattle.jc_json.specs.Field.{Refusal}
 use Rattle.jc_rows.specs.declared.refusals.ManifestFault.{ManifestFault}
 use Rattle.jc_rows.specs.Rows.{Row, IsRefusal, rows_of_given}

@@ -1,19 +1,18 @@
 //! What a manifest says of a Job's pod failure policy (KEP-3329).
 
 ghost use Rattle.std.specs.Prelude.{◌≡◌, ◌++◌, None, bytes_eq, IfOk, codes, if◌then◌else◌, length, map, nat_le, Some};
-ghost use Rattle.serde_json.specs.View.{view};
+ghost use Rattle.jc_json.specs.View.{view};
 ghost use Rattle.jc_json.specs.Place.{path_to};
 ghost use Rattle.jc_rows.specs.Rows.{Checks, Reads, each, rule_row, text_row, given_text_row, object_in};
 ghost use Rattle.jc_rows.specs.Templates.{never_restarts, list_in, is_among};
 ghost use Rattle.jc_policies.specs.FailurePolicies.{action_named, operator_of, truth_of, is_action, is_operator, is_truth, operator_in, container_in, number_at, code_row, codes_in, rises_from, has_zero, is_operator_within, are_codes, values_refusal, exit_codes_refusal, exit_codes_in, is_type, pattern_refusal, type_in, truth_in, pattern_in, pattern_row, patterns_from, patterns_refusal, is_fail_index, action_row, action_in, action_refusal, is_no_empty_list, has_exit_codes, has_patterns, is_just_one, given_exit_codes_refusal, given_patterns_refusal, requirement_refusal, requirement_in, failure_rule_refusal, failure_rule_in, failure_rule_row, failure_rules_from, failure_rules_refusal, failure_rules_in, given_failure_refusal, failure_refusal, failure_in};
 
-use jc_json::{Path, item_number, may_object, may_text, member, need_list, need_text};
+use jc_json::{Path, Value, item_number, may_object, may_text, member, need_list, need_text};
 use jc_rows::{ManifestFault, broken, broken_at, check_objects, never_restarts, read_object};
 use jc_types::{
     Action, Codes, Copied, FailurePolicy, FailureRule, FailureRules, Name, Operator, Pattern,
     Patterns, Requirement, Restart, Template, Text, Truth, Want,
 };
-use serde_json::Value;
 use std::alloc::Global;
 
 fn action_named(text: &str) -> Option<Action>
@@ -151,7 +150,7 @@ fn read_values(
 {
     let items = need_list(alloc, exits, path, "values")?;
     let at = path.member("values")?;
-    let codes = read_codes(alloc, items, &at)?;
+    let codes = read_codes(alloc, items.as_slice(), &at)?;
     if !are_codes(operator, codes.as_slice()) {
         return Err(ManifestFault::Invalid { path: at, rule: 17 });
     }
@@ -392,7 +391,7 @@ fn read_given_patterns(alloc: Global, rule: &Value, path: &Path) -> Result<Patte
         (list_in path.now (view rule.now) (codes "onPodConditions"))) }
 {
     let items = need_list(alloc, rule, path, "onPodConditions")?;
-    let patterns = read_few_patterns(alloc, items, &path.member("onPodConditions")?)?;
+    let patterns = read_few_patterns(alloc, items.as_slice(), &path.member("onPodConditions")?)?;
     Ok(patterns)
 }
 
@@ -512,9 +511,9 @@ fn read_failure_policy(
 {
     let items = need_list(alloc, policy, path, "rules")?;
     let at = path.member("rules")?;
-    check_few(items, &at, 12)?;
-    check_objects(items, &at)?;
-    let rules = read_failure_rules(alloc, items, &at, template, by_index)?;
+    check_few(items.as_slice(), &at, 12)?;
+    check_objects(items.as_slice(), &at)?;
+    let rules = read_failure_rules(alloc, items.as_slice(), &at, template, by_index)?;
     Ok(FailurePolicy { rules })
 }
 

@@ -2,7 +2,7 @@
 
 ghost use Rattle.std.specs.Prelude.{◌≡◌, ◌&&◌, IfOk, codes, length, map, nat_le, nat_lt, unwrap_or, true};
 ghost use Rattle.std.specs.Option.{option_map_or};
-ghost use Rattle.serde_json.specs.View.{view};
+ghost use Rattle.jc_json.specs.View.{view};
 ghost use Rattle.jc_json.specs.Place.{path_to};
 ghost use Rattle.jc_rows.specs.Rows.{Checks, Reads, each, rule_row};
 ghost use Rattle.jc_log.specs.Requests.{is_indexed};
@@ -10,11 +10,10 @@ ghost use Rattle.jc_policies.specs.IndexSets.{set_of};
 ghost use Rattle.jc_rows.specs.Counts.{completions_of};
 ghost use Rattle.jc_policies.specs.SuccessPolicies.{are_indexes, indexes_read, indexes_row, succeeded_indexes_in, is_reachable, count_in, count_row, count_refusal, says_something, success_rule_refusal, success_rule_in, success_rule_row, success_rules_from, success_rules_refusal, success_rules_in, given_success_refusal, success_refusal, success_in};
 
-use jc_json::{Path, may_number, may_object, may_text, member, need_list};
+use jc_json::{Path, Value, may_number, may_object, may_text, member, need_list};
 use jc_ranges::{Ranges, RangesFault};
 use jc_rows::{Counts, ManifestFault, broken, broken_at, check_objects};
 use jc_types::{GREATEST_COMPLETIONS, Mode, SuccessPolicy, SuccessRule, SuccessRules, Want};
-use serde_json::Value;
 use std::alloc::{AllocError, Global};
 
 // The set that a text names, where it names one.
@@ -216,9 +215,9 @@ fn read_success_policy(
 {
     let items = need_list(alloc, policy, path, "rules")?;
     let at = path.member("rules")?;
-    check_some(items, &at)?;
-    check_objects(items, &at)?;
-    let rules = read_success_rules(alloc, items, &at, completions)?;
+    check_some(items.as_slice(), &at)?;
+    check_objects(items.as_slice(), &at)?;
+    let rules = read_success_rules(alloc, items.as_slice(), &at, completions)?;
     Ok(SuccessPolicy { rules })
 }
 

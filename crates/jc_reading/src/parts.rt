@@ -7,7 +7,7 @@ ghost use Rattle.jc_reading.specs.Readings.{change_if, change_said, ends_if, end
 
 use crate::manifests::{manifest_of, with_only};
 use crate::pod_reports::report_of;
-use jc_json::{JsonFault, Path, read_line};
+use jc_json::{JsonFault, Path, borrowed, read_owned};
 use jc_manifest::read_job;
 use jc_rows::{ManifestFault, is_label, is_subdomain};
 use jc_script::{LineFault, read_change, read_ends, read_report};
@@ -102,7 +102,7 @@ pub fn read_key(alloc: Global, word: &[u8]) -> Result<Option<Key>, Want>
 fn read_value(alloc: Global, word: &[u8]) -> Result<Option<Value>, Want>
     ensures { IfOk result (λ o. option_map view o ≡ data_of word.now) }
 {
-    match read_line(alloc, word) {
+    match read_owned(alloc, word) {
         Ok(value) => Ok(Some(value)),
         Err(JsonFault::NotJson) => Ok(None),
         Err(JsonFault::Want) => Err(AllocError),
@@ -113,7 +113,8 @@ fn read_value(alloc: Global, word: &[u8]) -> Result<Option<Value>, Want>
 fn accepted(alloc: Global, manifest: &Value) -> Result<Option<(Key, JobSpec)>, Want>
     ensures { IfOk result (λ o. o ≡ job_if (view manifest.now)) }
 {
-    match read_job(alloc, manifest, &Path::new(alloc)) {
+    let manifest = borrowed(alloc, manifest)?;
+    match read_job(alloc, &manifest, &Path::new(alloc)) {
         Ok(job) => Ok(Some(job)),
         Err(ManifestFault::Want) => Err(AllocError),
         Err(_) => Ok(None),
@@ -136,7 +137,8 @@ pub fn read_created(alloc: Global, key: &Key, word: &[u8]) -> Result<Option<(Key
 fn change_in(alloc: Global, line: &Value) -> Result<Option<SpecChange>, Want>
     ensures { IfOk result (λ o. o ≡ change_if (view line.now)) }
 {
-    match read_change(alloc, line) {
+    let line = borrowed(alloc, line)?;
+    match read_change(alloc, &line) {
         Ok(change) => Ok(Some(change)),
         Err(LineFault::Want) => Err(AllocError),
         Err(LineFault::Bad { .. }) => Ok(None),
@@ -159,7 +161,8 @@ pub fn read_changed(alloc: Global, word: &[u8]) -> Result<Option<SpecChange>, Wa
 fn report_in(alloc: Global, line: &Value) -> Result<Option<PhaseChange>, Want>
     ensures { IfOk result (λ o. o ≡ report_if (view line.now)) }
 {
-    match read_report(alloc, line) {
+    let line = borrowed(alloc, line)?;
+    match read_report(alloc, &line) {
         Ok(change) => Ok(Some(change)),
         Err(LineFault::Want) => Err(AllocError),
         Err(LineFault::Bad { .. }) => Ok(None),
@@ -182,7 +185,8 @@ pub fn read_reported(alloc: Global, word: &[u8]) -> Result<Option<PhaseChange>, 
 fn ends_in(alloc: Global, line: &Value) -> Result<Option<Ends>, Want>
     ensures { IfOk result (λ o. o ≡ ends_if (view line.now)) }
 {
-    match read_ends(alloc, line) {
+    let line = borrowed(alloc, line)?;
+    match read_ends(alloc, &line) {
         Ok(ends) => Ok(Some(ends)),
         Err(LineFault::Want) => Err(AllocError),
         Err(LineFault::Bad { .. }) => Ok(None),

@@ -2,19 +2,18 @@
 
 ghost use Rattle.std.specs.Prelude.{◌≡◌, ◌≤◌, ◌+◌, ◌++◌, ◌∷◌, [], ℕ, List, IfOk, IsOk, OnOk, IsErrOf, Ok, Err, Some, length};
 ghost use Rattle.std.specs.Option.{option_map, option_map_or};
-ghost use Rattle.serde_json.specs.View.{view};
+ghost use Rattle.jc_json.specs.View.{view};
 ghost use Rattle.jc_json.specs.Line.{data_of};
 ghost use Rattle.jc_script.specs.Causes.{Says};
 ghost use Rattle.jc_script.specs.Items.{with_front};
 ghost use Rattle.jc_script.specs.Scripts.{most_bytes, script_of};
 ghost use Rattle.jc_reap.specs.TtlLines.{entries_of, line_ttls, makes_job, some_ttls, spec_member, spec_path, ttl_given, ttl_in, ttl_of_command, ttl_of_spec, ttls_of, ttls_say};
 
-use jc_json::{JsonFault, Path, member, read_line};
+use jc_json::{JsonFault, Path, Room, Value, member, new_room, read_line};
 use jc_script::{
     Cause, LineFault, Said, ScriptFault, first_line, read_given_number, read_text, trimmed,
 };
 use jc_types::{Action1, ListOf, Shape, Want};
-use serde_json::Value;
 use std::alloc::Global;
 
 /// How many seconds after its end the Job of each command may go (`ttlSecondsAfterFinished` of
@@ -47,7 +46,7 @@ fn read_in_spec(alloc: Global, spec: &Value) -> Result<Option<u32>, LineFault>
 }
 
 // The specification of the Job in the value of a line.
-fn spec_in(value: &Value) -> Option<&Value>
+fn spec_in<'v, 'a>(value: &'v Value<'a>) -> Option<&'v Value<'a>>
     ensures { option_map (λ v. view v.now) result ≡ spec_member (view value.now) }
 {
     member(member(value, "job")?, "spec")
@@ -64,10 +63,10 @@ fn read_in(alloc: Global, value: &Value) -> Result<Option<u32>, LineFault>
 }
 
 // The TTL in a line that has a value.
-fn read_given(alloc: Global, text: &[u8]) -> Result<Option<u32>, LineFault>
+fn read_given(alloc: Global, text: &[u8], room: &mut Room) -> Result<Option<u32>, LineFault>
     ensures { Says (λ ttl. ttl) result (ttl_given (data_of text.now)) }
 {
-    match read_line(alloc, text) {
+    match read_line(alloc, text, room) {
         Ok(value) => read_in(alloc, &value),
         Err(JsonFault::NotJson) => Ok(None),
         Err(JsonFault::Want) => Err(LineFault::Want),
@@ -82,11 +81,16 @@ fn makes_job(action: &Action1) -> bool
 }
 
 // The TTL of a line's command: none of one that makes no Job.
-fn read_of_command(alloc: Global, said: &Said, text: &[u8]) -> Result<Option<u32>, LineFault>
+fn read_of_command(
+    alloc: Global,
+    said: &Said,
+    text: &[u8],
+    room: &mut Room,
+) -> Result<Option<u32>, LineFault>
     ensures { Says (λ ttl. ttl) result (ttl_of_command said.now.command (data_of text.now)) }
 {
     if makes_job(&said.command.action) {
-        read_given(alloc, text)
+        read_given(alloc, text, room)
     } else {
         Ok(None)
     }
@@ -100,11 +104,16 @@ pub(crate) struct Given {
 }
 
 // What a text that is not empty gives.
-fn read_entries(alloc: Global, text: &[u8], shape: &Shape) -> Result<Given, LineFault>
+fn read_entries(
+    alloc: Global,
+    text: &[u8],
+    shape: &Shape,
+    room: &mut Room,
+) -> Result<Given, LineFault>
     ensures { Says entries_of result (some_ttls shape.now text.now) }
 {
-    let said = read_text(alloc, text, shape)?;
-    let ttl = read_of_command(alloc, &said, text)?;
+    let said = read_text(alloc, text, shape, room)?;
+    let ttl = read_of_command(alloc, &said, text, room)?;
     Ok(Given {
         ttl,
         times: said.times,
@@ -112,7 +121,12 @@ fn read_entries(alloc: Global, text: &[u8], shape: &Shape) -> Result<Given, Line
 }
 
 // What a line gives; nothing where it is empty.
-fn read_given_by(alloc: Global, line: &[u8], shape: &Shape) -> Result<Option<Given>, LineFault>
+fn read_given_by(
+    alloc: Global,
+    line: &[u8],
+    shape: &Shape,
+    room: &mut Room,
+) -> Result<Option<Given>, LineFault>
     ensures { Says (λ given. option_map_or entries_of given []) result
         (line_ttls shape.now line.now) }
 {
@@ -120,7 +134,7 @@ fn read_given_by(alloc: Global, line: &[u8], shape: &Shape) -> Result<Option<Giv
     if text.is_empty() {
         return Ok(None);
     }
-    Ok(Some(read_entries(alloc, text, shape)?))
+    Ok(Some(read_entries(alloc, text, shape, room)?))
 }
 
 // Adds the entries that are given.
@@ -150,6 +164,7 @@ fn take_line(
     number: u32,
     line: &[u8],
     shape: &Shape,
+    room: &mut Room,
 ) -> Result<(), ScriptFault>
     ensures read { OnOk result ((more : List (List ℕ)) →
         with_front ttls.new (ttls_say shape.now (number + 1) more)
@@ -158,7 +173,7 @@ fn take_line(
         → (more : List (List ℕ)) → ttls_say shape.now number (line.now ∷ more)
         ≡ Err (record { number = at; cause = cause }) }
 {
-    match read_given_by(alloc, line, shape) {
+    match read_given_by(alloc, line, shape, room) {
         Ok(given) => Ok(add_given(ttls, &given)?),
         Err(LineFault::Bad { cause }) => Err(ScriptFault::BadLine { number, cause }),
         Err(LineFault::Want) => Err(ScriptFault::Want),
@@ -182,11 +197,12 @@ pub fn read_ttls(alloc: Global, bytes: &[u8], shape: &Shape) -> Result<Ttls, Scr
         → ttls_of shape.now bytes.now ≡ Err (record { number = number; cause = cause }) }
 {
     let mut ttls = Ttls::new(alloc);
+    let mut room = new_room(alloc);
     let mut number = 1;
     let mut left = Some(bytes);
     'lines: while let Some(text) = left {
         let (line, after) = first_line(text);
-        take_line(alloc, &mut ttls, number, line, shape)?;
+        take_line(alloc, &mut ttls, number, line, shape, &mut room)?;
         number += 1;
         left = after;
     }

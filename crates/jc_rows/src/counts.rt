@@ -1,14 +1,13 @@
 //! What a specification says of the number of its pods.
 
 ghost use Rattle.std.specs.Prelude.{◌≡◌, codes};
-ghost use Rattle.serde_json.specs.View.{view};
+ghost use Rattle.jc_json.specs.View.{view};
 ghost use Rattle.jc_rows.specs.Rows.{Checks, Reads, given_text_row, number_row, number_in};
 ghost use Rattle.jc_rows.specs.Counts.{is_mode, mode_of, mode_in, completions_or, indexed_row, numbers_refusal, numbers_in, counts_refusal, counts_in};
 
 use crate::refusals::{ManifestFault, broken};
-use jc_json::{Path, may_number, may_text};
+use jc_json::{Path, Value, may_number, may_text};
 use jc_types::{GREATEST_COMPLETIONS, GREATEST_PARALLELISM, Mode};
-use serde_json::Value;
 use std::alloc::Global;
 
 /// How many pods a Job wants, and how they are counted.

@@ -1,16 +1,15 @@
 //! What a manifest says of a Job's pods.
 
-ghost use Rattle.std.specs.Prelude.{◌≡◌, ◌+◌, [], ◌||◌, nat_le, codes, map};
-ghost use Rattle.serde_json.specs.View.{view};
+ghost use Rattle.std.specs.Prelude.{◌≡◌, ◌+◌, [], ◌||◌, nat_le, codes, map, option_map, unwrap_or};
+ghost use Rattle.jc_json.specs.View.{view};
 ghost use Rattle.jc_json.specs.Place.{path_to};
 ghost use Rattle.jc_rows.specs.Rows.{Checks, Reads, text_row, object_row, object_in};
 ghost use Rattle.jc_rows.specs.Templates.{restart_of, is_restart, restart_in, never_restarts, restart_row, restart_refusal, objects_row, list_in, given_list_in, init_count, containers_refusal, inits_refusal, is_among, name_row, container_name, names_row, names_in, all_names_refusal, names_of_both, all_containers_refusal, all_names_in, pod_refusal, template_in_pod, template_refusal, template_in};
 
 use crate::refusals::{ManifestFault, broken};
 use crate::words::is_label;
-use jc_json::{Path, item_object, may_list, need_list, need_object, need_text};
+use jc_json::{Path, Value, given_items, item_object, may_list, need_list, need_object, need_text};
 use jc_types::{Name, Names, Restart, Template};
-use serde_json::Value;
 use std::alloc::Global;
 
 // A template has at most this many containers and init containers.
@@ -118,12 +117,12 @@ fn are_few(containers: usize, inits: usize) -> bool
 
 // The containers.
 #[tactic(auto, unfolding(crate::specs::Templates::containers_refusal, crate::specs::Templates::list_in))]
-fn read_containers<'v>(
+fn read_containers<'v, 'a>(
     alloc: Global,
-    pod: &'v Value,
+    pod: &'v Value<'a>,
     path: &Path,
-) -> Result<&'v [Value], ManifestFault>
-    ensures { Reads (λ items. map view items.now) result
+) -> Result<&'v Vec<Value<'a>>, ManifestFault>
+    ensures { Reads (λ items. map view items.now.items) result
         (containers_refusal path.now (view pod.now))
         (list_in path.now (view pod.now) (codes "containers")) }
 {
@@ -131,21 +130,23 @@ fn read_containers<'v>(
     if containers.len() == 0 || !are_few(containers.len(), init_count(pod)) {
         return Err(broken(path, "containers", 10));
     }
-    check_objects(containers, &path.member("containers")?)?;
+    check_objects(containers.as_slice(), &path.member("containers")?)?;
     Ok(containers)
 }
 
-// The init containers.
+// The init containers, where they are given.
 #[tactic(auto, unfolding(crate::specs::Templates::inits_refusal, crate::specs::Templates::given_list_in))]
-fn read_inits<'v>(alloc: Global, pod: &'v Value, path: &Path) -> Result<&'v [Value], ManifestFault>
-    ensures { Reads (λ items. map view items.now) result (inits_refusal path.now (view pod.now))
+fn read_inits<'v, 'a>(
+    alloc: Global,
+    pod: &'v Value<'a>,
+    path: &Path,
+) -> Result<Option<&'v [Value<'a>]>, ManifestFault>
+    ensures { Reads (λ given. unwrap_or (option_map (λ items. map view items.now) given) [])
+        result (inits_refusal path.now (view pod.now))
         (given_list_in path.now (view pod.now) (codes "initContainers")) }
 {
-    let inits = match may_list(alloc, pod, path, "initContainers")? {
-        Some(inits) => inits,
-        None => &[],
-    };
-    check_objects(inits, &path.member("initContainers")?)?;
+    let inits = may_list(alloc, pod, path, "initContainers")?;
+    check_objects(given_items(inits), &path.member("initContainers")?)?;
     Ok(inits)
 }
 
@@ -229,7 +230,7 @@ fn read_all_containers(
 {
     let containers = read_containers(alloc, pod, path)?;
     let inits = read_inits(alloc, pod, path)?;
-    let names = read_all_names(alloc, containers, inits, path)?;
+    let names = read_all_names(alloc, containers.as_slice(), given_items(inits), path)?;
     Ok(names)
 }
 
@@ -255,12 +256,12 @@ fn read_pod(
 
 /// A member that must be an object.
 #[tactic(auto, unfolding(crate::specs::Rows::object_row, crate::specs::Rows::object_in))]
-pub fn read_object<'v>(
+pub fn read_object<'v, 'a>(
     alloc: Global,
-    object: &'v Value,
+    object: &'v Value<'a>,
     path: &Path,
     name: &str,
-) -> Result<&'v Value, ManifestFault>
+) -> Result<&'v Value<'a>, ManifestFault>
     ensures { Reads (λ found. view found.now) result
         (object_row path.now (view object.now) name.now)
         (object_in path.now (view object.now) name.now) }

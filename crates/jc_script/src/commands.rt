@@ -1,20 +1,19 @@
 //! What the members of a line say.
 
 ghost use Rattle.std.specs.Prelude.{◌≡◌};
-ghost use Rattle.serde_json.specs.View.{view};
+ghost use Rattle.jc_json.specs.View.{view};
 ghost use Rattle.jc_members.specs.Causes.{Says};
 ghost use Rattle.jc_script.specs.Commands.{kind_named, fault_of, kind_in, fault_kind_in, create_in, update_in, delete_in, fate_in, mark_in, strip_in, finish_in, phase_in, clock_in, list_command_in, deliver_in, begin_in, sync_in, step_in, restart_command_in, fault_in, action_said, lane_in, command_in, object_says, value_says};
 
 use crate::updates::{read_change, read_version};
 use crate::verbs::{Verb, read_verb};
-use jc_json::{Path, may_number, need_number, need_text};
+use jc_json::{Path, Value, may_number, need_number, need_text};
 use jc_manifest::read_job;
 use jc_members::{
     Cause, LineFault, broken, read_controller, read_ends, read_key, read_number, read_object,
     read_pod, read_report, read_seat, read_times,
 };
 use jc_types::{Action1, Arc, Command, Fault, Kind, Shape};
-use serde_json::Value;
 use std::alloc::Global;
 
 /// What a line says: a command, and how often it is given.

@@ -9,7 +9,7 @@ ghost use Rattle.jc_script.specs.Scripts.{most_bytes, most_commands, text_says, 
 
 use crate::commands::{Said, read_value};
 use crate::lines::{first_line, trimmed};
-use jc_json::{JsonFault, read_line};
+use jc_json::{JsonFault, Room, new_room, read_line};
 use jc_members::{Cause, LineFault};
 use jc_types::{Commands, Copied, Script, Shape, Want};
 use std::alloc::{AllocError, Global};
@@ -40,13 +40,19 @@ impl From<AllocError> for ScriptFault {
     }
 }
 
-/// What a line without its carriage return says, where it is not empty.
+/// What a line without its carriage return says, where it is not empty. The room is kept from line
+/// to line.
 ///
 /// # Errors
 ///
 /// `Bad` exactly where the line is bad, with its cause. `Want`: memory ran out.
 #[tactic(auto, unfolding(crate::specs::Scripts::text_says))]
-pub fn read_text(alloc: Global, text: &[u8], shape: &Shape) -> Result<Said, LineFault>
+pub fn read_text(
+    alloc: Global,
+    text: &[u8],
+    shape: &Shape,
+    room: &mut Room,
+) -> Result<Said, LineFault>
     ensures { Says (λ said. said) result (text_says shape.now text.now) }
 {
     if MOST_LINE_BYTES < text.len() {
@@ -54,7 +60,7 @@ pub fn read_text(alloc: Global, text: &[u8], shape: &Shape) -> Result<Said, Line
             cause: Cause::LineTooLong,
         });
     }
-    match read_line(alloc, text) {
+    match read_line(alloc, text, room) {
         Ok(value) => read_value(alloc, &value, shape),
         Err(JsonFault::NotJson) => Err(LineFault::Bad {
             cause: Cause::NotJson,
@@ -64,7 +70,12 @@ pub fn read_text(alloc: Global, text: &[u8], shape: &Shape) -> Result<Said, Line
 }
 
 // What a line says; nothing where it is empty.
-fn read_said(alloc: Global, line: &[u8], shape: &Shape) -> Result<Option<Said>, LineFault>
+fn read_said(
+    alloc: Global,
+    line: &[u8],
+    shape: &Shape,
+    room: &mut Room,
+) -> Result<Option<Said>, LineFault>
     ensures { Says (λ said. option_map_or commands_of said []) result
         (line_says shape.now line.now) }
 {
@@ -72,7 +83,7 @@ fn read_said(alloc: Global, line: &[u8], shape: &Shape) -> Result<Option<Said>, 
     if text.is_empty() {
         return Ok(None);
     }
-    Ok(Some(read_text(alloc, text, shape)?))
+    Ok(Some(read_text(alloc, text, shape, room)?))
 }
 
 // Whether there are not too many commands with those that a line gives.
@@ -103,6 +114,7 @@ fn take_line(
     number: u32,
     line: &[u8],
     shape: &Shape,
+    room: &mut Room,
 ) -> Result<(), ScriptFault>
     requires { length commands.now ≤ most_commands }
     ensures read { OnOk result ((more : List (List ℕ)) →
@@ -115,7 +127,7 @@ fn take_line(
         → lines_say shape.now number (length commands.old) (line.now ∷ more)
         ≡ Err (record { number = at; cause = cause }) }
 {
-    match read_said(alloc, line, shape) {
+    match read_said(alloc, line, shape, room) {
         Ok(None) => Ok(()),
         Ok(Some(said)) => {
             if !are_few(commands.len(), said.times) {
@@ -145,11 +157,12 @@ pub fn read_script(alloc: Global, bytes: &[u8], shape: &Shape) -> Result<Script,
         → script_of shape.now bytes.now ≡ Err (record { number = number; cause = cause }) }
 {
     let mut commands = Commands::new(alloc);
+    let mut room = new_room(alloc);
     let mut number = 1;
     let mut left = Some(bytes);
     'lines: while let Some(text) = left {
         let (line, after) = first_line(text);
-        take_line(alloc, &mut commands, number, line, shape)?;
+        take_line(alloc, &mut commands, number, line, shape, &mut room)?;
         number += 1;
         left = after;
     }

@@ -1,14 +1,13 @@
 //! What an update says.
 
-ghost use Rattle.serde_json.specs.View.{view};
+ghost use Rattle.jc_json.specs.View.{view};
 ghost use Rattle.jc_members.specs.Causes.{Says};
 ghost use Rattle.jc_script.specs.Updates.{version_said, change_members, counts_of, limits_of, change_at, change_in};
 ghost use Rattle.jc_members.specs.Members.{only_known};
 
-use jc_json::{Path, may_bool};
+use jc_json::{Path, Value, may_bool};
 use jc_members::{LineFault, check_known, read_given_number, read_object};
 use jc_types::{GREATEST_COMPLETIONS, GREATEST_LIMIT, GREATEST_PARALLELISM, SpecChange, Version};
-use serde_json::Value;
 use std::alloc::Global;
 
 // New numbers of pods.
@@ -87,10 +86,11 @@ fn read_members(alloc: Global, spec: &Value, path: &Path) -> Result<SpecChange, 
 }
 
 // That no other member of the specification is given.
-fn check_members(spec: &Value, path: &Path) -> Result<(), LineFault>
+fn check_members(alloc: Global, spec: &Value, path: &Path) -> Result<(), LineFault>
     ensures { Says (λ u. u) result (only_known path.now change_members (view spec.now)) }
 {
     check_known(
+        alloc,
         spec,
         path,
         &[
@@ -111,6 +111,6 @@ pub fn read_change(alloc: Global, value: &Value) -> Result<SpecChange, LineFault
     let path = Path::new(alloc);
     let spec = read_object(alloc, value, &path, "spec")?;
     let at = path.member("spec")?;
-    check_members(spec, &at)?;
+    check_members(alloc, spec, &at)?;
     read_members(alloc, spec, &at)
 }

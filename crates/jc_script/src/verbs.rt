@@ -1,14 +1,13 @@
 //! The words of `do`.
 
 ghost use Rattle.std.specs.Prelude.{◌≡◌, codes, map};
-ghost use Rattle.serde_json.specs.View.{view};
+ghost use Rattle.jc_json.specs.View.{view};
 ghost use Rattle.jc_members.specs.Causes.{Says};
 ghost use Rattle.jc_members.specs.Members.{word_in};
 ghost use Rattle.jc_script.specs.Verbs.{verb_of, members_of, verb_in};
 
-use jc_json::{Path, need_text};
+use jc_json::{Path, Value, need_text};
 use jc_members::{LineFault, broken, check_known};
-use serde_json::Value;
 use std::alloc::Global;
 
 /// The commands, each by its word in `do`.
@@ -115,6 +114,6 @@ pub fn read_verb(alloc: Global, value: &Value) -> Result<Verb, LineFault>
 {
     let path = Path::new(alloc);
     let verb = read_word(alloc, value, &path)?;
-    check_known(value, &path, members_of(verb))?;
+    check_known(alloc, value, &path, members_of(verb))?;
     Ok(verb)
 }

@@ -1,6 +1,8 @@
 //! What is read of the members of a JSON object, and which changes of a specification are refused.
 
-use jc_json::{FieldFault, Path, is_written, need_number, need_text, read_line};
+use jc_json::{
+    FieldFault, Path, is_written, need_number, need_text, new_room, read_line, read_owned,
+};
 use jc_manifest::{UpdateFault, check_update, read_job};
 use jc_types::{Field, SpecChange};
 use std::alloc::{AllocError, Global};
@@ -22,7 +24,8 @@ fn refused(alloc: Global, fault: FieldFault) -> Result<String, AllocError> {
 pub fn text(alloc: Global, text: &str) -> Result<String, AllocError> {
     let (name, line) = text.split_once(' ').unwrap_or((text, ""));
     let name = if name == "-" { "" } else { name };
-    let Ok(value) = read_line(alloc, line.as_bytes()) else {
+    let mut room = new_room(alloc);
+    let Ok(value) = read_line(alloc, line.as_bytes(), &mut room) else {
         return String::from_str(alloc, "not JSON");
     };
     match need_text(alloc, &value, &Path::new(alloc), name) {
@@ -41,7 +44,8 @@ pub fn number(alloc: Global, text: &str) -> Result<String, AllocError> {
     let (Ok(least), Ok(greatest)) = (least.parse::<i64>(), greatest.parse::<i64>()) else {
         return String::from_str(alloc, "two numbers");
     };
-    let Ok(value) = read_line(alloc, line.as_bytes()) else {
+    let mut room = new_room(alloc);
+    let Ok(value) = read_line(alloc, line.as_bytes(), &mut room) else {
         return String::from_str(alloc, "not JSON");
     };
     match need_number(alloc, &value, &Path::new(alloc), "n", least, greatest) {
@@ -56,7 +60,7 @@ pub fn number(alloc: Global, text: &str) -> Result<String, AllocError> {
 /// `AllocError` where there is no memory.
 pub fn written(alloc: Global, text: &str) -> Result<String, AllocError> {
     let (form, line) = text.split_once(' ').unwrap_or((text, ""));
-    let Ok(value) = read_line(alloc, line.as_bytes()) else {
+    let Ok(value) = read_owned(alloc, line.as_bytes()) else {
         return String::from_str(alloc, "not JSON");
     };
     let same = is_written(alloc, &value, form)?;
@@ -99,7 +103,8 @@ fn field(field: Field) -> &'static str {
 pub fn update(alloc: Global, text: &str) -> Result<String, AllocError> {
     let words: Vec<&str> = text.split_whitespace().collect(alloc)?;
     let line = words.get(4).unwrap_or(&"");
-    let Ok(value) = read_line(alloc, line.as_bytes()) else {
+    let mut room = new_room(alloc);
+    let Ok(value) = read_line(alloc, line.as_bytes(), &mut room) else {
         return String::from_str(alloc, "not JSON");
     };
     let Ok((_, old)) = read_job(alloc, &value, &Path::new(alloc)) else {

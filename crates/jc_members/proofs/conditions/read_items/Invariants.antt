@@ -1,5 +1,5 @@
 use Rattle.std.proofs.Common.{◌≡◌, map, drop}
-use Rattle.serde_json.specs.View.{view}
+use Rattle.jc_json.specs.View.{view}
 use Rattle.jc_members.specs.Items.{each_said, with_front}
 use Rattle.jc_members.specs.Phases.{condition_at}
 use Rattle.jc_members.proofs.conditions.read_items.Given as goal

@@ -1,5 +1,5 @@
 use Rattle.std.proofs.Common.{◌≡◌, map, drop}
-use Rattle.serde_json.specs.View.{view}
+use Rattle.jc_json.specs.View.{view}
 use Rattle.jc_members.specs.Phases.{entries_fit}
 use Rattle.jc_members.proofs.containers.check_entries.Given as goal
 

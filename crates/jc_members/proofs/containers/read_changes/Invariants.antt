@@ -1,5 +1,5 @@
 use Rattle.std.proofs.Common.{◌≡◌, map, drop}
-use Rattle.serde_json.specs.View.{view}
+use Rattle.jc_json.specs.View.{view}
 use Rattle.jc_members.specs.Items.{all_said, with_front}
 use Rattle.jc_members.specs.Phases.{container_change}
 use Rattle.jc_members.proofs.containers.read_changes.Given as goal

@@ -1,5 +1,5 @@
 use Rattle.std.proofs.Common.{◌≡◌, map, drop}
-use Rattle.serde_json.specs.View.{view}
+use Rattle.jc_json.specs.View.{view}
 use Rattle.jc_json.specs.Field.{item_object}
 use Rattle.jc_rows.specs.Rows.{each, reads}
 use Rattle.jc_rows.proofs.templates.check_objects.Given as goal

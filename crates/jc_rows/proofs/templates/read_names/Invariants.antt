@@ -1,5 +1,5 @@
 use Rattle.std.proofs.Common.{◌≡◌, [], ◌++◌, map, drop}
-use Rattle.serde_json.specs.View.{view}
+use Rattle.jc_json.specs.View.{view}
 use Rattle.jc_rows.specs.Templates.{names_row, names_in}
 use Rattle.jc_rows.proofs.templates.read_names.Given as goal
 

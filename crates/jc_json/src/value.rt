@@ -1,0 +1,79 @@
+//! Values that borrow their texts from the line that they were read of.
+
+ghost use Rattle.std.specs.Prelude.{◌≡◌, is_some, option_map};
+ghost use Rattle.serde_json.specs.Data.{no_members};
+ghost use Rattle.serde_json.specs.Find.{as_array, as_object, get, get_member};
+ghost use Rattle.jc_json.specs.View.{view, items_view, members_view};
+
+use serde_json::Number;
+
+/// A JSON value. Its texts lie in the line, or in the room that the line was read with.
+#[derive(Drop)]
+pub enum Value<'a> {
+    Null,
+    Bool(bool),
+    Number(Number),
+    String(&'a str),
+    Array(Vec<Value<'a>>),
+    /// The members in the order of the line. Of a name that stands twice the last value counts.
+    Object(Vec<(&'a str, Value<'a>)>),
+}
+
+impl<'a> Value<'a> {
+    /// The items, where this is an array.
+    pub fn as_array<'v>(&'v self) -> Option<&'v Vec<Value<'a>>>
+        ensures { option_map (λ v. items_view v.now.items) result ≡ as_array (view self.now) }
+    {
+        if let Value::Array(items) = self {
+            Some(items)
+        } else {
+            None
+        }
+    }
+
+    /// The members in the order of the line, where this is an object.
+    pub fn as_object<'v>(&'v self) -> Option<&'v Vec<(&'a str, Value<'a>)>>
+        ensures { option_map (λ v. members_view v.now.items no_members) result
+            ≡ as_object (view self.now) }
+    {
+        if let Value::Object(members) = self {
+            Some(members)
+        } else {
+            None
+        }
+    }
+
+    /// Whether this is an object.
+    pub fn is_object(&self) -> bool
+        ensures { result ≡ is_some (as_object (view self.now)) }
+    {
+        self.as_object().is_some()
+    }
+
+    /// The member of that name, where this is an object.
+    pub fn get<'v>(&'v self, name: &str) -> Option<&'v Value<'a>>
+        ensures { option_map (λ v. view v.now) result ≡ get name.now (view self.now) }
+    {
+        if let Value::Object(members) = self {
+            find(members, name)
+        } else {
+            None
+        }
+    }
+}
+
+// The last member of that name.
+fn find<'v, 'a>(members: &'v Vec<(&'a str, Value<'a>)>, name: &str) -> Option<&'v Value<'a>>
+    ensures { option_map (λ v. view v.now) result
+        ≡ get_member name.now (members_view members.now.items no_members) }
+{
+    let mut left = members.len();
+    while left > 0 {
+        left -= 1;
+        let member = &members[left];
+        if member.0 == name {
+            return Some(&member.1);
+        }
+    }
+    None
+}
