@@ -8,9 +8,8 @@
 --     Next                                the sync goes on, or it has ended
 --     Stepped                             reply, entry and what is next
 --     stepped now fault log sync          a step, with the fault that is pending
---     fault_after pending left            the fault that is pending afterwards
 --     flights_of next                     the syncs under way afterwards
---     floor_given, backoff_given          what a controller notes of an answer
+--     floor_given given                   what a controller notes of an answer
 --     IsStepOf d past log flight step     the deed is this step of the sync
 --     IsStepped step reply end ..         what code has done is this step
 use Rattle.std.specs.Prelude.{◌≡◌, ℕ, List, [], ◌∷◌, length, Option, Some, None}
@@ -26,7 +25,6 @@ use Rattle.jc_types.specs.declared.replies.Answer.TheVariants as answer
 use Rattle.jc_types.specs.declared.replies.Reply.{Reply}
 use Rattle.jc_types.specs.declared.replies.Reply.TheVariants as reply
 use Rattle.jc_types.specs.declared.statuses.JobStatus.{JobStatus}
-use Rattle.jc_types.specs.declared.syncs.Backoff.{Backoff}
 use Rattle.jc_log.specs.Requests.{Answered, refused, grown, create_pod_gives, mark_pod_gives, let_go_gives, write_status_gives, release_gives}
 use Rattle.jc_log.specs.Deeds.{Deed}
 use Rattle.jc_plan.specs.declared.plans.Planned.{Planned}
@@ -173,11 +171,6 @@ stepped_at now pending log flight (ask ∷ left) =
 abbrev pub stepped : ℕ → Option Fault → List Entry → Sync → Stepped
 stepped now pending log sync = stepped_at now pending log sync.flight sync.left
 
--- The fault that is pending afterwards: one is used up by a request that was not answered.
-abbrev pub fault_after : Option Fault → List Ask → Option Fault
-fault_after pending [] = pending
-fault_after pending (ask ∷ left) = None
-
 -- The syncs under way afterwards.
 abbrev pub flights_of : Next → List Flight
 flights_of (GoesOn sync) = sync.flight ∷ []
@@ -192,16 +185,6 @@ floor_given (answer.Written v) = Some v
 floor_given (answer.Unchanged v) = Some v
 floor_given (answer.Released v) = Some v
 floor_given other = None
-
--- The backoff of the plan, where the answer says that the status was written.
-abbrev pub backoff_written : Planned → Answer → Option Backoff
-backoff_written plan (answer.Written v) = Some plan.backoff
-backoff_written plan other = None
-
--- The backoff that the answer to the request gives the key.
-abbrev pub backoff_given : Planned → Ask → Answer → Option Backoff
-backoff_given plan WriteFirst given = backoff_written plan given
-backoff_given plan other given = None
 
 -- ---- the deed
 

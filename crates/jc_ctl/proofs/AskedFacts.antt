@@ -1,6 +1,6 @@
--- What words ask for threads.
-use Rattle.std.proofs.Common.{◌≡◌, ℕ, Bool, true, false, List, Result, Ok, Err, Option, Some, None, is_some, not, refl, ap, arith, subst, sym, true≢false, ◌∙◌}
-use Rattle.std.specs.Prelude.{IfSome, IsTrue, is_ok}
+-- What words of a run on threads, or of an audit, ask for.
+use Rattle.std.proofs.Common.{◌≡◌, ℕ, true, false, List, Result, Ok, Err, Option, Some, None, refl, ap, subst, sym, true≢false, ◌∙◌}
+use Rattle.std.specs.Prelude.{IfSome, is_ok}
 use Rattle.std.proofs.lemmas.Option.{same_Some}
 use Rattle.jc_types.specs.declared.actions.Command.{Command}
 use Rattle.jc_types.specs.declared.runs.Shape.{Shape}
@@ -12,32 +12,11 @@ use Rattle.jc_words.specs.declared.words.Order.{Order}
 use Rattle.jc_words.specs.declared.words.Order.TheVariants.{Audit, Generate, Reap, Run}
 use Rattle.jc_ctl.proofs.AuditFacts.{audit-good}
 use Rattle.jc_ctl.specs.Audited.{IsPromised, OfAudit, TellsVerdict}
-use Rattle.jc_ctl.specs.declared.run.Asked.{Asked}
 use Rattle.jc_single.specs.declared.status.Status.{Status}
 use Rattle.jc_single.proofs.EndFacts.{EndsBad}
 use Rattle.jc_single.proofs.RunFacts.{order_same, same_bad}
-use Rattle.jc_ctl.specs.declared.run.Asked.TheVariants as ask
 use Rattle.jc_single.specs.Played.{as_script}
-use Rattle.jc_ctl.specs.Asked.{HasThreads, order_asked}
-use Rattle.jc_single.specs.Runs.{IsSingle, OfInput, answer_of, reported}
-
--- What is asked for is not done on one thread.
-not-single : (asked : Asked) → HasThreads asked → IsSingle (order_asked asked) → ⊥
-not-single (ask.Threads threads lock shape) some zero = omega (arith, zero, some)
-not-single (ask.Audit shape) some none = none
-
--- Words ask for no threads and no audit where none were found.
-pub single-is : (words : Option Order) (asked : Option Asked) (b : Bool) → is_some asked ≡ not b
-    → IfSome asked (λ asked. words ≡ Some (order_asked asked))
-    → IfSome asked HasThreads
-    → (asked ≡ None → (order : Order) → words ≡ Some order → IsSingle order)
-    → (IsTrue b → (order : Order) → words ≡ Some order → IsSingle order)
-    × (((order : Order) → words ≡ Some order → IsSingle order) → IsTrue b)
-single-is words None true is found some none = ((λ t. none refl), (λ h. refl))
-single-is words None false is found some none = absurd (true≢false (sym is))
-single-is words (Some asked) true is found some none = absurd (true≢false is)
-single-is words (Some asked) false is found some none =
-    ((λ t. absurd (true≢false (sym t))), (λ h. absurd (not-single asked some (h (order_asked asked) found))))
+use Rattle.jc_single.specs.Runs.{OfInput, answer_of, reported}
 
 -- A bad line is the same on any number of threads.
 pub bad-same : (threads : ℕ) (lock : LockKind) (shape : Shape) (input : List ℕ) (bad : BadLine) → script_of shape input ≡ Err bad

@@ -1,4 +1,3 @@
-pub mod Asked
 pub mod Audited
 pub mod Done
 -- Words of the crates below, handed on to those above.

@@ -48,11 +48,16 @@ pub record After (script : Script) (shape : Shape) (items : List Past) (places :
   pub view : view_of script shape items ≡ happened seen event
   pub told : reply ≡ reply_seen seen event
 
-pub before : (script : Script) (shape : Shape) (items : List Past) (places : List (Option ℕ)) (log : List Entry) (teams : List Team) (rows : List (Key × List End)) (now : ℕ) (seen : Seen) (event : Event) (act : Act) → IsMachineKept script shape (reverse items) places log teams rows now → view_of script shape items ≡ seen → Admits seen event
+pub before : (script : Script) (shape : Shape) (items : List Past) (places : List (Option ℕ)) (log : List Entry)
+    (teams : List Team) (rows : List (Key × List End)) (now : ℕ) (seen : Seen) (event : Event) (act : Act)
+    → IsMachineKept script shape (reverse items) places log teams rows now → view_of script shape items ≡ seen
+    → Admits seen event
     → act_seen seen event ≡ act → length seen.pasts < seen.shape.events → Before script shape items places log teams rows now seen event act
 before script shape items places log teams rows now seen event act kept view admits is room = record { kept = kept; view = view; admits = admits; is = is; room = room }
 
-module _ {script : Script} {shape : Shape} {items : List Past} {places : List (Option ℕ)} {log : List Entry} {teams : List Team} {rows : List (Key × List End)} {now : ℕ} {seen : Seen} {event : Event} {act : Act} (b : Before script shape items places log teams rows now seen event act) where
+module _ {script : Script} {shape : Shape} {items : List Past} {places : List (Option ℕ)} {log : List Entry}
+    {teams : List Team} {rows : List (Key × List End)} {now : ℕ} {seen : Seen} {event : Event} {act : Act}
+    (b : Before script shape items places log teams rows now seen event act) where
   -- The deeds so far.
   abbrev pub past : List Deed
   past = deeds_in script (reverse items)
@@ -100,7 +105,9 @@ module _ {script : Script} {shape : Shape} {items : List Past} {places : List (O
   comes = subst (λ (s : Seen). ComesNext s.script.commands s.pasts event) (sym b.view) b.admits.next
 
   -- The event has happened, where the machine is what the longer history says.
-  pub closes : (mid new : List Past) (reply : Reply) (end : Version) (moved : List (Option ℕ)) (next : List Entry) (news : List Team) (fates : List (Key × List End)) (later : ℕ) → new ≡ mid ++ past_of event reply end ∷ [] → mid ≡ items → MovesOn script.commands event places moved
+  pub closes : (mid new : List Past) (reply : Reply) (end : Version) (moved : List (Option ℕ)) (next : List Entry)
+      (news : List Team) (fates : List (Key × List End)) (later : ℕ) → new ≡ mid ++ past_of event reply end ∷ [] → mid
+      ≡ items → MovesOn script.commands event places moved
       → IsMachine shape (deed script (past_of event reply end) ∷ past) next news (fates_in fates) later → After script shape new moved next news fates later seen event reply
   closes mid new reply end moved next news fates later is same moves run = record {
     kept = record {

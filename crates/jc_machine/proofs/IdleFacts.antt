@@ -136,7 +136,10 @@ module _ (shape : Shape) (past : List Deed) (log : List Entry) where
         by None e = refl
         by (Some due) e = absurd (no-cons _ _ e)
 
-    but-lists : flat_map (λ c. delivery_events (of c) log c) (below shape.controllers) ++ (flat_map (λ c. step_events (of c) shape.workers c) (below shape.controllers) ++ (flat_map (λ c. begin_events (of c) log shape.workers c) (below shape.controllers) ++ node_events (is_some (node_step log (fate past))))) ≡ []
+    but-lists : flat_map (λ c. delivery_events (of c) log c) (below shape.controllers)
+        ++ (flat_map (λ c. step_events (of c) shape.workers c) (below shape.controllers)
+        ++ (flat_map (λ c. begin_events (of c) log shape.workers c) (below shape.controllers)
+        ++ node_events (is_some (node_step log (fate past))))) ≡ []
     but-lists = nil-rest (flat_map (λ c. list_events (of c) c) (below shape.controllers)) _ all-but
 
     but-deliveries : flat_map (λ c. step_events (of c) shape.workers c) (below shape.controllers) ++ (flat_map (λ c. begin_events (of c) log shape.workers c) (below shape.controllers) ++ node_events (is_some (node_step log (fate past)))) ≡ []
@@ -202,8 +205,12 @@ module _ (shape : Shape) (past : List Deed) (log : List Entry) where
 -- ---- of a machine
 
 -- What the two tests tell together.
-pub quiescent_by : (seen : Seen) (idle acts : Bool) → (idle ≡ true → AreIdle seen) → (AreIdle seen → idle ≡ true) → acts ≡ is_some (node_step (log_seen seen) (fate (deeds_seen seen))) → (idle && not acts) ≡ is_quiescent seen.shape (deeds_seen seen) (log_seen seen)
-quiescent_by seen idle acts to back is = by idle acts (is_quiescent seen.shape (deeds_seen seen) (log_seen seen)) to back is (quiet-idle seen.shape (deeds_seen seen) (log_seen seen)) (quiet-node seen.shape (deeds_seen seen) (log_seen seen)) (idle-quiet seen.shape (deeds_seen seen) (log_seen seen))
+pub quiescent_by : (seen : Seen) (idle acts : Bool) → (idle ≡ true → AreIdle seen) → (AreIdle seen → idle ≡ true) → acts
+    ≡ is_some (node_step (log_seen seen) (fate (deeds_seen seen))) → (idle && not acts)
+    ≡ is_quiescent seen.shape (deeds_seen seen) (log_seen seen)
+quiescent_by seen idle acts to back is = by idle acts (is_quiescent seen.shape (deeds_seen seen) (log_seen seen)) to
+    back is (quiet-idle seen.shape (deeds_seen seen) (log_seen seen))
+    (quiet-node seen.shape (deeds_seen seen) (log_seen seen)) (idle-quiet seen.shape (deeds_seen seen) (log_seen seen))
   where
     by : (idle acts quiet : Bool) → (idle ≡ true → AreIdle seen) → (AreIdle seen → idle ≡ true) → acts ≡ is_some (node_step (log_seen seen) (fate (deeds_seen seen)))
         → (quiet ≡ true → AreIdle seen) → (quiet ≡ true → is_some (node_step (log_seen seen) (fate (deeds_seen seen))) ≡ false)

@@ -34,7 +34,9 @@ module _ (fates : Key → Option (List End)) where
   found P [] step all e = absurd (true≢false (sym (ap is_some e)))
   found P (q ∷ pods) step all e = by (found P pods step all.1) (act_on fates q) refl e
     where
-      by : (newest tells pods ≡ Some step → P step.0 × (act_on fates step.0 ≡ Some step.1)) → (o : Option Act) → act_on fates q ≡ o → option_or (option_map (λ act. (q, act)) o) (newest tells pods) ≡ Some step → P step.0 × (act_on fates step.0 ≡ Some step.1)
+      by : (newest tells pods ≡ Some step → P step.0 × (act_on fates step.0 ≡ Some step.1)) → (o : Option Act)
+          → act_on fates q ≡ o → option_or (option_map (λ act. (q, act)) o) (newest tells pods) ≡ Some step → P step.0
+          × (act_on fates step.0 ≡ Some step.1)
       by rest None t e = rest e
       by rest (Some act) t e = subst (λ (s : Pod × Act). P s.0 × (act_on fates s.0 ≡ Some s.1)) (of_some (q, act) step e) (all.0, t)
 

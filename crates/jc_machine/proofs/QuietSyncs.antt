@@ -141,7 +141,10 @@ module _ (old : Seen) (c w : ℕ) (k : Key) (job : Job) (cur : StartsCurrent old
             subst (λ deeds. IsAtNext (log_given old.shape deeds) log (moment old.shape past) (backoff k (diary_seen old c)) k job) (sym (map-append (deed old.script) (last ∷ run) (begun ∷ old.pasts)))
             (subst (λ l. IsAtNext (log_given old.shape (deeds_in old.script (last ∷ run) ++ d ∷ past)) l (moment old.shape past) (backoff k (diary_seen old c)) k job) same-log
             (comes old.shape c w d past k job (deed old.script last) (deeds_in old.script run) quiet));
-        silent = λ same. silent-pasts (deed old.script) (λ p. refl) (last ∷ run) (nothing old.shape c w d past k job (deed old.script last) (deeds_in old.script run) quiet (ap (λ l. next_status (moment old.shape past) (backoff k (diary_seen old c)) job (own_pods job (pods_under k l))) same-log ∙ same));
+        silent = λ same. silent-pasts (deed old.script) (λ p. refl) (last ∷ run)
+            (nothing old.shape c w d past k job (deed old.script last) (deeds_in old.script run) quiet
+            (ap (λ l. next_status (moment old.shape past) (backoff k (diary_seen old c)) job
+            (own_pods job (pods_under k l))) same-log ∙ same));
       }
         where
           quiet : IsQuietSync old.shape c w d past k job (deed old.script last) (deeds_in old.script run)

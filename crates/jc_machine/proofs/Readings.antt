@@ -72,7 +72,11 @@ module _ (older : List Note) (team : Team) (held : IsHeld older team.con.schedul
 
 -- ---- of a machine
 
-module _ (script : Script) (shape : Shape) (items : List Past) (places : List (Option ℕ)) (log : List Entry) (teams : List Team) (rows : List (Key × List End)) (now : ℕ) (seen : Seen) (kept : IsMachineKept script shape (reverse items) places log teams rows now) (view : view_of script shape items ≡ seen) (c : ℕ) (team : Team) (inside : c < seen.shape.controllers) (value : team ≡ get_or teams c team) where
+module _ (script : Script) (shape : Shape) (items : List Past) (places : List (Option ℕ)) (log : List Entry)
+    (teams : List Team) (rows : List (Key × List End)) (now : ℕ) (seen : Seen)
+    (kept : IsMachineKept script shape (reverse items) places log teams rows now)
+    (view : view_of script shape items ≡ seen) (c : ℕ) (team : Team) (inside : c < seen.shape.controllers)
+    (value : team ≡ get_or teams c team) where
   -- What the controller has noted.
   abbrev noted : List Note
   noted = notes shape c (deeds_in script (reverse items)) log

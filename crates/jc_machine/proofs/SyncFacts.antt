@@ -40,7 +40,10 @@ module _ (c w : ℕ) where
   noted-after : (old : Seen) (run : List Past) → diary_seen (after old run) c ≡ diary old.shape c (deeds_in old.script run ++ deeds_seen old)
   noted-after old run = ap (λ deeds. diary old.shape c deeds) (map-append (deed old.script) run old.pasts)
 
-  one-at : (old : Seen) (run : List Past) → Each (λ (past : Past). past.event ≡ stepping_event c w) run → AreSteps old.shape c w (deeds_in old.script run) (deeds_seen old) → is_none (register w (diary_seen (after old run) c)) ≡ false → StepsOn c w old (happened (after old run) (stepping_event c w))
+  one-at : (old : Seen) (run : List Past) → Each (λ (past : Past). past.event ≡ stepping_event c w) run
+      → AreSteps old.shape c w (deeds_in old.script run) (deeds_seen old)
+      → is_none (register w (diary_seen (after old run) c)) ≡ false
+      → StepsOn c w old (happened (after old run) (stepping_event c w))
   one-at old run events steps busy = record {
     run = past_seen (after old run) (stepping_event c w) ∷ run;
     script = refl;

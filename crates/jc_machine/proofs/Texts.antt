@@ -25,14 +25,23 @@ report_unless_texts : (log : List Entry) (pod : Pod) (change : PhaseChange) (o :
 report_unless_texts log pod change (Some unnamed) = inr (record { name = unnamed.name; told = refl; nothing = refl })
 report_unless_texts log pod change None = by (same_course_of pod (with_report log pod change))
   where
-    by : (b : Bool) → HasNoText (cond b (refused (reply.Unchanged pod.version)) (accepted (reply.Written (next_version log)) (pod_entry (with_report log pod change)))).reply ⊎ IsNamed (cond b (refused (reply.Unchanged pod.version)) (accepted (reply.Written (next_version log)) (pod_entry (with_report log pod change))))
+    by : (b : Bool) → HasNoText (cond b (refused (reply.Unchanged pod.version))
+        (accepted (reply.Written (next_version log)) (pod_entry (with_report log pod change)))).reply
+        ⊎ IsNamed (cond b (refused (reply.Unchanged pod.version))
+        (accepted (reply.Written (next_version log)) (pod_entry (with_report log pod change))))
     by true = inl tt
     by false = inl tt
 
 report_texts : (log : List Entry) (uid : Uid) (change : PhaseChange) → HasNoText (report_phase_gives log uid change).reply ⊎ IsNamed (report_phase_gives log uid change)
 report_texts log uid change = by (pod_in uid log)
   where
-    tests : (pod : Pod) (a b : Bool) → HasNoText (cond a (refused (reply.Final pod.phase)) (cond b (refused (reply.BadStep Running Pending)) (report_unless log pod change (find (is_unnamed pod) change.containers)))).reply ⊎ IsNamed (cond a (refused (reply.Final pod.phase)) (cond b (refused (reply.BadStep Running Pending)) (report_unless log pod change (find (is_unnamed pod) change.containers))))
+    tests : (pod : Pod) (a b : Bool) → HasNoText
+        (cond a (refused (reply.Final pod.phase))
+        (cond b (refused (reply.BadStep Running Pending))
+        (report_unless log pod change (find (is_unnamed pod) change.containers)))).reply
+        ⊎ IsNamed (cond a (refused (reply.Final pod.phase))
+        (cond b (refused (reply.BadStep Running Pending))
+        (report_unless log pod change (find (is_unnamed pod) change.containers))))
     tests pod true b = inl tt
     tests pod false true = inl tt
     tests pod false false = report_unless_texts log pod change (find (is_unnamed pod) change.containers)

@@ -1,4 +1,5 @@
 pub mod Kept
+pub mod Calls
 pub mod Finishes
 pub mod Fits
 pub mod Diaries

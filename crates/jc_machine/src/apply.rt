@@ -10,6 +10,7 @@ ghost use Rattle.jc_lanes.specs.Places.{AreUsedUp};
 ghost use Rattle.jc_machine.specs.Fits.{FitsShape, HasController, HasWorker};
 ghost use Rattle.jc_machine.specs.Idle.{is_settle};
 ghost use Rattle.jc_machine.specs.declared.apply.ApplyFault.TheVariants.{HistoryFull};
+ghost use Rattle.jc_machine.specs.Calls.{HappensOrKeeps, MayCome};
 
 use crate::machine::Machine;
 use jc_types::{Action1, Copied, Event, Reply, Same, Script, Shape, Sys, Want};
@@ -141,13 +142,9 @@ impl Machine {
     //
     // `Want` where there is no memory for it; the machine is then as before.
     fn act(&mut self, event: Event, action: Action1) -> Result<Reply, Want>
-        requires admits { Admits self.old event }
-        requires act { act_seen self.old event ≡ act_of_action action }
+        requires may { MayCome self.old event (act_of_action action) }
         requires fine { IsValidAction action }
-        requires room { length self.old.pasts < self.old.shape.events }
-        ensures ok { OnOk result (self.new ≡ happened self.old event) }
-        ensures reply { IfOk result (λ r. r ≡ reply_seen self.old event) }
-        ensures kept { OnErr result (self.new ≡ self.old) }
+        ensures { HappensOrKeeps self.old self.new event result }
     {
         match action {
             Action1::Create { key, spec } => self.create(event, &key, spec),
@@ -183,13 +180,8 @@ impl Machine {
     //
     // `Want` where there is no memory for it; the machine is then as before.
     fn command(&mut self, event: Event, number: u32) -> Result<Reply, Want>
-        requires admits { Admits self.old event }
-        requires act { act_seen self.old event
-            ≡ act_of_command (slice_get self.old.script.commands number) }
-        requires room { length self.old.pasts < self.old.shape.events }
-        ensures ok { OnOk result (self.new ≡ happened self.old event) }
-        ensures reply { IfOk result (λ r. r ≡ reply_seen self.old event) }
-        ensures kept { OnErr result (self.new ≡ self.old) }
+        requires { MayCome self.old event (act_of_command (slice_get self.old.script.commands number)) }
+        ensures { HappensOrKeeps self.old self.new event result }
     {
         let Some(command) = self.script.commands.as_slice().get(number as usize) else {
             unreachable!()
@@ -202,12 +194,8 @@ impl Machine {
     //
     // `Want` where there is no memory for it; the machine is then as before.
     fn system(&mut self, event: Event, system: Sys) -> Result<Reply, Want>
-        requires admits { Admits self.old event }
-        requires act { act_seen self.old event ≡ act_of_system system }
-        requires room { length self.old.pasts < self.old.shape.events }
-        ensures ok { OnOk result (self.new ≡ happened self.old event) }
-        ensures reply { IfOk result (λ r. r ≡ reply_seen self.old event) }
-        ensures kept { OnErr result (self.new ≡ self.old) }
+        requires { MayCome self.old event (act_of_system system) }
+        ensures { HappensOrKeeps self.old self.new event result }
     {
         match system {
             Sys::List { controller, kind } => self.list(event, controller, kind),
@@ -223,11 +211,8 @@ impl Machine {
     //
     // `Want` where there is no memory for it; the machine is then as before.
     fn happen(&mut self, event: Event) -> Result<Reply, Want>
-        requires admits { Admits self.old event }
-        requires room { length self.old.pasts < self.old.shape.events }
-        ensures ok { OnOk result (self.new ≡ happened self.old event) }
-        ensures reply { IfOk result (λ r. r ≡ reply_seen self.old event) }
-        ensures kept { OnErr result (self.new ≡ self.old) }
+        requires { MayCome self.old event (act_seen self.old event) }
+        ensures { HappensOrKeeps self.old self.new event result }
     {
         match event {
             Event::System(system) => self.system(event, system),

@@ -1,8 +1,8 @@
 //! The events List and Deliver, and the command Restart: what a controller's caches have seen.
 
-ghost use Rattle.std.specs.Prelude.{◌≡◌, ◌<◌, IfOk, OnErr, OnOk, length};
+ghost use Rattle.std.specs.Prelude.{length};
 ghost use Rattle.jc_log.specs.Acts as does;
-ghost use Rattle.jc_runs.specs.Seen.{Admits, act_seen, happened, reply_seen};
+ghost use Rattle.jc_machine.specs.Calls.{HappensOrKeeps, MayCome};
 
 use crate::keeping::keep;
 use crate::machine::Machine;
@@ -14,12 +14,8 @@ impl Machine {
     //
     // `Want` where there is no memory for it; the machine is then as before.
     pub(crate) fn list(&mut self, event: Event, controller: u32, kind: Kind) -> Result<Reply, Want>
-        requires admits { Admits self.old event }
-        requires act { act_seen self.old event ≡ does.List controller kind }
-        requires room { length self.old.pasts < self.old.shape.events }
-        ensures ok { OnOk result (self.new ≡ happened self.old event) }
-        ensures reply { IfOk result (λ r. r ≡ reply_seen self.old event) }
-        ensures kept { OnErr result (self.new ≡ self.old) }
+        requires { MayCome self.old event (does.List controller kind) }
+        ensures { HappensOrKeeps self.old self.new event result }
     {
         self.history.events.reserve(1)?;
         let member = &mut self.members[controller as usize];
@@ -39,12 +35,8 @@ impl Machine {
         controller: u32,
         kind: Kind,
     ) -> Result<Reply, Want>
-        requires admits { Admits self.old event }
-        requires act { act_seen self.old event ≡ does.Deliver controller kind }
-        requires room { length self.old.pasts < self.old.shape.events }
-        ensures ok { OnOk result (self.new ≡ happened self.old event) }
-        ensures reply { IfOk result (λ r. r ≡ reply_seen self.old event) }
-        ensures kept { OnErr result (self.new ≡ self.old) }
+        requires { MayCome self.old event (does.Deliver controller kind) }
+        ensures { HappensOrKeeps self.old self.new event result }
     {
         self.history.events.reserve(1)?;
         let member = &mut self.members[controller as usize];
@@ -59,12 +51,8 @@ impl Machine {
     //
     // `Want` where there is no memory for it; the machine is then as before.
     pub(crate) fn restart(&mut self, event: Event, controller: u32) -> Result<Reply, Want>
-        requires admits { Admits self.old event }
-        requires act { act_seen self.old event ≡ does.Restart controller }
-        requires room { length self.old.pasts < self.old.shape.events }
-        ensures ok { OnOk result (self.new ≡ happened self.old event) }
-        ensures reply { IfOk result (λ r. r ≡ reply_seen self.old event) }
-        ensures kept { OnErr result (self.new ≡ self.old) }
+        requires { MayCome self.old event (does.Restart controller) }
+        ensures { HappensOrKeeps self.old self.new event result }
     {
         self.history.events.reserve(1)?;
         let fresh = Member::new(self.alloc, self.shape.workers as usize)?;

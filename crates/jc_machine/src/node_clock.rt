@@ -1,15 +1,15 @@
 //! The events Node and Clock, and the command Fate.
 
-ghost use Rattle.std.specs.Prelude.{◌≡◌, ◌<◌, ◌≢◌, [], IfOk, OnErr, OnOk, Some, length, map, option_map};
+ghost use Rattle.std.specs.Prelude.{◌≡◌, ◌≢◌, [], IfOk, OnErr, OnOk, Some, length, map, option_map};
 ghost use Rattle.jc_log.specs.Acts as does;
 ghost use Rattle.jc_log.specs.Requests.{grown};
 ghost use Rattle.jc_history.specs.Nodes.{node_step};
 ghost use Rattle.jc_history.specs.Replies.{node_gives, version_in};
 ghost use Rattle.jc_node.specs.Fated.{ends_at_key};
 ghost use Rattle.jc_node.specs.Steps.{step_of};
-ghost use Rattle.jc_runs.specs.Seen.{Admits, act_seen, happened, reply_seen};
 ghost use Rattle.jc_runs.specs.Texts.{HasNoText};
 ghost use Rattle.jc_runs.specs.Teams.{clocked_team};
+ghost use Rattle.jc_machine.specs.Calls.{HappensOrKeeps, MayCome};
 
 use crate::keeping::keep;
 use crate::machine::Machine;
@@ -93,12 +93,8 @@ impl Machine {
     //
     // `Want` where there is no memory for it; the machine is then as before.
     pub(crate) fn node(&mut self, event: Event) -> Result<Reply, Want>
-        requires admits { Admits self.old event }
-        requires act { act_seen self.old event ≡ does.Node }
-        requires room { length self.old.pasts < self.old.shape.events }
-        ensures ok { OnOk result (self.new ≡ happened self.old event) }
-        ensures reply { IfOk result (λ r. r ≡ reply_seen self.old event) }
-        ensures kept { OnErr result (self.new ≡ self.old) }
+        requires { MayCome self.old event does.Node }
+        ensures { HappensOrKeeps self.old self.new event result }
     {
         self.history.events.reserve(1)?;
         let reply = step_node(self.alloc, &mut self.store, &self.fates)?;
@@ -113,12 +109,8 @@ impl Machine {
     //
     // `Want` where there is no memory for it; the machine is then as before.
     pub(crate) fn clock(&mut self, event: Event, add: u64) -> Result<Reply, Want>
-        requires admits { Admits self.old event }
-        requires act { act_seen self.old event ≡ does.Clock add }
-        requires room { length self.old.pasts < self.old.shape.events }
-        ensures ok { OnOk result (self.new ≡ happened self.old event) }
-        ensures reply { IfOk result (λ r. r ≡ reply_seen self.old event) }
-        ensures kept { OnErr result (self.new ≡ self.old) }
+        requires { MayCome self.old event (does.Clock add) }
+        ensures { HappensOrKeeps self.old self.new event result }
     {
         self.history.events.reserve(1)?;
         let length = self.store.log_len();
@@ -143,13 +135,9 @@ impl Machine {
     //
     // `Want` where there is no memory for it; the machine is then as before.
     pub(crate) fn fate(&mut self, event: Event, key: &Key, ends: &Ends) -> Result<Reply, Want>
-        requires admits { Admits self.old event }
-        requires act { act_seen self.old event ≡ does.Fate key.now ends.now }
+        requires may { MayCome self.old event (does.Fate key.now ends.now) }
         requires some { ends.now ≢ [] }
-        requires room { length self.old.pasts < self.old.shape.events }
-        ensures ok { OnOk result (self.new ≡ happened self.old event) }
-        ensures reply { IfOk result (λ r. r ≡ reply_seen self.old event) }
-        ensures kept { OnErr result (self.new ≡ self.old) }
+        ensures { HappensOrKeeps self.old self.new event result }
     {
         self.history.events.reserve(1)?;
         let ends_again = ends.copy()?;

@@ -1,13 +1,14 @@
 //! Whether anything of the system is left to do, and the own event of the command Settle.
 
-ghost use Rattle.std.specs.Prelude.{◌≡◌, ◌<◌, ◌↔◌, ◌&&◌, IfOk, IsTrue, OnErr, OnOk, length, nat_lt};
+ghost use Rattle.std.specs.Prelude.{◌≡◌, ◌<◌, ◌↔◌, ◌&&◌, IsTrue, length, nat_lt};
 ghost use Rattle.jc_log.specs.Acts as does;
 ghost use Rattle.jc_history.specs.Available.{is_quiescent};
 ghost use Rattle.jc_history.specs.Fresh.{may_begin};
 ghost use Rattle.jc_history.specs.Numbers.{number};
-ghost use Rattle.jc_runs.specs.Seen.{Admits, act_seen, deeds_seen, happened, log_seen, reply_seen};
+ghost use Rattle.jc_runs.specs.Seen.{deeds_seen, log_seen};
 ghost use Rattle.jc_machine.specs.Diaries.{diary_seen};
 ghost use Rattle.jc_machine.specs.Idle.{AreIdle, HaveNoSyncs, IsTeamIdle, has_seen};
+ghost use Rattle.jc_machine.specs.Calls.{HappensOrKeeps, MayCome};
 
 use crate::keeping::keep;
 use crate::machine::Machine;
@@ -103,12 +104,8 @@ impl Machine {
     //
     // `Want` where there is no memory for it; the machine is then as before.
     pub(crate) fn settled(&mut self, event: Event) -> Result<Reply, Want>
-        requires admits { Admits self.old event }
-        requires act { act_seen self.old event ≡ does.Settle }
-        requires room { length self.old.pasts < self.old.shape.events }
-        ensures ok { OnOk result (self.new ≡ happened self.old event) }
-        ensures reply { IfOk result (λ r. r ≡ reply_seen self.old event) }
-        ensures kept { OnErr result (self.new ≡ self.old) }
+        requires { MayCome self.old event does.Settle }
+        ensures { HappensOrKeeps self.old self.new event result }
     {
         self.history.events.reserve(1)?;
         let reply = Reply::Done;

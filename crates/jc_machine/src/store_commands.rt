@@ -1,11 +1,11 @@
 //! The commands on objects of the store: what their users do to Jobs, and what befalls pods.
 
-ghost use Rattle.std.specs.Prelude.{◌≡◌, ◌<◌, IfOk, OnErr, OnOk, length};
+ghost use Rattle.std.specs.Prelude.{◌≡◌, IfOk, OnErr, OnOk, length};
 ghost use Rattle.jc_runs.specs.ValidSpecs.{IsValidSpec};
 ghost use Rattle.jc_log.specs.Acts as does;
 ghost use Rattle.jc_log.specs.Requests.{grown, report_phase_gives};
-ghost use Rattle.jc_runs.specs.Seen.{Admits, act_seen, happened, reply_seen};
 ghost use Rattle.jc_machine.specs.Finishes.{finished_gives};
+ghost use Rattle.jc_machine.specs.Calls.{HappensOrKeeps, MayCome};
 
 use crate::keeping::{keep, keep_twice};
 use crate::machine::Machine;
@@ -61,13 +61,9 @@ impl Machine {
         key: &Key,
         spec: Arc<JobSpec>,
     ) -> Result<Reply, Want>
-        requires admits { Admits self.old event }
-        requires act { act_seen self.old event ≡ does.Create key.now spec }
+        requires may { MayCome self.old event (does.Create key.now spec) }
         requires valid { IsValidSpec spec }
-        requires room { length self.old.pasts < self.old.shape.events }
-        ensures ok { OnOk result (self.new ≡ happened self.old event) }
-        ensures reply { IfOk result (λ r. r ≡ reply_seen self.old event) }
-        ensures kept { OnErr result (self.new ≡ self.old) }
+        ensures { HappensOrKeeps self.old self.new event result }
     {
         self.history.events.reserve(1)?;
         let reply = self.store.create_job(key, spec, self.clock)?;
@@ -88,12 +84,8 @@ impl Machine {
         version: Option<Version>,
         change: &SpecChange,
     ) -> Result<Reply, Want>
-        requires admits { Admits self.old event }
-        requires act { act_seen self.old event ≡ does.Update key.now version change.now }
-        requires room { length self.old.pasts < self.old.shape.events }
-        ensures ok { OnOk result (self.new ≡ happened self.old event) }
-        ensures reply { IfOk result (λ r. r ≡ reply_seen self.old event) }
-        ensures kept { OnErr result (self.new ≡ self.old) }
+        requires { MayCome self.old event (does.Update key.now version change.now) }
+        ensures { HappensOrKeeps self.old self.new event result }
     {
         self.history.events.reserve(1)?;
         allowed_updates_stay_valid();
@@ -109,12 +101,8 @@ impl Machine {
     //
     // `Want` where there is no memory for it; the machine is then as before.
     pub(crate) fn delete(&mut self, event: Event, key: &Key) -> Result<Reply, Want>
-        requires admits { Admits self.old event }
-        requires act { act_seen self.old event ≡ does.Delete key.now }
-        requires room { length self.old.pasts < self.old.shape.events }
-        ensures ok { OnOk result (self.new ≡ happened self.old event) }
-        ensures reply { IfOk result (λ r. r ≡ reply_seen self.old event) }
-        ensures kept { OnErr result (self.new ≡ self.old) }
+        requires { MayCome self.old event (does.Delete key.now) }
+        ensures { HappensOrKeeps self.old self.new event result }
     {
         self.history.events.reserve(1)?;
         let reply = self.store.delete_job(key)?;
@@ -129,12 +117,8 @@ impl Machine {
     //
     // `Want` where there is no memory for it; the machine is then as before.
     pub(crate) fn mark(&mut self, event: Event, pod: Uid) -> Result<Reply, Want>
-        requires admits { Admits self.old event }
-        requires act { act_seen self.old event ≡ does.Mark pod }
-        requires room { length self.old.pasts < self.old.shape.events }
-        ensures ok { OnOk result (self.new ≡ happened self.old event) }
-        ensures reply { IfOk result (λ r. r ≡ reply_seen self.old event) }
-        ensures kept { OnErr result (self.new ≡ self.old) }
+        requires { MayCome self.old event (does.Mark pod) }
+        ensures { HappensOrKeeps self.old self.new event result }
     {
         self.history.events.reserve(1)?;
         let reply = self.store.mark_pod(pod, self.clock)?;
@@ -149,12 +133,8 @@ impl Machine {
     //
     // `Want` where there is no memory for it; the machine is then as before.
     pub(crate) fn strip(&mut self, event: Event, pod: Uid) -> Result<Reply, Want>
-        requires admits { Admits self.old event }
-        requires act { act_seen self.old event ≡ does.Strip pod }
-        requires room { length self.old.pasts < self.old.shape.events }
-        ensures ok { OnOk result (self.new ≡ happened self.old event) }
-        ensures reply { IfOk result (λ r. r ≡ reply_seen self.old event) }
-        ensures kept { OnErr result (self.new ≡ self.old) }
+        requires { MayCome self.old event (does.Strip pod) }
+        ensures { HappensOrKeeps self.old self.new event result }
     {
         self.history.events.reserve(1)?;
         let reply = self.store.release(pod)?;
@@ -174,12 +154,8 @@ impl Machine {
         pod: Uid,
         change: &PhaseChange,
     ) -> Result<Reply, Want>
-        requires admits { Admits self.old event }
-        requires act { act_seen self.old event ≡ does.Report pod change.now }
-        requires room { length self.old.pasts < self.old.shape.events }
-        ensures ok { OnOk result (self.new ≡ happened self.old event) }
-        ensures reply { IfOk result (λ r. r ≡ reply_seen self.old event) }
-        ensures kept { OnErr result (self.new ≡ self.old) }
+        requires { MayCome self.old event (does.Report pod change.now) }
+        ensures { HappensOrKeeps self.old self.new event result }
     {
         self.history.events.reserve(1)?;
         let replies = report_twice(&mut self.store, pod, change)?;
@@ -201,12 +177,8 @@ impl Machine {
     //
     // `Want` where there is no memory for it; the machine is then as before.
     pub(crate) fn finish(&mut self, event: Event, pod: Uid, exit: i32) -> Result<Reply, Want>
-        requires admits { Admits self.old event }
-        requires act { act_seen self.old event ≡ does.Finish pod exit }
-        requires room { length self.old.pasts < self.old.shape.events }
-        ensures ok { OnOk result (self.new ≡ happened self.old event) }
-        ensures reply { IfOk result (λ r. r ≡ reply_seen self.old event) }
-        ensures kept { OnErr result (self.new ≡ self.old) }
+        requires { MayCome self.old event (does.Finish pod exit) }
+        ensures { HappensOrKeeps self.old self.new event result }
     {
         self.history.events.reserve(1)?;
         let replies = finish_twice(self.alloc, &mut self.store, pod, exit)?;

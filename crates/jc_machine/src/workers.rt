@@ -1,12 +1,12 @@
 //! The events of workers: Begin, Step, and the command PutFault; and the plans that are made beside the machine.
 
-ghost use Rattle.std.specs.Prelude.{◌≡◌, ◌<◌, IfOk, IfSome, IsSome, OnErr, OnOk, Some, length};
+ghost use Rattle.std.specs.Prelude.{◌≡◌, ◌<◌, IfSome, IsSome, Some, length};
 ghost use Rattle.std.specs.Option.{option_copied};
 ghost use Rattle.jc_runs.specs.Bases.{CanPlan};
 ghost use Rattle.jc_log.specs.Acts as does;
 ghost use Rattle.jc_history.specs.Registers.{register};
-ghost use Rattle.jc_runs.specs.Seen.{Admits, act_seen, happened, reply_seen};
 ghost use Rattle.jc_machine.specs.Diaries.{diary_seen};
+ghost use Rattle.jc_machine.specs.Calls.{HappensOrKeeps, MayCome};
 
 use crate::keeping::{keep, keep_twice};
 use crate::machine::Machine;
@@ -23,12 +23,8 @@ impl Machine {
         controller: u32,
         worker: u32,
     ) -> Result<Reply, Want>
-        requires admits { Admits self.old event }
-        requires act { act_seen self.old event ≡ does.Begin controller worker }
-        requires room { length self.old.pasts < self.old.shape.events }
-        ensures ok { OnOk result (self.new ≡ happened self.old event) }
-        ensures reply { IfOk result (λ r. r ≡ reply_seen self.old event) }
-        ensures kept { OnErr result (self.new ≡ self.old) }
+        requires { MayCome self.old event (does.Begin controller worker) }
+        ensures { HappensOrKeeps self.old self.new event result }
     {
         self.history.events.reserve(1)?;
         let member = &mut self.members[controller as usize];
@@ -43,12 +39,8 @@ impl Machine {
     //
     // `Want` where there is no memory for it; the machine is then as before.
     pub(crate) fn step(&mut self, event: Event, controller: u32, worker: u32) -> Result<Reply, Want>
-        requires admits { Admits self.old event }
-        requires act { act_seen self.old event ≡ does.Step controller worker }
-        requires room { length self.old.pasts < self.old.shape.events }
-        ensures ok { OnOk result (self.new ≡ happened self.old event) }
-        ensures reply { IfOk result (λ r. r ≡ reply_seen self.old event) }
-        ensures kept { OnErr result (self.new ≡ self.old) }
+        requires { MayCome self.old event (does.Step controller worker) }
+        ensures { HappensOrKeeps self.old self.new event result }
     {
         self.history.events.reserve(1)?;
         let member = &mut self.members[controller as usize];
@@ -70,12 +62,8 @@ impl Machine {
         worker: u32,
         fault: Fault,
     ) -> Result<Reply, Want>
-        requires admits { Admits self.old event }
-        requires act { act_seen self.old event ≡ does.PutFault controller worker fault }
-        requires room { length self.old.pasts < self.old.shape.events }
-        ensures ok { OnOk result (self.new ≡ happened self.old event) }
-        ensures reply { IfOk result (λ r. r ≡ reply_seen self.old event) }
-        ensures kept { OnErr result (self.new ≡ self.old) }
+        requires { MayCome self.old event (does.PutFault controller worker fault) }
+        ensures { HappensOrKeeps self.old self.new event result }
     {
         self.history.events.reserve(1)?;
         let member = &mut self.members[controller as usize];

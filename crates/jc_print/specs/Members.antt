@@ -1,6 +1,6 @@
 -- JSON objects by their members, one line a member.
 --     with_json_member name given ms   the members with one more, which is left out where it is not given
---     unless_zero, unless_blank, ..    what is given: nothing for 0, for the empty text, for the empty list
+--     unless_zero, ..                  what is given: nothing for 0, for the empty list
 --     number_data, list_data, ..       a number, a list, texts as JSON
 use Rattle.std.specs.Prelude.{ℕ, List, ◌==◌, length, map, if◌then◌else◌, Option, Some, None}
 use Rattle.serde_json.specs.Data.{Data, number, string, array, unsigned, Members, put}
@@ -20,10 +20,6 @@ unless_zero n = if n == 0 then None else Some (number (unsigned n))
 
 abbrev pub number_data : ℕ → Data
 number_data n = number (unsigned n)
-
--- a text, or nothing for the empty one
-abbrev pub unless_blank : List ℕ → Option Data
-unless_blank s = if length s == 0 then None else Some (string s)
 
 abbrev pub list_data : List Data → Data
 list_data ds = array (items_of ds)

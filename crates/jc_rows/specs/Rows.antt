@@ -69,9 +69,6 @@ bool_row path d name = reads (optional_bool path name d)
 unfoldable pub object_row : List ℕ → Data → List ℕ → Row
 object_row path d name = reads (needed_object path name d)
 
-unfoldable pub given_object_row : List ℕ → Data → List ℕ → Row
-given_object_row path d name = reads (optional_object path name d)
-
 -- ---- what members say
 
 unfoldable pub object_in : List ℕ → Data → List ℕ → Data

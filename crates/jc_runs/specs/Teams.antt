@@ -108,11 +108,6 @@ abbrev pub fault_left : Option SyncEnd → Option Fault → Option Fault
 fault_left None fault = fault
 fault_left (Some end) fault = if forgets_caches end then None else fault
 
--- The register afterwards.
-abbrev pub register_left : Option SyncEnd → Sync → Option Sync
-register_left None sync = Some sync
-register_left (Some end) sync = None
-
 -- ---- begins
 
 -- The sync that begins, if one does.

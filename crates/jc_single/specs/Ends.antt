@@ -1,5 +1,5 @@
 -- What a run has done, by how it has ended.
---     Change                                      what a source or a sink tells, before and after
+--     Change, change old new ..                   what a source or a sink tells, before and after
 --     IsUnread order                              the order reads nothing
 --     SourceHasTaken order source                 how much was taken of the source
 --     InputIsRead order source input              all that the order reads was read
@@ -27,6 +27,10 @@ pub record Change : Type 0 where
   pub new : Option (List ℕ)
   pub faults_old : ℕ
   pub faults_new : ℕ
+
+abbrev pub change : Option (List ℕ) → Option (List ℕ) → ℕ → ℕ → Change
+change old new faults_old faults_new =
+    record { old = old; new = new; faults_old = faults_old; faults_new = faults_new }
 
 -- A generated script needs no source.
 abbrev pub IsUnread : Order → Type 0

@@ -1,7 +1,10 @@
 //! Laws on what runs write. Each function is empty: what it ensures holds of every script, and its callers may cite it.
 
-ghost use Rattle.std.specs.Prelude.{◌≡◌, ◌<◌, ◌≤◌, ◌^◌, IfSome, IsOkAnd, List, Ok, Option, Some, ℕ};
+ghost use Rattle.std.specs.Prelude.{◌≡◌, ◌≢◌, ◌↔◌, ◌⊎◌, ◌+◌, ◌<◌, ◌≤◌, ◌^◌, Err, IfSome, IsOkAnd, List, [], None, Ok, Option, Some, false, length, true, ℕ};
+ghost use Rattle.std.specs.Io.KnownBytes.{Appends, Keeps};
 ghost use Rattle.std.specs.List.{AllByRecursion as Each};
+ghost use Rattle.jc_io.specs.Faults.{Rose};
+ghost use Rattle.jc_io.specs.Moved.{AppendsFront, TakesAtMost, TakesCount};
 ghost use Rattle.jc_types.specs.declared.actions.Command.{Command};
 ghost use Rattle.jc_types.specs.declared.actions.Script.{Script};
 ghost use Rattle.jc_types.specs.declared.runs.History.{History};
@@ -10,15 +13,18 @@ ghost use Rattle.jc_promise.specs.ValidActions.{IsValidAction};
 ghost use Rattle.jc_promise.specs.Play.{is_full, play_of};
 ghost use Rattle.jc_promise.specs.Plays.{IsProper};
 ghost use Rattle.jc_reap.specs.TtlLines.{ttls_of};
-ghost use Rattle.jc_script.specs.Scripts.{script_of};
+ghost use Rattle.jc_script.specs.Cause.{Cause};
+ghost use Rattle.jc_script.specs.Scripts.{BadLine, most_bytes, script_of};
 ghost use Rattle.jc_words.specs.Words.{order_of};
 ghost use Rattle.jc_words.specs.declared.words.Order.{Order};
-ghost use Rattle.jc_words.specs.declared.words.Order.TheVariants.{Reap};
+ghost use Rattle.jc_words.specs.declared.words.Order.TheVariants.{Generate, Reap};
 ghost use Rattle.jc_words.specs.Fits.{IsFitOrder};
 ghost use Rattle.jc_single.specs.Played.{CollectsDue, at_rest, script_played, staging_of};
-ghost use Rattle.jc_single.specs.Runs.{Printed, answer_of, report_printed};
-ghost use Rattle.jc_single.specs.Told.{IsReport, IsReportOf};
+ghost use Rattle.jc_single.specs.Ends.{Change, HasRun};
+ghost use Rattle.jc_single.specs.Runs.{EndsUnread, IsSingle, OfInput, Printed, answer_of, report_printed, status_of};
+ghost use Rattle.jc_single.specs.Told.{IsReport, IsReportOf, TellsFront};
 
+use crate::status::Status;
 use jc_promise::{
     legal_histories_keep_the_promises, orderly_histories_have_small_numbers,
     plays_are_orderly_histories, settled_plays_are_at_rest,
@@ -75,4 +81,95 @@ pub fn reapers_collect_what_is_due()
     orders_fit();
     scripts_fit_their_shape();
     collecting_plays_are_due();
+}
+
+/// **How a run on one thread ends**: what each status says of what was read and written, and which statuses a run has
+/// that meets no fault. `words` are those of the run, `source` and `sink` what they tell of before and after.
+pub fn single_runs_end_as_told()
+    // With Ok the whole text was written: what the words ask for, of what the source had.
+    ensures ok { (words : Option Order) (source sink : Change) (ended : Status)
+        → HasRun words source sink ended → ended ≡ Status.Ok
+        → IfSome words (λ order. OfInput order source.old (λ input. IsOkAnd (answer_of order input)
+        (λ printed. (printed.full ≡ false) × Appends sink.old sink.new printed.text))) }
+    ensures history_full { (words : Option Order) (source sink : Change) (ended : Status)
+        → HasRun words source sink ended → ended ≡ Status.HistoryFull
+        → IfSome words (λ order. OfInput order source.old (λ input. IsOkAnd (answer_of order input)
+        (λ printed. (printed.full ≡ true) × Appends sink.old sink.new printed.text))) }
+    // Where the sink failed, what went out is the front of the report of a history of which all promises hold.
+    ensures headline_front { (words : Option Order) (source sink : Change) (ended : Status)
+        → HasRun words source sink ended
+        → ((order : Order) → words ≡ Some order → IsFitOrder order × IsSingle order)
+        → ended ≡ Status.WriteFault → (order : Order) → words ≡ Some order
+        → IfSome (staging_of order) (λ staging. IfSome source.old (λ input.
+        IsOkAnd (script_played order input) (λ script.
+        TellsFront staging.threads script staging.shape sink.old sink.new))) }
+    ensures bad_words { (words : Option Order) (source sink : Change) (ended : Status)
+        → HasRun words source sink ended → (ended ≡ Status.BadWords) ↔ (words ≡ None) }
+    ensures nothing_read { (words : Option Order) (source sink : Change) (ended : Status)
+        → HasRun words source sink ended → ended ≡ Status.BadWords
+        → Keeps source.old source.new }
+    // A generated script needs no source.
+    ensures generates { (words : Option Order) (source sink : Change) (ended : Status)
+        → HasRun words source sink ended
+        → (number jobs pods : ℕ) → words ≡ Some (Generate number jobs pods)
+        → Keeps source.old source.new }
+    // So no read of it fails, nothing is too long and no script is bad, whatever the source is.
+    ensures generates_only { (words : Option Order) (source sink : Change) (ended : Status)
+        → HasRun words source sink ended
+        → (number jobs pods : ℕ) → words ≡ Some (Generate number jobs pods) → EndsUnread ended }
+    ensures read_fault { (words : Option Order) (source sink : Change) (ended : Status)
+        → HasRun words source sink ended → ended ≡ Status.ReadFault
+        → Rose source.faults_old source.faults_new }
+    ensures write_fault { (words : Option Order) (source sink : Change) (ended : Status)
+        → HasRun words source sink ended → ended ≡ Status.WriteFault
+        → Rose sink.faults_old sink.faults_new }
+    ensures bad_script { (words : Option Order) (source sink : Change) (ended : Status)
+        → HasRun words source sink ended
+        → (line : ℕ) (cause : Cause) → ended ≡ Status.BadScript line cause
+        → IfSome words (λ order. OfInput order source.old (λ input.
+        answer_of order input ≡ Err (record { number = line; cause = cause }))) }
+    ensures too_long { (words : Option Order) (source sink : Change) (ended : Status)
+        → HasRun words source sink ended → ended ≡ Status.TooLong
+        → TakesCount source.old source.new (most_bytes + 1) }
+    // TooLong takes one byte more than a script may have, and no other end takes so many.
+    ensures not_too_long { (words : Option Order) (source sink : Change) (ended : Status)
+        → HasRun words source sink ended → ended ≢ Status.TooLong
+        → TakesAtMost source.old source.new most_bytes }
+    ensures no_audit { (words : Option Order) (source sink : Change) (ended : Status)
+        → HasRun words source sink ended → (line : ℕ) → ended ≢ Status.AuditNo line }
+    ensures nothing_written { (words : Option Order) (source sink : Change) (ended : Status)
+        → HasRun words source sink ended
+        → ended ≢ Status.Ok → ended ≢ Status.HistoryFull → ended ≢ Status.WriteFault
+        → Keeps sink.old sink.new }
+    ensures front { (words : Option Order) (source sink : Change) (ended : Status)
+        → HasRun words source sink ended → ended ≡ Status.WriteFault
+        → IfSome words (λ order. OfInput order source.old (λ input. IsOkAnd (answer_of order input)
+        (λ printed. AppendsFront sink.old sink.new printed.text))) }
+    // Words in the grammar, an input that is not too long and no fault give what was asked for, or want of memory.
+    ensures complete { (words : Option Order) (source sink : Change) (ended : Status)
+        → HasRun words source sink ended → (order : Order) → words ≡ Some order
+        → ¬ Rose source.faults_old source.faults_new → ¬ Rose sink.faults_old sink.faults_new
+        → OfInput order source.old (λ input. length input ≤ most_bytes
+        → (ended ≡ status_of (answer_of order input)) ⊎ (ended ≡ Status.Want)) }
+    // Of a generated script nothing is asked of the source.
+    ensures complete_generated { (words : Option Order) (source sink : Change) (ended : Status)
+        → HasRun words source sink ended
+        → (number jobs pods : ℕ) → words ≡ Some (Generate number jobs pods)
+        → ¬ Rose sink.faults_old sink.faults_new
+        → (ended ≡ status_of (answer_of (Generate number jobs pods) [])) ⊎ (ended ≡ Status.Want) }
+    // Of a bad script nothing is asked of the sink.
+    ensures complete_bad_script { (words : Option Order) (source sink : Change) (ended : Status)
+        → HasRun words source sink ended → (order : Order) → words ≡ Some order
+        → ¬ Rose source.faults_old source.faults_new
+        → OfInput order source.old (λ input. length input ≤ most_bytes
+        → (bad : BadLine) → answer_of order input ≡ Err bad
+        → (ended ≡ Status.BadScript bad.number bad.cause) ⊎ (ended ≡ Status.Want)) }
+    // A longer input is too long, or there is want of memory.
+    ensures complete_too_long { (words : Option Order) (source sink : Change) (ended : Status)
+        → HasRun words source sink ended → (order : Order) → words ≡ Some order
+        → ¬ Rose source.faults_old source.faults_new
+        → OfInput order source.old (λ input. most_bytes < length input
+        → (ended ≡ Status.TooLong) ⊎ (ended ≡ Status.Want)) }
+{
+    runs_tell_their_history();
 }

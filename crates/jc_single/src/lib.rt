@@ -15,7 +15,10 @@ pub use jc_promise::{
 };
 pub use jc_reap::{reaped_commands_can_be_said, reaped_commands_fit};
 pub use jc_report::report;
-pub use laws::{plays_tell_their_history, reapers_collect_what_is_due, runs_tell_their_history};
+pub use laws::{
+    plays_tell_their_history, reapers_collect_what_is_due, runs_tell_their_history,
+    single_runs_end_as_told,
+};
 pub use orders::Output;
-pub use single::{MOST_BYTES, ended, run_single, run_words, write_output};
+pub use single::{MOST_BYTES, ended, run_order, run_single, write_output};
 pub use status::Status;

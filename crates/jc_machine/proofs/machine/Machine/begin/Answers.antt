@@ -8,28 +8,49 @@ use Rattle.jc_machine.proofs.machine.Machine.begin.Goals as goal
 use Rattle.jc_machine.proofs.machine.Machine.begin.Goals.{After-keep_twice-reply}
 
 pub begin-requires-clause-worker : goal.begin-requires-clause-worker
-begin-requires-clause-worker c = let b = before c.self.inside.script c.self.inside.shape c.self.inside.history.events.items c.self.inside.lanes c.self.inside.store c.self.inside.members.items c.self.inside.fates c.self.inside.clock c.args.self.now c.args.event (does.Begin c.args.controller c.args.worker) c.self.invariant c.self.view_is c.requires.admits c.requires.act c.requires.room in let there = member b c.args.controller c.index_mut-member.result.now (within b).0 c.index_mut-member.ensures.value in worker b c.args.controller c.args.worker c.index_mut-member.result.now there (within b).1
+begin-requires-clause-worker c = let b = before c.self.inside.script c.self.inside.shape
+    c.self.inside.history.events.items c.self.inside.lanes c.self.inside.store c.self.inside.members.items
+    c.self.inside.fates c.self.inside.clock c.args.self.now c.args.event (does.Begin c.args.controller c.args.worker)
+    c.self.invariant c.self.view_is c.requires.admits c.requires.act c.requires.room in let there = member b
+    c.args.controller c.index_mut-member.result.now (within b).0 c.index_mut-member.ensures.value in worker b
+    c.args.controller c.args.worker c.index_mut-member.result.now there (within b).1
 
 pub begin-requires-clause-plans : goal.begin-requires-clause-plans
 begin-requires-clause-plans c =
-    let b = before c.self.inside.script c.self.inside.shape c.self.inside.history.events.items c.self.inside.lanes c.self.inside.store c.self.inside.members.items c.self.inside.fates c.self.inside.clock c.args.self.now c.args.event (does.Begin c.args.controller c.args.worker) c.self.invariant c.self.view_is c.requires.admits c.requires.act c.requires.room in let there = member b c.args.controller c.index_mut-member.result.now (within b).0 c.index_mut-member.ensures.value in plans_at c.self.inside.shape (past b) c.self.inside.store c.self.inside.members.items (fates_in c.self.inside.fates) c.self.inside.clock c.self.invariant.machine.run c.args.controller c.index_mut-member.result.now there (short b)
+    let b = before c.self.inside.script c.self.inside.shape c.self.inside.history.events.items c.self.inside.lanes
+        c.self.inside.store c.self.inside.members.items c.self.inside.fates c.self.inside.clock c.args.self.now
+        c.args.event (does.Begin c.args.controller c.args.worker) c.self.invariant c.self.view_is c.requires.admits
+        c.requires.act c.requires.room in let there = member b c.args.controller c.index_mut-member.result.now
+        (within b).0 c.index_mut-member.ensures.value in plans_at c.self.inside.shape (past b) c.self.inside.store
+        c.self.inside.members.items (fates_in c.self.inside.fates) c.self.inside.clock c.self.invariant.machine.run
+        c.args.controller c.index_mut-member.result.now there (short b)
 
 -- How it is before.
-old : (c : After-keep_twice-reply) → Before c.self.inside.script c.self.inside.shape c.self.inside.history.events.items c.self.inside.lanes c.self.inside.store c.self.inside.members.items c.self.inside.fates c.self.inside.clock c.args.self.now c.args.event (does.Begin c.args.controller c.args.worker)
-old c = before c.self.inside.script c.self.inside.shape c.self.inside.history.events.items c.self.inside.lanes c.self.inside.store c.self.inside.members.items c.self.inside.fates c.self.inside.clock c.args.self.now c.args.event (does.Begin c.args.controller c.args.worker) c.self.invariant c.self.view_is c.requires.admits c.requires.act c.requires.room
+old : (c : After-keep_twice-reply) → Before c.self.inside.script c.self.inside.shape c.self.inside.history.events.items
+    c.self.inside.lanes c.self.inside.store c.self.inside.members.items c.self.inside.fates c.self.inside.clock
+    c.args.self.now c.args.event (does.Begin c.args.controller c.args.worker)
+old c = before c.self.inside.script c.self.inside.shape c.self.inside.history.events.items c.self.inside.lanes
+    c.self.inside.store c.self.inside.members.items c.self.inside.fates c.self.inside.clock c.args.self.now c.args.event
+    (does.Begin c.args.controller c.args.worker) c.self.invariant c.self.view_is c.requires.admits c.requires.act
+    c.requires.room
 
 -- How it is afterwards.
-after : (c : After-keep_twice-reply) → After c.self.inside.script c.self.inside.shape c.keep_twice-reply.new.history.items c.keep_twice-reply.new.lanes c.self.inside.store (set c.self.inside.members.items c.args.controller c.begin.new.self) c.self.inside.fates c.self.inside.clock c.args.self.now c.args.event c.in_ok-begins.begins
+after : (c : After-keep_twice-reply) → After c.self.inside.script c.self.inside.shape
+    c.keep_twice-reply.new.history.items c.keep_twice-reply.new.lanes c.self.inside.store
+    (set c.self.inside.members.items c.args.controller c.begin.new.self) c.self.inside.fates c.self.inside.clock
+    c.args.self.now c.args.event c.in_ok-begins.begins
 after c =
     closes (old c) _ _ _ _ _ _ _ _ _ c.keep_twice-reply.ensures.kept c.in_ok-reserve.ensures.kept c.keep_twice-reply.ensures.lanes
-    (begin_run c.self.inside.shape (past (old c)) c.self.inside.store c.self.inside.members.items (fates_in c.self.inside.fates) c.self.inside.clock c.self.invariant.machine.run _ c.args.controller c.index_mut-member.result.now c.begin.new.self (member (old c) c.args.controller c.index_mut-member.result.now (within (old c)).0 c.index_mut-member.ensures.value) c.args.worker (within (old c)).0 (within (old c)).1 (acts (old c)) c.in_ok-begins.ensures.reply c.log_len-length.ensures c.in_ok-begins.ensures.schedule
+    (begin_run c.self.inside.shape (past (old c)) c.self.inside.store c.self.inside.members.items
+    (fates_in c.self.inside.fates) c.self.inside.clock c.self.invariant.machine.run _ c.args.controller
+    c.index_mut-member.result.now c.begin.new.self
+    (member (old c) c.args.controller c.index_mut-member.result.now (within (old c)).0 c.index_mut-member.ensures.value)
+    c.args.worker (within (old c)).0 (within (old c)).1 (acts (old c)) c.in_ok-begins.ensures.reply
+    c.log_len-length.ensures c.in_ok-begins.ensures.schedule
     c.in_ok-begins.ensures.registers c.in_ok-begins.ensures.jobs c.in_ok-begins.ensures.rows c.in_ok-begins.ensures.faults)
 
 pub invariant_of-self-2 : goal.invariant_of-self-2
 invariant_of-self-2 c = (after c).kept
 
-pub returns-clause-ok : goal.returns-clause-ok
-returns-clause-ok c = (after c).view
-
-pub returns-clause-reply : goal.returns-clause-reply
-returns-clause-reply c = c.keep_twice-reply.ensures.reply ∙ (after c).told
+pub returns : goal.returns
+returns c = ((after c).view, c.keep_twice-reply.ensures.reply ∙ (after c).told)

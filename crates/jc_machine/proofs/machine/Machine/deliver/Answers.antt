@@ -9,22 +9,46 @@ use Rattle.jc_machine.proofs.machine.Machine.deliver.Goals.{After-keep-reply}
 
 -- The cache has no more pods than the log has entries.
 pub deliver-requires : goal.deliver-requires
-deliver-requires c = let b = before c.self.inside.script c.self.inside.shape c.self.inside.history.events.items c.self.inside.lanes c.self.inside.store c.self.inside.members.items c.self.inside.fates c.self.inside.clock c.args.self.now c.args.event (does.Deliver c.args.controller c.args.kind) c.self.invariant c.self.view_is c.requires.admits c.requires.act c.requires.room in let there = member b c.args.controller c.index_mut-member.result.now (within b) c.index_mut-member.ensures.value in record { few = few-pods c.self.inside.store c.index_mut-member.result.now.con (c.self.invariant.machine.run.each c.args.controller c.index_mut-member.result.now there).holds (room_left b) }
+deliver-requires c = let b = before c.self.inside.script c.self.inside.shape c.self.inside.history.events.items
+    c.self.inside.lanes c.self.inside.store c.self.inside.members.items c.self.inside.fates c.self.inside.clock
+    c.args.self.now c.args.event (does.Deliver c.args.controller c.args.kind) c.self.invariant c.self.view_is
+    c.requires.admits c.requires.act c.requires.room in let there = member b c.args.controller
+    c.index_mut-member.result.now (within b) c.index_mut-member.ensures.value in record
+    { few = few-pods c.self.inside.store c.index_mut-member.result.now.con
+    (c.self.invariant.machine.run.each c.args.controller c.index_mut-member.result.now there).holds (room_left b) }
 
 -- How it is before.
-old : (c : After-keep-reply) → Before c.self.inside.script c.self.inside.shape c.self.inside.history.events.items c.self.inside.lanes c.self.inside.store c.self.inside.members.items c.self.inside.fates c.self.inside.clock c.args.self.now c.args.event (does.Deliver c.args.controller c.args.kind)
-old c = before c.self.inside.script c.self.inside.shape c.self.inside.history.events.items c.self.inside.lanes c.self.inside.store c.self.inside.members.items c.self.inside.fates c.self.inside.clock c.args.self.now c.args.event (does.Deliver c.args.controller c.args.kind) c.self.invariant c.self.view_is c.requires.admits c.requires.act c.requires.room
+old : (c : After-keep-reply) → Before c.self.inside.script c.self.inside.shape c.self.inside.history.events.items
+    c.self.inside.lanes c.self.inside.store c.self.inside.members.items c.self.inside.fates c.self.inside.clock
+    c.args.self.now c.args.event (does.Deliver c.args.controller c.args.kind)
+old c = before c.self.inside.script c.self.inside.shape c.self.inside.history.events.items c.self.inside.lanes
+    c.self.inside.store c.self.inside.members.items c.self.inside.fates c.self.inside.clock c.args.self.now c.args.event
+    (does.Deliver c.args.controller c.args.kind) c.self.invariant c.self.view_is c.requires.admits c.requires.act
+    c.requires.room
 
 -- How it is afterwards.
-after : (c : After-keep-reply) → After c.self.inside.script c.self.inside.shape c.keep-reply.new.history.items c.keep-reply.new.lanes c.self.inside.store (set c.self.inside.members.items c.args.controller c.deliver.new.self) c.self.inside.fates c.self.inside.clock c.args.self.now c.args.event c.in_ok-reply.reply
+after : (c : After-keep-reply) → After c.self.inside.script c.self.inside.shape c.keep-reply.new.history.items
+    c.keep-reply.new.lanes c.self.inside.store (set c.self.inside.members.items c.args.controller c.deliver.new.self)
+    c.self.inside.fates c.self.inside.clock c.args.self.now c.args.event c.in_ok-reply.reply
 after c =
-    closes (old c) _ _ _ _ _ _ _ _ _ c.keep-reply.ensures.kept c.in_ok-reserve.ensures.kept c.keep-reply.ensures.lanes (deliver_run c.self.inside.shape (past (old c)) c.self.inside.store c.self.inside.members.items (fates_in c.self.inside.fates) c.self.inside.clock c.self.invariant.machine.run _ c.args.controller c.index_mut-member.result.now c.deliver.new.self (member (old c) c.args.controller c.index_mut-member.result.now (within (old c)) c.index_mut-member.ensures.value) c.args.kind (within (old c)) (acts (old c)) (c.in_ok-reply.ensures.reply (c.self.invariant.machine.run.each c.args.controller c.index_mut-member.result.now (member (old c) c.args.controller c.index_mut-member.result.now (within (old c)) c.index_mut-member.ensures.value)).holds) c.log_len-length.ensures (c.in_ok-reply.ensures.schedule (c.self.invariant.machine.run.each c.args.controller c.index_mut-member.result.now (member (old c) c.args.controller c.index_mut-member.result.now (within (old c)) c.index_mut-member.ensures.value)).holds) (c.in_ok-reply.ensures.holds (c.self.invariant.machine.run.each c.args.controller c.index_mut-member.result.now (member (old c) c.args.controller c.index_mut-member.result.now (within (old c)) c.index_mut-member.ensures.value)).holds) c.in_ok-reply.ensures.registers c.in_ok-reply.ensures.faults)
+    closes (old c) _ _ _ _ _ _ _ _ _ c.keep-reply.ensures.kept c.in_ok-reserve.ensures.kept c.keep-reply.ensures.lanes
+    (deliver_run c.self.inside.shape (past (old c)) c.self.inside.store c.self.inside.members.items
+    (fates_in c.self.inside.fates) c.self.inside.clock c.self.invariant.machine.run _ c.args.controller
+    c.index_mut-member.result.now c.deliver.new.self
+    (member (old c) c.args.controller c.index_mut-member.result.now (within (old c)) c.index_mut-member.ensures.value)
+    c.args.kind (within (old c)) (acts (old c))
+    (c.in_ok-reply.ensures.reply (c.self.invariant.machine.run.each c.args.controller c.index_mut-member.result.now
+    (member (old c) c.args.controller c.index_mut-member.result.now (within (old c))
+    c.index_mut-member.ensures.value)).holds) c.log_len-length.ensures
+    (c.in_ok-reply.ensures.schedule (c.self.invariant.machine.run.each c.args.controller c.index_mut-member.result.now
+    (member (old c) c.args.controller c.index_mut-member.result.now (within (old c))
+    c.index_mut-member.ensures.value)).holds)
+    (c.in_ok-reply.ensures.holds (c.self.invariant.machine.run.each c.args.controller c.index_mut-member.result.now
+    (member (old c) c.args.controller c.index_mut-member.result.now (within (old c))
+    c.index_mut-member.ensures.value)).holds) c.in_ok-reply.ensures.registers c.in_ok-reply.ensures.faults)
 
 pub invariant_of-self-2 : goal.invariant_of-self-2
 invariant_of-self-2 c = (after c).kept
 
-pub returns-clause-ok : goal.returns-clause-ok
-returns-clause-ok c = (after c).view
-
-pub returns-clause-reply : goal.returns-clause-reply
-returns-clause-reply c = c.keep-reply.ensures.reply ∙ (after c).told
+pub returns : goal.returns
+returns c = ((after c).view, c.keep-reply.ensures.reply ∙ (after c).told)

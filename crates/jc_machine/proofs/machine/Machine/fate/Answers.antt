@@ -12,19 +12,28 @@ pub set-requires : goal.set-requires
 set-requires c = record { some = λ none. c.requires.some (sym c.in_ok-ends_again.ensures ∙ none) }
 
 -- How it is before.
-old : (c : After-keep-reply) → Before c.self.inside.script c.self.inside.shape c.self.inside.history.events.items c.self.inside.lanes c.self.inside.store c.self.inside.members.items c.self.inside.fates c.self.inside.clock c.args.self.now c.args.event (does.Fate c.args.key.now c.args.ends.now)
-old c = before c.self.inside.script c.self.inside.shape c.self.inside.history.events.items c.self.inside.lanes c.self.inside.store c.self.inside.members.items c.self.inside.fates c.self.inside.clock c.args.self.now c.args.event (does.Fate c.args.key.now c.args.ends.now) c.self.invariant c.self.view_is c.requires.admits c.requires.act c.requires.room
+old : (c : After-keep-reply) → Before c.self.inside.script c.self.inside.shape c.self.inside.history.events.items
+    c.self.inside.lanes c.self.inside.store c.self.inside.members.items c.self.inside.fates c.self.inside.clock
+    c.args.self.now c.args.event (does.Fate c.args.key.now c.args.ends.now)
+old c = before c.self.inside.script c.self.inside.shape c.self.inside.history.events.items c.self.inside.lanes
+    c.self.inside.store c.self.inside.members.items c.self.inside.fates c.self.inside.clock c.args.self.now c.args.event
+    (does.Fate c.args.key.now c.args.ends.now) c.self.invariant c.self.view_is c.requires.may.admits c.requires.may.act
+    c.requires.may.room
 
 -- How it is afterwards.
-after : (c : After-keep-reply) → After c.self.inside.script c.self.inside.shape c.keep-reply.new.history.items c.keep-reply.new.lanes c.self.inside.store c.self.inside.members.items c.set.new.self c.self.inside.clock c.args.self.now c.args.event reply.Done
+after : (c : After-keep-reply) → After c.self.inside.script c.self.inside.shape c.keep-reply.new.history.items
+    c.keep-reply.new.lanes c.self.inside.store c.self.inside.members.items c.set.new.self c.self.inside.clock
+    c.args.self.now c.args.event reply.Done
 after c =
-    closes (old c) _ _ _ _ _ _ _ _ _ c.keep-reply.ensures.kept c.in_ok-reserve.ensures.kept c.keep-reply.ensures.lanes (fated_run c.self.inside.shape (past (old c)) c.self.inside.store c.self.inside.members.items (fates_in c.self.inside.fates) c.self.inside.clock c.self.invariant.machine.run _ c.args.key.now c.args.ends.now (fates_in c.set.new.self) (acts (old c)) refl c.log_len-length.ensures (fate_put c.self.inside.fates c.set.new.self c.args.key.now c.args.ends.now c.in_ok-ends_again.ends_again c.in_ok-ends_again.ensures c.in_ok-set.ensures.fates))
+    closes (old c) _ _ _ _ _ _ _ _ _ c.keep-reply.ensures.kept c.in_ok-reserve.ensures.kept c.keep-reply.ensures.lanes
+    (fated_run c.self.inside.shape (past (old c)) c.self.inside.store c.self.inside.members.items
+    (fates_in c.self.inside.fates) c.self.inside.clock c.self.invariant.machine.run _ c.args.key.now c.args.ends.now
+    (fates_in c.set.new.self) (acts (old c)) refl c.log_len-length.ensures
+    (fate_put c.self.inside.fates c.set.new.self c.args.key.now c.args.ends.now c.in_ok-ends_again.ends_again
+    c.in_ok-ends_again.ensures c.in_ok-set.ensures.fates))
 
 pub invariant_of-self-2 : goal.invariant_of-self-2
 invariant_of-self-2 c = (after c).kept
 
-pub returns-clause-ok : goal.returns-clause-ok
-returns-clause-ok c = (after c).view
-
-pub returns-clause-reply : goal.returns-clause-reply
-returns-clause-reply c = c.keep-reply.ensures.reply ∙ (after c).told
+pub returns : goal.returns
+returns c = ((after c).view, c.keep-reply.ensures.reply ∙ (after c).told)

@@ -10,20 +10,32 @@ use Rattle.jc_machine.proofs.machine.Machine.finish.Goals as goal
 use Rattle.jc_machine.proofs.machine.Machine.finish.Goals.{After-keep_twice-reply}
 
 -- How it is before.
-old : (c : After-keep_twice-reply) → Before c.self.inside.script c.self.inside.shape c.self.inside.history.events.items c.self.inside.lanes c.self.inside.store c.self.inside.members.items c.self.inside.fates c.self.inside.clock c.args.self.now c.args.event (does.Finish c.args.pod c.args.exit)
-old c = before c.self.inside.script c.self.inside.shape c.self.inside.history.events.items c.self.inside.lanes c.self.inside.store c.self.inside.members.items c.self.inside.fates c.self.inside.clock c.args.self.now c.args.event (does.Finish c.args.pod c.args.exit) c.self.invariant c.self.view_is c.requires.admits c.requires.act c.requires.room
+old : (c : After-keep_twice-reply) → Before c.self.inside.script c.self.inside.shape c.self.inside.history.events.items
+    c.self.inside.lanes c.self.inside.store c.self.inside.members.items c.self.inside.fates c.self.inside.clock
+    c.args.self.now c.args.event (does.Finish c.args.pod c.args.exit)
+old c = before c.self.inside.script c.self.inside.shape c.self.inside.history.events.items c.self.inside.lanes
+    c.self.inside.store c.self.inside.members.items c.self.inside.fates c.self.inside.clock c.args.self.now c.args.event
+    (does.Finish c.args.pod c.args.exit) c.self.invariant c.self.view_is c.requires.admits c.requires.act
+    c.requires.room
 
 -- How it is afterwards.
-after : (c : After-keep_twice-reply) → After c.self.inside.script c.self.inside.shape c.keep_twice-reply.new.history.items c.keep_twice-reply.new.lanes c.finish_twice.new.store c.self.inside.members.items c.self.inside.fates c.self.inside.clock c.args.self.now c.args.event c.in_ok-replies.replies
+after : (c : After-keep_twice-reply) → After c.self.inside.script c.self.inside.shape
+    c.keep_twice-reply.new.history.items c.keep_twice-reply.new.lanes c.finish_twice.new.store
+    c.self.inside.members.items c.self.inside.fates c.self.inside.clock c.args.self.now c.args.event
+    c.in_ok-replies.replies
 after c =
     closes (old c) _ _ _ _ _ _ _ _ _ c.keep_twice-reply.ensures.kept c.in_ok-reserve.ensures.kept c.keep_twice-reply.ensures.lanes
-    (finished c.self.inside.shape (past (old c)) c.self.inside.store c.self.inside.members.items (fates_in c.self.inside.fates) c.self.inside.clock c.self.invariant.machine.run c.finish_twice.new.store _ c.args.pod c.args.exit (acts (old c)) (subst (λ e. c.in_ok-replies.replies ≡ (finished_gives c.self.inside.store c.args.pod e).reply) (to_z-of_z w32 c.args.exit c.ranges.exit) c.in_ok-replies.ensures.reply) (subst (λ e. c.finish_twice.new.store ≡ grown c.self.inside.store (finished_gives c.self.inside.store c.args.pod e).entry) (to_z-of_z w32 c.args.exit c.ranges.exit) c.in_ok-replies.ensures.log) c.log_len-length.ensures c.log-log.ensures.stored)
+    (finished c.self.inside.shape (past (old c)) c.self.inside.store c.self.inside.members.items
+    (fates_in c.self.inside.fates) c.self.inside.clock c.self.invariant.machine.run c.finish_twice.new.store _
+    c.args.pod c.args.exit (acts (old c)) (subst
+    (λ e. c.in_ok-replies.replies ≡ (finished_gives c.self.inside.store c.args.pod e).reply)
+    (to_z-of_z w32 c.args.exit c.ranges.exit) c.in_ok-replies.ensures.reply)
+    (subst (λ e. c.finish_twice.new.store ≡ grown c.self.inside.store
+    (finished_gives c.self.inside.store c.args.pod e).entry) (to_z-of_z w32 c.args.exit c.ranges.exit)
+    c.in_ok-replies.ensures.log) c.log_len-length.ensures c.log-log.ensures.stored)
 
 pub invariant_of-self-2 : goal.invariant_of-self-2
 invariant_of-self-2 c = (after c).kept
 
-pub returns-clause-ok : goal.returns-clause-ok
-returns-clause-ok c = (after c).view
-
-pub returns-clause-reply : goal.returns-clause-reply
-returns-clause-reply c = c.keep_twice-reply.ensures.reply ∙ (after c).told
+pub returns : goal.returns
+returns c = ((after c).view, c.keep_twice-reply.ensures.reply ∙ (after c).told)

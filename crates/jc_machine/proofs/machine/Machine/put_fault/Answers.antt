@@ -8,22 +8,37 @@ use Rattle.jc_machine.proofs.machine.Machine.put_fault.Goals as goal
 use Rattle.jc_machine.proofs.machine.Machine.put_fault.Goals.{After-keep-reply}
 
 pub put_fault-requires : goal.put_fault-requires
-put_fault-requires c = let b = before c.self.inside.script c.self.inside.shape c.self.inside.history.events.items c.self.inside.lanes c.self.inside.store c.self.inside.members.items c.self.inside.fates c.self.inside.clock c.args.self.now c.args.event (does.PutFault c.args.controller c.args.worker c.args.fault) c.self.invariant c.self.view_is c.requires.admits c.requires.act c.requires.room in let there = member b c.args.controller c.index_mut-member.result.now (within b).0 c.index_mut-member.ensures.value in faulty b c.args.controller c.args.worker c.index_mut-member.result.now there (within b).1
+put_fault-requires c = let b = before c.self.inside.script c.self.inside.shape c.self.inside.history.events.items
+    c.self.inside.lanes c.self.inside.store c.self.inside.members.items c.self.inside.fates c.self.inside.clock
+    c.args.self.now c.args.event (does.PutFault c.args.controller c.args.worker c.args.fault) c.self.invariant
+    c.self.view_is c.requires.admits c.requires.act c.requires.room in let there = member b c.args.controller
+    c.index_mut-member.result.now (within b).0 c.index_mut-member.ensures.value in faulty b c.args.controller
+    c.args.worker c.index_mut-member.result.now there (within b).1
 
 -- How it is before.
-old : (c : After-keep-reply) → Before c.self.inside.script c.self.inside.shape c.self.inside.history.events.items c.self.inside.lanes c.self.inside.store c.self.inside.members.items c.self.inside.fates c.self.inside.clock c.args.self.now c.args.event (does.PutFault c.args.controller c.args.worker c.args.fault)
-old c = before c.self.inside.script c.self.inside.shape c.self.inside.history.events.items c.self.inside.lanes c.self.inside.store c.self.inside.members.items c.self.inside.fates c.self.inside.clock c.args.self.now c.args.event (does.PutFault c.args.controller c.args.worker c.args.fault) c.self.invariant c.self.view_is c.requires.admits c.requires.act c.requires.room
+old : (c : After-keep-reply) → Before c.self.inside.script c.self.inside.shape c.self.inside.history.events.items
+    c.self.inside.lanes c.self.inside.store c.self.inside.members.items c.self.inside.fates c.self.inside.clock
+    c.args.self.now c.args.event (does.PutFault c.args.controller c.args.worker c.args.fault)
+old c = before c.self.inside.script c.self.inside.shape c.self.inside.history.events.items c.self.inside.lanes
+    c.self.inside.store c.self.inside.members.items c.self.inside.fates c.self.inside.clock c.args.self.now c.args.event
+    (does.PutFault c.args.controller c.args.worker c.args.fault) c.self.invariant c.self.view_is c.requires.admits
+    c.requires.act c.requires.room
 
 -- How it is afterwards.
-after : (c : After-keep-reply) → After c.self.inside.script c.self.inside.shape c.keep-reply.new.history.items c.keep-reply.new.lanes c.self.inside.store (set c.self.inside.members.items c.args.controller c.put_fault.new.self) c.self.inside.fates c.self.inside.clock c.args.self.now c.args.event reply.Done
+after : (c : After-keep-reply) → After c.self.inside.script c.self.inside.shape c.keep-reply.new.history.items
+    c.keep-reply.new.lanes c.self.inside.store (set c.self.inside.members.items c.args.controller c.put_fault.new.self)
+    c.self.inside.fates c.self.inside.clock c.args.self.now c.args.event reply.Done
 after c =
-    closes (old c) _ _ _ _ _ _ _ _ _ c.keep-reply.ensures.kept c.in_ok-reserve.ensures.kept c.keep-reply.ensures.lanes (fault_run c.self.inside.shape (past (old c)) c.self.inside.store c.self.inside.members.items (fates_in c.self.inside.fates) c.self.inside.clock c.self.invariant.machine.run _ c.args.controller c.index_mut-member.result.now c.put_fault.new.self (member (old c) c.args.controller c.index_mut-member.result.now ((within (old c)).0) c.index_mut-member.ensures.value) (within (old c)).0 c.args.worker c.args.fault (within (old c)).1 (acts (old c)) refl c.log_len-length.ensures c.put_fault.ensures.con c.put_fault.ensures.registers c.put_fault.ensures.faults)
+    closes (old c) _ _ _ _ _ _ _ _ _ c.keep-reply.ensures.kept c.in_ok-reserve.ensures.kept c.keep-reply.ensures.lanes
+    (fault_run c.self.inside.shape (past (old c)) c.self.inside.store c.self.inside.members.items
+    (fates_in c.self.inside.fates) c.self.inside.clock c.self.invariant.machine.run _ c.args.controller
+    c.index_mut-member.result.now c.put_fault.new.self
+    (member (old c) c.args.controller c.index_mut-member.result.now ((within (old c)).0)
+    c.index_mut-member.ensures.value) (within (old c)).0 c.args.worker c.args.fault (within (old c)).1 (acts (old c))
+    refl c.log_len-length.ensures c.put_fault.ensures.con c.put_fault.ensures.registers c.put_fault.ensures.faults)
 
 pub invariant_of-self-2 : goal.invariant_of-self-2
 invariant_of-self-2 c = (after c).kept
 
-pub returns-clause-ok : goal.returns-clause-ok
-returns-clause-ok c = (after c).view
-
-pub returns-clause-reply : goal.returns-clause-reply
-returns-clause-reply c = c.keep-reply.ensures.reply ∙ (after c).told
+pub returns : goal.returns
+returns c = ((after c).view, c.keep-reply.ensures.reply ∙ (after c).told)

@@ -7,20 +7,28 @@ use Rattle.jc_machine.proofs.machine.Machine.report.Goals as goal
 use Rattle.jc_machine.proofs.machine.Machine.report.Goals.{After-keep_twice-reply}
 
 -- How it is before.
-old : (c : After-keep_twice-reply) → Before c.self.inside.script c.self.inside.shape c.self.inside.history.events.items c.self.inside.lanes c.self.inside.store c.self.inside.members.items c.self.inside.fates c.self.inside.clock c.args.self.now c.args.event (does.Report c.args.pod c.args.change.now)
-old c = before c.self.inside.script c.self.inside.shape c.self.inside.history.events.items c.self.inside.lanes c.self.inside.store c.self.inside.members.items c.self.inside.fates c.self.inside.clock c.args.self.now c.args.event (does.Report c.args.pod c.args.change.now) c.self.invariant c.self.view_is c.requires.admits c.requires.act c.requires.room
+old : (c : After-keep_twice-reply) → Before c.self.inside.script c.self.inside.shape c.self.inside.history.events.items
+    c.self.inside.lanes c.self.inside.store c.self.inside.members.items c.self.inside.fates c.self.inside.clock
+    c.args.self.now c.args.event (does.Report c.args.pod c.args.change.now)
+old c = before c.self.inside.script c.self.inside.shape c.self.inside.history.events.items c.self.inside.lanes
+    c.self.inside.store c.self.inside.members.items c.self.inside.fates c.self.inside.clock c.args.self.now c.args.event
+    (does.Report c.args.pod c.args.change.now) c.self.invariant c.self.view_is c.requires.admits c.requires.act
+    c.requires.room
 
 -- How it is afterwards.
-after : (c : After-keep_twice-reply) → After c.self.inside.script c.self.inside.shape c.keep_twice-reply.new.history.items c.keep_twice-reply.new.lanes c.report_twice.new.store c.self.inside.members.items c.self.inside.fates c.self.inside.clock c.args.self.now c.args.event c.in_ok-replies.replies
+after : (c : After-keep_twice-reply) → After c.self.inside.script c.self.inside.shape
+    c.keep_twice-reply.new.history.items c.keep_twice-reply.new.lanes c.report_twice.new.store
+    c.self.inside.members.items c.self.inside.fates c.self.inside.clock c.args.self.now c.args.event
+    c.in_ok-replies.replies
 after c =
     closes (old c) _ _ _ _ _ _ _ _ _ c.keep_twice-reply.ensures.kept c.in_ok-reserve.ensures.kept c.keep_twice-reply.ensures.lanes
-    (reported c.self.inside.shape (past (old c)) c.self.inside.store c.self.inside.members.items (fates_in c.self.inside.fates) c.self.inside.clock c.self.invariant.machine.run c.report_twice.new.store _ c.args.pod c.args.change.now (acts (old c)) c.in_ok-replies.ensures.reply c.in_ok-replies.ensures.log c.log_len-length.ensures c.log-log.ensures.stored)
+    (reported c.self.inside.shape (past (old c)) c.self.inside.store c.self.inside.members.items
+    (fates_in c.self.inside.fates) c.self.inside.clock c.self.invariant.machine.run c.report_twice.new.store _
+    c.args.pod c.args.change.now (acts (old c)) c.in_ok-replies.ensures.reply c.in_ok-replies.ensures.log
+    c.log_len-length.ensures c.log-log.ensures.stored)
 
 pub invariant_of-self-2 : goal.invariant_of-self-2
 invariant_of-self-2 c = (after c).kept
 
-pub returns-clause-ok : goal.returns-clause-ok
-returns-clause-ok c = (after c).view
-
-pub returns-clause-reply : goal.returns-clause-reply
-returns-clause-reply c = c.keep_twice-reply.ensures.reply ∙ (after c).told
+pub returns : goal.returns
+returns c = ((after c).view, c.keep_twice-reply.ensures.reply ∙ (after c).told)

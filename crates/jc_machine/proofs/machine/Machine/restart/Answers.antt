@@ -10,8 +10,12 @@ use Rattle.jc_machine.proofs.machine.Machine.restart.Goals as goal
 use Rattle.jc_machine.proofs.machine.Machine.restart.Goals.{After-keep-reply}
 
 -- How it is before.
-old : (c : After-keep-reply) → Before c.self.inside.script c.self.inside.shape c.self.inside.history.events.items c.self.inside.lanes c.self.inside.store c.self.inside.members.items c.self.inside.fates c.self.inside.clock c.args.self.now c.args.event (does.Restart c.args.controller)
-old c = before c.self.inside.script c.self.inside.shape c.self.inside.history.events.items c.self.inside.lanes c.self.inside.store c.self.inside.members.items c.self.inside.fates c.self.inside.clock c.args.self.now c.args.event (does.Restart c.args.controller) c.self.invariant c.self.view_is c.requires.admits c.requires.act c.requires.room
+old : (c : After-keep-reply) → Before c.self.inside.script c.self.inside.shape c.self.inside.history.events.items
+    c.self.inside.lanes c.self.inside.store c.self.inside.members.items c.self.inside.fates c.self.inside.clock
+    c.args.self.now c.args.event (does.Restart c.args.controller)
+old c = before c.self.inside.script c.self.inside.shape c.self.inside.history.events.items c.self.inside.lanes
+    c.self.inside.store c.self.inside.members.items c.self.inside.fates c.self.inside.clock c.args.self.now c.args.event
+    (does.Restart c.args.controller) c.self.invariant c.self.view_is c.requires.admits c.requires.act c.requires.room
 
 fresh : (c : After-keep-reply) → KnowsNothing c.self.inside.shape.workers c.become_other.new.self
 fresh c = subst (KnowsNothing c.self.inside.shape.workers) (sym c.become_other.ensures) c.in_ok-fresh.ensures
@@ -20,15 +24,23 @@ mine : (c : After-keep-reply) → IsTeam c.self.inside.shape (past (old c)) c.se
 mine c = c.self.invariant.machine.run.each c.args.controller c.index_mut-member.result.now (member (old c) c.args.controller c.index_mut-member.result.now (within (old c)) c.index_mut-member.ensures.value)
 
 -- How it is afterwards.
-after : (c : After-keep-reply) → After c.self.inside.script c.self.inside.shape c.keep-reply.new.history.items c.keep-reply.new.lanes c.self.inside.store (set c.self.inside.members.items c.args.controller c.become_other.new.self) c.self.inside.fates c.self.inside.clock c.args.self.now c.args.event reply.Done
+after : (c : After-keep-reply) → After c.self.inside.script c.self.inside.shape c.keep-reply.new.history.items
+    c.keep-reply.new.lanes c.self.inside.store
+    (set c.self.inside.members.items c.args.controller c.become_other.new.self) c.self.inside.fates c.self.inside.clock
+    c.args.self.now c.args.event reply.Done
 after c =
-    closes (old c) _ _ _ _ _ _ _ _ _ c.keep-reply.ensures.kept c.in_ok-reserve.ensures.kept c.keep-reply.ensures.lanes (restart_run c.self.inside.shape (past (old c)) c.self.inside.store c.self.inside.members.items (fates_in c.self.inside.fates) c.self.inside.clock c.self.invariant.machine.run _ c.args.controller c.index_mut-member.result.now c.become_other.new.self (member (old c) c.args.controller c.index_mut-member.result.now (within (old c)) c.index_mut-member.ensures.value) (within (old c)) (acts (old c)) refl c.log_len-length.ensures (fresh c).schedule (holds_idle _ _ (fresh c).schedule (fresh c).jobs (fresh c).rows) ((fresh c).registers ∙ replicate_free _ _ (sym (mine c).count)) ((fresh c).faults ∙ replicate_free _ _ (sym (mine c).faults)))
+    closes (old c) _ _ _ _ _ _ _ _ _ c.keep-reply.ensures.kept c.in_ok-reserve.ensures.kept c.keep-reply.ensures.lanes
+    (restart_run c.self.inside.shape (past (old c)) c.self.inside.store c.self.inside.members.items
+    (fates_in c.self.inside.fates) c.self.inside.clock c.self.invariant.machine.run _ c.args.controller
+    c.index_mut-member.result.now c.become_other.new.self
+    (member (old c) c.args.controller c.index_mut-member.result.now (within (old c)) c.index_mut-member.ensures.value)
+    (within (old c)) (acts (old c)) refl c.log_len-length.ensures (fresh c).schedule
+    (holds_idle _ _ (fresh c).schedule (fresh c).jobs (fresh c).rows)
+    ((fresh c).registers ∙ replicate_free _ _ (sym (mine c).count))
+    ((fresh c).faults ∙ replicate_free _ _ (sym (mine c).faults)))
 
 pub invariant_of-self-2 : goal.invariant_of-self-2
 invariant_of-self-2 c = (after c).kept
 
-pub returns-clause-ok : goal.returns-clause-ok
-returns-clause-ok c = (after c).view
-
-pub returns-clause-reply : goal.returns-clause-reply
-returns-clause-reply c = c.keep-reply.ensures.reply ∙ (after c).told
+pub returns : goal.returns
+returns c = ((after c).view, c.keep-reply.ensures.reply ∙ (after c).told)
