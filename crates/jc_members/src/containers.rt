@@ -1,6 +1,6 @@
 //! What is reported of a pod's containers.
 
-ghost use Rattle.std.specs.Prelude.{◌≡◌, ◌≤◌, ◌<◌, ◌≤ℤ◌, true, IfOk, IfSome, OnOk, is_some, length, map, pos};
+ghost use Rattle.std.specs.Prelude.{◌≡◌, ◌≤◌, ◌<◌, ◌≤ℤ◌, true, IfOk, IfSome, OnOk, is_some, length, map, option_map, pos, unwrap_or};
 ghost use Rattle.serde_json.specs.Data.{boolean, null, no_members, put};
 ghost use Rattle.jc_json.specs.View.{view, ordered_view};
 ghost use Rattle.jc_json.specs.Field.{unless_null};
@@ -96,6 +96,16 @@ fn check_entries(
     Ok(())
 }
 
+// The value that is given, or else the other.
+fn given_or<'v, 'a>(given: Option<&'v Value<'a>>, other: &'v Value<'a>) -> &'v Value<'a>
+    ensures { view result.now ≡ unwrap_or (option_map (λ v. view v.now) given.entry) (view other.now) }
+{
+    if let Some(value) = given {
+        return value;
+    }
+    other
+}
+
 // An object of numbers, each of which is right; `nothing` where none is given.
 #[tactic(auto, unfolding(crate::specs::Phases::container_numbers))]
 fn read_numbers<'v, 'a>(
@@ -111,10 +121,7 @@ fn read_numbers<'v, 'a>(
         (container_numbers name.now least greatest (view value.now)) }
 {
     let path = Path::new(alloc);
-    let numbers = match may_object(alloc, value, &path, name)? {
-        Some(numbers) => numbers,
-        None => nothing,
-    };
+    let numbers = given_or(may_object(alloc, value, &path, name)?, nothing);
     let names = names_in(alloc, numbers)?;
     check_entries(
         alloc,

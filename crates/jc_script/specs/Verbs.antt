@@ -1,6 +1,6 @@
 -- The words of `do`, and the members that the line of each may have.
 --     verb_of s          the command of that word
---     members_of verb    the members that its line may have
+--     line_members verb    the members that its line may have
 use Rattle.std.specs.Prelude.{ℕ, List, [], ◌∷◌, bytes_eq, codes, Option, Some, None, Result, Ok, if◌then◌else◌}
 use Rattle.serde_json.specs.Data.{Data}
 use Rattle.jc_json.specs.Field.{◌>>=◌}
@@ -35,30 +35,30 @@ verb_of s =
 abbrev pub with_common : List (List ℕ) → List (List ℕ)
 with_common names = codes "do" ∷ codes "lane" ∷ names
 
-abbrev pub members_of : Verb → List (List ℕ)
-members_of verb.Create = with_common (codes "job" ∷ [])
-members_of verb.Update = with_common (codes "name" ∷ codes "namespace" ∷ codes "version" ∷ codes "spec" ∷ [])
-members_of verb.Delete = with_common (codes "name" ∷ codes "namespace" ∷ [])
-members_of verb.Mark = with_common (codes "pod" ∷ [])
-members_of verb.Strip = with_common (codes "pod" ∷ [])
-members_of verb.Finish = with_common (codes "pod" ∷ codes "exit" ∷ [])
-members_of verb.Phase =
+abbrev pub line_members : Verb → List (List ℕ)
+line_members verb.Create = with_common (codes "job" ∷ [])
+line_members verb.Update = with_common (codes "name" ∷ codes "namespace" ∷ codes "version" ∷ codes "spec" ∷ [])
+line_members verb.Delete = with_common (codes "name" ∷ codes "namespace" ∷ [])
+line_members verb.Mark = with_common (codes "pod" ∷ [])
+line_members verb.Strip = with_common (codes "pod" ∷ [])
+line_members verb.Finish = with_common (codes "pod" ∷ codes "exit" ∷ [])
+line_members verb.Phase =
     with_common (codes "pod" ∷ codes "phase" ∷ codes "exitCodes" ∷ codes "restartCounts" ∷ codes "conditions" ∷ [])
-members_of verb.Fate = with_common (codes "name" ∷ codes "namespace" ∷ codes "ends" ∷ [])
-members_of verb.Clock = with_common (codes "add" ∷ [])
-members_of verb.List = with_common (codes "controller" ∷ codes "kind" ∷ [])
-members_of verb.Deliver = with_common (codes "controller" ∷ codes "kind" ∷ codes "times" ∷ [])
-members_of verb.Begin = with_common (codes "controller" ∷ codes "worker" ∷ [])
-members_of verb.Sync = with_common (codes "controller" ∷ codes "worker" ∷ [])
-members_of verb.Step = with_common (codes "controller" ∷ codes "worker" ∷ codes "times" ∷ [])
-members_of verb.Node = with_common (codes "times" ∷ [])
-members_of verb.Restart = with_common (codes "controller" ∷ [])
-members_of verb.Fault = with_common (codes "controller" ∷ codes "worker" ∷ codes "kind" ∷ [])
-members_of verb.Settle = with_common []
+line_members verb.Fate = with_common (codes "name" ∷ codes "namespace" ∷ codes "ends" ∷ [])
+line_members verb.Clock = with_common (codes "add" ∷ [])
+line_members verb.List = with_common (codes "controller" ∷ codes "kind" ∷ [])
+line_members verb.Deliver = with_common (codes "controller" ∷ codes "kind" ∷ codes "times" ∷ [])
+line_members verb.Begin = with_common (codes "controller" ∷ codes "worker" ∷ [])
+line_members verb.Sync = with_common (codes "controller" ∷ codes "worker" ∷ [])
+line_members verb.Step = with_common (codes "controller" ∷ codes "worker" ∷ codes "times" ∷ [])
+line_members verb.Node = with_common (codes "times" ∷ [])
+line_members verb.Restart = with_common (codes "controller" ∷ [])
+line_members verb.Fault = with_common (codes "controller" ∷ codes "worker" ∷ codes "kind" ∷ [])
+line_members verb.Settle = with_common []
 
 -- the command of a line whose members are all known
 unfoldable pub verb_in : Data → Result Verb Cause
 verb_in d = do
   verb ← word_in [] (codes "do") verb_of d
-  known ← only_known [] (members_of verb) d
+  known ← only_known [] (line_members verb) d
   Ok verb

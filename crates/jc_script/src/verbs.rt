@@ -4,7 +4,7 @@ ghost use Rattle.std.specs.Prelude.{◌≡◌, codes, map};
 ghost use Rattle.jc_json.specs.View.{view};
 ghost use Rattle.jc_members.specs.Causes.{Says};
 ghost use Rattle.jc_members.specs.Members.{word_in};
-ghost use Rattle.jc_script.specs.Verbs.{verb_of, members_of, verb_in};
+ghost use Rattle.jc_script.specs.Verbs.{verb_of, line_members, verb_in};
 
 use jc_json::{Path, Value, need_text};
 use jc_members::{LineFault, broken, check_known};
@@ -61,8 +61,8 @@ fn verb_of(text: &str) -> Option<Verb>
 }
 
 // The members that the command's line may have.
-fn members_of(verb: Verb) -> &'static [&'static str]
-    ensures { map (λ k. k.now) result.now ≡ members_of verb }
+fn line_members(verb: Verb) -> &'static [&'static str]
+    ensures { map (λ k. k.now) result.now ≡ line_members verb }
 {
     match verb {
         Verb::Create => &["do", "lane", "job"],
@@ -114,6 +114,6 @@ pub fn read_verb(alloc: Global, value: &Value) -> Result<Verb, LineFault>
 {
     let path = Path::new(alloc);
     let verb = read_word(alloc, value, &path)?;
-    check_known(alloc, value, &path, members_of(verb))?;
+    check_known(alloc, value, &path, line_members(verb))?;
     Ok(verb)
 }
