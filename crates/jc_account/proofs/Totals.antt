@@ -29,10 +29,6 @@ stayed_and_left own uids = kept_and_others (has_tracked own) uids
 pub raised_left : (own : List Pod) (uids list : List Uid) (before after : ℕ) → list ≡ stayed own uids → after + length list ≡ before + length uids → after ≡ before + left own uids
 raised_left own uids list before after is sum = omega (arith, stayed_and_left own uids, ap length is, sum)
 
--- A merge of lists that are equal.
-pub merged_at : {us vs more others list : List Uid} → vs ≡ us → others ≡ more → list ≡ merge vs others → list ≡ merge us more
-merged_at {us} {vs} {more} {others} same_us same_more is = is ∙ ap (λ xs. merge xs others) same_us ∙ ap (merge us) same_more
-
 -- What is left of a list that is equal, by released UIDs that are.
 pub unreleased_at : {released others us vs list : List Uid} → others ≡ released → vs ≡ us → list ≡ unreleased others vs → list ≡ unreleased released us
 unreleased_at {released} {others} {us} {vs} same_released same_us is = is ∙ ap (λ xs. unreleased xs vs) same_released ∙ ap (unreleased released) same_us

@@ -40,7 +40,7 @@ fn with_successes(alloc: Global, mode: Mode, uids: &Uids, newly: &Uids) -> Resul
     ensures indexed { mode ≡ Indexed → IfOk result (λ list. list ≡ uids.now) }
 {
     match mode {
-        Mode::NonIndexed => merged(alloc, uids.as_slice(), newly.as_slice()),
+        Mode::NonIndexed => merged(alloc, uids, newly),
         Mode::Indexed => uids.copy(),
     }
 }
@@ -97,7 +97,7 @@ fn count_job(alloc: Global, job: &Job, pods: &[Arc<Pod>]) -> Result<CountIn, Wan
     );
     Ok(CountIn {
         uncounted_succeeded: with_successes(alloc, mode, &stayed_succeeded, &newly.succeeded)?,
-        uncounted_failed: merged(alloc, stayed_failed.as_slice(), newly.failed.as_slice())?,
+        uncounted_failed: merged(alloc, &stayed_failed, &newly.failed)?,
         succeeded: succeeded(mode, total, &newly.completed),
         failed: raised(status.failed, &status.uncounted_failed, &stayed_failed),
         new_succeeded: gain(mode, &newly.succeeded, &status.completed, &newly.completed),

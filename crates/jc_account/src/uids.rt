@@ -8,7 +8,7 @@ ghost use Rattle.jc_states.specs.UidLists.{merge, with_uid};
 ghost use Rattle.jc_account.specs.Accounts.{unreleased};
 
 use jc_states::is_among;
-use jc_types::{Uid, Uids, Want};
+use jc_types::{Copied, Uid, Uids, Want};
 use std::alloc::Global;
 use std::collections::VecDeque;
 
@@ -69,15 +69,18 @@ fn with_each(alloc: Global, uids: &[Uid], more: &[Uid]) -> Result<Vec<Uid>, Want
     Ok(all.into_vec())
 }
 
-// The UIDs with each of the others in its place.
+// The UIDs with each of the others in its place. Where there are no others, the list shares its memory.
 //
 // # Errors
 // `Want` where there is no memory for them.
-pub(crate) fn merged(alloc: Global, uids: &[Uid], more: &[Uid]) -> Result<Uids, Want>
+pub(crate) fn merged(alloc: Global, uids: &Uids, more: &Uids) -> Result<Uids, Want>
     ensures merged { IfOk result (λ list. list ≡ merge uids.now more.now) }
     ensures few { IfOk result (λ list. length list ≤ length uids.now + length more.now) }
 {
-    let all = with_each(alloc, uids, more)?;
+    if more.is_empty() {
+        return uids.copy();
+    }
+    let all = with_each(alloc, uids.as_slice(), more.as_slice())?;
     listed(alloc, all.as_slice())
 }
 

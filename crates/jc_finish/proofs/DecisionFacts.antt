@@ -1,12 +1,13 @@
 -- What a decision says of the Job and of its pods.
-use Rattle.std.proofs.Common.{◌≡◌, ◌⊎◌, inl, inr, ℕ, Bool, true, false, cond, ◌&&◌, ◌||◌, List, [], ◌∷◌, Option, Some, None, is_some, refl, ap, ◌∙◌, true≢false}
-use Rattle.std.specs.List.{Contains}
-use Rattle.std.proofs.lemmas.Bool.{and_from}
+use Rattle.std.proofs.Common.{◌≡◌, ◌⊎◌, inl, inr, ℕ, zero, suc, Bool, true, false, cond, ◌&&◌, List, [], ◌∷◌, Option, Some, None, refl, ap, ◌∙◌}
+use Rattle.std.specs.List.{Contains, list_any}
+use Rattle.std.proofs.lemmas.Bool.{and_from, and_right, or_from, or_parts}
 use Rattle.std.proofs.lemmas.List.Folds.{list_any-from_Any}
 use Rattle.jc_types.specs.declared.objects.Job.{Job}
 use Rattle.jc_types.specs.declared.objects.Pod.{Pod}
 use Rattle.jc_types.specs.declared.policies.Action.TheVariants.{FailJob}
 use Rattle.jc_types.specs.declared.policies.FailurePolicy.{FailurePolicy}
+use Rattle.jc_types.specs.declared.policies.FailureRule.{FailureRule}
 use Rattle.jc_types.specs.declared.specifications.JobSpec.{JobSpec}
 use Rattle.jc_types.specs.declared.statuses.CondKind.{CondKind}
 use Rattle.jc_types.specs.declared.statuses.CondKind.TheVariants.{FailureTarget, SuccessCriteriaMet}
@@ -18,22 +19,42 @@ use Rattle.jc_states.specs.Conditions.{has_target}
 use Rattle.jc_states.specs.Pods.{is_tracked}
 use Rattle.jc_failpol.specs.declared.outcomes.Outcome.TheVariants as outcome
 use Rattle.jc_failpol.specs.Outcomes.{outcome_of}
-use Rattle.jc_failpol.specs.Rules.{action_of}
+use Rattle.jc_failpol.specs.Rules.{action_at, action_of, matching_place}
 use Rattle.jc_failpol.specs.FailJob.{is_failure, is_fail_job, policy_fails_job, fails_job}
 use Rattle.jc_finish.specs.Decisions.{is_failed_by_indexes, is_failed_by_pod, is_past_limit, is_past_most, is_overdue, is_policy_met, is_complete, first_line, decided}
 use Rattle.jc_finish.specs.Settled.{is_target_kind}
 
--- Without a failure policy no pod fails the Job.
-pub none-failing : (spec : JobSpec) (own : List Pod) → is_some spec.failure ≡ false → is_failed_by_pod spec own ≡ false
-none-failing spec [] h = refl
-none-failing spec (pod ∷ own) h =
-    ap (λ b. b || is_failed_by_pod spec own) (by (is_tracked pod) (is_failure (outcome_of spec pod)) spec.failure h) ∙ none-failing spec own h
+-- Where the failure policy fails the Job for no pod, none fails it.
+none-failing : (spec : JobSpec) (own : List Pod) → ((pod : Pod) → policy_fails_job spec.failure pod ≡ false) → is_failed_by_pod spec own ≡ false
+none-failing spec own h =
+    by own
   where
-    by : (tracked failed : Bool) (policy : Option FailurePolicy) → is_some policy ≡ false → (tracked && (failed && policy_fails_job policy pod)) ≡ false
-    by true true None h = refl
-    by true false policy h = refl
-    by false failed policy h = refl
-    by true true (Some policy) h = absurd (true≢false h)
+    by : (some : List Pod) → is_failed_by_pod spec some ≡ false
+    by [] = refl
+    by (pod ∷ rest) =
+        or_from (is_tracked pod && fails_job spec pod) (is_failed_by_pod spec rest)
+        (and_right (is_tracked pod) (fails_job spec pod) (and_right (is_failure (outcome_of spec pod)) (policy_fails_job spec.failure pod) (h pod)))
+        (by rest)
+
+-- Without a failure policy no pod fails the Job.
+pub failing-without : (spec : JobSpec) (own : List Pod) → spec.failure ≡ None → is_failed_by_pod spec own ≡ false
+failing-without spec own h = none-failing spec own (λ pod. ap (λ policy. policy_fails_job policy pod) h)
+
+-- Where no rule has the action FailJob, no rule that matches has it.
+fatal-at : (rules : List FailureRule) (place : ℕ) → list_any (λ rule. is_fail_job rule.action) rules ≡ false → is_fail_job (action_at rules (Some place)) ≡ false
+fatal-at [] place h = refl
+fatal-at (rule ∷ rules) zero h = (or_parts (is_fail_job rule.action) (list_any (λ rule. is_fail_job rule.action) rules) h).0
+fatal-at (rule ∷ rules) (suc place) h = fatal-at rules place (or_parts (is_fail_job rule.action) (list_any (λ rule. is_fail_job rule.action) rules) h).1
+
+fatal-nowhere : (rules : List FailureRule) (place : Option ℕ) → list_any (λ rule. is_fail_job rule.action) rules ≡ false → is_fail_job (action_at rules place) ≡ false
+fatal-nowhere rules None h = refl
+fatal-nowhere rules (Some place) h = fatal-at rules place h
+
+-- So it fails the Job for no pod.
+pub failing-mildly : (spec : JobSpec) (policy : FailurePolicy) (own : List Pod) → spec.failure ≡ Some policy → list_any (λ rule. is_fail_job rule.action) policy.rules ≡ false
+    → is_failed_by_pod spec own ≡ false
+failing-mildly spec policy own has_policy h =
+    none-failing spec own (λ pod. ap (λ p. policy_fails_job p pod) has_policy ∙ fatal-nowhere policy.rules (matching_place policy pod) h)
 
 -- The first of seven reasons that holds.
 abbrev chosen : Bool → Bool → Bool → Bool → Bool → Bool → Bool → Option (CondKind × Reason)

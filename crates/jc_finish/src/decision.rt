@@ -1,8 +1,10 @@
 //! What settles how a Job will end.
 
 ghost use Rattle.std.specs.Prelude.{◌≡◌, ◌+◌, ◌<◌, ◌^◌, length, nat_le};
+ghost use Rattle.std.specs.List.{list_any};
 ghost use Rattle.jc_states.specs.Bases.{own_pods};
 ghost use Rattle.jc_types.specs.Counts.{counts as counts_of};
+ghost use Rattle.jc_failpol.specs.FailJob.{is_fail_job};
 ghost use Rattle.jc_finish.specs.Decisions.{decided, decision_of, first_line, is_complete, is_enough, is_failed_by_indexes, is_failed_by_pod, is_overdue, is_past_limit, is_past_most, is_policy_met, restarts_on_failure};
 
 use crate::restarts::is_exceeded;
@@ -13,7 +15,8 @@ use jc_ranges::Ranges;
 use jc_states::{Basis, Pods, count_restarts, has_active, has_target, is_own};
 use jc_succpol::is_met;
 use jc_types::{
-    Arc, CondKind, CountIn, Job, JobSpec, JobStatus, Pod, Reason, Restart, SuccessPolicy, counts,
+    Action, Arc, CondKind, CountIn, FailurePolicy, FailureRule, Job, JobSpec, JobStatus, Pod,
+    Reason, Restart, SuccessPolicy, counts,
 };
 
 // Whether one of the pods is the Job's own, is tracked and has failed, and the failure policy then fails
@@ -24,12 +27,32 @@ fn finds_failing(job: &Job, pods: &[Arc<Pod>]) -> bool
     pods.iter().any(|pod| is_own(job, pod) && (pod.tracked && fails_job(&*job.spec, pod)))
 }
 
-// Whether a tracked pod has failed, and the failure policy then fails the Job. Where there is no policy it
-// goes over no pod.
+// Whether the rule fails the Job.
+fn is_fatal(rule: &FailureRule) -> bool
+    ensures { result ≡ is_fail_job rule.now.action }
+{
+    match rule.action {
+        Action::FailJob => true,
+        Action::Ignore | Action::Count | Action::FailIndex => false,
+    }
+}
+
+// Whether a rule of the policy fails the Job.
+fn has_fatal_rule(policy: &FailurePolicy) -> bool
+    ensures { result ≡ list_any (λ rule. is_fail_job rule.action) policy.now.rules }
+{
+    policy.rules.as_slice().iter().any(|rule| is_fatal(rule))
+}
+
+// Whether a tracked pod has failed, and the failure policy then fails the Job. Where no rule of it fails the
+// Job, or there is no policy, it goes over no pod.
 fn is_failed_by_a_pod(job: &Job, pods: &[Arc<Pod>]) -> bool
     ensures { result ≡ is_failed_by_pod job.now.spec (own_pods job.now pods.now) }
 {
-    job.spec.failure.is_some() && finds_failing(job, pods)
+    match &job.spec.failure {
+        None => false,
+        Some(policy) => has_fatal_rule(policy) && finds_failing(job, pods),
+    }
 }
 
 // Whether the containers of the pods start anew after a failure.

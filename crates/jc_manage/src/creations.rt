@@ -8,7 +8,7 @@ ghost use Rattle.jc_types.specs.Counts.{counts as counts_of};
 ghost use Rattle.jc_manage.specs.Creations.{creatable, free, front, holds, is_settled_index, job_lacks, job_wants, keepers, keeps, keeps_own, lacking, looked_for, wanted};
 
 use crate::unheld::{are_kept_as_held, unheld_indexes};
-use jc_states::{Pods, count_ending, count_tracked_active, is_active, is_ending, is_own};
+use jc_states::{Pods, count_tracked_active, is_active, is_ending, is_own};
 use jc_types::{Arc, CountIn, Indexes, Job, JobSpec, Mode, Pod, Replacement, Want, counts};
 use std::alloc::Global;
 
@@ -37,20 +37,25 @@ fn lacking(replacement: Replacement, wanted: u64, active: u64, ending: u64) -> u
     }
 }
 
+// How many active tracked pods the Job should have, where it has so many.
+pub(crate) fn wanted_beside(job: &Job, counted: &CountIn, active: u64) -> u64
+    requires failed { (counts_of counted.now).0 < 2 ^ 64 }
+    requires succeeded { (counts_of counted.now).1 < 2 ^ 64 }
+    ensures { result ≡ wanted job.now.spec.parallelism job.now.spec.completions
+        (counts_of counted.now).1 (length counted.now.failed_indexes) active }
+{
+    let (_, succeeded) = counts(counted);
+    let failed = u64::from(counted.failed_indexes.len());
+    wanted(&job.spec, succeeded, failed, active)
+}
+
 // How many active tracked pods the Job should have.
 pub(crate) fn job_wants(job: &Job, pods: &Pods, counted: &CountIn) -> u64
     requires failed { (counts_of counted.now).0 < 2 ^ 64 }
     requires succeeded { (counts_of counted.now).1 < 2 ^ 64 }
     ensures { result ≡ job_wants job.now (own_pods job.now pods.now) counted.now }
 {
-    let (_, succeeded) = counts(counted);
-    let failed = u64::from(counted.failed_indexes.len());
-    wanted(
-        &job.spec,
-        succeeded,
-        failed,
-        count_tracked_active(job, pods) as u64,
-    )
+    wanted_beside(job, counted, count_tracked_active(job, pods) as u64)
 }
 
 // How many pods the Job is to make.
@@ -59,11 +64,14 @@ fn job_lacks(job: &Job, pods: &Pods, counted: &CountIn) -> u64
     requires succeeded { (counts_of counted.now).1 < 2 ^ 64 }
     ensures { result ≡ job_lacks job.now (own_pods job.now pods.now) counted.now }
 {
+    let tally = pods.tally(job.uid);
+    let active = u64::from(tally.active_tracked);
+    let ending = u64::from(tally.open_marked);
     lacking(
         job.spec.replacement,
-        job_wants(job, pods, counted),
-        count_tracked_active(job, pods) as u64,
-        count_ending(job, pods) as u64,
+        wanted_beside(job, counted, active),
+        active,
+        ending,
     )
 }
 

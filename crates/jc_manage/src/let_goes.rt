@@ -1,6 +1,6 @@
 //! Which pods a Job stops.
 
-ghost use Rattle.std.specs.Prelude.{◌≡◌, ◌<◌, ◌^◌, ◌&&◌, ◌||◌, ℕ, IfOk, OnOk, false, map, nat_eq, unwrap_or};
+ghost use Rattle.std.specs.Prelude.{◌≡◌, ◌<◌, ◌^◌, ◌&&◌, ◌||◌, ℕ, [], IfOk, OnOk, false, map, nat_eq, unwrap_or};
 ghost use Rattle.std.specs.Option.{option_map_or};
 ghost use Rattle.std.specs.HashMap.{get};
 ghost use Rattle.jc_types.specs.declared.specifications.Mode.TheVariants.{Indexed};
@@ -38,6 +38,14 @@ fn marked(alloc: Global, target: bool, job: &Job, pods: &[Arc<Pod>]) -> Result<V
         .collect(alloc)
 }
 
+// Whether one of the Job's own pods is active without the finalizer. It goes over no pod.
+fn has_stray(job: &Job, pods: &Pods) -> bool
+    ensures { result ≡ false → marks false (own_pods job.now pods.now) ≡ [] }
+{
+    let tally = pods.tally(job.uid);
+    tally.active_tracked < tally.active
+}
+
 // The UIDs of the Job's own pods that are marked for deletion at once: the active ones without the
 // finalizer, and all active ones where the Job's end is settled.
 //
@@ -49,6 +57,9 @@ pub(crate) fn marks(alloc: Global, target: bool, job: &Job, pods: &Pods) -> Resu
     if target {
         let uids = marked(alloc, target, job, pods.as_slice())?;
         return list_of(alloc, uids.as_slice());
+    }
+    if !has_stray(job, pods) {
+        return Ok(Uids::new(alloc));
     }
     // An active pod without the finalizer is noted.
     let noted = pods.noted(job.uid, &[], &[])?;

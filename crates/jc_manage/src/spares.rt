@@ -12,7 +12,7 @@ ghost use Rattle.jc_states.specs.Tallies.{pods_for};
 ghost use Rattle.jc_manage.specs.Creations.{is_settled_index, job_wants};
 ghost use Rattle.jc_manage.specs.LetGoes.{is_needless, is_spare, own_tracked, surplus};
 
-use crate::creations::job_wants;
+use crate::creations::wanted_beside;
 use jc_ranges::{Ranges, Run};
 use jc_states::{Pods, count_tracked_active};
 use jc_types::{CountIn, Job, Mode, Uid};
@@ -74,7 +74,8 @@ fn are_too_many(job: &Job, pods: &Pods, counted: &CountIn) -> bool
     ensures { result ≡ nat_lt (job_wants job.now (own_pods job.now pods.now) counted.now)
         (length (own_tracked job.now pods.now)) }
 {
-    job_wants(job, pods, counted) < count_tracked_active(job, pods) as u64
+    let active = count_tracked_active(job, pods) as u64;
+    wanted_beside(job, counted, active) < active
 }
 
 // Whether an active tracked pod may be spare or too many. Almost always it is plain that none is.

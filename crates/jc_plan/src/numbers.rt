@@ -1,13 +1,13 @@
 //! The numbers of pods that a status tells.
 
-ghost use Rattle.std.specs.Prelude.{◌≡◌, ◌<◌, ◌≤◌, ◌^◌, ◌↔◌, IsTrue, length};
+ghost use Rattle.std.specs.Prelude.{◌≡◌, ◌<◌, ◌≤◌, ◌^◌, ◌↔◌, IsTrue, filter, length};
 ghost use Rattle.jc_types.specs.declared.limits.TheConstants.{GREATEST_PARALLELISM};
 ghost use Rattle.jc_states.specs.Bases.{own_pods};
-ghost use Rattle.jc_states.specs.Pods.{active_pods};
+ghost use Rattle.jc_states.specs.Pods.{active_pods, is_ready};
 ghost use Rattle.jc_plan.specs.Numbers.{active_after, ending_after, is_let_go_of, keeps_on, ready_after, stopped_by};
 
 use jc_manage::Wants;
-use jc_states::{Pods, count_active, count_ending, count_ready, is_among, is_own, is_ready};
+use jc_states::{Pods, is_among, is_own, is_ready};
 use jc_types::{Arc, Job, Pod, PodVersions, Uid};
 
 /// How many pods are active, ready and terminating once the requests of a sync are made.
@@ -49,13 +49,14 @@ fn count_kept_on(job: &Job, pods: &[Arc<Pod>], wants: &Wants) -> usize
         .count()
 }
 
-// How many of the Job's own pods are ready and are neither marked nor let go. The pods are looked at
-// only where some of them are stopped.
-fn ready_after(job: &Job, pods: &Pods, wants: &Wants) -> usize
+// How many of the Job's own pods are ready and are neither marked nor let go, where so many are ready. The
+// pods are looked at only where some of them are stopped.
+fn ready_after(job: &Job, pods: &Pods, wants: &Wants, ready: usize) -> usize
+    requires { ready ≡ length (filter is_ready (own_pods job.now pods.now)) }
     ensures { result ≡ ready_after wants.now (own_pods job.now pods.now) }
 {
     if stops_none(wants) {
-        return count_ready(job, pods);
+        return ready;
     }
     count_kept_on(job, pods.as_slice(), wants)
 }
@@ -70,9 +71,10 @@ pub fn numbers_after(job: &Job, pods: &Pods, wants: &Wants) -> Numbers
     ensures terminating { result.terminating ≡ ending_after wants.now (own_pods job.now pods.now) }
 {
     let going = wants.marks.len() + wants.let_goes.len();
+    let tally = pods.tally(job.uid);
     Numbers {
-        active: (count_active(job, pods) + wants.creates.len() - going) as u32,
-        ready: ready_after(job, pods, wants) as u32,
-        terminating: (count_ending(job, pods) + going) as u32,
+        active: (tally.active as usize + wants.creates.len() - going) as u32,
+        ready: ready_after(job, pods, wants, tally.ready as usize) as u32,
+        terminating: (tally.open_marked as usize + going) as u32,
     }
 }

@@ -1,11 +1,11 @@
 //! Which pods lose their finalizer.
 
-ghost use Rattle.std.specs.Prelude.{◌≡◌, IfOk, filter};
+ghost use Rattle.std.specs.Prelude.{◌≡◌, [], IfOk, Some, filter, true};
 ghost use Rattle.jc_states.specs.UidLists.{Ascends, is_in, uids_of};
 ghost use Rattle.jc_plan.specs.Releases.{due_uids, is_owed, is_orphan, is_released, releases_of};
 
 use jc_states::{Basis, is_foreign};
-use jc_types::{Arc, Pod, Uid, Uids, Want};
+use jc_types::{Arc, Job, Pod, Uid, Uids, Want};
 use std::alloc::Global;
 
 // Whether the pod is an orphan.
@@ -59,6 +59,16 @@ fn released_of(alloc: Global, basis: &Basis, due: &[Uid], pods: &[Arc<Pod>]) -> 
     Ok(uids)
 }
 
+// Whether it is plain that no pod loses its finalizer: all are the Job's, and it is to release none. It goes
+// over no pod.
+fn releases_none(basis: &Basis, job: &Job, due: &[Uid]) -> bool
+    requires this { basis.now.job ≡ Some job.now }
+    requires due { due.now ≡ due_uids basis.now.job basis.now.pods }
+    ensures { result ≡ true → releases_of basis.entry.now ≡ [] }
+{
+    due.is_empty() && basis.pods.tally(job.uid).pods as usize == basis.pods.len()
+}
+
 /// The pods that lose their finalizer, in their order (KEP-2307): those that the Job is to release, which
 /// are given, and orphans. A tracked pod of the key is an orphan where its Job is gone, and the cache of
 /// Jobs is at least as new as the pod.
@@ -74,6 +84,9 @@ pub fn released(alloc: Global, basis: &Basis, due: &Uids) -> Result<Uids, Want>
     let Some(job) = &basis.job else {
         return released_of(alloc, basis, due, pods);
     };
+    if releases_none(basis, job, due) {
+        return Ok(Uids::new(alloc));
+    }
     // Those that the Job is to release are noted by their UID, and orphans are another owner's.
     let noted = basis.pods.noted(job.uid, due, &[])?;
     released_of(alloc, basis, due, noted.as_slice())

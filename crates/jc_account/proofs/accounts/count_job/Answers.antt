@@ -1,11 +1,11 @@
 -- The members of what is counted in.
-use Rattle.std.proofs.Common.{◌+◌, ◌-◌, length, refl, ap, sym, ◌∙◌, arith}
+use Rattle.std.proofs.Common.{◌-◌, length, refl, ap, sym, ◌∙◌, arith}
 use Rattle.jc_types.specs.declared.limits.TheConstants.{MOST_UNCOUNTED}
 use Rattle.jc_types.specs.declared.specifications.JobSpec.{JobSpec}
 use Rattle.jc_types.proofs.ListFacts.{filter_filter}
 use Rattle.jc_states.specs.Bases.{is_own, own_pods}
 use Rattle.jc_account.specs.Judged.{is_staying, stayed}
-use Rattle.jc_account.proofs.Totals.{counted, merged_at, successes_fit}
+use Rattle.jc_account.proofs.Totals.{counted, successes_fit}
 use Rattle.jc_account.proofs.accounts.count_job.Goals as goal
 
 pub returns-clause-counted : goal.returns-clause-counted
@@ -24,7 +24,7 @@ returns-clause-counted c =
     c.in_ok-newly.ensures.completed
     c.raised-total.ensures
     c.in_ok-with_successes.ensures.merged
-    (merged_at c.as_slice-3.ensures c.as_slice-4.ensures c.in_ok-merged.ensures.merged)
+    c.in_ok-merged.ensures.merged
     c.succeeded.ensures.total
     c.raised.ensures
     refl
@@ -43,8 +43,6 @@ returns-clause-failed_fits c =
       arith,
       c.raised.ensures,
       c.in_ok-merged.ensures.few,
-      ap length c.as_slice-3.ensures,
-      ap length c.as_slice-4.ensures,
       c.in_ok-newly.ensures.few_failed,
       c.requires.totals.1,
     )

@@ -17,12 +17,16 @@ released_of-requires-2-clause-ascends c =
     let basis = c.args.basis.now in
     subst Ascends (sym (c.as_slice-due.ensures ∙ c.requires)) (due-ascends basis.job basis.pods (subst IsRising c.deref.ensures c.as_slice-pods.ensures.rising))
 
+-- Where it is plain that none does, none is told.
+pub returns-then-releases_none : goal.returns-then-releases_none
+returns-then-releases_none c = c.new.ensures ∙ sym (c.releases_none.ensures c.if-releases_none.true)
+
 pub returns : goal.returns
 returns c =
     let basis = c.args.basis.now in
     let due = c.as_slice-due.result.now in
     subst (λ us. IfOk c.released_of-2.result (λ uids. uids ≡ us))
     (ap (λ pods. uids_of (filter (is_released basis) pods))
-    (c.as_slice.ensures.value ∙ c.in_ok-noted.ensures.pods ∙ (λ i. filter (is_noted (c.deref-3.ensures i).uid due []) (c.deref-2.ensures i)))
+    (c.as_slice.ensures.value ∙ c.in_ok-noted.ensures.pods ∙ (λ i. filter (is_noted (c.deref-4.ensures i).uid due []) (c.deref-3.ensures i)))
     ∙ releases-noted basis c.in-Some.job due [] c.in-Some.is (c.as_slice-due.ensures ∙ c.requires))
     c.released_of-2.ensures
