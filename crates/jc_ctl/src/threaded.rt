@@ -9,7 +9,7 @@ ghost use Rattle.jc_single.specs.Plays.{IsProper};
 ghost use Rattle.jc_single.specs.Seen.{deeds_seen};
 ghost use Rattle.jc_shared.specs.Runs.{IsLeft, IsWhole};
 ghost use Rattle.jc_shared.specs.Shared.{Shared};
-ghost use Rattle.jc_shared.specs.declared.threads.ThreadsFault.{ThreadsFault};
+ghost use Rattle.jc_shared.specs.declared.faults.ThreadsFault.{ThreadsFault};
 ghost use Rattle.jc_script.specs.Scripts.{most_bytes, script_of};
 ghost use Rattle.jc_script.specs.Cause.{Cause};
 ghost use Rattle.jc_words.specs.Fits.{IsFitShape};

@@ -1,17 +1,17 @@
--- What a turn of a seat leaves.
+-- What a turn of a player leaves.
 use Rattle.std.proofs.Common.{◌≡◌, reverse, refl, ap, Ok, Err}
 use Rattle.std.specs.Prelude.{IfOk, OnErr, Result}
 use mathlib.Core.List.{IsPrefix}
 use Rattle.jc_types.specs.declared.runs.Event.{Event}
 use Rattle.jc_core.specs.ApplyFault.{ApplyFault}
 use Rattle.jc_core.specs.Shared.{Shared}
-use Rattle.jc_seats.specs.SeatTurns.{HasHappened}
+use Rattle.jc_seats.specs.PlayerTurns.{HasHappened}
 use Rattle.jc_core.specs.declared.holding.Work.{Work}
 use Rattle.jc_seats.specs.declared.turns.Turn.{Turn}
 use Rattle.jc_seats.specs.declared.turns.Turn.TheVariants as turn
 use Rattle.jc_seats.proofs.Beginnings.{happened_begins, same_begins}
 
--- a turn of a seat leaves a history that begins with the one that was there
+-- a turn of a player leaves a history that begins with the one that was there
 pub turn_begins : (old new : Shared) (r : Result Turn ApplyFault) (F : Work → Type 0) (O : Event → Type 0) (W E : Type 0) → ((w : Work) → F w → new.seen ≡ old.seen) → (W → new ≡ old) → (E → new ≡ old)
     → IfOk r (λ t. (w : Work) → t ≡ turn.Plan w → F w)
     → IfOk r (λ t. t ≡ turn.Went → (event : Event) × HasHappened event old new × O event)

@@ -2,19 +2,19 @@
 //! turns, and plans that are handed in. It waits for nothing.
 #![tactic(auto)]
 
-mod desks;
 mod hands;
 mod kept;
 mod lanes;
 mod naming;
-mod seats;
+mod players;
+mod shared_run;
 mod turns;
 
-pub use desks::{Desk, Errand, Step};
 pub use hands::hand_in;
 pub use jc_core::{Actor, ApplyFault, Cluster, Work};
 pub use kept::{Kept, keep};
 pub use lanes::lanes_are_bytes;
-pub use naming::{Logged, Naming};
-pub use seats::Seat;
+pub use naming::{LogTag, Naming};
+pub use players::Player;
+pub use shared_run::{PlanTask, SharedRun, Step};
 pub use turns::Turn;
