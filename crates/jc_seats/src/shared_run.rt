@@ -16,8 +16,8 @@ ghost use Rattle.jc_seats.specs.PlayerTurns.{HasHappened, HasLeft, HasTurned, Is
 use crate::hands::hand_in;
 use crate::kept::Kept;
 use crate::naming::{LogTag, Naming};
+use crate::next_action::NextAction;
 use crate::players::Player;
-use crate::turns::Turn;
 use jc_core::{ApplyFault, Work};
 use jc_marks::{ListTag, Log, Mark};
 use jc_plan::Plan;
@@ -82,19 +82,6 @@ impl<J: Naming, L: LogTag> PlanTask<J, L> {
     {
         &self.work
     }
-}
-
-/// What a player has to do next.
-#[derive(Drop)]
-pub enum Step<J: Naming, L: LogTag> {
-    /// To make a plan, and hand it in.
-    Plan(PlanTask<J, L>),
-    /// To take more turns: events have happened.
-    Went,
-    /// To wait: it has nothing to do while another player is at its plan.
-    Wait,
-    /// To end: it has nothing left to do.
-    End,
 }
 
 // The log has now seen the whole history.
@@ -166,17 +153,17 @@ impl<J: Naming, L: LogTag> SharedRun<J, L> {
     }
 
     // One turn of the player, as `Kept::turn`. Where it is to make a plan, what has happened is marked.
-    fn turn(&mut self, player: &mut Player) -> Result<Step<J, L>, ApplyFault>
-        ensures went { IfOk result (λ step. step ≡ Step.Went
+    fn turn(&mut self, player: &mut Player) -> Result<NextAction<PlanTask<J, L>>, ApplyFault>
+        ensures went { IfOk result (λ next. next ≡ NextAction.Went
             → (event : Event) × HasHappened event self.old self.new
             × IsOwnEvent player.old self.old event) }
         ensures own { (self.new.seen ≡ self.old.seen) ⊎ ((event : Event)
             × HasHappened event self.old self.new × IsOwnEvent player.old self.old event) }
-        ensures waits { IfOk result (λ step. step ≡ Step.Wait → (self.new ≡ self.old)
+        ensures waits { IfOk result (λ next. next ≡ NextAction.Wait → (self.new ≡ self.old)
             × (has_holders self.old.slots ≡ true)
             × (first_event (unheld_seen self.old.slots self.old.seen) ≡ None)
             × ¬ HasLeft player.old self.old.seen) }
-        ensures ends { IfOk result (λ step. step ≡ Step.End → (self.new ≡ self.old)
+        ensures ends { IfOk result (λ next. next ≡ NextAction.End → (self.new ≡ self.old)
             × (has_rest self.old.seen ≡ true) × ¬ HasLeft player.old self.old.seen) }
         ensures kept { OnErr result (self.new ≡ self.old) }
         ensures room { result ≡ Err HistoryFull
@@ -185,10 +172,10 @@ impl<J: Naming, L: LogTag> SharedRun<J, L> {
     {
         self.kept.keeps();
         match self.kept.turn(player)? {
-            Turn::Plan(work) => Ok(Step::Plan(self.task(work))),
-            Turn::Went => Ok(Step::Went),
-            Turn::Wait => Ok(Step::Wait),
-            Turn::End => Ok(Step::End),
+            NextAction::Plan(work) => Ok(NextAction::Plan(self.task(work))),
+            NextAction::Went => Ok(NextAction::Went),
+            NextAction::Wait => Ok(NextAction::Wait),
+            NextAction::End => Ok(NextAction::End),
         }
     }
 
@@ -198,15 +185,15 @@ impl<J: Naming, L: LogTag> SharedRun<J, L> {
     /// # Errors
     /// `HistoryFull` only where the history has as many events as the shape allows; `Want` where there is no
     /// memory. What happened before stands.
-    pub fn turns(&mut self, player: &mut Player) -> Result<Step<J, L>, ApplyFault>
+    pub fn turns(&mut self, player: &mut Player) -> Result<NextAction<PlanTask<J, L>>, ApplyFault>
         ensures own { HasTurned player.old self.old self.new }
-        ensures went { IfOk result (λ step. step ≡ Step.Went
+        ensures went { IfOk result (λ next. next ≡ NextAction.Went
             → length self.new.seen.pasts ≡ length self.old.seen.pasts + 64) }
-        ensures waits { IfOk result (λ step. step ≡ Step.Wait
+        ensures waits { IfOk result (λ next. next ≡ NextAction.Wait
             → (has_holders self.new.slots ≡ true)
             × (first_event (unheld_seen self.new.slots self.new.seen) ≡ None)
             × ¬ HasLeft player.old self.new.seen) }
-        ensures ends { IfOk result (λ step. step ≡ Step.End
+        ensures ends { IfOk result (λ next. next ≡ NextAction.End
             → (has_rest self.new.seen ≡ true) × ¬ HasLeft player.old self.new.seen) }
         ensures room { result ≡ Err HistoryFull
             → self.new.seen.shape.events ≤ length self.new.seen.pasts }
@@ -214,11 +201,11 @@ impl<J: Naming, L: LogTag> SharedRun<J, L> {
     {
         for _turn in 0..MOST_TURNS {
             match self.turn(player)? {
-                Step::Went => {}
-                step => return Ok(step),
+                NextAction::Went => {}
+                next => return Ok(next),
             }
         }
-        Ok(Step::Went)
+        Ok(NextAction::Went)
     }
 
     /// Hands in what was made for the task, as `hand_in`.

@@ -16,22 +16,10 @@ ghost use Rattle.jc_core.specs.declared.holding.Work.{Work};
 
 use crate::kept::Kept;
 use crate::naming::Naming;
+use crate::next_action::NextAction;
 use crate::players::Player;
 use jc_core::{Actor, ApplyFault, Work};
 use jc_types::Event;
-
-/// What a player has to do next.
-#[derive(Drop)]
-pub enum Turn {
-    /// To make a plan, and hand it in.
-    Plan(Work),
-    /// To take another turn: an event has happened.
-    Went,
-    /// To wait: it has nothing to do while another player is at its plan.
-    Wait,
-    /// To end: it has nothing left to do.
-    End,
-}
 
 // Whose lane the next one is. It is counted along, since a division for each lane takes long.
 fn owner_after(owner: u32, threads: u32) -> u32
@@ -107,25 +95,25 @@ impl<J: Naming> Kept<J> {
     /// # Errors
     /// `HistoryFull` only where the history has as many events as the shape allows; `Want` where
     /// there is no memory. Nothing has changed then, but for which kind is tried next.
-    pub fn turn(&mut self, player: &mut Player) -> Result<Turn, ApplyFault>
-        ensures plan { IfOk result (λ turn. (work : Work) → turn ≡ Turn.Plan work
+    pub fn turn(&mut self, player: &mut Player) -> Result<NextAction<Work>, ApplyFault>
+        ensures plan { IfOk result (λ next. (work : Work) → next ≡ NextAction.Plan work
             → (register work.worker (diary_seen self.old.seen work.controller) ≡ Some work.basis)
             × (work.controller < self.old.seen.shape.controllers)
             × (work.worker < self.old.seen.shape.workers)
             × (self.new.slots ≡ taken_by player.old.number work.controller work.worker self.old.slots)
             × (self.new.seen ≡ self.old.seen)) }
-        ensures plannable { IfOk result (λ turn. (work : Work) → turn ≡ Turn.Plan work
+        ensures plannable { IfOk result (λ next. (work : Work) → next ≡ NextAction.Plan work
             → IsSome work.basis.job → CanPlan work.basis) }
-        ensures went { IfOk result (λ turn. turn ≡ Turn.Went
+        ensures went { IfOk result (λ next. next ≡ NextAction.Went
             → (event : Event) × HasHappened event self.old self.new
             × IsOwnEvent player.old self.old event) }
-        ensures waits { IfOk result (λ turn. turn ≡ Turn.Wait → (self.new ≡ self.old)
+        ensures waits { IfOk result (λ next. next ≡ NextAction.Wait → (self.new ≡ self.old)
             × (has_holders self.old.slots ≡ true)
             × (first_event (unheld_seen self.old.slots self.old.seen) ≡ None)
             × ¬ HasLeft player.old self.old.seen) }
-        ensures ends { IfOk result (λ turn. turn ≡ Turn.End → (self.new ≡ self.old)
+        ensures ends { IfOk result (λ next. next ≡ NextAction.End → (self.new ≡ self.old)
             × (has_rest self.old.seen ≡ true) × ¬ HasLeft player.old self.old.seen) }
-        ensures first { IfOk result (λ turn. ((work : Work) → turn ≢ Turn.Plan work)
+        ensures first { IfOk result (λ next. ((work : Work) → next ≢ NextAction.Plan work)
             → find (is_open_slot self.old.seen) self.old.slots ≡ None) }
         ensures kept { OnErr result (self.new ≡ self.old) }
         ensures room { result ≡ Err HistoryFull
@@ -133,17 +121,17 @@ impl<J: Naming> Kept<J> {
         ensures player { (player.new.number ≡ player.old.number) × (player.new.threads ≡ player.old.threads) }
     {
         match self.cluster.take_plan(player.number) {
-            Ok(Some(work)) => return Ok(Turn::Plan(work)),
+            Ok(Some(work)) => return Ok(NextAction::Plan(work)),
             Ok(None) => {}
             Err(_) => return Err(ApplyFault::Want),
         }
         match self.next_of(player) {
             Some(event) => {
                 self.go(player, event)?;
-                Ok(Turn::Went)
+                Ok(NextAction::Went)
             }
-            None if self.cluster.held() => Ok(Turn::Wait),
-            None => Ok(Turn::End),
+            None if self.cluster.held() => Ok(NextAction::Wait),
+            None => Ok(NextAction::End),
         }
     }
 }

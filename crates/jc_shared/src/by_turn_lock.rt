@@ -21,7 +21,7 @@ use crate::faults::ThreadsFault;
 use crate::finishing::finish;
 use crate::gate::Gate;
 use jc_plan::plan;
-use jc_seats::{ApplyFault, Cluster, Kept, Naming, Player, Turn, Work, hand_in};
+use jc_seats::{ApplyFault, Cluster, Kept, Naming, NextAction, Player, Work, hand_in};
 use jc_turn::{Booked, LockSeat, LockSeats, Taken, TurnLock, make};
 use jc_types::{Copied, Script, Shape, Want};
 use std::alloc::Global;
@@ -37,15 +37,15 @@ fn take_turn<J: Naming>(
     lock: &TurnLock<Kept<J>>,
     seat: &mut LockSeat,
     player: &mut Player,
-) -> Option<(Result<Turn, ApplyFault>, usize)>
+) -> Option<(Result<NextAction<Work>, ApplyFault>, usize)>
     requires lock { seat.old.lock ≡ lock.now.name }
     requires free { seat.old.holds ≡ false }
     ensures seat { IsSameSeat seat.old seat.new × (seat.new.holds ≡ false) }
     ensures player { (player.new.number ≡ player.old.number) × (player.new.threads ≡ player.old.threads) }
-    ensures plannable { IfSome result (λ next. IfOk next.0 (λ turn. (work : Work)
-        → turn ≡ Turn.Plan work → IsSome work.basis.job → CanPlan work.basis)) }
-    ensures taken { IfSome result (λ next. IfOk next.0 (λ turn. (work : Work)
-        → turn ≡ Turn.Plan work → WasTaken J.script J.shape seat.new.seen work)) }
+    ensures plannable { IfSome result (λ next. IfOk next.0 (λ action. (work : Work)
+        → action ≡ NextAction.Plan work → IsSome work.basis.job → CanPlan work.basis)) }
+    ensures taken { IfSome result (λ next. IfOk next.0 (λ action. (work : Work)
+        → action ≡ NextAction.Plan work → WasTaken J.script J.shape seat.new.seen work)) }
     ensures events { IfSome result (λ next. next.1 ≡ length seat.new.seen) }
 {
     let Taken::Value(mut kept) = lock.take(seat) else {
@@ -126,19 +126,19 @@ fn turn<J: Naming, R: Wait, G: Gate>(
         return true;
     };
     match next {
-        Ok(Turn::Plan(work)) => {
+        Ok(NextAction::Plan(work)) => {
             let is_made = make_plan(rt, gate, alloc, lock, seat, player.number, &work, events);
             if !is_made {
                 want.store(true, Ordering::SeqCst);
             }
             is_made
         }
-        Ok(Turn::Went) => true,
-        Ok(Turn::Wait) => {
+        Ok(NextAction::Went) => true,
+        Ok(NextAction::Wait) => {
             thread::yield_now();
             true
         }
-        Ok(Turn::End) | Err(ApplyFault::HistoryFull) => false,
+        Ok(NextAction::End) | Err(ApplyFault::HistoryFull) => false,
         Err(ApplyFault::Want) => {
             want.store(true, Ordering::SeqCst);
             false

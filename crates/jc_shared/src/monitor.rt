@@ -5,7 +5,7 @@ ghost use Rattle.std.specs.Prelude.{◌≡◌, ◌<◌, [], IfOk, length, nat_le
 use crate::gate::Gate;
 use jc_marks::Log;
 use jc_plan::plan;
-use jc_seats::{ApplyFault, Kept, LogTag, Naming, PlanTask, Player, SharedRun, Step, Work};
+use jc_seats::{ApplyFault, Kept, LogTag, Naming, NextAction, PlanTask, Player, SharedRun, Work};
 use jc_types::Want;
 use std::alloc::Global;
 use std::sync::{Condvar, Mutex, Wait};
@@ -106,18 +106,18 @@ fn turn<J: Naming, L: LogTag, R: Wait, G: Gate>(
 ) -> bool {
     let mut run = monitor.run.lock(rt);
     match run.turns(player) {
-        Ok(Step::Plan(task)) => {
+        Ok(NextAction::Plan(task)) => {
             drop(run);
             let is_made = make_plan(rt, gate, alloc, monitor, player.number, task);
             player.is_out_of_memory = !is_made;
             is_made
         }
-        Ok(Step::Went) => true,
-        Ok(Step::Wait) => {
+        Ok(NextAction::Went) => true,
+        Ok(NextAction::Wait) => {
             drop(monitor.changed.wait(rt, run));
             true
         }
-        Ok(Step::End) | Err(ApplyFault::HistoryFull) => {
+        Ok(NextAction::End) | Err(ApplyFault::HistoryFull) => {
             monitor.changed.notify_all();
             false
         }
