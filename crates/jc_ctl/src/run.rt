@@ -25,7 +25,7 @@ use crate::audited::audit_report;
 use crate::laws::{audited_reports_keep_the_promises, written_reports_pass_audits};
 use crate::threaded::run_threaded;
 use jc_io::{Sink, Source};
-use jc_shared::Gate;
+use jc_shared::{Gate, Host};
 use jc_single::{Status, reapers_collect_what_is_due, run_words, runs_tell_their_history};
 use jc_types::Shape;
 use jc_words::{LockKind, Order, orders_fit, read_words};
@@ -104,6 +104,7 @@ fn run_asked<R: Threads + Wait + Sync, S: Source, K: Sink, G: Gate + Sync>(
         }) result }
 {
     orders_fit();
+    let host = Host { rt, gate, alloc };
     match asked_for(words) {
         Some(
             Asked::Threads {
@@ -111,7 +112,7 @@ fn run_asked<R: Threads + Wait + Sync, S: Source, K: Sink, G: Gate + Sync>(
                 lock,
                 shape,
             },
-        ) => run_threaded(rt, alloc, lock, &shape, threads, source, sink, gate),
+        ) => run_threaded(&host, lock, &shape, threads, source, sink),
         Some(Asked::Audit { shape }) => audit_report(alloc, &shape, source, sink),
         None => run_words(alloc, words, source, sink),
     }

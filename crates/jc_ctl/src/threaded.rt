@@ -20,12 +20,12 @@ ghost use Rattle.jc_single.specs.Told.{IsReport};
 
 use jc_io::{ReadEnd, Sink, Source, read_all};
 use jc_script::{ScriptFault, read_script, scripts_fit_their_shape};
-use jc_shared::{Cluster, Gate, ThreadsFault, run_threads, run_turn};
+use jc_shared::{Cluster, Gate, Host, Play, ThreadsFault, run_threads, run_turn};
 use jc_single::{
     MOST_BYTES, Output, Status, legal_histories_keep_the_promises,
     orderly_histories_have_small_numbers, report, write_output,
 };
-use jc_types::{Script, Shape, Want};
+use jc_types::{Shape, Want};
 use jc_words::LockKind;
 use std::alloc::{AllocError, Global};
 use std::sync::Wait;
@@ -70,58 +70,52 @@ struct Left {
 //
 // As `run_threads`.
 fn run_locked<R: Threads + Wait + Sync, G: Gate + Sync>(
-    rt: &R,
-    alloc: Global,
+    host: &Host<'_, R, G>,
     lock: LockKind,
-    script: &Script,
-    shape: &Shape,
-    threads: u32,
-    gate: &G,
+    play: Play<'_>,
 ) -> Result<Cluster, ThreadsFault>
-    requires some { 1 ≤ threads }
-    requires few { threads ≤ 16 }
-    requires fine { Each (λ (command : Command). IsValidAction command.action) script.now.commands }
-    requires proper { IsProper script.now shape.now }
-    requires fits { length script.now.commands < 2 ^ 32 }
-    requires bound { shape.now.events ≤ 200000 }
-    ensures left { IfOk result (λ cluster. IsLeft script.now shape.now cluster.seen) }
+    ensures left { IfOk result (λ cluster. IsLeft play.script.now play.shape.now cluster.seen) }
     ensures whole { IfOk result (λ cluster. IsWhole cluster.seen) }
     ensures full { (left : Shared) → IsErrOf result (ThreadsFault.Full left)
-        → IsLeft script.now shape.now left.seen }
+        → IsLeft play.script.now play.shape.now left.seen }
     ensures filled { (left : Shared) → IsErrOf result (ThreadsFault.Full left)
-        → length left.seen.pasts ≡ shape.now.events }
+        → length left.seen.pasts ≡ play.shape.now.events }
     ensures to_come { (left : Shared) → IsErrOf result (ThreadsFault.Full left)
         → ¬ IsWhole left.seen }
 {
     match lock {
-        LockKind::Mutex => run_threads(rt, alloc, script, shape, threads, gate),
-        LockKind::Turn => run_turn(rt, alloc, script, shape, threads, gate),
+        LockKind::Mutex => run_threads(
+            host.rt,
+            host.alloc,
+            play.script,
+            play.shape,
+            play.threads,
+            host.gate,
+        ),
+        LockKind::Turn => run_turn(
+            host.rt,
+            host.alloc,
+            play.script,
+            play.shape,
+            play.threads,
+            host.gate,
+        ),
     }
 }
 
 // The same, with one cluster in its answer, so that it is dropped in one place.
 fn run_by<R: Threads + Wait + Sync, G: Gate + Sync>(
-    rt: &R,
-    alloc: Global,
+    host: &Host<'_, R, G>,
     lock: LockKind,
-    script: &Script,
-    shape: &Shape,
-    threads: u32,
-    gate: &G,
+    play: Play<'_>,
 ) -> Result<Left, Want>
-    requires some { 1 ≤ threads }
-    requires few { threads ≤ 16 }
-    requires fine { Each (λ (command : Command). IsValidAction command.action) script.now.commands }
-    requires proper { IsProper script.now shape.now }
-    requires fits { length script.now.commands < 2 ^ 32 }
-    requires bound { shape.now.events ≤ 200000 }
-    ensures left { IfOk result (λ left. IsLeft script.now shape.now left.cluster.seen) }
+    ensures left { IfOk result (λ left. IsLeft play.script.now play.shape.now left.cluster.seen) }
     ensures whole { IfOk result (λ left. left.full ≡ false → IsWhole left.cluster.seen) }
     ensures filled { IfOk result (λ left. left.full ≡ true
-        → length left.cluster.seen.pasts ≡ shape.now.events) }
+        → length left.cluster.seen.pasts ≡ play.shape.now.events) }
     ensures to_come { IfOk result (λ left. left.full ≡ true → ¬ IsWhole left.cluster.seen) }
 {
-    match run_locked(rt, alloc, lock, script, shape, threads, gate) {
+    match run_locked(host, lock, play) {
         Ok(cluster) => Ok(Left {
             cluster,
             full: false,
@@ -136,37 +130,26 @@ fn run_by<R: Threads + Wait + Sync, G: Gate + Sync>(
 
 // The report of a run of the script on threads.
 fn threaded_report<R: Threads + Wait + Sync, G: Gate + Sync>(
-    rt: &R,
-    alloc: Global,
+    host: &Host<'_, R, G>,
     lock: LockKind,
-    script: &Script,
-    shape: &Shape,
-    threads: u32,
-    gate: &G,
+    play: Play<'_>,
 ) -> Result<Output, Want>
-    requires some { 1 ≤ threads }
-    requires few { threads ≤ 16 }
-    requires fine { Each (λ (command : Command). IsValidAction command.action) script.now.commands }
-    requires proper { IsProper script.now shape.now }
-    requires fits { length script.now.commands < 2 ^ 32 }
-    requires lanes { Each (λ (command : Command). command.lane < 2 ^ 8) script.now.commands }
-    requires fit_shape { IsFitShape shape.now }
+    requires lanes { Each (λ (command : Command). command.lane < 2 ^ 8) play.script.now.commands }
+    requires fit_shape { IsFitShape play.shape.now }
     ensures { IfOk result (λ output.
-        IsReport threads script.now shape.now output.full output.text.items) }
+        IsReport play.threads play.script.now play.shape.now output.full output.text.items) }
 {
-    let left = run_by(rt, alloc, lock, script, shape, threads, gate)?;
-    told(alloc, &left.cluster, left.full)
+    let left = run_by(host, lock, play)?;
+    told(host.alloc, &left.cluster, left.full)
 }
 
 // The report of a run on threads of the script in the input.
 fn threaded_answer<R: Threads + Wait + Sync, G: Gate + Sync>(
-    rt: &R,
-    alloc: Global,
+    host: &Host<'_, R, G>,
     lock: LockKind,
     shape: &Shape,
     threads: u32,
     input: &[u8],
-    gate: &G,
 ) -> Result<Output, ScriptFault>
     requires some { 1 ≤ threads }
     requires few { threads ≤ 16 }
@@ -180,19 +163,22 @@ fn threaded_answer<R: Threads + Wait + Sync, G: Gate + Sync>(
         → script_of shape.now input.now ≡ Err (record { number = number; cause = cause }) }
 {
     scripts_fit_their_shape();
-    let script = read_script(alloc, input, shape)?;
-    Ok(threaded_report(rt, alloc, lock, &script, shape, threads, gate)?)
+    let script = read_script(host.alloc, input, shape)?;
+    let play = Play {
+        script: &script,
+        shape,
+        threads,
+    };
+    Ok(threaded_report(host, lock, play)?)
 }
 
 // The report of a run on threads of what the source has, or how the run ends that has nothing to write.
 fn threaded_made<R: Threads + Wait + Sync, S: Source, G: Gate + Sync>(
-    rt: &R,
-    alloc: Global,
+    host: &Host<'_, R, G>,
     lock: LockKind,
     shape: &Shape,
     threads: u32,
     source: &mut S,
-    gate: &G,
 ) -> Result<Output, Status>
     requires some { 1 ≤ threads }
     requires few { threads ≤ 16 }
@@ -205,13 +191,13 @@ fn threaded_made<R: Threads + Wait + Sync, S: Source, G: Gate + Sync>(
     })
         (IsPlayedBy threads shape.now) result }
 {
-    let input = match read_all(alloc, source, MOST_BYTES) {
+    let input = match read_all(host.alloc, source, MOST_BYTES) {
         Ok(bytes) => bytes,
         Err(ReadEnd::ReadFault) => return Err(Status::ReadFault),
         Err(ReadEnd::TooLong) => return Err(Status::TooLong),
         Err(ReadEnd::Want) => return Err(Status::Want),
     };
-    match threaded_answer(rt, alloc, lock, shape, threads, &input, gate) {
+    match threaded_answer(host, lock, shape, threads, &input) {
         Ok(output) => Ok(output),
         Err(ScriptFault::BadLine { number, cause }) => Err(Status::BadScript {
             line: number,
@@ -223,14 +209,12 @@ fn threaded_made<R: Threads + Wait + Sync, S: Source, G: Gate + Sync>(
 
 /// Reads a script, plays it on threads, and writes the report.
 pub(crate) fn run_threaded<R: Threads + Wait + Sync, S: Source, K: Sink, G: Gate + Sync>(
-    rt: &R,
-    alloc: Global,
+    host: &Host<'_, R, G>,
     lock: LockKind,
     shape: &Shape,
     threads: u32,
     source: &mut S,
     sink: &mut K,
-    gate: &G,
 ) -> Status
     requires some { 1 ≤ threads }
     requires few { threads ≤ 16 }
@@ -249,7 +233,7 @@ pub(crate) fn run_threaded<R: Threads + Wait + Sync, S: Source, K: Sink, G: Gate
         })
         (IsPlayedBy threads shape.now) result }
 {
-    match threaded_made(rt, alloc, lock, shape, threads, source, gate) {
+    match threaded_made(host, lock, shape, threads, source) {
         Ok(output) => write_output(&output, sink),
         Err(status) => status,
     }

@@ -16,10 +16,12 @@ use crate::clusters::{freed, new_kept};
 use crate::faults::ThreadsFault;
 use crate::finishing::finish;
 use crate::gate::Gate;
+use crate::host::Host;
 use crate::monitor::{Monitor, players_of, run_seat};
+use crate::play::Play;
 use jc_marks::Log;
 use jc_seats::{Cluster, Kept, LogTag, Naming, Player};
-use jc_types::{Copied, Script, Shape, Want};
+use jc_types::{Script, Shape};
 use std::alloc::Global;
 use std::marker::Brand;
 use std::sync::Wait;
@@ -49,7 +51,7 @@ fn played<
     L: LogTag + Send + Sync,
     R: Threads + Wait + Sync,
     G: Gate + Sync,
->(rt: &R, alloc: Global, kept: Kept<J>, log: Log, threads: u32, gate: &G) -> Option<Cluster>
+>(host: &Host<'_, R, G>, kept: Kept<J>, log: Log, threads: u32) -> Option<Cluster>
     requires some { 1 ≤ threads }
     requires name { log.name ≡ L.log }
     requires fresh { log.seen ≡ [] }
@@ -58,15 +60,15 @@ fn played<
         (λ cluster. IsOrderly cluster.seen.shape (deeds_seen cluster.seen)) }
 {
     let monitor = Monitor::<J, L>::new(kept, log);
-    let Ok(mut players) = players_of(alloc, threads) else {
+    let Ok(mut players) = players_of(host.alloc, threads) else {
         return None;
     };
     let shared = &monitor;
     thread::for_each_mut(
-        rt,
+        host.rt,
         players.as_mut_slice(),
         threads as usize,
-        &|_, player| { run_seat(rt, gate, alloc, shared, player) },
+        &|_, player| { run_seat(host, shared, player) },
     );
     if are_out_of_memory(players.as_slice()) {
         return None;
@@ -78,38 +80,28 @@ fn played<
 //
 // As `run_threads`.
 fn run_named<J: Naming + Send + Sync, R: Threads + Wait + Sync, G: Gate + Sync>(
-    rt: &R,
-    alloc: Global,
-    script: &Script,
-    shape: &Shape,
-    threads: u32,
-    gate: &G,
+    host: &Host<'_, R, G>,
+    play: Play<'_>,
 ) -> Result<Cluster, ThreadsFault>
-    requires script { script.now ≡ J.script }
-    requires shape { shape.now ≡ J.shape }
-    requires some { 1 ≤ threads }
-    requires few { threads ≤ 16 }
-    requires fine { Each (λ (command : Command). IsValidAction command.action) script.now.commands }
-    requires proper { IsProper script.now shape.now }
-    requires fits { length script.now.commands < 2 ^ 32 }
-    requires bound { shape.now.events ≤ 200000 }
-    ensures left { IfOk result (λ cluster. IsLeft script.now shape.now cluster.seen) }
+    requires script { play.script.now ≡ J.script }
+    requires shape { play.shape.now ≡ J.shape }
+    ensures left { IfOk result (λ cluster. IsLeft play.script.now play.shape.now cluster.seen) }
     ensures whole { IfOk result (λ cluster. IsWhole cluster.seen) }
     ensures full { (left : Shared) → IsErrOf result (ThreadsFault.Full left)
-        → IsLeft script.now shape.now left.seen }
+        → IsLeft play.script.now play.shape.now left.seen }
     ensures filled { (left : Shared) → IsErrOf result (ThreadsFault.Full left)
-        → length left.seen.pasts ≡ shape.now.events }
+        → length left.seen.pasts ≡ play.shape.now.events }
     ensures to_come { (left : Shared) → IsErrOf result (ThreadsFault.Full left)
         → ¬ IsWhole left.seen }
 {
-    let Ok(kept) = new_kept::<J>(alloc, script, shape) else {
+    let Ok(kept) = new_kept::<J>(host.alloc, play) else {
         return Err(ThreadsFault::Want);
     };
-    let Ok(log) = Log::new(alloc) else {
+    let Ok(log) = Log::new(host.alloc) else {
         return Err(ThreadsFault::Want);
     };
-    match played::<J, Brand, R, G>(rt, alloc, kept, log, threads, gate) {
-        Some(cluster) => finish(cluster, script, shape),
+    match played::<J, Brand, R, G>(host, kept, log, play.threads) {
+        Some(cluster) => finish(cluster, play),
         None => Err(ThreadsFault::Want),
     }
 }
@@ -148,5 +140,11 @@ pub fn run_threads<R: Threads + Wait + Sync, G: Gate + Sync>(
     ensures to_come { (left : Shared) → IsErrOf result (ThreadsFault.Full left)
         → ¬ IsWhole left.seen }
 {
-    run_named::<Brand, R, G>(rt, alloc, script, shape, threads, gate)
+    let host = Host { rt, gate, alloc };
+    let play = Play {
+        script,
+        shape,
+        threads,
+    };
+    run_named::<Brand, R, G>(&host, play)
 }

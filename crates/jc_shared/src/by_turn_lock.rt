@@ -1,4 +1,4 @@
-//! A run on several threads, whose seats share one cluster by a turn lock.
+//! A run on several threads, whose players share one cluster by a turn lock.
 
 ghost use Rattle.std.specs.Prelude.{◌≡◌, ◌<◌, ◌≤◌, ◌^◌, Err, IfOk, IfSome, IsErrOf, IsSome, true, false, length, reverse};
 ghost use Rattle.std.specs.List.{AllByRecursion as Each};
@@ -20,10 +20,12 @@ use crate::clusters::{freed, new_kept};
 use crate::faults::ThreadsFault;
 use crate::finishing::finish;
 use crate::gate::Gate;
+use crate::host::Host;
+use crate::play::Play;
 use jc_plan::plan;
 use jc_seats::{ApplyFault, Cluster, Kept, Naming, NextAction, Player, Work, hand_in};
 use jc_turn::{Booked, LockSeat, LockSeats, Taken, TurnLock, make};
-use jc_types::{Copied, Script, Shape, Want};
+use jc_types::{Script, Shape};
 use std::alloc::Global;
 use std::marker::Brand;
 use std::sync::Wait;
@@ -41,7 +43,6 @@ fn take_turn<J: Naming>(
     requires lock { seat.old.lock ≡ lock.now.name }
     requires free { seat.old.holds ≡ false }
     ensures seat { IsSameSeat seat.old seat.new × (seat.new.holds ≡ false) }
-    ensures player { (player.new.number ≡ player.old.number) × (player.new.threads ≡ player.old.threads) }
     ensures plannable { IfSome result (λ next. IfOk next.0 (λ action. (work : Work)
         → action ≡ NextAction.Plan work → IsSome work.basis.job → CanPlan work.basis)) }
     ensures taken { IfSome result (λ next. IfOk next.0 (λ action. (work : Work)
@@ -79,9 +80,7 @@ fn wait_for<J: Naming, R: Wait>(rt: &R, lock: &TurnLock<Kept<J>>, seat: &mut Loc
 // where there is no memory for it; the register is then put back. So many events had happened when the seat
 // took the work.
 fn make_plan<J: Naming, R: Wait, G: Gate>(
-    rt: &R,
-    gate: &G,
-    alloc: Global,
+    host: &Host<'_, R, G>,
     lock: &TurnLock<Kept<J>>,
     seat: &mut LockSeat,
     number: u32,
@@ -95,11 +94,11 @@ fn make_plan<J: Naming, R: Wait, G: Gate>(
     requires events { events ≡ length seat.old.seen }
     ensures { IsSameSeat seat.old seat.new × (seat.new.holds ≡ false) }
 {
-    let made = plan(alloc, &work.basis);
+    let made = plan(host.alloc, &work.basis);
     if made.is_ok() {
-        gate.planned(number, &work.basis.key);
+        host.gate.planned(number, &work.basis.key);
     }
-    let mut kept = wait_for(rt, lock, seat);
+    let mut kept = wait_for(host.rt, lock, seat);
     kept.keeps();
     let is_made = hand_in(&mut kept, number, work, events, made);
     lock.give(seat, kept);
@@ -108,18 +107,14 @@ fn make_plan<J: Naming, R: Wait, G: Gate>(
 
 // One turn of the player. False where it is to end; it holds no register then.
 fn turn<J: Naming, R: Wait, G: Gate>(
-    rt: &R,
-    gate: &G,
-    alloc: Global,
+    host: &Host<'_, R, G>,
     lock: &TurnLock<Kept<J>>,
-    want: &AtomicBool,
     seat: &mut LockSeat,
     player: &mut Player,
 ) -> bool
     requires lock { seat.old.lock ≡ lock.now.name }
     requires free { seat.old.holds ≡ false }
     ensures seat { IsSameSeat seat.old seat.new × (seat.new.holds ≡ false) }
-    ensures player { (player.new.number ≡ player.old.number) × (player.new.threads ≡ player.old.threads) }
 {
     let Some((next, events)) = take_turn(lock, seat, player) else {
         thread::yield_now();
@@ -127,10 +122,8 @@ fn turn<J: Naming, R: Wait, G: Gate>(
     };
     match next {
         Ok(NextAction::Plan(work)) => {
-            let is_made = make_plan(rt, gate, alloc, lock, seat, player.number, &work, events);
-            if !is_made {
-                want.store(true, Ordering::SeqCst);
-            }
+            let is_made = make_plan(host, lock, seat, player.number, &work, events);
+            player.is_out_of_memory = !is_made;
             is_made
         }
         Ok(NextAction::Went) => true,
@@ -140,31 +133,30 @@ fn turn<J: Naming, R: Wait, G: Gate>(
         }
         Ok(NextAction::End) | Err(ApplyFault::HistoryFull) => false,
         Err(ApplyFault::Want) => {
-            want.store(true, Ordering::SeqCst);
+            player.is_out_of_memory = true;
             false
         }
     }
 }
 
-// The turns of the player of the number, until it ends.
+// The turns of the player, until it ends. Whether it was out of memory is told to those that look later.
 fn run_seat<J: Naming, R: Wait, G: Gate>(
-    rt: &R,
-    gate: &G,
-    alloc: Global,
+    host: &Host<'_, R, G>,
     lock: &TurnLock<Kept<J>>,
-    want: &AtomicBool,
+    is_out_of_memory: &AtomicBool,
     seat: &mut LockSeat,
-    number: u32,
-    threads: u32,
+    player: Player,
 )
     requires lock { seat.old.lock ≡ lock.now.name }
     requires free { seat.old.holds ≡ false }
-    requires number { number < threads }
     ensures { IsSameSeat seat.old seat.new × (seat.new.holds ≡ false) }
 {
-    let mut player = Player::new(number, threads);
-    for _ in rt.forever() {
-        if !turn(rt, gate, alloc, lock, want, seat, &mut player) {
+    let mut player = player;
+    for _ in host.rt.forever() {
+        if !turn(host, lock, seat, &mut player) {
+            if player.is_out_of_memory {
+                is_out_of_memory.store(true, Ordering::SeqCst);
+            }
             return;
         }
     }
@@ -172,11 +164,9 @@ fn run_seat<J: Naming, R: Wait, G: Gate>(
 
 // The turns of all players, each in a thread of its own.
 fn run_seats<J: Naming + Send + Sync, R: Threads + Wait + Sync, G: Gate + Sync>(
-    rt: &R,
-    gate: &G,
-    alloc: Global,
+    host: &Host<'_, R, G>,
     lock: &TurnLock<Kept<J>>,
-    want: &AtomicBool,
+    is_out_of_memory: &AtomicBool,
     seats: &mut [LockSeat],
     threads: u32,
 )
@@ -188,47 +178,42 @@ fn run_seats<J: Naming + Send + Sync, R: Threads + Wait + Sync, G: Gate + Sync>(
     ensures free { NoSeatHolds seats.new }
 {
     thread::for_each_mut(
-        rt,
+        host.rt,
         seats,
         threads as usize,
         &|i: usize, seat: &mut LockSeat|
             requires { (i < 2 ^ 32) × (i < threads) × (seat.old.lock ≡ lock.now.name)
                 × (seat.old.holds ≡ false) }
             ensures { IsSameSeat seat.old seat.new × (seat.new.holds ≡ false) }
-        { run_seat(rt, gate, alloc, lock, want, seat, i as u32, threads) },
+        {
+            run_seat(
+                host,
+                lock,
+                is_out_of_memory,
+                seat,
+                Player::new(i as u32, threads),
+            )
+        },
     );
 }
 
 // A new cluster behind a lock, and its seats.
 //
 // `None` where there is no memory for them.
-fn open<J: Naming>(
-    alloc: Global,
-    script: &Script,
-    shape: &Shape,
-    threads: u32,
-) -> Option<(TurnLock<Kept<J>>, LockSeats)>
-    requires script { script.now ≡ J.script }
-    requires shape { shape.now ≡ J.shape }
-    requires some { 1 ≤ threads }
-    requires few { threads ≤ 16 }
-    requires fine { Each (λ (command : Command). IsValidAction command.action) script.now.commands }
-    requires proper { IsProper script.now shape.now }
-    requires fits { length script.now.commands < 2 ^ 32 }
-    requires bound { shape.now.events ≤ 200000 }
-    ensures count { IfSome result (λ made. made.0.seats ≡ threads) }
-    ensures fresh { IfSome result (λ made. made.1 ≡ fresh_seats made.0.name 0 threads) }
+fn open<J: Naming>(alloc: Global, play: Play<'_>) -> Option<(TurnLock<Kept<J>>, LockSeats)>
+    requires script { play.script.now ≡ J.script }
+    requires shape { play.shape.now ≡ J.shape }
+    ensures count { IfSome result (λ made. made.0.seats ≡ play.threads) }
+    ensures fresh { IfSome result (λ made. made.1 ≡ fresh_seats made.0.name 0 play.threads) }
 {
-    let kept = new_kept::<J>(alloc, script, shape).ok()?;
-    make(alloc, kept, threads).ok()
+    let kept = new_kept::<J>(alloc, play).ok()?;
+    make(alloc, kept, play.threads).ok()
 }
 
 // The turns of all players by a new lock, and what they leave behind it.
 fn run_lock<J: Naming + Send + Sync, R: Threads + Wait + Sync, G: Gate + Sync>(
-    rt: &R,
-    gate: &G,
-    alloc: Global,
-    want: &AtomicBool,
+    host: &Host<'_, R, G>,
+    is_out_of_memory: &AtomicBool,
     lock: TurnLock<Kept<J>>,
     seats: LockSeats,
     threads: u32,
@@ -238,7 +223,7 @@ fn run_lock<J: Naming + Send + Sync, R: Threads + Wait + Sync, G: Gate + Sync>(
     requires fresh { seats ≡ fresh_seats lock.name 0 threads }
 {
     let mut seats = seats;
-    run_seats(rt, gate, alloc, &lock, want, seats.as_mut_slice(), threads);
+    run_seats(host, &lock, is_out_of_memory, seats.as_mut_slice(), threads);
     lock.close(seats)
 }
 
@@ -250,13 +235,11 @@ fn unless<T: Drop>(is_out_of_memory: bool, value: T) -> Option<T>
     if is_out_of_memory { None } else { Some(value) }
 }
 
-// The cluster that the seats have left, of which no register is held.
+// The cluster that the players have left, of which no register is held.
 //
 // `None` where there is no memory.
 fn left_by_lock<J: Naming + Send + Sync, R: Threads + Wait + Sync, G: Gate + Sync>(
-    rt: &R,
-    gate: &G,
-    alloc: Global,
+    host: &Host<'_, R, G>,
     lock: TurnLock<Kept<J>>,
     seats: LockSeats,
     threads: u32,
@@ -268,73 +251,53 @@ fn left_by_lock<J: Naming + Send + Sync, R: Threads + Wait + Sync, G: Gate + Syn
     ensures orderly { IfSome result
         (λ cluster. IsOrderly cluster.seen.shape (deeds_seen cluster.seen)) }
 {
-    let want = AtomicBool::new(false);
-    let cluster = freed(run_lock(rt, gate, alloc, &want, lock, seats, threads));
-    unless(want.load(Ordering::SeqCst), cluster)
+    let is_out_of_memory = AtomicBool::new(false);
+    let cluster = freed(run_lock(host, &is_out_of_memory, lock, seats, threads));
+    unless(is_out_of_memory.load(Ordering::SeqCst), cluster)
 }
 
-// A new cluster that the seats have played.
+// A new cluster that the players have played.
 //
 // As `left_by_lock`.
 fn played<J: Naming + Send + Sync, R: Threads + Wait + Sync, G: Gate + Sync>(
-    rt: &R,
-    alloc: Global,
-    script: &Script,
-    shape: &Shape,
-    threads: u32,
-    gate: &G,
+    host: &Host<'_, R, G>,
+    play: Play<'_>,
 ) -> Option<Cluster>
-    requires script { script.now ≡ J.script }
-    requires shape { shape.now ≡ J.shape }
-    requires some { 1 ≤ threads }
-    requires few { threads ≤ 16 }
-    requires fine { Each (λ (command : Command). IsValidAction command.action) script.now.commands }
-    requires proper { IsProper script.now shape.now }
-    requires fits { length script.now.commands < 2 ^ 32 }
-    requires bound { shape.now.events ≤ 200000 }
+    requires script { play.script.now ≡ J.script }
+    requires shape { play.shape.now ≡ J.shape }
     ensures named { IfSome result (λ cluster. IsOfName J.script J.shape cluster.seen) }
     ensures orderly { IfSome result
         (λ cluster. IsOrderly cluster.seen.shape (deeds_seen cluster.seen)) }
 {
-    let (lock, seats) = open::<J>(alloc, script, shape, threads)?;
-    left_by_lock(rt, gate, alloc, lock, seats, threads)
+    let (lock, seats) = open::<J>(host.alloc, play)?;
+    left_by_lock(host, lock, seats, play.threads)
 }
 
 // The run, where the script and the shape have a name.
 //
 // As `run_turn`.
 fn run_named<J: Naming + Send + Sync, R: Threads + Wait + Sync, G: Gate + Sync>(
-    rt: &R,
-    alloc: Global,
-    script: &Script,
-    shape: &Shape,
-    threads: u32,
-    gate: &G,
+    host: &Host<'_, R, G>,
+    play: Play<'_>,
 ) -> Result<Cluster, ThreadsFault>
-    requires script { script.now ≡ J.script }
-    requires shape { shape.now ≡ J.shape }
-    requires some { 1 ≤ threads }
-    requires few { threads ≤ 16 }
-    requires fine { Each (λ (command : Command). IsValidAction command.action) script.now.commands }
-    requires proper { IsProper script.now shape.now }
-    requires fits { length script.now.commands < 2 ^ 32 }
-    requires bound { shape.now.events ≤ 200000 }
-    ensures left { IfOk result (λ cluster. IsLeft script.now shape.now cluster.seen) }
+    requires script { play.script.now ≡ J.script }
+    requires shape { play.shape.now ≡ J.shape }
+    ensures left { IfOk result (λ cluster. IsLeft play.script.now play.shape.now cluster.seen) }
     ensures whole { IfOk result (λ cluster. IsWhole cluster.seen) }
     ensures full { (left : Shared) → IsErrOf result (ThreadsFault.Full left)
-        → IsLeft script.now shape.now left.seen }
+        → IsLeft play.script.now play.shape.now left.seen }
     ensures filled { (left : Shared) → IsErrOf result (ThreadsFault.Full left)
-        → length left.seen.pasts ≡ shape.now.events }
+        → length left.seen.pasts ≡ play.shape.now.events }
     ensures to_come { (left : Shared) → IsErrOf result (ThreadsFault.Full left)
         → ¬ IsWhole left.seen }
 {
-    match played::<J, R, G>(rt, alloc, script, shape, threads, gate) {
-        Some(cluster) => finish(cluster, script, shape),
+    match played::<J, R, G>(host, play) {
+        Some(cluster) => finish(cluster, play),
         None => Err(ThreadsFault::Want),
     }
 }
 
-/// Plays the script as `run_threads` does, but the seats share the cluster by a turn lock: a seat
+/// Plays the script as `run_threads` does, but the players share the cluster by a turn lock: one
 /// that finds the cluster out, or only held registers, lets other threads run and tries again. It
 /// may wait, so its promise holds if it returns.
 ///
@@ -363,5 +326,11 @@ pub fn run_turn<R: Threads + Wait + Sync, G: Gate + Sync>(
     ensures to_come { (left : Shared) → IsErrOf result (ThreadsFault.Full left)
         → ¬ IsWhole left.seen }
 {
-    run_named::<Brand, R, G>(rt, alloc, script, shape, threads, gate)
+    let host = Host { rt, gate, alloc };
+    let play = Play {
+        script,
+        shape,
+        threads,
+    };
+    run_named::<Brand, R, G>(&host, play)
 }

@@ -1,34 +1,23 @@
 //! Clusters that are shared: a new one, and one of which nobody holds anything any more.
 
-ghost use Rattle.std.specs.Prelude.{◌≡◌, ◌<◌, ◌≤◌, ◌^◌, length};
-ghost use Rattle.std.specs.List.{AllByRecursion as Each};
-ghost use Rattle.jc_types.specs.declared.actions.Command.{Command};
-ghost use Rattle.jc_runs.specs.ValidActions.{IsValidAction};
+ghost use Rattle.std.specs.Prelude.{◌≡◌};
 ghost use Rattle.jc_history.specs.Available.{IsOrderly};
 ghost use Rattle.jc_runs.specs.Seen.{deeds_seen};
-ghost use Rattle.jc_seats.specs.Plays.{IsProper};
 ghost use Rattle.jc_seats.specs.Names.{IsOfName};
 
+use crate::play::Play;
 use jc_seats::{Cluster, Kept, Naming, keep};
-use jc_types::{Copied, Script, Shape, Want};
+use jc_types::{Copied, Want};
 use std::alloc::Global;
 
 // A cluster of the script and the shape in which nothing has happened, and nobody holds anything.
 //
 // `Want` where there is no memory for it.
-pub(crate) fn new_kept<J: Naming>(
-    alloc: Global,
-    script: &Script,
-    shape: &Shape,
-) -> Result<Kept<J>, Want>
-    requires script { script.now ≡ J.script }
-    requires shape { shape.now ≡ J.shape }
-    requires fine { Each (λ (command : Command). IsValidAction command.action) script.now.commands }
-    requires proper { IsProper script.now shape.now }
-    requires fits { length script.now.commands < 2 ^ 32 }
-    requires bound { shape.now.events ≤ 200000 }
+pub(crate) fn new_kept<J: Naming>(alloc: Global, play: Play<'_>) -> Result<Kept<J>, Want>
+    requires script { play.script.now ≡ J.script }
+    requires shape { play.shape.now ≡ J.shape }
 {
-    let cluster = Cluster::new(alloc, script.copy()?, *shape)?;
+    let cluster = Cluster::new(alloc, play.script.copy()?, *play.shape)?;
     Ok(keep(cluster))
 }
 

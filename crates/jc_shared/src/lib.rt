@@ -8,12 +8,16 @@ mod clusters;
 mod faults;
 mod finishing;
 mod gate;
+mod host;
 mod monitor;
+mod play;
 mod seen;
 
 pub use by_mutex::run_threads;
 pub use by_turn_lock::run_turn;
 pub use faults::ThreadsFault;
 pub use gate::{FreeGate, Gate};
+pub use host::Host;
 pub use jc_seats::{Actor, ApplyFault, Cluster, Kept, Naming, keep};
+pub use play::Play;
 pub use seen::{SeenReply, apply_seen};

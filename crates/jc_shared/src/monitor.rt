@@ -3,6 +3,7 @@
 ghost use Rattle.std.specs.Prelude.{◌≡◌, ◌<◌, [], IfOk, length, nat_le};
 
 use crate::gate::Gate;
+use crate::host::Host;
 use jc_marks::Log;
 use jc_plan::plan;
 use jc_seats::{ApplyFault, Kept, LogTag, Naming, NextAction, PlanTask, Player, SharedRun, Work};
@@ -72,9 +73,7 @@ fn is_wide(work: &Work) -> bool
 // Makes the plan outside the lock, tells the gate, and hands it in. False where there is no memory for
 // it; the register is then put back, and the player is to end.
 fn make_plan<J: Naming, L: LogTag, R: Wait, G: Gate>(
-    rt: &R,
-    gate: &G,
-    alloc: Global,
+    host: &Host<'_, R, G>,
     monitor: &Monitor<J, L>,
     seat: u32,
     task: PlanTask<J, L>,
@@ -83,11 +82,11 @@ fn make_plan<J: Naming, L: LogTag, R: Wait, G: Gate>(
     if is_wide(work) {
         monitor.changed.notify_one();
     }
-    let made = plan(alloc, &work.basis);
+    let made = plan(host.alloc, &work.basis);
     if made.is_ok() {
-        gate.planned(seat, &work.basis.key);
+        host.gate.planned(seat, &work.basis.key);
     }
-    let mut run = monitor.run.lock(rt);
+    let mut run = monitor.run.lock(host.rt);
     let is_made = run.hand_in(seat, task, made);
     if !is_made {
         monitor.changed.notify_all();
@@ -98,23 +97,21 @@ fn make_plan<J: Naming, L: LogTag, R: Wait, G: Gate>(
 // Turns of a player under one hold of the lock, and its plan outside it. False where it is to end; it holds no
 // register then.
 fn turn<J: Naming, L: LogTag, R: Wait, G: Gate>(
-    rt: &R,
-    gate: &G,
-    alloc: Global,
+    host: &Host<'_, R, G>,
     monitor: &Monitor<J, L>,
     player: &mut Player,
 ) -> bool {
-    let mut run = monitor.run.lock(rt);
+    let mut run = monitor.run.lock(host.rt);
     match run.turns(player) {
         Ok(NextAction::Plan(task)) => {
             drop(run);
-            let is_made = make_plan(rt, gate, alloc, monitor, player.number, task);
+            let is_made = make_plan(host, monitor, player.number, task);
             player.is_out_of_memory = !is_made;
             is_made
         }
         Ok(NextAction::Went) => true,
         Ok(NextAction::Wait) => {
-            drop(monitor.changed.wait(rt, run));
+            drop(monitor.changed.wait(host.rt, run));
             true
         }
         Ok(NextAction::End) | Err(ApplyFault::HistoryFull) => {
@@ -131,14 +128,12 @@ fn turn<J: Naming, L: LogTag, R: Wait, G: Gate>(
 
 // The turns of a player, until it ends.
 pub(crate) fn run_seat<J: Naming, L: LogTag, R: Wait, G: Gate>(
-    rt: &R,
-    gate: &G,
-    alloc: Global,
+    host: &Host<'_, R, G>,
     monitor: &Monitor<J, L>,
     player: &mut Player,
 ) {
-    for _ in rt.forever() {
-        if !turn(rt, gate, alloc, monitor, player) {
+    for _ in host.rt.forever() {
+        if !turn(host, monitor, player) {
             return;
         }
     }

@@ -27,7 +27,7 @@ pub told-requires-clause-lanes : goal.told-requires-clause-lanes
 told-requires-clause-lanes g c = subst (λ (s : Script). Each (λ (command : Command). command.lane < 2 ^ 8) s.commands) (sym c.in_ok-left.ensures.left.script_is) c.requires.lanes
 
 pub told-requires-clause-fine : goal.told-requires-clause-fine
-told-requires-clause-fine g c = subst (λ (s : Script). Each (λ (command : Command). IsValidAction command.action) s.commands) (sym c.in_ok-left.ensures.left.script_is) c.requires.fine
+told-requires-clause-fine g c = subst (λ (s : Script). Each (λ (command : Command). IsValidAction command.action) s.commands) (sym c.in_ok-left.ensures.left.script_is) c.args.play.fine
 
 pub told-requires-clause-filled : goal.told-requires-clause-filled
 told-requires-clause-filled g c = λ full.
@@ -35,5 +35,5 @@ told-requires-clause-filled g c = λ full.
 
 pub returns : goal.returns
 returns g c =
-    report_of c.told.result c.args.threads c.args.script.now c.args.shape.now c.in_ok-left.left.cluster.seen c.in_ok-left.left.full
-    c.in_ok-left.ensures.left c.requires.some c.told.ensures.full c.told.ensures.report
+    report_of c.told.result c.args.play.threads c.args.play.script.now c.args.play.shape.now c.in_ok-left.left.cluster.seen c.in_ok-left.left.full
+    c.in_ok-left.ensures.left c.args.play.some c.told.ensures.full c.told.ensures.report
