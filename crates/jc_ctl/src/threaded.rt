@@ -7,7 +7,7 @@ ghost use Rattle.jc_single.specs.ValidActions.{IsValidAction};
 ghost use Rattle.jc_single.specs.Available.{IsOrderly};
 ghost use Rattle.jc_single.specs.Plays.{IsProper};
 ghost use Rattle.jc_single.specs.Seen.{deeds_seen};
-ghost use Rattle.jc_shared.specs.Runs.{IsLeft, IsWhole};
+ghost use Rattle.jc_shared.specs.Runs.{EndsRun, IsEndOfRun};
 ghost use Rattle.jc_shared.specs.Shared.{Shared};
 ghost use Rattle.jc_shared.specs.declared.faults.ThreadsFault.{ThreadsFault};
 ghost use Rattle.jc_script.specs.Scripts.{most_bytes, script_of};
@@ -31,7 +31,7 @@ use std::alloc::{AllocError, Global};
 use std::sync::Wait;
 use std::thread::Threads;
 
-// What is printed of a cluster that a run on threads has left.
+// What is printed of the cluster of a run on threads that has ended.
 fn told(alloc: Global, cluster: &Cluster, full: bool) -> Result<Output, Want>
     requires fine { Each (λ (command : Command). IsValidAction command.action)
         cluster.now.seen.script.commands }
@@ -42,11 +42,8 @@ fn told(alloc: Global, cluster: &Cluster, full: bool) -> Result<Output, Want>
         cluster.now.seen.script.commands }
     requires few_controllers { cluster.now.seen.shape.controllers ≤ 4 }
     requires few_workers { cluster.now.seen.shape.workers ≤ 16 }
-    requires orderly { IsOrderly cluster.now.seen.shape (deeds_seen cluster.now.seen) }
-    requires whole { full ≡ false → IsWhole cluster.now.seen }
-    requires filled { full ≡ true
-        → length cluster.now.seen.pasts ≡ cluster.now.seen.shape.events }
-    requires to_come { full ≡ true → ¬ IsWhole cluster.now.seen }
+    requires ended { IsEndOfRun cluster.now.seen.script cluster.now.seen.shape
+        cluster.now.seen full }
     ensures full { IfOk result (λ output. output.full ≡ full) }
     ensures report { IfOk result (λ output. (threads : ℕ) → 1 ≤ threads
         → IsReport threads cluster.now.seen.script cluster.now.seen.shape full
@@ -59,9 +56,9 @@ fn told(alloc: Global, cluster: &Cluster, full: bool) -> Result<Output, Want>
     Ok(Output { text, full })
 }
 
-// A cluster that a run on threads has left, and whether its history had no room for an event that was to come.
+// The cluster of a run on threads that has ended, and whether its history had no room for an event that was to come.
 #[derive(Drop)]
-struct Left {
+struct Ended {
     cluster: Cluster,
     full: bool,
 }
@@ -74,14 +71,7 @@ fn run_locked<R: Threads + Wait + Sync, G: Gate + Sync>(
     lock: LockKind,
     play: Play<'_>,
 ) -> Result<Cluster, ThreadsFault>
-    ensures left { IfOk result (λ cluster. IsLeft play.script.now play.shape.now cluster.seen) }
-    ensures whole { IfOk result (λ cluster. IsWhole cluster.seen) }
-    ensures full { (left : Shared) → IsErrOf result (ThreadsFault.Full left)
-        → IsLeft play.script.now play.shape.now left.seen }
-    ensures filled { (left : Shared) → IsErrOf result (ThreadsFault.Full left)
-        → length left.seen.pasts ≡ play.shape.now.events }
-    ensures to_come { (left : Shared) → IsErrOf result (ThreadsFault.Full left)
-        → ¬ IsWhole left.seen }
+    ensures { EndsRun play.script.now play.shape.now result }
 {
     match lock {
         LockKind::Mutex => run_threads(
@@ -108,19 +98,16 @@ fn run_by<R: Threads + Wait + Sync, G: Gate + Sync>(
     host: &Host<'_, R, G>,
     lock: LockKind,
     play: Play<'_>,
-) -> Result<Left, Want>
-    ensures left { IfOk result (λ left. IsLeft play.script.now play.shape.now left.cluster.seen) }
-    ensures whole { IfOk result (λ left. left.full ≡ false → IsWhole left.cluster.seen) }
-    ensures filled { IfOk result (λ left. left.full ≡ true
-        → length left.cluster.seen.pasts ≡ play.shape.now.events) }
-    ensures to_come { IfOk result (λ left. left.full ≡ true → ¬ IsWhole left.cluster.seen) }
+) -> Result<Ended, Want>
+    ensures { IfOk result (λ ended.
+        IsEndOfRun play.script.now play.shape.now ended.cluster.seen ended.full) }
 {
     match run_locked(host, lock, play) {
-        Ok(cluster) => Ok(Left {
+        Ok(cluster) => Ok(Ended {
             cluster,
             full: false,
         }),
-        Err(ThreadsFault::Full(cluster)) => Ok(Left {
+        Err(ThreadsFault::Full(cluster)) => Ok(Ended {
             cluster,
             full: true,
         }),
@@ -139,8 +126,8 @@ fn threaded_report<R: Threads + Wait + Sync, G: Gate + Sync>(
     ensures { IfOk result (λ output.
         IsReport play.threads play.script.now play.shape.now output.full output.text.items) }
 {
-    let left = run_by(host, lock, play)?;
-    told(host.alloc, &left.cluster, left.full)
+    let ended = run_by(host, lock, play)?;
+    told(host.alloc, &ended.cluster, ended.full)
 }
 
 // The report of a run on threads of the script in the input.

@@ -1,10 +1,10 @@
 -- What a player of a threaded run does in a turn.
---     IsLaneOf player lane            the lane belongs to the player
---     HasLeft player seen             a command of one of its lanes may come
---     HasHappened event old new     the event could come, and has happened
---     IsOwnEvent player old event     it is of one of its lanes, or the first of the system that is not held
---     HaveHappened player events ..   the events have happened one after the other, each of them the player's own
---     HasTurned player old new        so such events have, and then nothing but that a register may be held
+--     IsLaneOf player lane           the lane belongs to the player
+--     HasLeft player seen            a command of one of its lanes may come
+--     HasHappened event old new      the event could come, and has happened
+--     IsOwnEvent player old event    it is of one of its lanes, or the first of the system that is not held
+--     HaveHappened player events ..  the events have happened one after the other, each of them the player's own
+--     HasTurned player old new       so such events have, and then nothing but that a register may be held
 use Rattle.std.specs.Prelude.{◌≡◌, ℕ, ◌%◌, ◌⊎◌, List, [], ◌∷◌, Some}
 use Rattle.jc_types.specs.declared.runs.Event.{Event}
 use Rattle.jc_runs.specs.Seen.{Seen, act_seen, happened, reply_seen}
@@ -15,7 +15,7 @@ use Rattle.jc_core.specs.Actor.TheVariants as actor
 use Rattle.jc_core.specs.Shared.{Shared, slots_after}
 use Rattle.jc_seats.specs.declared.players.Player.{Player}
 
--- The lane belongs to the player: each player has every lane of the same rest by the number of seats.
+-- The lane belongs to the player: each player has every lane of the same rest by the number of players.
 abbrev pub IsLaneOf : Player → ℕ → Type 0
 IsLaneOf player lane = lane % player.threads ≡ player.number
 

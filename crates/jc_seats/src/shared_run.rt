@@ -43,10 +43,10 @@ impl<J: Naming, L: LogTag> Model for SharedRun<J, L> {
 
     ghost Value = { Shared };
 
-    ghost view = { λ d. d.kept };
+    ghost view = { λ r. r.kept };
 
-    ghost invariant = { λ d. (d.log.name ≡ L.log)
-        × IsPrefix d.log.seen (reverse d.kept.seen.pasts) };
+    ghost invariant = { λ r. (r.log.name ≡ L.log)
+        × IsPrefix r.log.seen (reverse r.kept.seen.pasts) };
 }
 
 /// A plan to make, and a mark at what had happened when its player took it. A contract sees the work.
@@ -67,11 +67,11 @@ impl<J: Naming, L: LogTag> Model for PlanTask<J, L> {
 
     ghost Value = { Work };
 
-    ghost view = { λ e. e.work };
+    ghost view = { λ t. t.work };
 
-    ghost invariant = { λ e. (e.mark.name ≡ L.log) × (e.events ≡ length e.mark.seen)
-        × WasTaken J.script J.shape e.mark.seen e.work
-        × (IsSome e.work.basis.job → CanPlan e.work.basis) };
+    ghost invariant = { λ t. (t.mark.name ≡ L.log) × (t.events ≡ length t.mark.seen)
+        × WasTaken J.script J.shape t.mark.seen t.work
+        × (IsSome t.work.basis.job → CanPlan t.work.basis) };
 }
 
 impl<J: Naming, L: LogTag> PlanTask<J, L> {
@@ -168,7 +168,8 @@ impl<J: Naming, L: LogTag> SharedRun<J, L> {
         ensures kept { OnErr result (self.new ≡ self.old) }
         ensures room { result ≡ Err HistoryFull
             → self.old.seen.shape.events ≤ length self.old.seen.pasts }
-        ensures player { (player.new.number ≡ player.old.number) × (player.new.threads ≡ player.old.threads) }
+        ensures player { (player.new.number ≡ player.old.number)
+            × (player.new.threads ≡ player.old.threads) }
     {
         self.kept.keeps();
         match self.kept.turn(player)? {
@@ -197,7 +198,8 @@ impl<J: Naming, L: LogTag> SharedRun<J, L> {
             → (has_rest self.new.seen ≡ true) × ¬ HasLeft player.old self.new.seen) }
         ensures room { result ≡ Err HistoryFull
             → self.new.seen.shape.events ≤ length self.new.seen.pasts }
-        ensures player { (player.new.number ≡ player.old.number) × (player.new.threads ≡ player.old.threads) }
+        ensures player { (player.new.number ≡ player.old.number)
+            × (player.new.threads ≡ player.old.threads) }
     {
         for _turn in 0..MOST_TURNS {
             match self.turn(player)? {

@@ -118,7 +118,8 @@ impl<J: Naming> Kept<J> {
         ensures kept { OnErr result (self.new ≡ self.old) }
         ensures room { result ≡ Err HistoryFull
             → self.old.seen.shape.events ≤ length self.old.seen.pasts }
-        ensures player { (player.new.number ≡ player.old.number) × (player.new.threads ≡ player.old.threads) }
+        ensures player { (player.new.number ≡ player.old.number)
+            × (player.new.threads ≡ player.old.threads) }
     {
         match self.cluster.take_plan(player.number) {
             Ok(Some(work)) => return Ok(NextAction::Plan(work)),

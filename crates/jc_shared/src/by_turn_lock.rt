@@ -14,7 +14,7 @@ ghost use Rattle.jc_turn.specs.LockSeats.{NoSeatHolds, BelongTo, IsSameSeat, fre
 ghost use mathlib.Core.List.{IsPrefix};
 ghost use Rattle.jc_seats.specs.Hands.{WasTaken};
 ghost use Rattle.jc_seats.specs.Names.{IsOfName};
-ghost use Rattle.jc_shared.specs.Runs.{IsLeft, IsWhole};
+ghost use Rattle.jc_shared.specs.Runs.{EndsRun};
 
 use crate::clusters::{freed, new_kept};
 use crate::faults::ThreadsFault;
@@ -282,14 +282,7 @@ fn run_named<J: Naming + Send + Sync, R: Threads + Wait + Sync, G: Gate + Sync>(
 ) -> Result<Cluster, ThreadsFault>
     requires script { play.script.now ≡ J.script }
     requires shape { play.shape.now ≡ J.shape }
-    ensures left { IfOk result (λ cluster. IsLeft play.script.now play.shape.now cluster.seen) }
-    ensures whole { IfOk result (λ cluster. IsWhole cluster.seen) }
-    ensures full { (left : Shared) → IsErrOf result (ThreadsFault.Full left)
-        → IsLeft play.script.now play.shape.now left.seen }
-    ensures filled { (left : Shared) → IsErrOf result (ThreadsFault.Full left)
-        → length left.seen.pasts ≡ play.shape.now.events }
-    ensures to_come { (left : Shared) → IsErrOf result (ThreadsFault.Full left)
-        → ¬ IsWhole left.seen }
+    ensures { EndsRun play.script.now play.shape.now result }
 {
     match played::<J, R, G>(host, play) {
         Some(cluster) => finish(cluster, play),
@@ -317,14 +310,7 @@ pub fn run_turn<R: Threads + Wait + Sync, G: Gate + Sync>(
     requires proper { IsProper script.now shape.now }
     requires fits { length script.now.commands < 2 ^ 32 }
     requires bound { shape.now.events ≤ 200000 }
-    ensures left { IfOk result (λ cluster. IsLeft script.now shape.now cluster.seen) }
-    ensures whole { IfOk result (λ cluster. IsWhole cluster.seen) }
-    ensures full { (left : Shared) → IsErrOf result (ThreadsFault.Full left)
-        → IsLeft script.now shape.now left.seen }
-    ensures filled { (left : Shared) → IsErrOf result (ThreadsFault.Full left)
-        → length left.seen.pasts ≡ shape.now.events }
-    ensures to_come { (left : Shared) → IsErrOf result (ThreadsFault.Full left)
-        → ¬ IsWhole left.seen }
+    ensures ended { EndsRun script.now shape.now result }
 {
     let host = Host { rt, gate, alloc };
     let play = Play {
