@@ -2,8 +2,9 @@
 """check_crates.py: holds the crates to what keeps them small and told once. Each failure is a line; the last line says how many held.
 
 No word of specs/ stands in two files, and no lemma of proofs/ is stated twice, be it with other names of its variables. A crate has at
-most 100 functions and 1,500 lines of src/, but one of plain data or of tests. A line of crates.txt names at most ten crates of this
-repository, and few paths lead down from a crate: some kits sum the files of a crate once for each.
+most 100 functions and 1,500 lines of src/, but one of plain data or of tests. No two types of crates that are not tests have one name,
+but those of SHARED_NAMES, and no function has over six parameters, but those of WIDE. A line of crates.txt names at most ten crates of
+this repository, and few paths lead down from a crate: some kits sum the files of a crate once for each.
 """
 import glob
 import os
@@ -13,13 +14,35 @@ import sys
 sys.dont_write_bytecode = True
 from checks import TOP, Checks, text_of
 
-MOST_FUNCTIONS, MOST_LINES, MOST_CRATES, MOST_PATHS = 100, 1500, 10, 160_000
+MOST_FUNCTIONS, MOST_LINES, MOST_CRATES, MOST_PATHS, MOST_PARAMETERS = 100, 1500, 10, 160_000, 6
 # Those whose functions copy and compare what they declare, and those of tests.
 PLAIN = {"jc_types", "jc_stories"}
 WORD = re.compile(r"(?m)^(?:(?:abbrev|unfoldable) )?pub (?:(?:record|data|abbrev) )?([A-Za-z_][\w'-]*)")
 LEMMA = re.compile(r"(?m)^(?:pub )?([A-Za-z][\w'-]*) : (.*(?:\n +.*)*)")
 MODULE = re.compile(r"(?m)^module _ (.*) where\n((?:(?:  .*)?\n)*)")
 FUNCTION = re.compile(r"(?m)^\s*(?:pub(?:\([a-z]+\))? )?(?:const )?(?:ghost )?fn ")
+TYPE = re.compile(r"(?m)^(?:pub(?:\([a-z]+\))? )?(?:struct|enum|trait|type) (\w+)")
+# The names that several types have, with their crates and why each stands. A name that is taken from this table is held to one type.
+SHARED_NAMES = {
+    "Bytes": ("jc_io jc_types", "one alias of std's vector: jc_io stands on no crate, and hands it on to none"),
+    "Change": ("jc_cache jc_core", "each is private to its crate"),
+    "Numbers": ("jc_plan jc_rows", "that of jc_rows is private to one file"),
+    "Plan": ("jc_io jc_plan", "that of jc_io is private to it"),
+    "Said": ("jc_script jc_words", "that of jc_words is private to it"),
+    "Taken": ("jc_team jc_turn", "that of jc_team is private to it"),
+    "Twice": ("jc_queue jc_team", "a key and a reply, each in two copies; GLOSSARY.md has both"),
+    "Verb": ("jc_reading jc_script", "each is private to its crate"),
+    "Verdicts": ("jc_account jc_ledger", "that of jc_account is private to it"),
+    "Want": ("jc_io jc_moment jc_ranges jc_types", "one alias of std's AllocError, in each crate that stands on no other"),
+}
+# The functions with more parameters, each with why.
+WIDE = {
+    "jc_control/src/controller.rt basis": "a basis has as many parts",
+    "jc_store/src/new_objects.rt new_pod": "so has a pod",
+    "jc_verdicts/src/counting.rt take_in": "each is a list or a number that it counts on, of another owner",
+    "jc_verdicts/src/seen.rt go_on": "the same lists, one level down",
+    "jc_verdicts/src/seen.rt look": "the same lists, one level down",
+}
 checks = Checks("crates")
 holds = checks.holds
 
@@ -76,6 +99,67 @@ def check_lemmas():
     once("the lemma", places)
 
 
+def sources():
+    """Returns the files of code of the crates that are not tests, each with its text."""
+    found = [(path, text) for path, text in texts("*/src/**/*.rt") if not path.endswith("/tests.rt")]
+    return [(path, text) for path, text in found if not re.match(r"jc_stories/|\w+_tests/", path)]
+
+
+def check_types():
+    places = {}
+    for path, text in sources():
+        for name in TYPE.findall(text):
+            places.setdefault(name, []).append(path)
+    for name, files in sorted(places.items()):
+        crates = " ".join(sorted(it.partition("/")[0] for it in files))
+        allowed, _ = SHARED_NAMES.get(name, (crates, ""))
+        holds(f"the type {name} stands in {crates}", crates == allowed and (name in SHARED_NAMES or len(files) == 1))
+    for name in sorted(SHARED_NAMES.keys() - places.keys()):
+        holds(f"SHARED_NAMES has {name}, which no type is called", False)
+
+
+def parameters(text, at):
+    """Returns how many parameters the function has whose name ends here."""
+    at = past_generics(text, at) if text[at] == "<" else at
+    depth, count, is_empty = 0, 0, True
+    for it in re.finditer(r"->|[(\[{<,)\]}>]|\w", text[at:]):
+        if it[0] in "([{<":
+            depth += 1
+        elif it[0] in ")]}>":
+            depth -= 1
+            if depth == 0:
+                return count + (not is_empty)
+        elif it[0] == "," and depth == 1:
+            count, is_empty = count + 1, True
+        elif it[0] not in (",", "->"):
+            is_empty = False
+    raise ValueError("parameters that do not end")
+
+
+def past_generics(text, at):
+    """Returns the place behind the generics that begin here."""
+    depth = 0
+    for it in re.finditer(r"->|[<>]", text[at:]):
+        depth += {"<": 1, ">": -1}.get(it[0], 0)
+        if depth == 0:
+            return at + it.end()
+    raise ValueError("generics that do not close")
+
+
+def check_parameters():
+    wide = set()
+    for path, text in sources():
+        for it in FUNCTION.finditer(text):
+            name = re.compile(r"\w+").match(text, it.end())[0]
+            if parameters(text, it.end() + len(name)) > MOST_PARAMETERS:
+                wide.add(f"{path} {name}")
+            else:
+                holds(name, True)
+    for it in sorted(wide ^ WIDE.keys()):
+        what = "has over" if it in wide else "is in WIDE, and has no more than"
+        holds(f"{it} {what} {MOST_PARAMETERS} parameters", False)
+
+
 def check_sizes(crate):
     sources = texts(f"{crate}/src/**/*.rt")
     functions = sum(len(FUNCTION.findall(text)) for _, text in sources)
@@ -113,6 +197,8 @@ def check_crates():
 
 check_words()
 check_lemmas()
+check_types()
+check_parameters()
 check_crates()
 check_paths()
 checks.end(4000)

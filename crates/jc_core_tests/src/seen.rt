@@ -4,11 +4,11 @@ ghost use Rattle.std.specs.Prelude.{◌≡◌, ◌≤◌, ◌<◌, ◌^◌, fals
 ghost use Rattle.jc_history.specs.Available.{IsOrderly};
 ghost use Rattle.jc_runs.specs.Seen.{deeds_seen};
 ghost use Rattle.jc_shared.specs.Names.{IsOfName};
-ghost use Rattle.jc_turn.specs.Seats.{IsSameSeat};
+ghost use Rattle.jc_turn.specs.LockSeats.{IsSameSeat};
 
 use crate::scripts::cluster_of;
 use jc_shared::{ApplyFault, Cluster, Kept, Naming, SeenReply, apply_seen, keep};
-use jc_turn::{Booked, Seat, Taken, Turn, make};
+use jc_turn::{Booked, LockSeat, Taken, TurnLock, make};
 use jc_types::{Event, Kind, Reply, Sys, Uid, Version};
 use std::alloc::Global;
 use std::marker::Brand;
@@ -50,32 +50,32 @@ fn told(answer: Result<SeenReply, ApplyFault>) -> Answered {
 }
 
 // Does the event, and tells what was answered.
-fn told_of<J: Naming>(turn: &Turn<Kept<J>>, seat: &mut Seat, event: Event) -> Answered
-    requires turn { seat.old.turn ≡ turn.now.name }
+fn told_of<J: Naming>(lock: &TurnLock<Kept<J>>, seat: &mut LockSeat, event: Event) -> Answered
+    requires lock { seat.old.lock ≡ lock.now.name }
     requires free { seat.old.holds ≡ false }
     ensures { IsSameSeat seat.old seat.new × (seat.new.holds ≡ false) }
 {
-    told(apply_seen(turn, seat, event))
+    told(apply_seen(lock, seat, event))
 }
 
 // What the seat is answered while the other has the cluster, and how many events that one finds.
 fn while_out<J: Naming>(
-    turn: &Turn<Kept<J>>,
-    holder: &mut Seat,
-    other: &mut Seat,
+    lock: &TurnLock<Kept<J>>,
+    holder: &mut LockSeat,
+    other: &mut LockSeat,
     event: Event,
 ) -> Option<(Answered, usize)>
-    requires turn { (holder.old.turn ≡ turn.now.name) × (other.old.turn ≡ turn.now.name) }
+    requires lock { (holder.old.lock ≡ lock.now.name) × (other.old.lock ≡ lock.now.name) }
     requires free { (holder.old.holds ≡ false) × (other.old.holds ≡ false) }
     ensures holder { IsSameSeat holder.old holder.new × (holder.new.holds ≡ false) }
     ensures other { IsSameSeat other.old other.new × (other.new.holds ≡ false) }
 {
-    let Taken::Value(kept) = turn.take(holder) else {
+    let Taken::Value(kept) = lock.take(holder) else {
         return None;
     };
     let found = kept.history().events.len();
-    let out = told_of(turn, other, event);
-    turn.give(holder, kept);
+    let out = told_of(lock, other, event);
+    lock.give(holder, kept);
     Some((out, found))
 }
 
@@ -83,11 +83,11 @@ fn while_out<J: Naming>(
 // come again. While the first has the cluster, the second finds it out.
 fn play_seen<J: Naming>(
     rt: &impl Abort,
-    turn: &Turn<Kept<J>>,
-    a: &mut Seat,
-    b: &mut Seat,
+    lock: &TurnLock<Kept<J>>,
+    a: &mut LockSeat,
+    b: &mut LockSeat,
 ) -> Result<(), Fail>
-    requires turn { (a.old.turn ≡ turn.now.name) × (b.old.turn ≡ turn.now.name) }
+    requires lock { (a.old.lock ≡ lock.now.name) × (b.old.lock ≡ lock.now.name) }
     requires free { (a.old.holds ≡ false) × (b.old.holds ≡ false) }
     ensures first { IsSameSeat a.old a.new × (a.new.holds ≡ false) }
     ensures second { IsSameSeat b.old b.new × (b.new.holds ≡ false) }
@@ -97,11 +97,11 @@ fn play_seen<J: Naming>(
         controller: 0,
         kind: Kind::Jobs,
     });
-    assert_eq!(rt; told_of(turn, a, create), Answered::Created);
-    turn.meet(a, b)?;
-    assert_eq!(rt; told_of(turn, b, list), Answered::Listed);
-    assert_eq!(rt; told_of(turn, a, create), Answered::NotNow);
-    let seen = while_out(turn, a, b, create);
+    assert_eq!(rt; told_of(lock, a, create), Answered::Created);
+    lock.meet(a, b)?;
+    assert_eq!(rt; told_of(lock, b, list), Answered::Listed);
+    assert_eq!(rt; told_of(lock, a, create), Answered::NotNow);
+    let seen = while_out(lock, a, b, create);
     assert_eq!(rt; seen, Some((Answered::Out, 2)));
     Ok(())
 }
@@ -116,12 +116,12 @@ fn see_one_history<J: Naming>(rt: &impl Abort, alloc: Global, cluster: Cluster) 
     requires named { IsOfName J.script J.shape cluster.seen }
     requires orderly { IsOrderly cluster.seen.shape (deeds_seen cluster.seen) }
 {
-    let Ok((turn, mut seats)) = make(alloc, keep::<J>(cluster), 2) else {
+    let Ok((lock, mut seats)) = make(alloc, keep::<J>(cluster), 2) else {
         return Err(Fail::new("no memory"));
     };
     let (first, second) = seats.as_mut_slice().split_at_mut(1);
-    let seen = play_seen(rt, &turn, &mut first[0], &mut second[0]);
-    assert_eq!(rt; events_in(turn.close(seats)), 2);
+    let seen = play_seen(rt, &lock, &mut first[0], &mut second[0]);
+    assert_eq!(rt; events_in(lock.close(seats)), 2);
     seen
 }
 

@@ -15,7 +15,7 @@ use Rattle.jc_single.specs.Promises.{KeepsPromises}
 use Rattle.jc_single.proofs.DeedFacts.{deeds-are}
 use Rattle.jc_lines.specs.Reports.{report_text}
 use Rattle.jc_lines.specs.Told.{AreEvents}
-use Rattle.jc_shared.specs.Runs.{IsLeft, IsWhole}
+use Rattle.jc_shared.specs.Runs.{IsEndOfRun, IsLeft}
 use Rattle.jc_single.specs.declared.orders.Output.{Output}
 use Rattle.jc_single.specs.Told.{IsReport}
 
@@ -29,26 +29,25 @@ module _ (seen : Seen) (h : History) (events : reverse h.events.items ≡ seen.p
 
   pub is_report : (threads : ℕ) (full : Bool) (text : List ℕ) → IsHistory seen.script seen.shape h
       → KeepsPromises seen.script seen.shape h → (IsOrderly seen.shape (deeds seen.script h) → AreEvents h.events.items) → text ≡ report_text seen.script (reverse seen.pasts) (log_seen seen) full
-      → IsOrderly seen.shape (deeds_seen seen) → (full ≡ false → IsWhole seen)
-      → (full ≡ true → length seen.pasts ≡ seen.shape.events) → (full ≡ true → ¬ IsWhole seen)
+      → IsEndOfRun seen.script seen.shape seen full
       → IsReport threads seen.script seen.shape full text
-  is_report threads full text legal keeps numbers is orderly whole filled to_come = record {
+  is_report threads full text legal keeps numbers is end = record {
     history = h;
     told = record {
       text_is = is ∙ ap (λ l. report_text seen.script l (log_seen seen) full) items-are
           ∙ ap (λ ds. report_text seen.script h.events.items (log_given seen.shape ds) full) same-deeds;
       legal = legal;
-      orderly = subst (λ ds. IsOrderly seen.shape ds) same-deeds orderly;
+      orderly = subst (λ ds. IsOrderly seen.shape ds) same-deeds end.left.orderly;
       keeps = keeps;
-      used = λ e. subst (λ l. AreUsed seen.script.commands l) (sym events) (whole e).used;
-      rests = λ e ends. subst (λ ds. is_quiescent seen.shape ds (log_given seen.shape ds) ≡ true) same-deeds (whole e).rests;
-      filled = λ e. let count = filled e in let same = ap (λ (l : List Past). length l) events in let back = length-reverse h.events.items in omega (arith, count, same, back);
-      to_come = λ e some played. to_come e (record {
+      used = λ e. subst (λ l. AreUsed seen.script.commands l) (sym events) (end.whole e).used;
+      rests = λ e ends. subst (λ ds. is_quiescent seen.shape ds (log_given seen.shape ds) ≡ true) same-deeds (end.whole e).rests;
+      filled = λ e. let count = end.filled e in let same = ap (λ (l : List Past). length l) events in let back = length-reverse h.events.items in omega (arith, count, same, back);
+      to_come = λ e some played. end.to_come e (record {
         used = subst (λ l. AreUsed seen.script.commands l) events played.used;
         rests = subst (λ ds. is_quiescent seen.shape ds (log_given seen.shape ds) ≡ true) (sym same-deeds) played.rests;
       });
     };
-    events = numbers (subst (λ ds. IsOrderly seen.shape ds) same-deeds orderly);
+    events = numbers (subst (λ ds. IsOrderly seen.shape ds) same-deeds end.left.orderly);
   }
 
 -- The report of a cluster that was left is one of the script and the shape that were given.

@@ -39,12 +39,8 @@ fn verdict_status(verdict: Verdict) -> Status
 
 // Writes the verdict.
 fn write_verdict<K: Sink>(alloc: Global, verdict: Verdict, sink: &mut K) -> Status
-    ensures { HasSaid verdict (record {
-      old = K.held sink.old;
-      new = K.held sink.new;
-      faults_old = K.faults sink.old;
-      faults_new = K.faults sink.new;
-    }) result }
+    ensures { HasSaid verdict
+        (change (K.held sink.old) (K.held sink.new) (K.faults sink.old) (K.faults sink.new)) result }
 {
     let text = match verdict_text(alloc, verdict) {
         Ok(text) => text,
@@ -59,12 +55,8 @@ fn write_verdict<K: Sink>(alloc: Global, verdict: Verdict, sink: &mut K) -> Stat
 // What is to be said of what the source has, or how the run ends that has nothing to write.
 fn judged<S: Source>(alloc: Global, shape: &Shape, source: &mut S) -> Result<Verdict, Status>
     requires { IsFitShape shape.now }
-    ensures { HasJudged shape.now (record {
-      old = S.left source.old;
-      new = S.left source.new;
-      faults_old = S.faults source.old;
-      faults_new = S.faults source.new;
-    }) result }
+    ensures { HasJudged shape.now
+        (change (S.left source.old) (S.left source.new) (S.faults source.old) (S.faults source.new)) result }
 {
     let input = match read_all(alloc, source, MOST_BYTES) {
         Ok(bytes) => bytes,
@@ -86,18 +78,9 @@ pub(crate) fn audit_report<S: Source, K: Sink>(
     sink: &mut K,
 ) -> Status
     requires { IsFitShape shape.now }
-    ensures { HasAudited shape.now (record {
-      old = S.left source.old;
-      new = S.left source.new;
-      faults_old = S.faults source.old;
-      faults_new = S.faults source.new;
-    })
-        (record {
-          old = K.held sink.old;
-          new = K.held sink.new;
-          faults_old = K.faults sink.old;
-          faults_new = K.faults sink.new;
-        }) result }
+    ensures { HasAudited shape.now
+        (change (S.left source.old) (S.left source.new) (S.faults source.old) (S.faults source.new))
+        (change (K.held sink.old) (K.held sink.new) (K.faults sink.old) (K.faults sink.new)) result }
 {
     match judged(alloc, shape, source) {
         Ok(verdict) => write_verdict(alloc, verdict, sink),

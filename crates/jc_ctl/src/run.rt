@@ -17,7 +17,7 @@ use crate::audited::audit_report;
 use crate::laws::{audited_reports_keep_the_promises, written_reports_pass_audits};
 use crate::threaded::run_threaded;
 use jc_io::{Sink, Source};
-use jc_shared::Gate;
+use jc_shared::{Gate, Host};
 use jc_single::{Status, run_order, runs_tell_their_history};
 use jc_words::{Order, orders_fit, read_words};
 use std::alloc::Global;
@@ -50,6 +50,7 @@ fn run_words<R: Threads + Wait + Sync, S: Source, K: Sink, G: Gate + Sync>(
         (change (K.held sink.old) (K.held sink.new) (K.faults sink.old) (K.faults sink.new)) result }
 {
     orders_fit();
+    let host = Host { rt, gate, alloc };
     match read_words(words) {
         None => Status::BadWords,
         Some(
@@ -58,7 +59,7 @@ fn run_words<R: Threads + Wait + Sync, S: Source, K: Sink, G: Gate + Sync>(
                 lock,
                 shape,
             },
-        ) if threads > 0 => run_threaded(rt, alloc, lock, &shape, threads, source, sink, gate),
+        ) if threads > 0 => run_threaded(&host, lock, &shape, threads, source, sink),
         Some(Order::Audit { shape }) => audit_report(alloc, &shape, source, sink),
         Some(order) => run_order(alloc, &order, source, sink),
     }

@@ -7,31 +7,31 @@ ghost use Rattle.jc_single.specs.ValidActions.{IsValidAction};
 ghost use Rattle.jc_single.specs.Available.{IsOrderly};
 ghost use Rattle.jc_single.specs.Plays.{IsProper};
 ghost use Rattle.jc_single.specs.Seen.{deeds_seen};
-ghost use Rattle.jc_shared.specs.Runs.{IsLeft, IsWhole};
+ghost use Rattle.jc_shared.specs.Runs.{EndsRun, IsEndOfRun};
 ghost use Rattle.jc_shared.specs.Shared.{Shared};
-ghost use Rattle.jc_shared.specs.declared.threads.ThreadsFault.{ThreadsFault};
+ghost use Rattle.jc_shared.specs.declared.faults.ThreadsFault.{ThreadsFault};
 ghost use Rattle.jc_script.specs.Scripts.{most_bytes, script_of};
 ghost use Rattle.jc_script.specs.Cause.{Cause};
 ghost use Rattle.jc_words.specs.Fits.{IsFitShape};
 ghost use Rattle.jc_words.specs.declared.words.Order.TheVariants.{Run};
-ghost use Rattle.jc_single.specs.Ends.{RunHasEnded, HasMade};
+ghost use Rattle.jc_single.specs.Ends.{RunHasEnded, HasMade, change};
 ghost use Rattle.jc_ctl.specs.Done.{IsPlayedBy};
 ghost use Rattle.jc_single.specs.Told.{IsReport};
 
 use jc_io::{ReadEnd, Sink, Source, read_all};
 use jc_script::{ScriptFault, read_script, scripts_fit_their_shape};
-use jc_shared::{Cluster, Gate, ThreadsFault, run_threads, run_turn};
+use jc_shared::{Cluster, Gate, Host, Play, ThreadsFault, run_threads, run_turn};
 use jc_single::{
     MOST_BYTES, Output, Status, legal_histories_keep_the_promises,
     orderly_histories_have_small_numbers, report, write_output,
 };
-use jc_types::{Script, Shape, Want};
+use jc_types::{Shape, Want};
 use jc_words::LockKind;
 use std::alloc::{AllocError, Global};
 use std::sync::Wait;
 use std::thread::Threads;
 
-// What is printed of a cluster that a run on threads has left.
+// What is printed of the cluster of a run on threads that has ended.
 fn told(alloc: Global, cluster: &Cluster, full: bool) -> Result<Output, Want>
     requires fine { Each (λ (command : Command). IsValidAction command.action)
         cluster.now.seen.script.commands }
@@ -42,11 +42,8 @@ fn told(alloc: Global, cluster: &Cluster, full: bool) -> Result<Output, Want>
         cluster.now.seen.script.commands }
     requires few_controllers { cluster.now.seen.shape.controllers ≤ 4 }
     requires few_workers { cluster.now.seen.shape.workers ≤ 16 }
-    requires orderly { IsOrderly cluster.now.seen.shape (deeds_seen cluster.now.seen) }
-    requires whole { full ≡ false → IsWhole cluster.now.seen }
-    requires filled { full ≡ true
-        → length cluster.now.seen.pasts ≡ cluster.now.seen.shape.events }
-    requires to_come { full ≡ true → ¬ IsWhole cluster.now.seen }
+    requires ended { IsEndOfRun cluster.now.seen.script cluster.now.seen.shape
+        cluster.now.seen full }
     ensures full { IfOk result (λ output. output.full ≡ full) }
     ensures report { IfOk result (λ output. (threads : ℕ) → 1 ≤ threads
         → IsReport threads cluster.now.seen.script cluster.now.seen.shape full
@@ -59,9 +56,9 @@ fn told(alloc: Global, cluster: &Cluster, full: bool) -> Result<Output, Want>
     Ok(Output { text, full })
 }
 
-// A cluster that a run on threads has left, and whether its history had no room for an event that was to come.
+// The cluster of a run on threads that has ended, and whether its history had no room for an event that was to come.
 #[derive(Drop)]
-struct Left {
+struct Ended {
     cluster: Cluster,
     full: bool,
 }
@@ -70,63 +67,47 @@ struct Left {
 //
 // As `run_threads`.
 fn run_locked<R: Threads + Wait + Sync, G: Gate + Sync>(
-    rt: &R,
-    alloc: Global,
+    host: &Host<'_, R, G>,
     lock: LockKind,
-    script: &Script,
-    shape: &Shape,
-    threads: u32,
-    gate: &G,
+    play: Play<'_>,
 ) -> Result<Cluster, ThreadsFault>
-    requires some { 1 ≤ threads }
-    requires few { threads ≤ 16 }
-    requires fine { Each (λ (command : Command). IsValidAction command.action) script.now.commands }
-    requires proper { IsProper script.now shape.now }
-    requires fits { length script.now.commands < 2 ^ 32 }
-    requires bound { shape.now.events ≤ 200000 }
-    ensures left { IfOk result (λ cluster. IsLeft script.now shape.now cluster.seen) }
-    ensures whole { IfOk result (λ cluster. IsWhole cluster.seen) }
-    ensures full { (left : Shared) → IsErrOf result (ThreadsFault.Full left)
-        → IsLeft script.now shape.now left.seen }
-    ensures filled { (left : Shared) → IsErrOf result (ThreadsFault.Full left)
-        → length left.seen.pasts ≡ shape.now.events }
-    ensures to_come { (left : Shared) → IsErrOf result (ThreadsFault.Full left)
-        → ¬ IsWhole left.seen }
+    ensures { EndsRun play.script.now play.shape.now result }
 {
     match lock {
-        LockKind::Mutex => run_threads(rt, alloc, script, shape, threads, gate),
-        LockKind::Turn => run_turn(rt, alloc, script, shape, threads, gate),
+        LockKind::Mutex => run_threads(
+            host.rt,
+            host.alloc,
+            play.script,
+            play.shape,
+            play.threads,
+            host.gate,
+        ),
+        LockKind::Turn => run_turn(
+            host.rt,
+            host.alloc,
+            play.script,
+            play.shape,
+            play.threads,
+            host.gate,
+        ),
     }
 }
 
 // The same, with one cluster in its answer, so that it is dropped in one place.
 fn run_by<R: Threads + Wait + Sync, G: Gate + Sync>(
-    rt: &R,
-    alloc: Global,
+    host: &Host<'_, R, G>,
     lock: LockKind,
-    script: &Script,
-    shape: &Shape,
-    threads: u32,
-    gate: &G,
-) -> Result<Left, Want>
-    requires some { 1 ≤ threads }
-    requires few { threads ≤ 16 }
-    requires fine { Each (λ (command : Command). IsValidAction command.action) script.now.commands }
-    requires proper { IsProper script.now shape.now }
-    requires fits { length script.now.commands < 2 ^ 32 }
-    requires bound { shape.now.events ≤ 200000 }
-    ensures left { IfOk result (λ left. IsLeft script.now shape.now left.cluster.seen) }
-    ensures whole { IfOk result (λ left. left.full ≡ false → IsWhole left.cluster.seen) }
-    ensures filled { IfOk result (λ left. left.full ≡ true
-        → length left.cluster.seen.pasts ≡ shape.now.events) }
-    ensures to_come { IfOk result (λ left. left.full ≡ true → ¬ IsWhole left.cluster.seen) }
+    play: Play<'_>,
+) -> Result<Ended, Want>
+    ensures { IfOk result (λ ended.
+        IsEndOfRun play.script.now play.shape.now ended.cluster.seen ended.full) }
 {
-    match run_locked(rt, alloc, lock, script, shape, threads, gate) {
-        Ok(cluster) => Ok(Left {
+    match run_locked(host, lock, play) {
+        Ok(cluster) => Ok(Ended {
             cluster,
             full: false,
         }),
-        Err(ThreadsFault::Full(cluster)) => Ok(Left {
+        Err(ThreadsFault::Full(cluster)) => Ok(Ended {
             cluster,
             full: true,
         }),
@@ -136,37 +117,26 @@ fn run_by<R: Threads + Wait + Sync, G: Gate + Sync>(
 
 // The report of a run of the script on threads.
 fn threaded_report<R: Threads + Wait + Sync, G: Gate + Sync>(
-    rt: &R,
-    alloc: Global,
+    host: &Host<'_, R, G>,
     lock: LockKind,
-    script: &Script,
-    shape: &Shape,
-    threads: u32,
-    gate: &G,
+    play: Play<'_>,
 ) -> Result<Output, Want>
-    requires some { 1 ≤ threads }
-    requires few { threads ≤ 16 }
-    requires fine { Each (λ (command : Command). IsValidAction command.action) script.now.commands }
-    requires proper { IsProper script.now shape.now }
-    requires fits { length script.now.commands < 2 ^ 32 }
-    requires lanes { Each (λ (command : Command). command.lane < 2 ^ 8) script.now.commands }
-    requires fit_shape { IsFitShape shape.now }
+    requires lanes { Each (λ (command : Command). command.lane < 2 ^ 8) play.script.now.commands }
+    requires fit_shape { IsFitShape play.shape.now }
     ensures { IfOk result (λ output.
-        IsReport threads script.now shape.now output.full output.text.items) }
+        IsReport play.threads play.script.now play.shape.now output.full output.text.items) }
 {
-    let left = run_by(rt, alloc, lock, script, shape, threads, gate)?;
-    told(alloc, &left.cluster, left.full)
+    let ended = run_by(host, lock, play)?;
+    told(host.alloc, &ended.cluster, ended.full)
 }
 
 // The report of a run on threads of the script in the input.
 fn threaded_answer<R: Threads + Wait + Sync, G: Gate + Sync>(
-    rt: &R,
-    alloc: Global,
+    host: &Host<'_, R, G>,
     lock: LockKind,
     shape: &Shape,
     threads: u32,
     input: &[u8],
-    gate: &G,
 ) -> Result<Output, ScriptFault>
     requires some { 1 ≤ threads }
     requires few { threads ≤ 16 }
@@ -180,38 +150,37 @@ fn threaded_answer<R: Threads + Wait + Sync, G: Gate + Sync>(
         → script_of shape.now input.now ≡ Err (record { number = number; cause = cause }) }
 {
     scripts_fit_their_shape();
-    let script = read_script(alloc, input, shape)?;
-    Ok(threaded_report(rt, alloc, lock, &script, shape, threads, gate)?)
+    let script = read_script(host.alloc, input, shape)?;
+    let play = Play {
+        script: &script,
+        shape,
+        threads,
+    };
+    Ok(threaded_report(host, lock, play)?)
 }
 
 // The report of a run on threads of what the source has, or how the run ends that has nothing to write.
 fn threaded_made<R: Threads + Wait + Sync, S: Source, G: Gate + Sync>(
-    rt: &R,
-    alloc: Global,
+    host: &Host<'_, R, G>,
     lock: LockKind,
     shape: &Shape,
     threads: u32,
     source: &mut S,
-    gate: &G,
 ) -> Result<Output, Status>
     requires some { 1 ≤ threads }
     requires few { threads ≤ 16 }
     requires fit_shape { IsFitShape shape.now }
-    ensures { HasMade (Run threads lock shape.now) (record {
-      old = S.left source.old;
-      new = S.left source.new;
-      faults_old = S.faults source.old;
-      faults_new = S.faults source.new;
-    })
+    ensures { HasMade (Run threads lock shape.now)
+        (change (S.left source.old) (S.left source.new) (S.faults source.old) (S.faults source.new))
         (IsPlayedBy threads shape.now) result }
 {
-    let input = match read_all(alloc, source, MOST_BYTES) {
+    let input = match read_all(host.alloc, source, MOST_BYTES) {
         Ok(bytes) => bytes,
         Err(ReadEnd::ReadFault) => return Err(Status::ReadFault),
         Err(ReadEnd::TooLong) => return Err(Status::TooLong),
         Err(ReadEnd::Want) => return Err(Status::Want),
     };
-    match threaded_answer(rt, alloc, lock, shape, threads, &input, gate) {
+    match threaded_answer(host, lock, shape, threads, &input) {
         Ok(output) => Ok(output),
         Err(ScriptFault::BadLine { number, cause }) => Err(Status::BadScript {
             line: number,
@@ -223,33 +192,22 @@ fn threaded_made<R: Threads + Wait + Sync, S: Source, G: Gate + Sync>(
 
 /// Reads a script, plays it on threads, and writes the report.
 pub(crate) fn run_threaded<R: Threads + Wait + Sync, S: Source, K: Sink, G: Gate + Sync>(
-    rt: &R,
-    alloc: Global,
+    host: &Host<'_, R, G>,
     lock: LockKind,
     shape: &Shape,
     threads: u32,
     source: &mut S,
     sink: &mut K,
-    gate: &G,
 ) -> Status
     requires some { 1 ≤ threads }
     requires few { threads ≤ 16 }
     requires fit_shape { IsFitShape shape.now }
-    ensures { RunHasEnded (Run threads lock shape.now) (record {
-      old = S.left source.old;
-      new = S.left source.new;
-      faults_old = S.faults source.old;
-      faults_new = S.faults source.new;
-    })
-        (record {
-          old = K.held sink.old;
-          new = K.held sink.new;
-          faults_old = K.faults sink.old;
-          faults_new = K.faults sink.new;
-        })
+    ensures { RunHasEnded (Run threads lock shape.now)
+        (change (S.left source.old) (S.left source.new) (S.faults source.old) (S.faults source.new))
+        (change (K.held sink.old) (K.held sink.new) (K.faults sink.old) (K.faults sink.new))
         (IsPlayedBy threads shape.now) result }
 {
-    match threaded_made(rt, alloc, lock, shape, threads, source, gate) {
+    match threaded_made(host, lock, shape, threads, source) {
         Ok(output) => write_output(&output, sink),
         Err(status) => status,
     }

@@ -6,7 +6,7 @@ use std::alloc::Global;
 
 /// What a seat of the table knows. No value of it is made, and a contract reads its arrays as lists
 /// of any length.
-pub(crate) struct View {
+pub(crate) struct LogPlaceView {
     /// The list that was seen last.
     pub seen: [Past; 0],
     /// The list of the mark that was joined last, or the empty one once that was now_compared.
@@ -16,19 +16,19 @@ pub(crate) struct View {
 }
 
 /// The rule of the table.
-pub(crate) struct Law;
+pub(crate) struct LogRule;
 
-impl TableRule<(), View, ()> for Law {
-    ghost use Rattle.jc_marks.specs.Rules.{Kept, log_view};
+impl TableRule<(), LogPlaceView, ()> for LogRule {
+    ghost use Rattle.jc_marks.specs.Rules.{KeepsLog, log_view};
     ghost use Rattle.std.specs.Prelude.{[]};
 
-    ghost holds = { λ _ s. Kept s.views };
+    ghost holds = { λ _ s. KeepsLog s.views };
 
     ghost first = { λ _. log_view [] };
 }
 
 /// The table. Its word says nothing: it is there for the steps.
-pub(crate) type Table = atomic_table::Table<(), View, (), Law, Global>;
+pub(crate) type LogTable = atomic_table::Table<(), LogPlaceView, (), LogRule, Global>;
 
 /// A seat of the table.
-pub(crate) type Place = Seat<(), View>;
+pub(crate) type LogPlace = Seat<(), LogPlaceView>;

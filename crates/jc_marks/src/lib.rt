@@ -7,11 +7,11 @@
 #![tactic(auto)]
 
 mod board;
-mod listed;
+mod list_tag;
 mod log;
 mod plays;
 #[cfg(test)]
 mod tests;
 
-pub use listed::Listed;
+pub use list_tag::ListTag;
 pub use log::{Log, Mark};

@@ -3,9 +3,9 @@
 ghost use Rattle.std.specs.Prelude.{◌≡◌, [], IfOk};
 ghost use mathlib.Core.List.{IsPrefix};
 
-use crate::board::{Place, Table};
-use crate::listed::Listed;
-use crate::plays::{Compare, Cut, Grow, Meet};
+use crate::board::{LogPlace, LogTable};
+use crate::list_tag::ListTag;
+use crate::plays::{CompareMark, Cut, Grow, Merge};
 use jc_types::Want;
 use std::alloc::Global;
 use std::marker::Model;
@@ -13,8 +13,8 @@ use std::marker::Model;
 /// A list of events that only grows, as far as its log has seen it.
 #[derive(Drop)]
 pub struct Log {
-    table: Table,
-    place: Place,
+    table: LogTable,
+    place: LogPlace,
 }
 
 impl Model for Log {
@@ -34,7 +34,7 @@ impl Model for Log {
 /// What a log had seen at a time. It takes no memory and cannot be copied.
 #[derive(Drop)]
 pub struct Mark {
-    place: Place,
+    place: LogPlace,
 }
 
 impl Model for Mark {
@@ -56,12 +56,12 @@ impl Log {
     pub fn new(alloc: Global) -> Result<Log, Want>
         ensures { IfOk result (λ log. log.seen ≡ []) }
     {
-        let (table, place) = Table::of_words(alloc, &[0], &())?;
+        let (table, place) = LogTable::of_words(alloc, &[0], &())?;
         Ok(Log { table, place })
     }
 
     /// The log has now seen the list, which begins with all that it had seen. It takes no memory.
-    pub fn grow<L: Listed>(&mut self)
+    pub fn grow<L: ListTag>(&mut self)
         requires { IsPrefix self.old.seen L.list }
         ensures seen { self.new.seen ≡ L.list }
         ensures name { self.new.name ≡ self.old.name }
@@ -87,7 +87,7 @@ impl Log {
         ensures log { self.new ≡ self.old }
     {
         let table = &self.table;
-        table.shared.join_seat::<Meet>(&mut self.place, mark.place);
-        table.shared.load::<Compare>(&mut self.place, 0);
+        table.shared.join_seat::<Merge>(&mut self.place, mark.place);
+        table.shared.load::<CompareMark>(&mut self.place, 0);
     }
 }

@@ -3,20 +3,20 @@
 ghost use Rattle.std.specs.Prelude.{◌≡◌, ◌≤◌, true, IfOk, OnErr, length, []};
 ghost use mathlib.Core.List.{IsPrefix};
 
-use crate::{Listed, Log, Mark};
+use crate::{ListTag, Log, Mark};
 use jc_types::{Event, History, Past, Pasts, Reply, Version, Want};
 use std::alloc::Global;
 use std::marker::{Brand, Model, PhantomData};
 use std::test::Fail;
 
 // Which log it is.
-trait Named {
+trait NameTag {
     ghost use Rattle.atomic_table.specs.Seated.{TableId};
 
     ghost name: { TableId };
 }
 
-impl Named for Brand {
+impl NameTag for Brand {
     ghost use Rattle.std.specs.Prelude.{[]};
 
     ghost name = { record {
@@ -32,13 +32,13 @@ impl Named for Brand {
 
 // A diary, and the log of that name, which has seen a beginning of it.
 #[derive(Drop)]
-struct Diary<N: Named> {
+struct Diary<N: NameTag> {
     history: History,
     log: Log,
     of: PhantomData<N>,
 }
 
-impl<N: Named> Model for Diary<N> {
+impl<N: NameTag> Model for Diary<N> {
     ghost use Rattle.std.specs.Prelude.{◌≡◌, List};
     ghost use Rattle.jc_types.specs.declared.runs.Past.{Past};
     ghost use mathlib.Core.List.{IsPrefix};
@@ -52,7 +52,7 @@ impl<N: Named> Model for Diary<N> {
 }
 
 // The log has now seen the whole diary.
-fn show<L: Listed>(log: &mut Log, history: &History)
+fn show<L: ListTag>(log: &mut Log, history: &History)
     requires list { history.now.events.items ≡ L.list }
     requires longer { IsPrefix log.old.seen L.list }
     ensures { (log.new.seen ≡ L.list) × (log.new.name ≡ log.old.name) }
@@ -60,7 +60,7 @@ fn show<L: Listed>(log: &mut Log, history: &History)
     log.grow::<L>();
 }
 
-impl<N: Named> Diary<N> {
+impl<N: NameTag> Diary<N> {
     // Notes one thing more, and marks what there is then.
     fn note(&mut self, number: u32) -> Result<Mark, Want>
         ensures { IfOk result (λ mark. (mark.name ≡ N.name) × (mark.seen ≡ self.new)) }
@@ -86,7 +86,7 @@ impl<N: Named> Diary<N> {
 
 // Notes two things, with a mark between. How long the diary was at the mark, and how long it is then: no
 // shorter.
-fn play<N: Named>(history: History, log: Log) -> Result<(usize, usize), Want>
+fn play<N: NameTag>(history: History, log: Log) -> Result<(usize, usize), Want>
     requires name { log.name ≡ N.name }
     requires new { log.seen ≡ [] }
     ensures { IfOk result (λ lengths. lengths.0 ≤ lengths.1) }

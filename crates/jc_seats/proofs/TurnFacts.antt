@@ -1,4 +1,4 @@
--- What is left for a seat of a threaded run to do.
+-- What is left for a player of a threaded run to do.
 use Rattle.std.proofs.Common.{◌≡◌, ℕ, ◌+◌, ◌%◌, ◌<◌, ◌==◌, Bool, true, false, cond, not, ◌&&◌, ◌||◌, List, [], ◌∷◌, filter, slice_get, Option, Some, None, is_some, inr, refl, sym, ap, ◌∙◌, subst, true≢false, eqb-true}
 use Rattle.std.proofs.Math.Nat.{suc-mod}
 use Rattle.std.proofs.Math.Numerals.{add-one}
@@ -20,10 +20,10 @@ use Rattle.jc_core.specs.Slot.{Slot}
 use Rattle.jc_core.specs.Slots.{has_holder, is_slot_of, is_unheld, unheld_seen}
 use Rattle.jc_core.specs.Turns.{has_rest}
 use Rattle.jc_core.proofs.SystemFacts.{quiet}
-use Rattle.jc_seats.specs.declared.seats.Seat.{Seat}
+use Rattle.jc_seats.specs.declared.players.Player.{Player}
 use Rattle.jc_seats.specs.Names.{AreLanes, AreLanesBelow}
 use Rattle.jc_core.specs.Shared.{Shared}
-use Rattle.jc_seats.specs.SeatTurns.{HasHappened, IsLaneOf, IsOfLanes, IsOwnEvent}
+use Rattle.jc_seats.specs.PlayerTurns.{HasHappened, IsLaneOf, IsOfLanes, IsOwnEvent}
 
 -- ---- nobody holds a register
 
@@ -49,16 +49,16 @@ module _ (slots : List Slot) (h : list_any (λ (slot : Slot). is_some slot.holde
   pub rests : (seen : Seen) → first_event (unheld_seen slots seen) ≡ None → has_rest seen ≡ true
   rests seen none = quiet seen (sym none ∙ ap first_event (all-unheld (available seen.shape (deeds_seen seen) (log_seen seen))))
 
--- ---- events of a seat
+-- ---- events of a player
 
 -- The first that is not held is an own event.
-pub first-own : (seat : Seat) (inside old : Shared) (found : Option Event) → inside ≡ old → found ≡ first_event (unheld_seen inside.slots inside.seen) → IfSome found (λ event. IsOwnEvent seat old event)
-first-own seat inside old None e first = tt
-first-own seat inside old (Some event) e first = inr (subst (λ (s : Shared). first_event (unheld_seen s.slots s.seen) ≡ Some event) e (sym first))
+pub first-own : (player : Player) (inside old : Shared) (found : Option Event) → inside ≡ old → found ≡ first_event (unheld_seen inside.slots inside.seen) → IfSome found (λ event. IsOwnEvent player old event)
+first-own player inside old None e first = tt
+first-own player inside old (Some event) e first = inr (subst (λ (s : Shared). first_event (unheld_seen s.slots s.seen) ≡ Some event) e (sym first))
 
 -- What has happened, where nothing has changed before.
-pub went-own : (seat : Seat) (between old new : Shared) (event : Event) → between ≡ old → HasHappened event between new → IsOwnEvent seat between event → (event : Event) × HasHappened event old new × IsOwnEvent seat old event
-went-own seat between old new event e happened own = (event, subst (λ (s : Shared). HasHappened event s new) e happened, subst (λ (s : Shared). IsOwnEvent seat s event) e own)
+pub went-own : (player : Player) (between old new : Shared) (event : Event) → between ≡ old → HasHappened event between new → IsOwnEvent player between event → (event : Event) × HasHappened event old new × IsOwnEvent player old event
+went-own player between old new event e happened own = (event, subst (λ (s : Shared). HasHappened event s new) e happened, subst (λ (s : Shared). IsOwnEvent player s event) e own)
 
 -- ---- lanes
 
@@ -89,7 +89,7 @@ owner-next threads number owner next is e =
     ∙ sym (suc-mod number threads)
     ∙ ap (λ k. k % threads) (sym (add-one number))
 
--- An event of a lane that is the seat's is of its lanes.
-pub own-lanes : (seat : Seat) (lane : ℕ) (found : Option Event) → IsLaneOf seat lane → IfSome found (λ event. IsOfActor (actor.Lane lane) event) → IfSome found (λ event. IsOfLanes seat event)
-own-lanes seat lane None own of = tt
-own-lanes seat lane (Some event) own of = record { lane = lane; own = own; command = of }
+-- An event of a lane that is the player's is of its lanes.
+pub own-lanes : (player : Player) (lane : ℕ) (found : Option Event) → IsLaneOf player lane → IfSome found (λ event. IsOfActor (actor.Lane lane) event) → IfSome found (λ event. IsOfLanes player event)
+own-lanes player lane None own of = tt
+own-lanes player lane (Some event) own of = record { lane = lane; own = own; command = of }

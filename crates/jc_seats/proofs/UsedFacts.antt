@@ -8,9 +8,9 @@ use Rattle.jc_history.specs.Legal.{ComesNext, is_of_lane, lane_count, lane_place
 use Rattle.jc_runs.specs.Seen.{Seen, happened}
 use Rattle.jc_core.specs.Actors.{CanCome, IsOfActor}
 use Rattle.jc_core.specs.Actor.TheVariants as actor
-use Rattle.jc_seats.specs.declared.seats.Seat.{Seat}
+use Rattle.jc_seats.specs.declared.players.Player.{Player}
 use Rattle.jc_seats.specs.Names.{AreLanesBelow, AreUsedFrom}
-use Rattle.jc_seats.specs.SeatTurns.{HasLeft, IsLaneOf}
+use Rattle.jc_seats.specs.PlayerTurns.{HasLeft, IsLaneOf}
 use Rattle.jc_seats.proofs.TurnFacts.{lane-below}
 
 -- Where a list has no item, it has none behind it.
@@ -50,10 +50,10 @@ one-more seen bound left used e none lane above = by (ltb bound lane) refl
         let same : bound ≡ lane = omega (arith, above, lower) in
         subst (λ (l : ℕ). next_place seen.script.commands l seen.pasts ≡ None) same none
 
--- Where no command of its lanes below the bound may come, and those from it on are used up, none is left to the seat.
-pub none-left : (seat : Seat) (seen : Seen) (bound : ℕ) → AreUsedFrom bound seen
-    → ((lane : ℕ) → lane < bound → IsLaneOf seat lane → (event : Event) → IsOfActor (actor.Lane lane) event → CanCome seen event → ⊥) → HasLeft seat seen → ⊥
-none-left seat seen bound used none left = by (ltb left.lane bound) refl
+-- Where no command of its lanes below the bound may come, and those from it on are used up, none is left to the player.
+pub none-left : (player : Player) (seen : Seen) (bound : ℕ) → AreUsedFrom bound seen
+    → ((lane : ℕ) → lane < bound → IsLaneOf player lane → (event : Event) → IsOfActor (actor.Lane lane) event → CanCome seen event → ⊥) → HasLeft player seen → ⊥
+none-left player seen bound used none left = by (ltb left.lane bound) refl
   where
     next : next_place seen.script.commands left.lane seen.pasts ≡ Some left.command.0
     next = subst (ComesNext seen.script.commands seen.pasts) left.command.1 left.can_come.admits.next

@@ -1,6 +1,6 @@
 pub mod Hands
 pub mod Names
-pub mod SeatTurns
+pub mod PlayerTurns
 -- Words of the crates below, handed on to those above.
 pub use Rattle.jc_core.specs.Turns
 pub use Rattle.jc_core.specs.Actors

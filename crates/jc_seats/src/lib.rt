@@ -2,19 +2,20 @@
 //! turns, and plans that are handed in. It waits for nothing.
 #![tactic(auto)]
 
-mod desks;
 mod hands;
 mod kept;
 mod lanes;
 mod naming;
-mod seats;
+mod next_action;
+mod players;
+mod shared_run;
 mod turns;
 
-pub use desks::{Desk, Errand, Step};
 pub use hands::hand_in;
 pub use jc_core::{Actor, ApplyFault, Cluster, Work};
 pub use kept::{Kept, keep};
 pub use lanes::lanes_are_bytes;
-pub use naming::{Logged, Naming};
-pub use seats::Seat;
-pub use turns::Turn;
+pub use naming::{LogTag, Naming};
+pub use next_action::NextAction;
+pub use players::Player;
+pub use shared_run::{PlanTask, SharedRun};

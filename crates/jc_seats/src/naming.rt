@@ -21,13 +21,13 @@ impl Naming for Brand {
 }
 
 /// Which log the seats mark, which contracts alone see. Each run picks its own.
-pub trait Logged {
+pub trait LogTag {
     ghost use Rattle.atomic_table.specs.Seated.{TableId};
 
     ghost log: { TableId };
 }
 
-impl Logged for Brand {
+impl LogTag for Brand {
     ghost use Rattle.jc_seats.specs.Names.{no_log};
 
     ghost log = { no_log };

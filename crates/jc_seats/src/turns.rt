@@ -1,4 +1,4 @@
-//! What a seat does next.
+//! What a player does next.
 
 ghost use Rattle.std.specs.Prelude.{◌≡◌, ◌≢◌, ◌+◌, ◌%◌, ◌<◌, ◌≤◌, Err, IfOk, IfSome, IsSome, None, OnErr, OnOk, Some, find, length, true};
 ghost use Rattle.jc_types.specs.declared.runs.Event.{Event};
@@ -11,27 +11,15 @@ ghost use Rattle.jc_core.specs.Actors.{CanCome};
 ghost use Rattle.jc_core.specs.Slots.{unheld_seen};
 ghost use Rattle.jc_core.specs.Turns.{has_rest};
 ghost use Rattle.jc_core.specs.Shared.{has_holders, is_open_slot, taken_by};
-ghost use Rattle.jc_seats.specs.SeatTurns.{HasHappened, HasLeft, IsOfLanes, IsOwnEvent};
+ghost use Rattle.jc_seats.specs.PlayerTurns.{HasHappened, HasLeft, IsOfLanes, IsOwnEvent};
 ghost use Rattle.jc_core.specs.declared.holding.Work.{Work};
 
 use crate::kept::Kept;
 use crate::naming::Naming;
-use crate::seats::Seat;
+use crate::next_action::NextAction;
+use crate::players::Player;
 use jc_core::{Actor, ApplyFault, Work};
 use jc_types::Event;
-
-/// What a seat has to do next.
-#[derive(Drop)]
-pub enum Turn {
-    /// To make a plan, and hand it in.
-    Plan(Work),
-    /// To take another turn: an event has happened.
-    Went,
-    /// To wait: it has nothing to do while another seat is at its plan.
-    Wait,
-    /// To end: it has nothing left to do.
-    End,
-}
 
 // Whose lane the next one is. It is counted along, since a division for each lane takes long.
 fn owner_after(owner: u32, threads: u32) -> u32
@@ -42,111 +30,109 @@ fn owner_after(owner: u32, threads: u32) -> u32
 }
 
 impl<J: Naming> Kept<J> {
-    // The first command that may come of the seat's lanes.
-    fn next_of_lanes(&self, seat: &Seat) -> Option<Event>
-        requires { seat.now.number < seat.now.threads }
+    // The first command that may come of the player's lanes.
+    fn next_of_lanes(&self, player: &Player) -> Option<Event>
         ensures can_come { IfSome result (λ event. CanCome self.now.seen event) }
-        ensures own { IfSome result (λ event. IsOfLanes seat.now event) }
-        ensures none { result ≡ None → ¬ HasLeft seat.now self.now.seen }
+        ensures own { IfSome result (λ event. IsOfLanes player.now event) }
+        ensures none { result ≡ None → ¬ HasLeft player.now self.now.seen }
     {
         let lanes = self.lanes();
         let mut owner = 0;
         for number in 0..lanes {
-            if owner == seat.number {
+            if owner == player.number {
                 let found = self.cluster.available(Actor::Lane(number as u8));
                 if found.is_some() {
                     return found;
                 }
             }
-            owner = owner_after(owner, seat.threads);
+            owner = owner_after(owner, player.threads);
         }
         None
     }
 
-    // The seat's next event: of the kind that it tries, or else of the other one.
-    fn next_of(&self, seat: &Seat) -> Option<Event>
-        requires { seat.now.number < seat.now.threads }
+    // The player's next event: of the kind that it tries, or else of the other one.
+    fn next_of(&self, player: &Player) -> Option<Event>
         ensures can_come { IfSome result (λ event. CanCome self.now.seen event) }
-        ensures own { IfSome result (λ event. IsOwnEvent seat.now self.now event) }
-        ensures lanes { result ≡ None → ¬ HasLeft seat.now self.now.seen }
+        ensures own { IfSome result (λ event. IsOwnEvent player.now self.now event) }
+        ensures lanes { result ≡ None → ¬ HasLeft player.now self.now.seen }
         ensures system { result ≡ None
             → first_event (unheld_seen self.now.slots self.now.seen) ≡ None }
     {
-        if seat.tries_lanes {
-            match self.next_of_lanes(seat) {
+        if player.tries_lanes {
+            match self.next_of_lanes(player) {
                 Some(event) => Some(event),
                 None => self.cluster.next_event(),
             }
         } else {
             match self.cluster.next_event() {
                 Some(event) => Some(event),
-                None => self.next_of_lanes(seat),
+                None => self.next_of_lanes(player),
             }
         }
     }
 
-    // Does the event. The seat tries the other kind next.
+    // Does the event. The player tries the other kind next.
     //
     // As `apply` where it is not done; nothing has changed then.
-    fn go(&mut self, seat: &mut Seat, event: Event) -> Result<(), ApplyFault>
+    fn go(&mut self, player: &mut Player, event: Event) -> Result<(), ApplyFault>
         requires { CanCome self.old.seen event }
         ensures happened { OnOk result (HasHappened event self.old self.new) }
         ensures kept { OnErr result (self.new ≡ self.old) }
         ensures room { result ≡ Err HistoryFull
             → self.old.seen.shape.events ≤ length self.old.seen.pasts }
-        ensures number { seat.new.number ≡ seat.old.number }
-        ensures threads { seat.new.threads ≡ seat.old.threads }
+        ensures number { player.new.number ≡ player.old.number }
+        ensures threads { player.new.threads ≡ player.old.threads }
     {
-        seat.tries_lanes = matches!(event, Event::System(_));
+        player.tries_lanes = matches!(event, Event::System(_));
         self.apply(event)?;
         Ok(())
     }
 
-    /// Does the first of these that the seat can: it takes a plan to make; it does one event, a
+    /// Does the first of these that the player can: it takes a plan to make; it does one event, a
     /// command of one of its lanes or the first that is available and not held, the one kind after
     /// the other; it is to wait, where a register is held; it is to end.
     ///
     /// # Errors
     /// `HistoryFull` only where the history has as many events as the shape allows; `Want` where
     /// there is no memory. Nothing has changed then, but for which kind is tried next.
-    pub fn turn(&mut self, seat: &mut Seat) -> Result<Turn, ApplyFault>
-        requires { seat.old.number < seat.old.threads }
-        ensures plan { IfOk result (λ turn. (work : Work) → turn ≡ Turn.Plan work
+    pub fn turn(&mut self, player: &mut Player) -> Result<NextAction<Work>, ApplyFault>
+        ensures plan { IfOk result (λ next. (work : Work) → next ≡ NextAction.Plan work
             → (register work.worker (diary_seen self.old.seen work.controller) ≡ Some work.basis)
             × (work.controller < self.old.seen.shape.controllers)
             × (work.worker < self.old.seen.shape.workers)
-            × (self.new.slots ≡ taken_by seat.old.number work.controller work.worker self.old.slots)
+            × (self.new.slots ≡ taken_by player.old.number work.controller work.worker self.old.slots)
             × (self.new.seen ≡ self.old.seen)) }
-        ensures plannable { IfOk result (λ turn. (work : Work) → turn ≡ Turn.Plan work
+        ensures plannable { IfOk result (λ next. (work : Work) → next ≡ NextAction.Plan work
             → IsSome work.basis.job → CanPlan work.basis) }
-        ensures went { IfOk result (λ turn. turn ≡ Turn.Went
+        ensures went { IfOk result (λ next. next ≡ NextAction.Went
             → (event : Event) × HasHappened event self.old self.new
-            × IsOwnEvent seat.old self.old event) }
-        ensures waits { IfOk result (λ turn. turn ≡ Turn.Wait → (self.new ≡ self.old)
+            × IsOwnEvent player.old self.old event) }
+        ensures waits { IfOk result (λ next. next ≡ NextAction.Wait → (self.new ≡ self.old)
             × (has_holders self.old.slots ≡ true)
             × (first_event (unheld_seen self.old.slots self.old.seen) ≡ None)
-            × ¬ HasLeft seat.old self.old.seen) }
-        ensures ends { IfOk result (λ turn. turn ≡ Turn.End → (self.new ≡ self.old)
-            × (has_rest self.old.seen ≡ true) × ¬ HasLeft seat.old self.old.seen) }
-        ensures first { IfOk result (λ turn. ((work : Work) → turn ≢ Turn.Plan work)
+            × ¬ HasLeft player.old self.old.seen) }
+        ensures ends { IfOk result (λ next. next ≡ NextAction.End → (self.new ≡ self.old)
+            × (has_rest self.old.seen ≡ true) × ¬ HasLeft player.old self.old.seen) }
+        ensures first { IfOk result (λ next. ((work : Work) → next ≢ NextAction.Plan work)
             → find (is_open_slot self.old.seen) self.old.slots ≡ None) }
         ensures kept { OnErr result (self.new ≡ self.old) }
         ensures room { result ≡ Err HistoryFull
             → self.old.seen.shape.events ≤ length self.old.seen.pasts }
-        ensures seat { (seat.new.number ≡ seat.old.number) × (seat.new.threads ≡ seat.old.threads) }
+        ensures player { (player.new.number ≡ player.old.number)
+            × (player.new.threads ≡ player.old.threads) }
     {
-        match self.cluster.take_plan(seat.number) {
-            Ok(Some(work)) => return Ok(Turn::Plan(work)),
+        match self.cluster.take_plan(player.number) {
+            Ok(Some(work)) => return Ok(NextAction::Plan(work)),
             Ok(None) => {}
             Err(_) => return Err(ApplyFault::Want),
         }
-        match self.next_of(seat) {
+        match self.next_of(player) {
             Some(event) => {
-                self.go(seat, event)?;
-                Ok(Turn::Went)
+                self.go(player, event)?;
+                Ok(NextAction::Went)
             }
-            None if self.cluster.held() => Ok(Turn::Wait),
-            None => Ok(Turn::End),
+            None if self.cluster.held() => Ok(NextAction::Wait),
+            None => Ok(NextAction::End),
         }
     }
 }

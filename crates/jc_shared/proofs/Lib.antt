@@ -1,2 +1,2 @@
-mod LeftFacts
+pub mod LeftFacts
 mod SeenFacts

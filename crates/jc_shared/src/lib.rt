@@ -2,15 +2,22 @@
 //! lock is a mutex, or a turn lock, whose seats know a beginning of the one history.
 #![tactic(auto)]
 
+mod by_mutex;
+mod by_turn_lock;
+mod clusters;
+mod faults;
 mod finishing;
 mod gate;
-mod players;
+mod host;
+mod monitor;
+mod play;
 mod seen;
-mod threads;
-mod turning;
 
+pub use by_mutex::run_threads;
+pub use by_turn_lock::run_turn;
+pub use faults::ThreadsFault;
 pub use gate::{FreeGate, Gate};
+pub use host::Host;
 pub use jc_seats::{Actor, ApplyFault, Cluster, Kept, Naming, keep};
+pub use play::Play;
 pub use seen::{SeenReply, apply_seen};
-pub use threads::{ThreadsFault, run_threads};
-pub use turning::run_turn;

@@ -2,11 +2,11 @@
 
 ghost use Rattle.std.specs.Prelude.{◌≡◌, ◌<◌, ◌↔◌, false};
 ghost use Rattle.jc_seats.specs.Names.{IsOfName};
-ghost use Rattle.jc_turn.specs.Seats.{IsSameSeat};
-ghost use Rattle.jc_shared.specs.Turning.{SeatIsAnswered, IsDone, IsOutAnswer, IsSeenHistory, lost_after};
+ghost use Rattle.jc_turn.specs.LockSeats.{IsSameSeat};
+ghost use Rattle.jc_shared.specs.SeenReplies.{SeatIsAnswered, IsDone, IsOutAnswer, IsSeenHistory, lost_after};
 
 use jc_seats::{ApplyFault, Kept, Naming};
-use jc_turn::{Seat, Taken, Turn};
+use jc_turn::{LockSeat, Taken, TurnLock};
 use jc_types::{Event, Reply};
 
 /// What a seat is answered to an event.
@@ -52,22 +52,22 @@ fn done<J: Naming>(kept: &mut Kept<J>, event: Event) -> Result<SeenReply, ApplyF
 /// `HistoryFull` exactly where the event can come, and the history that was found has as many
 /// events as the shape allows; `Want` where there is no memory.
 pub fn apply_seen<J: Naming>(
-    turn: &Turn<Kept<J>>,
-    seat: &mut Seat,
+    lock: &TurnLock<Kept<J>>,
+    seat: &mut LockSeat,
     event: Event,
 ) -> Result<SeenReply, ApplyFault>
-    requires turn { seat.old.turn ≡ turn.now.name }
+    requires lock { seat.old.lock ≡ lock.now.name }
     requires free { seat.old.holds ≡ false }
     ensures seat { IsSameSeat seat.old seat.new × (seat.new.holds ≡ false) }
     ensures out { IsOutAnswer result ↔ (seat.old.lost < seat.new.lost) }
     ensures lost { seat.new.lost ≡ lost_after result seat.old.lost }
     ensures answer { SeatIsAnswered J.script J.shape event result seat.old.seen seat.new.seen }
 {
-    let Taken::Value(mut kept) = turn.take(seat) else {
+    let Taken::Value(mut kept) = lock.take(seat) else {
         return Ok(SeenReply::Out);
     };
     keeps(&kept);
     let answer = done(&mut kept, event);
-    turn.give(seat, kept);
+    lock.give(seat, kept);
     answer
 }

@@ -2,11 +2,11 @@
 use Rattle.std.specs.Prelude.{List, length}
 use Rattle.std.specs.List.{refill}
 use Rattle.std.specs.Borrow.{Lends, MutBor, Fml, Array}
-use Rattle.jc_turn.specs.Seats.{SeatView}
-use Rattle.jc_turn.specs.contracts.seating.Seat.{the_row as seat_row}
-use Rattle.jc_turn.specs.contracts.seating.Seats.{the_row as seats_row}
+use Rattle.jc_turn.specs.LockSeats.{LockSeatView}
+use Rattle.jc_turn.specs.contracts.seating.LockSeat.{the_row as seat_row}
+use Rattle.jc_turn.specs.contracts.seating.LockSeats.{the_row as seats_row}
 
 -- The seats are those that were left behind the borrow: as many as there were.
-abbrev pub LendsSeats : MutBor (List SeatView) → MutBor (List SeatView) → Fml
+abbrev pub LendsSeats : MutBor (List LockSeatView) → MutBor (List LockSeatView) → Fml
 LendsSeats seats lent =
     Lends seats_row (Array seat_row 0) seats lent (λ left. refill (length seats.now) seats.now left)

@@ -2,15 +2,15 @@
 
 ghost use Rattle.std.specs.Prelude.{◌≡◌, ◌<◌, ◌≤◌, ◌+◌, ◌∷◌, [], IfOk, IfErr, Some, vec_capacity};
 ghost use Rattle.jc_turn.specs.Rules.{first_view};
-ghost use Rattle.jc_turn.specs.Seats.{IsLock, fresh_seats};
+ghost use Rattle.jc_turn.specs.LockSeats.{IsLock, fresh_seats};
 
 use crate::answers::OpenWant;
-use crate::board::{Place, Table};
+use crate::board::{LockPlace, LockTable};
 use crate::histories::Booked;
 use crate::plays::OneSeat;
-use crate::seating::{Seat, Seats};
+use crate::seating::{LockSeat, LockSeats};
 use crate::steps::Board;
-use crate::turns::Turn;
+use crate::turn_lock::TurnLock;
 use atomic_table::Refused;
 use std::alloc::Global;
 
@@ -40,7 +40,7 @@ fn out_of_slot<T>(mut slots: Vec<Option<T>>) -> T
 }
 
 // The table of a lock that has the value, with the place that stands for all seats.
-fn lay<T: Booked>(alloc: Global, value: T, seats: u32) -> Result<(Table<T>, Place<T>), T>
+fn lay<T: Booked>(alloc: Global, value: T, seats: u32) -> Result<(LockTable<T>, LockPlace<T>), T>
     ensures table { IfOk result (λ made.
         IsLock made.0.shared.table_id × (made.0.shared.key ≡ seats)) }
     ensures place { IfOk result (λ made. (made.1.table_id ≡ made.0.shared.table_id)
@@ -48,14 +48,14 @@ fn lay<T: Booked>(alloc: Global, value: T, seats: u32) -> Result<(Table<T>, Plac
     ensures want { IfErr result (λ back. back ≡ value) }
 {
     let slots = in_slot(alloc, value)?;
-    match Table::new(alloc, &[0], slots, &seats) {
+    match LockTable::new(alloc, &[0], slots, &seats) {
         Ok(made) => Ok(made),
         Err(Refused { slots }) => Err(out_of_slot(slots)),
     }
 }
 
 // Cuts the seats from the place that stands for all of them.
-fn deal<T: Booked>(board: &Board<T>, mut place: Place<T>, list: &mut Vec<Seat>, seats: u32)
+fn deal<T: Booked>(board: &Board<T>, mut place: LockPlace<T>, list: &mut Vec<LockSeat>, seats: u32)
     requires some { 1 ≤ seats }
     requires lock { IsLock board.now.table_id × (place.table_id ≡ board.now.table_id) }
     requires all { place.me ≡ (first_view seats, []) }
@@ -64,12 +64,12 @@ fn deal<T: Booked>(board: &Board<T>, mut place: Place<T>, list: &mut Vec<Seat>, 
 {
     for number in 0..seats - 1 {
         let one = board.split_seat::<OneSeat>(&mut place);
-        list.push_reserved(Seat {
+        list.push_reserved(LockSeat {
             badge: one.into_badge(),
             number,
         });
     }
-    list.push_reserved(Seat {
+    list.push_reserved(LockSeat {
         badge: place.into_badge(),
         number: seats - 1,
     });
@@ -80,7 +80,11 @@ fn deal<T: Booked>(board: &Board<T>, mut place: Place<T>, list: &mut Vec<Seat>, 
 ///
 /// # Errors
 /// `OpenWant` with the value, where there is no memory.
-pub fn make<T: Booked>(alloc: Global, value: T, seats: u32) -> Result<(Turn<T>, Seats), OpenWant<T>>
+pub fn make<T: Booked>(
+    alloc: Global,
+    value: T,
+    seats: u32,
+) -> Result<(TurnLock<T>, LockSeats), OpenWant<T>>
     requires { (1 ≤ seats) × (seats ≤ 16) }
     ensures made { IfOk result (λ made. (made.0.seats ≡ seats)
         × (made.1 ≡ fresh_seats made.0.name 0 seats)) }
@@ -92,7 +96,7 @@ pub fn make<T: Booked>(alloc: Global, value: T, seats: u32) -> Result<(Turn<T>, 
     match lay(alloc, value, seats) {
         Ok((table, place)) => {
             deal(&table.shared, place, &mut list, seats);
-            Ok((Turn { table }, Seats { seats: list }))
+            Ok((TurnLock { table }, LockSeats { seats: list }))
         }
         Err(value) => Err(OpenWant(value)),
     }

@@ -2,21 +2,21 @@
 
 ghost use Rattle.std.specs.Prelude.{◌≡◌, ◌≢◌, [], ◌∷◌, ◌<◌, Some, None, MatchOption};
 ghost use mathlib.Core.List.{IsPrefix};
-ghost use Rattle.jc_turn.specs.declared.board.Stage.TheVariants.{Rests, Moves, Holds};
+ghost use Rattle.jc_turn.specs.declared.board.LockStage.TheVariants.{Rests, Moves, Holds};
 ghost use Rattle.jc_turn.specs.Rules.{at_stage, but_one, joined_views, lost_again, now_seen, one_of, without_old};
-ghost use Rattle.jc_turn.specs.Seats.{IsSeat, IsLock, view_of};
+ghost use Rattle.jc_turn.specs.LockSeats.{IsSeat, IsLock, view_of};
 
-use crate::board::{Law, Place, View};
+use crate::board::{LockPlace, LockPlaceView, LockRule};
 use crate::histories::Booked;
 use crate::plays::{Compare, Empty, Home, Meet, Note, Reach, Try};
 use atomic_table::{Badge, Shared};
 use std::mem::replace;
 
 // The table, as its seats share it.
-pub(crate) type Board<T> = Shared<Option<T>, View, u32, Law>;
+pub(crate) type Board<T> = Shared<Option<T>, LockPlaceView, u32, LockRule>;
 
 // Takes the seat of the table out of its badge.
-pub(crate) fn rise<T>(badge: &mut Badge<View>) -> Place<T>
+pub(crate) fn rise<T>(badge: &mut Badge<LockPlaceView>) -> LockPlace<T>
     requires { badge.old.views ≡ view_of badge.old.views ∷ [] }
     ensures { (result.table_id ≡ badge.old.table_id) × (result.me ≡ (view_of badge.old.views, [])) }
 {
@@ -24,7 +24,7 @@ pub(crate) fn rise<T>(badge: &mut Badge<View>) -> Place<T>
 }
 
 // Tries to take the value.
-pub(crate) fn try_take<T: Booked>(board: &Board<T>, place: &mut Place<T>) -> Option<T>
+pub(crate) fn try_take<T: Booked>(board: &Board<T>, place: &mut LockPlace<T>) -> Option<T>
     requires lock { IsLock board.now.table_id × (place.old.table_id ≡ board.now.table_id) }
     requires free { (place.old.me.0.stage ≡ Rests) × (place.old.me.0.weight ≢ 0)
         × (place.old.me.1 ≡ []) }
@@ -43,7 +43,7 @@ pub(crate) fn try_take<T: Booked>(board: &Board<T>, place: &mut Place<T>) -> Opt
 }
 
 // Gives the value back.
-pub(crate) fn put_back<T: Booked>(board: &Board<T>, place: &mut Place<T>, value: T)
+pub(crate) fn put_back<T: Booked>(board: &Board<T>, place: &mut LockPlace<T>, value: T)
     requires lock { IsLock board.now.table_id × (place.old.table_id ≡ board.now.table_id) }
     requires holds { (place.old.me.0.stage ≡ Holds) × (place.old.me.1 ≡ []) }
     requires longer { IsPrefix place.old.me.0.seen (T.pasts value) }
@@ -57,7 +57,7 @@ pub(crate) fn put_back<T: Booked>(board: &Board<T>, place: &mut Place<T>, value:
 }
 
 // Joins what the other has seen.
-pub(crate) fn learn<T: Booked>(board: &Board<T>, place: &mut Place<T>, other: Place<T>)
+pub(crate) fn learn<T: Booked>(board: &Board<T>, place: &mut LockPlace<T>, other: LockPlace<T>)
     requires lock { IsLock board.now.table_id × (place.old.table_id ≡ board.now.table_id)
         × (other.table_id ≡ board.now.table_id) }
     requires rest { (place.old.me.0.stage ≡ Rests) × (place.old.me.1 ≡ [])

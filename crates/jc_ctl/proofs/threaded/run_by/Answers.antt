@@ -1,6 +1,6 @@
 -- A cluster that is full was left too.
 use Rattle.std.proofs.Common.{Err, ap}
-use Rattle.jc_shared.specs.declared.threads.ThreadsFault.{ThreadsFault}
+use Rattle.jc_shared.specs.declared.faults.ThreadsFault.{ThreadsFault}
 use Rattle.jc_ctl.proofs.threaded.run_by.Goals as goal
 
 pub returns-in-Err-Full-clause-left : goal.returns-in-Err-Full-clause-left

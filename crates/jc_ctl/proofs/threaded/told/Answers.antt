@@ -13,4 +13,4 @@ returns-clause-report c = λ threads some.
     c.history-history.result.now c.requires.lanes (let few = c.requires.few_controllers in omega (arith, few))
     (let few = c.requires.few_workers in omega (arith, few))
     c.history-history.ensures.follows orderly)
-    c.in_ok-text.ensures c.requires.orderly c.requires.whole c.requires.filled c.requires.to_come
+    c.in_ok-text.ensures c.requires.ended

@@ -1,7 +1,7 @@
 use Rattle.std.proofs.Common.{List, reverse, sym, subst, ◌∙◌}
 use mathlib.Core.List.{IsPrefix}
 use Rattle.jc_types.specs.declared.runs.Past.{Past}
-use Rattle.jc_shared.specs.Turning.{SeatIsAnswered}
+use Rattle.jc_shared.specs.SeenReplies.{SeatIsAnswered}
 use Rattle.jc_shared.proofs.SeenFacts.{answers, done_begins, lost_kept}
 use Rattle.jc_shared.proofs.seen.apply_seen.Goals as goal
 
