@@ -1,0 +1,9 @@
+pub mod Lists
+pub mod StayFacts
+pub mod MomentFacts
+pub mod ClockFacts
+pub mod KeyTurns
+pub mod RaisedFacts
+pub mod RoomFacts
+pub mod AgainFacts
+pub mod DraftFacts
