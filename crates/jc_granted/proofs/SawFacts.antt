@@ -1,5 +1,5 @@
 -- What a plan asks finds what it asks for, where its sync saw the whole log.
-use Rattle.std.proofs.Common.{◌≡◌, ◌⊎◌, inl, inr, Bool, true, false, not, ◌≤◌, nat_le, ◌&&◌, ◌||◌, List, [], ◌∷◌, ◌++◌, filter, length, Option, Some, None, is_some, IfSome, refl, sym, ap, ◌∙◌, subst, arith, true≢false, append_assoc}
+use Rattle.std.proofs.Common.{◌≡◌, ◌⊎◌, inl, inr, Bool, true, false, not, ◌≤◌, nat_le, ◌&&◌, ◌||◌, List, [], ◌∷◌, filter, length, Option, Some, None, is_some, IfSome, refl, sym, ap, ◌∙◌, subst, arith, true≢false}
 use Rattle.std.specs.List.{AllByRecursion as Each}
 use Rattle.std.specs.Option.{IsSomeAnd, unwrap_or}
 use Rattle.std.proofs.lemmas.Bool.{and_parts, both_ways, false_from_ne_true, not-true}
@@ -43,6 +43,7 @@ use Rattle.jc_plan.specs.declared.plans.Planned.{Planned}
 use Rattle.jc_plan.specs.Plans.{planned, planned_for}
 use Rattle.jc_plan.specs.Releases.{ReleasedPod, is_orphan}
 use Rattle.jc_plan.specs.Statuses.{accounted, decided_in, is_settled, wants_in}
+use Rattle.jc_plan.proofs.ListedFacts.{each_in}
 use Rattle.jc_plan.proofs.OneWay.{goes-seen}
 use Rattle.jc_plan.proofs.OrderFacts.{let_goes-ascend, marks-ascend, released-seen, releases-ascend}
 use Rattle.jc_plan.proofs.PartFacts.{planned-here}
@@ -50,14 +51,8 @@ use Rattle.jc_sync.specs.Asks.{asks_of}
 use Rattle.jc_sync.specs.Flight.{Flight}
 use Rattle.jc_sync.specs.Flights.{Flies, IsSent}
 use Rattle.jc_sync.specs.Sends.{sent_first}
-use Rattle.jc_sync.proofs.SeenFacts.{in_middle}
 use Rattle.jc_granted.specs.Ready.{AreReady, IsThere, JobIsAt, IsActiveAt}
 use Rattle.jc_granted.proofs.ApartFacts.{Fit, all-ready}
-
--- Each UID of a list is in it.
-each-in : (front us : List Uid) → Each (λ u. is_in u (front ++ us) ≡ true) us
-each-in front [] = tt
-each-in front (u ∷ us) = (in_middle u front us, subst (λ all. Each (λ v. is_in v all ≡ true) us) (append_assoc front (u ∷ []) us) (each-in (front ++ u ∷ []) us))
 
 -- ---- pods as they were seen
 
@@ -236,9 +231,7 @@ module _ (deeds : List Deed) (log : List Entry) (flights : List Flight) (flight 
           }
 
   all-released : Each (IsPod flight.basis.pods (IsReleased flight.basis.job)) (planned flight.basis).releases
-  all-released =
-      Each-weaker (λ u. is_in u (planned flight.basis).releases ≡ true) (IsPod flight.basis.pods (IsReleased flight.basis.job)) released (planned flight.basis).releases
-      (each-in [] (planned flight.basis).releases)
+  all-released = each_in (IsPod flight.basis.pods (IsReleased flight.basis.job)) (planned flight.basis).releases released
 
   all-tracked : (plan : Planned) → plan ≡ planned flight.basis → Each (λ u. IsThere (λ pod. pod.tracked ≡ true) u log) plan.releases
   all-tracked plan is =

@@ -3,6 +3,7 @@ use Rattle.std.proofs.Common.{◌≡◌, ◌⊎◌, inl, inr, ℕ, ◌-◌, ◌<
 use Rattle.std.proofs.lemmas.Option.{none-some as none_some}
 use Rattle.jc_types.specs.declared.actions.SpecChange.{SpecChange}
 use Rattle.jc_types.specs.declared.objects.Entry.{Entry}
+use Rattle.jc_types.specs.declared.objects.Job.{Job}
 use Rattle.jc_types.specs.declared.objects.Key.{Key}
 use Rattle.jc_types.specs.declared.objects.Kind.{Kind}
 use Rattle.jc_types.specs.declared.numbers.Version.{Version}
@@ -31,6 +32,7 @@ use Rattle.jc_history.specs.Replies.{AppendsNothing, diary, log_given}
 use Rattle.jc_ledger.specs.Syncs.{began_of, is_begin}
 use Rattle.jc_plan.specs.Plans.{planned}
 use Rattle.jc_sync.specs.Asks.{asks_of}
+use Rattle.jc_sync.specs.Quiet.{EndedAreLost, HasNext}
 use Rattle.jc_sync.specs.Readings.{is_step, step_told, steps_of, told_step, with_step}
 use Rattle.jc_sync.specs.Leftovers.{IsLeftBy}
 use Rattle.jc_sync.specs.Registers.{flights_of_all}
@@ -48,7 +50,7 @@ use Rattle.jc_granted.specs.Granted.{IsGranted}
 use Rattle.jc_granted.specs.Ready.{AreReady}
 use Rattle.jc_granted.proofs.DoingFacts.{doing-all}
 use Rattle.jc_granted.proofs.SawFacts.{job-there, saw-ready}
-use Rattle.jc_granted.proofs.StepGrants.{further, step-ended, step-granted}
+use Rattle.jc_granted.proofs.StepGrants.{further, step-ended, step-granted, step-lost, step-next}
 use Rattle.jc_granted.proofs.UnderWay.{IsGoing, IsUnderWay, left-told, under-way}
 
 abbrev Stay : Type 0
@@ -209,18 +211,31 @@ module _ (stay : Stay) (shape : Shape) (some : 0 < shape.workers) (past : List D
       at [] all = all.0
       at (x ∷ since) all = at since all.1
 
-  pub granted : (run : List Deed) (c w : ℕ) (basis : Basis) (d : Deed) → IsLegal shape (run ++ past) → AllAskValid (run ++ past) → IsSettling shape run past → c < shape.controllers → w < shape.workers
-      → register w (diary shape c (run ++ past)) ≡ Some basis → RunsAlone shape run past c w basis → pending w (diary shape c (run ++ past)) ≡ None → IsLegalNext shape (run ++ past) d → d.act ≡ does.Step c w → IsGranted shape (run ++ past) d
-  granted run c w basis d legal valid h lt less r it none next act = by (going run legal valid h c w basis lt less r)
+  -- So it is going.
+  is-going : (run : List Deed) (c w : ℕ) (basis : Basis) → IsLegal shape (run ++ past) → AllAskValid (run ++ past) → IsSettling shape run past → c < shape.controllers → w < shape.workers
+      → register w (diary shape c (run ++ past)) ≡ Some basis → RunsAlone shape run past c w basis → IsGoing shape c w basis (run ++ past)
+  is-going run c w basis legal valid h lt less r it = by (going run legal valid h c w basis lt less r)
     where
-      by : NoneBegan run ⊎ IsGoing shape c w basis (run ++ past) → IsGranted shape (run ++ past) d
+      by : NoneBegan run ⊎ IsGoing shape c w basis (run ++ past) → IsGoing shape c w basis (run ++ past)
       by (inl n) = absurd (has-begun run c w basis it n)
-      by (inr g) = step-granted shape (run ++ past) d legal next (legal_run stay shape (run ++ past) legal valid) c w basis act lt less r g none
+      by (inr g) = g
 
-  pub planned-done : (run : List Deed) (c w : ℕ) (basis : Basis) (d : Deed) → IsLegal shape (run ++ past) → AllAskValid (run ++ past) → IsSettling shape run past → c < shape.controllers → w < shape.workers
-      → register w (diary shape c (run ++ past)) ≡ Some basis → RunsAlone shape run past c w basis → IsLegalNext shape (run ++ past) d → d.act ≡ does.Step c w → d.reply ≡ reply.Ended → HasItsPlan (log_given shape (run ++ past)) basis
-  planned-done run c w basis d legal valid h lt less r it next act ended = by (going run legal valid h c w basis lt less r)
-    where
-      by : NoneBegan run ⊎ IsGoing shape c w basis (run ++ past) → HasItsPlan (log_given shape (run ++ past)) basis
-      by (inl n) = absurd (has-begun run c w basis it n)
-      by (inr g) = step-ended shape (run ++ past) d legal next (legal_run stay shape (run ++ past) legal valid) c w basis act lt less r g ended
+  module _ (run : List Deed) (c w : ℕ) (basis : Basis) (d : Deed) (legal : IsLegal shape (run ++ past)) (valid : AllAskValid (run ++ past)) (settling : IsSettling shape run past) (lt : c < shape.controllers) (less : w < shape.workers)
+      (reg : register w (diary shape c (run ++ past)) ≡ Some basis) (alone : RunsAlone shape run past c w basis) where
+    g : IsGoing shape c w basis (run ++ past)
+    g = is-going run c w basis legal valid settling lt less reg alone
+
+    m : Machine shape (run ++ past)
+    m = legal_run stay shape (run ++ past) legal valid
+
+    pub granted : pending w (diary shape c (run ++ past)) ≡ None → IsLegalNext shape (run ++ past) d → d.act ≡ does.Step c w → IsGranted shape (run ++ past) d
+    granted none next act = step-granted shape (run ++ past) d legal next m c w basis act lt less reg g none
+
+    pub planned-done : IsLegalNext shape (run ++ past) d → d.act ≡ does.Step c w → d.reply ≡ reply.Ended → HasItsPlan (log_given shape (run ++ past)) basis
+    planned-done next act ended = step-ended shape (run ++ past) d legal next m c w basis act lt less reg g ended
+
+    pub next-had : (job : Job) → basis.job ≡ Some job → IsLegalNext shape (run ++ past) d → d.act ≡ does.Step c w → d.reply ≡ reply.Ended → HasNext (log_given shape (run ++ past)) basis job
+    next-had job saw next act ended = step-next shape (run ++ past) d legal next m c w basis act lt less reg g ended job saw
+
+    pub ended-lost : (job : Job) → basis.job ≡ Some job → IsLegalNext shape (run ++ past) d → d.act ≡ does.Step c w → d.reply ≡ reply.Ended → EndedAreLost (log_given shape (run ++ past)) basis job
+    ended-lost job saw next act ended = step-lost shape (run ++ past) d legal next m c w basis act lt less reg g ended job saw

@@ -1,9 +1,11 @@
 -- A step of such a sync: its request is granted, and it goes on with what finds what it asks for.
-use Rattle.std.proofs.Common.{◌≡◌, ℕ, ◌+◌, ◌<◌, Bool, true, false, cond, List, [], ◌∷◌, ◌++◌, length, Option, Some, None, is_some, refl, sym, ap, ◌∙◌, subst, arith, eq-eqb, true≢false}
+use Rattle.std.proofs.Common.{◌≡◌, ℕ, ◌+◌, ◌<◌, Bool, ◌||◌, true, false, cond, List, [], ◌∷◌, ◌++◌, length, Option, Some, None, is_some, refl, sym, ap, ◌∙◌, subst, arith, eq-eqb, true≢false}
 use Rattle.std.specs.Option.{option_map, option_or, option_to_list, unwrap_or}
 use Rattle.jc_types.specs.declared.actions.Fault.{Fault}
 use Rattle.jc_types.specs.declared.actions.Fault.TheVariants.{Drop, Lose}
+use Rattle.jc_types.specs.declared.numbers.Uid.{Uid}
 use Rattle.jc_types.specs.declared.objects.Entry.{Entry}
+use Rattle.jc_types.specs.declared.objects.Job.{Job}
 use Rattle.jc_types.specs.declared.replies.Answer.{Answer}
 use Rattle.jc_types.specs.declared.replies.Answer.TheVariants as answer
 use Rattle.jc_types.specs.declared.replies.Reply.{Reply}
@@ -11,8 +13,16 @@ use Rattle.jc_types.specs.declared.replies.Reply.TheVariants as reply
 use Rattle.jc_types.specs.declared.replies.Request.{Request}
 use Rattle.jc_types.specs.declared.replies.Request.TheVariants as request
 use Rattle.jc_types.specs.declared.runs.Shape.{Shape}
+use Rattle.jc_states.specs.UidLists.{is_in}
 use Rattle.jc_states.specs.declared.bases.Basis.{Basis}
+use Rattle.jc_types.proofs.KeyFacts.{same_uid-eq}
+use Rattle.jc_types.specs.Keys.{same_uid}
 use Rattle.jc_log.specs.Acts as does
+use Rattle.jc_log.specs.Log.{is_lost, life}
+use Rattle.jc_ledger.proofs.QuietFacts.{IfSome-at}
+use Rattle.jc_plan.specs.Plans.{planned}
+use Rattle.jc_plan.specs.Statuses.{second_value}
+use Rattle.std.specs.List.{AllByRecursion as Each}
 use Rattle.jc_log.specs.Deeds.{Deed}
 use Rattle.jc_log.specs.Requests.{grown}
 use Rattle.jc_log.specs.Writes.{Stored}
@@ -26,20 +36,30 @@ use Rattle.jc_history.proofs.LegalFacts.{notes-next}
 use Rattle.jc_sync.specs.Ask.{Ask}
 use Rattle.jc_sync.specs.Asks.{as_request}
 use Rattle.jc_sync.specs.Places.{IfGoesOn, IsAt}
-use Rattle.jc_sync.specs.Quiet.{GoesOnTo}
-use Rattle.jc_sync.specs.Registers.{HasSyncs, put_at, register_at, register_of}
+use Rattle.jc_sync.specs.Quiet.{EndedAreLost, GoesOnTo, HasNext, Leaves}
+use Rattle.jc_sync.specs.Registers.{HasSyncs, flights_of_all, put_at, register_at, register_of}
 use Rattle.jc_sync.specs.Steps.{Ends, GoesOn, Next, Sync, answered_to, as_answer, stepped_at}
+use Rattle.jc_sync.proofs.ReachFacts.{ended_all, has_next}
 use Rattle.jc_sync.proofs.RegisterFacts.{step_basis, step_syncs}
 use Rattle.jc_runs.specs.Teams.{registers_of}
 use Rattle.jc_runs.proofs.LegalRuns.{Given, Machine, given}
 use Rattle.jc_runs.proofs.QuietSteps.{put-same}
 use Rattle.jc_runs.proofs.StepRuns.{step_gives-at}
-use Rattle.jc_granted.specs.Done.{HasItsPlan, IsDoing}
+use Rattle.jc_granted.specs.Done.{HasItsPlan, HasStatus, IsDoing}
 use Rattle.jc_granted.specs.Granted.{Granted, IsGranted, NoneLeft, grants}
 use Rattle.jc_granted.specs.Ready.{AreReady, Grants}
 use Rattle.jc_granted.proofs.DoingFacts.{done-all, step-doing}
 use Rattle.jc_granted.proofs.GrantFacts.{is-granted, stays-ready}
 use Rattle.jc_granted.proofs.UnderWay.{IsGoing, IsUnderWay, going-doing, going-ready, under-way}
+
+-- What holds of each holds of one that is in the list.
+of-each : (P : Uid → Type 0) (u : Uid) (us : List Uid) → Each P us → is_in u us ≡ true → P u
+of-each P u [] all h = absurd (true≢false (sym h))
+of-each P u (v ∷ us) all h = by (of-each P u us all.1) (same_uid v u) refl h
+  where
+    by : (is_in u us ≡ true → P u) → (b : Bool) → same_uid v u ≡ b → (b || is_in u us) ≡ true → P u
+    by more true s g = subst P (same_uid-eq v u s) all.0
+    by more false s g = more g
 
 -- ---- what a step leaves of its register
 
@@ -135,17 +155,47 @@ module _ (shape : Shape) (past : List Deed) (d : Deed) (before : IsLegal shape p
   is_ended reply.Ended = true
   is_ended other = false
 
-  pub step-ended : d.reply ≡ reply.Ended → HasItsPlan (log_given shape past) basis
-  step-ended ended = by its.sync.left refl its.fault refl
+  plan-done : d.reply ≡ reply.Ended → HasItsPlan m.log its.sync.flight.basis
+  plan-done ended = by its.sync.left refl its.fault refl
     where
       told-else : (r : Reply) → is_ended r ≡ false → d.reply ≡ r → ⊥
       told-else r not told = true≢false (sym (ap is_ended ended) ∙ ap is_ended told ∙ not)
 
-      by : (left : List Ask) → its.sync.left ≡ left → (fault : Option Fault) → its.fault ≡ fault → HasItsPlan (log_given shape past) basis
-      by [] is fault fault-is = subst (λ b. HasItsPlan (log_given shape past) b) its.of_basis (subst (λ log. HasItsPlan log its.sync.flight.basis) m.run.log_is (done-all m.log its.sync.flight.basis (doing [] is)))
+      by : (left : List Ask) → its.sync.left ≡ left → (fault : Option Fault) → its.fault ≡ fault → HasItsPlan m.log its.sync.flight.basis
+      by [] is fault fault-is = done-all m.log its.sync.flight.basis (doing [] is)
       by (ask ∷ left) is None fault-is = absurd (told-else _ refl (gave (ask ∷ left) is None fault-is).told)
       by (ask ∷ left) is (Some Drop) fault-is = absurd (told-else _ refl (gave (ask ∷ left) is (Some Drop) fault-is).told)
       by (ask ∷ left) is (Some Lose) fault-is = absurd (told-else _ refl (gave (ask ∷ left) is (Some Lose) fault-is).told)
+
+  pub step-ended : d.reply ≡ reply.Ended → HasItsPlan (log_given shape past) basis
+  step-ended ended = subst (λ b. HasItsPlan (log_given shape past) b) its.of_basis (subst (λ log. HasItsPlan log its.sync.flight.basis) m.run.log_is (plan-done ended))
+
+  -- So the Job has its next status, and what had ended is lost.
+  module _ (ended : d.reply ≡ reply.Ended) (job : Job) (saw : basis.job ≡ Some job) where
+    saw-it : its.sync.flight.basis.job ≡ Some job
+    saw-it = ap (λ (b : Basis). b.job) its.of_basis ∙ saw
+
+    leaves : Leaves m.log its.sync.flight job
+    leaves =
+        let p = plan-done ended in
+        let s = IfSome-at its.sync.flight.basis.job (λ j. HasStatus m.log its.sync.flight.basis j (second_value j its.sync.flight.basis)) job saw-it p.status in
+        record {
+          current = s.current;
+          there = s.there;
+          uid = s.uid;
+          status = s.status;
+          released = λ u h. of-each (λ v. is_lost (life v m.log) ≡ true) u (planned its.sync.flight.basis).releases p.releases h;
+        }
+
+    pub step-next : HasNext (log_given shape past) basis job
+    step-next =
+        subst (λ b. HasNext (log_given shape past) b job) its.of_basis (subst (λ log. HasNext log its.sync.flight.basis job) m.run.log_is
+        (has_next past m.log (flights_of_all (registers_of m.teams)) its.sync.flight job m.run.syncs.tied its.flies saw-it leaves))
+
+    pub step-lost : EndedAreLost (log_given shape past) basis job
+    step-lost =
+        subst (λ b. EndedAreLost (log_given shape past) b job) its.of_basis (subst (λ log. EndedAreLost log its.sync.flight.basis job) m.run.log_is
+        (ended_all past m.log (flights_of_all (registers_of m.teams)) its.sync.flight job m.run.syncs.tied its.flies saw-it leaves))
 
   -- ---- where the sync is still under way it goes on so
 

@@ -49,9 +49,9 @@ pub record IsActiveAt (version : Version) (pod : Pod) : Type 0 where
   pub at : pod.version ≡ version
   pub active : is_tracked_active pod ≡ true
 
--- The request finds what it asks for: a pod to mark is active, one to let go is active and has the finalizer, at the
--- version at which it was seen; one to release has the finalizer; and the Job of a status is there, at the version that
--- is sent.
+-- The request finds what it asks for: a pod is made for the Job that was seen, which may be gone since; one to mark is
+-- active; one to let go is active and has the finalizer, at the version at which it was seen; one to release has the
+-- finalizer; and the Job of a status is there, at the version that is sent.
 abbrev pub IsReady : List Entry → Basis → Version → Ask → Type 0
 IsReady log basis sends (MakePod index) = IsSome basis.job
 IsReady log basis sends (MarkPod u) = IsThere (λ pod. is_active pod ≡ true) u log

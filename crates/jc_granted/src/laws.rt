@@ -3,6 +3,7 @@
 
 ghost use Rattle.std.specs.Prelude.{◌≡◌, ◌<◌, ◌∷◌, ◌++◌, List, None, Some, length, true, ℕ};
 ghost use Rattle.jc_types.specs.declared.objects.Entry.{Entry};
+ghost use Rattle.jc_types.specs.declared.objects.Job.{Job};
 ghost use Rattle.jc_types.specs.declared.replies.Answer.{Answer};
 ghost use Rattle.jc_types.specs.declared.replies.Reply.TheVariants as reply;
 ghost use Rattle.jc_types.specs.declared.replies.Request.{Request};
@@ -21,6 +22,7 @@ ghost use Rattle.jc_sync.specs.Asks.{as_request, asks_of};
 ghost use Rattle.jc_sync.specs.Flight.{Flight};
 ghost use Rattle.jc_sync.specs.Flights.{Flies};
 ghost use Rattle.jc_sync.specs.Places.{IsAt};
+ghost use Rattle.jc_sync.specs.Quiet.{EndedAreLost, HasNext};
 ghost use Rattle.jc_sync.specs.Sends.{sent_first};
 ghost use Rattle.jc_sync.specs.Steps.{answered_to, stepped_at};
 ghost use Rattle.jc_runs.specs.Runs.{AllAskValid};
@@ -83,15 +85,30 @@ pub fn requests_in_a_settle_are_granted()
 
 /// **And where it ends, all that it planned is so**: each pod to mark is marked, each to let go has lost its finalizer
 /// and is marked, each to release has lost it; so many pods more of its Job were made as it was to make; and its Job
-/// has the second status of what it saw.
+/// has the second status of what it saw. That is the next status of the Job, and no own pod that had ended and was not
+/// left over has its finalizer.
 pub fn syncs_in_a_settle_do_what_they_plan()
-    ensures { (shape : Shape) (run past : List Deed) (c w : ℕ) (basis : Basis) (d : Deed)
+    ensures plan { (shape : Shape) (run past : List Deed) (c w : ℕ) (basis : Basis) (d : Deed)
         → IsLegal shape (run ++ past) → AllAskValid (run ++ past) → 0 < shape.workers
         → IsSettling shape run past → c < shape.controllers → w < shape.workers
         → register w (diary shape c (run ++ past)) ≡ Some basis
         → RunsAlone shape run past c w basis
         → IsLegalNext shape (run ++ past) d → d.act ≡ does.Step c w → d.reply ≡ reply.Ended
         → HasItsPlan (log_given shape (run ++ past)) basis }
+    ensures next { (shape : Shape) (run past : List Deed) (c w : ℕ) (basis : Basis) (d : Deed)
+        (job : Job) → IsLegal shape (run ++ past) → AllAskValid (run ++ past) → 0 < shape.workers
+        → IsSettling shape run past → c < shape.controllers → w < shape.workers
+        → register w (diary shape c (run ++ past)) ≡ Some basis
+        → RunsAlone shape run past c w basis → basis.job ≡ Some job
+        → IsLegalNext shape (run ++ past) d → d.act ≡ does.Step c w → d.reply ≡ reply.Ended
+        → HasNext (log_given shape (run ++ past)) basis job }
+    ensures ended { (shape : Shape) (run past : List Deed) (c w : ℕ) (basis : Basis) (d : Deed)
+        (job : Job) → IsLegal shape (run ++ past) → AllAskValid (run ++ past) → 0 < shape.workers
+        → IsSettling shape run past → c < shape.controllers → w < shape.workers
+        → register w (diary shape c (run ++ past)) ≡ Some basis
+        → RunsAlone shape run past c w basis → basis.job ≡ Some job
+        → IsLegalNext shape (run ++ past) d → d.act ≡ does.Step c w → d.reply ≡ reply.Ended
+        → EndedAreLost (log_given shape (run ++ past)) basis job }
 {
     allowed_updates_stay_valid();
 }
