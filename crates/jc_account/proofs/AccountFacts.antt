@@ -137,7 +137,10 @@ unfolding counted_in
 list_at job pods mode at =
     ap (λ m. merge (stayed (own_pods job pods) job.status.uncounted_succeeded) (listing m (newly job (own_pods job pods) Succeeded))) at
 
-pub succeeded-in : (u : Uid) (job : Job) (pods : List Pod) → job.spec.mode ≡ NonIndexed → is_in u (counted_in job pods).uncounted_succeeded ≡ ((is_in u job.status.uncounted_succeeded && has_tracked (own_pods job pods) u) || is_in u (uids_of (newly job (own_pods job pods) Succeeded)))
+pub succeeded-in : (u : Uid) (job : Job) (pods : List Pod) → job.spec.mode ≡ NonIndexed
+    → is_in u (counted_in job pods).uncounted_succeeded
+    ≡ ((is_in u job.status.uncounted_succeeded && has_tracked (own_pods job pods) u) || is_in u
+    (uids_of (newly job (own_pods job pods) Succeeded)))
 succeeded-in u job pods at =
     let own = own_pods job pods in
     ap (is_in u) (list_at job pods NonIndexed at)
@@ -182,7 +185,10 @@ failed-length job pods rises =
     longer job pods Failed job.status.uncounted_failed refl rises
     (λ u h. (neither (is_in u job.status.uncounted_succeeded) (is_in u job.status.uncounted_failed) h).1)
 
-pub succeeded-length : (job : Job) (pods : List Pod) → job.spec.mode ≡ NonIndexed → IsRising pods → length (counted_in job pods).uncounted_succeeded ≡ length (stayed (own_pods job pods) job.status.uncounted_succeeded) + length (newly job (own_pods job pods) Succeeded)
+pub succeeded-length : (job : Job) (pods : List Pod) → job.spec.mode ≡ NonIndexed → IsRising pods
+    → length (counted_in job pods).uncounted_succeeded
+    ≡ length (stayed (own_pods job pods) job.status.uncounted_succeeded) + length
+    (newly job (own_pods job pods) Succeeded)
 succeeded-length job pods at rises =
     ap length (list_at job pods NonIndexed at)
     ∙ longer job pods Succeeded job.status.uncounted_succeeded refl rises
@@ -208,7 +214,9 @@ pub failed-sum : (job : Job) (pods : List Pod) → IsRising pods → (counted_in
 failed-sum job pods rises =
     omega (arith, failed-total job pods, failed-length job pods rises, stayed_and_left (own_pods job pods) job.status.uncounted_failed)
 
-pub succeeded-sum : (job : Job) (pods : List Pod) → job.spec.mode ≡ NonIndexed → IsRising pods → (counted_in job pods).succeeded + length (counted_in job pods).uncounted_succeeded ≡ job.status.succeeded + length job.status.uncounted_succeeded + length (newly job (own_pods job pods) Succeeded)
+pub succeeded-sum : (job : Job) (pods : List Pod) → job.spec.mode ≡ NonIndexed → IsRising pods
+    → (counted_in job pods).succeeded + length (counted_in job pods).uncounted_succeeded
+    ≡ job.status.succeeded + length job.status.uncounted_succeeded + length (newly job (own_pods job pods) Succeeded)
 succeeded-sum job pods at rises =
     omega (arith, succeeded-total job pods at, succeeded-length job pods at rises, stayed_and_left (own_pods job pods) job.status.uncounted_succeeded)
 
@@ -273,7 +281,9 @@ left-indexed job pods at = left-succeeded job pods ∙ ap length none
 -- ---- indexes
 
 pub indexes-in : (n : ℕ) (job : Job) (pods : List Pod) → job.spec.mode ≡ Indexed
-    → has n (counted_in job pods).completed ≡ ((has n job.status.completed && (has_end job.status.conditions || nat_lt n (unwrap_or job.spec.completions 0))) || (nat_lt n (unwrap_or job.spec.completions 0) && list_any (has_index n) (newly job (own_pods job pods) Succeeded)))
+    → has n (counted_in job pods).completed
+    ≡ ((has n job.status.completed && (has_end job.status.conditions || nat_lt n (unwrap_or job.spec.completions 0))) ||
+    (nat_lt n (unwrap_or job.spec.completions 0) && list_any (has_index n) (newly job (own_pods job pods) Succeeded)))
 unfolding counted_in
 indexes-in n job pods at =
     let new = newly job (own_pods job pods) Succeeded in
@@ -331,7 +341,9 @@ listed_released u job pods listed tracked =
         (and_from (is_tracked pod) (ended || is_listed job.status pod.uid) parts.0 (or_right ended (is_listed job.status pod.uid) here)) parts.1
 
 -- A newly judged pod is released.
-newly_released : (u : Uid) (job : Job) (pods : List Pod) (outcome : Outcome) → is_verdict outcome ≡ true → ((a : Outcome) → same_outcome a outcome ≡ true → not (same_outcome a Alive) ≡ true) → is_in u (uids_of (newly job (own_pods job pods) outcome)) ≡ true → is_in u (counted_in job pods).releases ≡ true
+newly_released : (u : Uid) (job : Job) (pods : List Pod) (outcome : Outcome) → is_verdict outcome ≡ true
+    → ((a : Outcome) → same_outcome a outcome ≡ true → not (same_outcome a Alive) ≡ true)
+    → is_in u (uids_of (newly job (own_pods job pods) outcome)) ≡ true → is_in u (counted_in job pods).releases ≡ true
 newly_released u job pods outcome v ended h =
     release-member u job pods
     ∙ weaker_in (λ pod. (is_new job outcome pod && fits job own pod) && same_uid pod.uid u) (λ pod. is_to_release job own pod && same_uid pod.uid u) own
@@ -416,7 +428,9 @@ judged_once u job pods rises s f =
     let come = λ (outcome : Outcome) (v : is_verdict outcome ≡ true) (h : is_in u (uids_of (newly job own outcome)) ≡ true).
     (and_parts (not (is_listed job.status u)) (list_any (λ pod. here outcome pod && same_uid pod.uid u) own) (sym (newly-member u job own outcome v) ∙ h)).1 in
     let both = one_passes_both 0 u (here Succeeded) (here Failed) own (rises_filter 0 (is_own job) pods rises) (come Succeeded refl s) (come Failed refl f) in
-    true≢false (sym both ∙ none_passes (λ pod. (here Succeeded pod && here Failed pod) && same_uid pod.uid u) (λ pod. ap (λ b. b && same_uid pod.uid u) (apart (has_come_to job Succeeded pod) (has_come_to job Failed pod) (fits job own pod) (one_outcome job pod))) own)
+    true≢false (sym both ∙ none_passes (λ pod. (here Succeeded pod && here Failed pod) && same_uid pod.uid u)
+    (λ pod. ap (λ b. b && same_uid pod.uid u)
+    (apart (has_come_to job Succeeded pod) (has_come_to job Failed pod) (fits job own pod) (one_outcome job pod))) own)
   where
     apart : (s f fit : Bool) → (s && f) ≡ false → ((s && fit) && (f && fit)) ≡ false
     apart true false true h = refl
@@ -424,7 +438,9 @@ judged_once u job pods rises s f =
     apart true true fit h = absurd (true≢false h)
     apart false f fit h = refl
 
-pub lists-apart : (u : Uid) (job : Job) (pods : List Pod) → IsRising pods → (is_in u job.status.uncounted_succeeded && is_in u job.status.uncounted_failed) ≡ false → (is_in u (counted_in job pods).uncounted_succeeded && is_in u (counted_in job pods).uncounted_failed) ≡ false
+pub lists-apart : (u : Uid) (job : Job) (pods : List Pod) → IsRising pods
+    → (is_in u job.status.uncounted_succeeded && is_in u job.status.uncounted_failed) ≡ false
+    → (is_in u (counted_in job pods).uncounted_succeeded && is_in u (counted_in job pods).uncounted_failed) ≡ false
 lists-apart u job pods rises before = by (is_in u (counted_in job pods).uncounted_succeeded) refl (is_in u (counted_in job pods).uncounted_failed) refl
   where
     listed_not_new : (outcome : Outcome) → is_verdict outcome ≡ true → is_listed job.status u ≡ true → is_in u (uids_of (newly job (own_pods job pods) outcome)) ≡ true → ⊥
@@ -559,6 +575,8 @@ pub failed-all-out : (job : Job) (pods : List Pod) (status : JobStatus) → stat
 failed-all-out job pods status is =
     omega (arith, failed-out-sum status (counted_in job pods).releases, ap length (failed-list-empty job pods status is))
 
-pub succeeded-all-out : (job : Job) (pods : List Pod) (status : JobStatus) → status.uncounted_succeeded ≡ (counted_in job pods).uncounted_succeeded → (counted_out status (counted_in job pods).releases).succeeded ≡ status.succeeded + length status.uncounted_succeeded
+pub succeeded-all-out : (job : Job) (pods : List Pod) (status : JobStatus) → status.uncounted_succeeded
+    ≡ (counted_in job pods).uncounted_succeeded → (counted_out status (counted_in job pods).releases).succeeded
+    ≡ status.succeeded + length status.uncounted_succeeded
 succeeded-all-out job pods status is =
     omega (arith, succeeded-out-sum status (counted_in job pods).releases, ap length (succeeded-list-empty job pods status is))

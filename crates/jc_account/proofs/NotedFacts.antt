@@ -81,7 +81,9 @@ module _ (job : Job) (own : List Pod) where
 
   same-release : to_release job (filter (is_noted_of job) own) ≡ to_release job own
   same-release =
-      (λ i. filter (λ pod. is_tracked pod && ((not (same_outcome (outcome_of job.spec pod) Alive) && not (is_candidate job pod && not (has_room job.spec (same-room i) (same-candidates i) pod))) || is_listed job.status pod.uid)) (filter (is_noted_of job) own))
+      (λ i. filter (λ pod. is_tracked pod && ((not (same_outcome (outcome_of job.spec pod) Alive) && not
+      (is_candidate job pod && not (has_room job.spec (same-room i) (same-candidates i) pod))) || is_listed job.status
+      pod.uid)) (filter (is_noted_of job) own))
       ∙ filter_within (is_to_release job own) (is_noted_of job) (release-noted job own) own
 
   same-stayed : (uids : List Uid) → ((u : Uid) → is_in u uids ≡ true → is_listed job.status u ≡ true) → stayed (filter (is_noted_of job) own) uids ≡ stayed own uids

@@ -4,11 +4,11 @@ use Rattle.jc_types.specs.declared.actions.Script.{Script}
 use Rattle.jc_types.specs.declared.runs.Event.TheVariants as event
 use Rattle.jc_types.specs.declared.runs.Past.{Past}
 use Rattle.jc_log.specs.Deeds.{Deed, act_of_command, deed}
-use Rattle.jc_lines.specs.Acts.{act_text}
+use Rattle.jc_lines.specs.ActTexts.{act_text}
 use Rattle.jc_lines.specs.Events.{event_line, tag_text}
 use Rattle.jc_reading.specs.Reads.{BeginsWith, IsProperRead, act_of_line, front_text}
 use Rattle.jc_reading.specs.declared.reads.LineRead.{LineRead}
-use Rattle.jc_lines.specs.Replies.{reply_text}
+use Rattle.jc_lines.specs.ReplyTexts.{reply_text}
 use Rattle.jc_runs.specs.Seen.{Seen, deeds_seen, past_seen}
 use Rattle.jc_play.specs.Longer.{extended}
 use Rattle.jc_audit.specs.Walks.{TakesCommand, TakesSystem, begun_command, last_line, read_of_command, read_of_system}

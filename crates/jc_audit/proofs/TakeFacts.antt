@@ -9,7 +9,7 @@ use Rattle.jc_types.specs.declared.runs.Shape.{Shape}
 use Rattle.jc_types.specs.declared.runs.Sys.{Sys}
 use Rattle.jc_types.specs.declared.runs.Sys.TheVariants as sys
 use Rattle.jc_log.specs.Deeds.{Deed, act_of_system, deed}
-use Rattle.jc_lines.specs.Acts.{act_text}
+use Rattle.jc_lines.specs.ActTexts.{act_text}
 use Rattle.jc_reading.specs.Cuts.{IsWord, behind_word, first_word_in}
 use Rattle.jc_lines.specs.Events.{tag_text}
 use Rattle.jc_reading.specs.Proper.{IsProperSystem, as_begin}
@@ -21,7 +21,7 @@ use Rattle.jc_reading.proofs.CutFacts.{after_word, decimal_word, first_word}
 use Rattle.jc_play.specs.Longer.{extended}
 use Rattle.jc_runs.specs.Seen.{Admits, Seen, deeds_seen, happened}
 use Rattle.jc_play.specs.Actors.{CanCome}
-use Rattle.jc_audit.specs.Limits.{IsSmallShape}
+use Rattle.jc_audit.specs.AuditLimits.{IsSmallShape}
 use Rattle.jc_audit.specs.Clocks.{FitsClock, IsClock}
 use Rattle.jc_audit.specs.Walks.{HasTaken, IsLineLen, IsOnlyTaken, IsRead, NoneIsTaken, TakesLine, TakesCommand, TakesSystem, begun_command, last_line, line_of_last, read_of_command, read_of_system, with_command}
 use Rattle.jc_audit.proofs.OnlyFacts.{command_begins, command_proper, system_begins}

@@ -16,7 +16,7 @@ use Rattle.jc_history.specs.Available.{available}
 use Rattle.jc_lines.specs.Events.{event_line}
 use Rattle.jc_lines.specs.Jobs.{job_line}
 use Rattle.jc_lines.specs.Summaries.{full_line, indexes_text}
-use Rattle.jc_lines.specs.Words.{key_text}
+use Rattle.jc_lines.specs.ReportWords.{key_text}
 use Rattle.jc_reading.specs.Proper.{as_begin}
 use Rattle.jc_reading.specs.Reads.{BeginsWith, IsProperRead, act_of_line, begun_read, event_said, front_text}
 use Rattle.jc_reading.specs.declared.reads.LineAct.TheVariants as read
@@ -28,7 +28,7 @@ use Rattle.jc_lines.specs.Reports.{in_order, job_lines, jobs_text}
 use Rattle.jc_runs.specs.Seen.{Seen, deeds_seen, happened, log_seen}
 use Rattle.jc_play.specs.Actors.{CanCome}
 use Rattle.jc_play.proofs.TellFacts.{Tells, all-tell, known}
-use Rattle.jc_audit.specs.Limits.{IsSmallShape}
+use Rattle.jc_audit.specs.AuditLimits.{IsSmallShape}
 use Rattle.jc_audit.specs.declared.verdicts.Verdict.{Verdict}
 use Rattle.jc_audit.specs.declared.verdicts.Verdict.TheVariants.{Yes, No}
 use Rattle.jc_audit.specs.Audits.{IsNoTail, IsNotTaken, VerdictHolds, begins_event}
@@ -112,14 +112,19 @@ module _ (again : AreReadBack) (seen : Seen) (fit : IsSmallShape seen.shape) (fe
     where
       by : TakesCommand seen a ⊎ TakesSystem seen a → TakesCommand seen b ⊎ TakesSystem seen b → a ≡ b
       by (inl c) (inl d) =
-          let same = one_read again (last_line a ++ x) (read_of_command seen a c) (read_of_command seen b d) (command_proper seen a c) (command_proper seen b d) (command_begins seen a c (last_line a ++ x) x few refl) (command_begins seen b d (last_line a ++ x) y few e) in
+          let same = one_read again (last_line a ++ x) (read_of_command seen a c) (read_of_command seen b d)
+          (command_proper seen a c) (command_proper seen b d)
+          (command_begins seen a c (last_line a ++ x) x few refl)
+          (command_begins seen b d (last_line a ++ x) y few e) in
           let lane = same_number c.command.lane d.command.lane (ap (λ (r : LineRead). r.lane) same) in
           let action = same_action (as_begin c.command.action) (as_begin d.command.action) (ap (λ (r : LineRead). r.act) same) in
           c.is ∙ ap (with_command seen) (ap₂ command_of lane action) ∙ sym d.is
       by (inl c) (inr s) = absurd (no_lane (last_line a ++ x) c.command.lane (read.Command c.command.action) (read.System s.system) (command_begins seen a c (last_line a ++ x) x few refl) (system_begins seen b s (last_line a ++ x) y few e))
       by (inr s) (inl d) = absurd (no_lane (last_line a ++ x) d.command.lane (read.Command d.command.action) (read.System s.system) (command_begins seen b d (last_line a ++ x) y few e) (system_begins seen a s (last_line a ++ x) x few refl))
       by (inr s) (inr r) =
-          let same = one_system (last_line a ++ x) s.system r.system (system_begins seen a s (last_line a ++ x) x few refl) (system_begins seen b r (last_line a ++ x) y few e) (record { admits = s.admits; among = s.among }) (record { admits = r.admits; among = r.among }) in
+          let same = one_system (last_line a ++ x) s.system r.system
+          (system_begins seen a s (last_line a ++ x) x few refl) (system_begins seen b r (last_line a ++ x) y few e)
+          (record { admits = s.admits; among = s.among }) (record { admits = r.admits; among = r.among }) in
           s.is ∙ ap (λ z. happened seen (event.System z)) same ∙ sym r.is
 
 -- ---- one walk

@@ -1,4 +1,4 @@
-pub mod Limits
+pub mod AuditLimits
 pub mod Tails
 pub mod Walks
 pub mod Clocks

@@ -2,7 +2,7 @@
 
 ghost use Rattle.std.specs.Prelude.{◌≡◌, ◌≤◌, IfOk, length};
 ghost use Rattle.jc_audit.specs.Audits.{VerdictHolds, begins_event};
-ghost use Rattle.jc_audit.specs.Limits.{IsSmallShape};
+ghost use Rattle.jc_audit.specs.AuditLimits.{IsSmallShape};
 ghost use Rattle.jc_audit.specs.Walks.{at_first};
 
 use crate::tails::{rest_at, tail_verdict};

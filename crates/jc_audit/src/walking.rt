@@ -3,7 +3,7 @@
 
 ghost use Rattle.std.specs.Prelude.{◌≡◌, ◌<◌, ◌≤◌, IfOk, IfSome, IsTrue, None, Some, bytes_eq, length, take};
 ghost use Rattle.jc_reading.specs.declared.reads.LineAct.TheVariants as read;
-ghost use Rattle.jc_audit.specs.Limits.{IsSmallShape};
+ghost use Rattle.jc_audit.specs.AuditLimits.{IsSmallShape};
 ghost use Rattle.jc_audit.specs.Walks.{HasTaken, IsLineLen, IsOnlyTaken, IsRead, NoneIsTaken, TakesLine};
 
 use crate::laws::proper_actions_are_valid;

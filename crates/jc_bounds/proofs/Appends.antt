@@ -21,8 +21,8 @@ use Rattle.jc_asks.specs.declared.asks.Ask.TheVariants.{MakePod, MarkPod, LetPod
 use Rattle.jc_plan.specs.Plans.{planned}
 use Rattle.jc_states.specs.declared.bases.Basis.{Basis}
 use Rattle.jc_asks.specs.Steps.{make_gives, status_gives, written_gives}
-use Rattle.jc_history.specs.Asks.{so_far}
-use Rattle.jc_bounds.specs.Requests.{ask_gives}
+use Rattle.jc_history.specs.SoFar.{so_far}
+use Rattle.jc_bounds.specs.RequestKinds.{ask_gives}
 use Rattle.jc_bounds.proofs.OrderFacts.{is_quiet}
 use Rattle.jc_bounds.proofs.Turns.{IsIdleEntry, Quiet, let_go-quiet, mark-quiet, release-quiet}
 
@@ -44,7 +44,11 @@ status-is : (log : List Entry) (job : Job) (sends : Version) (status : JobStatus
 status-is log job sends status = by (job_in job.key log) refl
   where
     at : (old : Job) → job_in job.key log ≡ Some old → (a : Bool) → not (same_uid old.uid job.uid) ≡ a → (b c : Bool) → same_status old.status status ≡ c
-        → IfSome (cond a (refused reply.NotFound) (cond b (refused (reply.Conflict old.version)) (cond c (refused (reply.Unchanged old.version)) (accepted (reply.Written (next_version log)) (JobPut (with_status log old status)))))).entry (IsStatus log job status)
+        → IfSome (cond a (refused reply.NotFound)
+        (cond b (refused (reply.Conflict old.version))
+        (cond c (refused (reply.Unchanged old.version))
+        (accepted (reply.Written (next_version log)) (JobPut (with_status log old status)))))).entry
+        (IsStatus log job status)
     at old is true e b c d = tt
     at old is false e true c d = tt
     at old is false e false true d = tt
@@ -76,7 +80,9 @@ module _ (log : List Entry) (now : ℕ) (b : Basis) (made : List (Request × Ans
         where
           of : (o : Option Job) → b.job ≡ o → IfSome (status_gives log (so_far b made).flight status o).entry (Appends log (planned b) b.job ask)
           of None e = tt
-          of (Some job) e = at (write_status_gives log b.key job.uid (so_far b made).flight.sends status).entry (subst (λ k. IfSome (write_status_gives log k job.uid (so_far b made).flight.sends status).entry (IsStatus log job status)) (named job e) (status-is log job (so_far b made).flight.sends status))
+          of (Some job) e = at (write_status_gives log b.key job.uid (so_far b made).flight.sends status).entry
+              (subst (λ k. IfSome (write_status_gives log k job.uid (so_far b made).flight.sends status).entry
+              (IsStatus log job status)) (named job e) (status-is log job (so_far b made).flight.sends status))
             where
               at : (x : Option Entry) → IfSome x (IsStatus log job status) → IfSome x (Appends log (planned b) b.job ask)
               at None h = tt

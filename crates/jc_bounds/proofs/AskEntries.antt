@@ -25,8 +25,8 @@ use Rattle.jc_asks.specs.declared.asks.Ask.TheVariants.{MakePod, MarkPod, LetPod
 use Rattle.jc_plan.specs.Plans.{planned}
 use Rattle.jc_states.specs.declared.bases.Basis.{Basis}
 use Rattle.jc_asks.specs.Steps.{make_gives, status_gives, written_gives, as_answer, floor_given}
-use Rattle.jc_history.specs.Asks.{so_far}
-use Rattle.jc_bounds.specs.Requests.{was_let_go, let_go_asks, asks, ask_gives}
+use Rattle.jc_history.specs.SoFar.{so_far}
+use Rattle.jc_bounds.specs.RequestKinds.{was_let_go, let_go_asks, asks, ask_gives}
 use Rattle.jc_bounds.specs.Work.{is_birth, is_work}
 use Rattle.std.proofs.lemmas.Bool.{and_parts}
 use Rattle.jc_bounds.proofs.Turns.{IsIdleEntry, Quiet, let_go-quiet, mark-quiet, release-quiet}
@@ -104,7 +104,11 @@ quiet-own key log a q = by a.entry q
 status-own : (log : List Entry) (key : Key) (uid : Uid) (sends : Version) (status : JobStatus) → IsOwn key log (write_status_gives log key uid sends status)
 status-own log key uid sends status = by (job_in key log) refl
   where
-    at : (job : Job) → job_in key log ≡ Some job → (a b c : Bool) → IsOwn key log (cond a (refused reply.NotFound) (cond b (refused (reply.Conflict job.version)) (cond c (refused (reply.Unchanged job.version)) (accepted (reply.Written (next_version log)) (JobPut (with_status log job status))))))
+    at : (job : Job) → job_in key log ≡ Some job → (a b c : Bool)
+        → IsOwn key log (cond a (refused reply.NotFound)
+        (cond b (refused (reply.Conflict job.version))
+        (cond c (refused (reply.Unchanged job.version))
+        (accepted (reply.Written (next_version log)) (JobPut (with_status log job status))))))
     at job is true b c = tt
     at job is false true c = tt
     at job is false false true = tt
@@ -150,7 +154,10 @@ module _ (log : List Entry) (now : ℕ) (b : Basis) (made : List (Request × Ans
   status-none None = tt
   status-none (Some status) = of b.job
     where
-      at : (old : Job) (a b c : Bool) → MakesNone (cond a (refused reply.NotFound) (cond b (refused (reply.Conflict old.version)) (cond c (refused (reply.Unchanged old.version)) (accepted (reply.Written (next_version log)) (JobPut (with_status log old status))))))
+      at : (old : Job) (a b c : Bool) → MakesNone
+          (cond a (refused reply.NotFound) (cond b (refused (reply.Conflict old.version))
+          (cond c (refused (reply.Unchanged old.version))
+          (accepted (reply.Written (next_version log)) (JobPut (with_status log old status))))))
       at old true b c = tt
       at old false true c = tt
       at old false false true = tt

@@ -26,7 +26,7 @@ use Rattle.jc_log.proofs.WriteFacts.{job_in-key}
 use Rattle.jc_asks.specs.declared.asks.Ask.{Ask}
 use Rattle.jc_asks.specs.declared.asks.Ask.TheVariants.{MakePod}
 use Rattle.jc_asks.specs.Asks.{as_request}
-use Rattle.jc_bounds.specs.Requests.{next_by_kind, ask_gives}
+use Rattle.jc_bounds.specs.RequestKinds.{next_by_kind, ask_gives}
 use Rattle.jc_history.specs.Diaries.{moment, notes}
 use Rattle.jc_history.specs.Fresh.{basis, cache_lag}
 use Rattle.jc_history.specs.Legal.{IsLegal}
@@ -174,7 +174,9 @@ module _ (log : List Entry) (stored : Stored log) (old : List Note) (h : IsBound
         own : (e : Entry) → o ≡ Some e → (k : Key) → is_work k e log ≡ true → mine.key ≡ k
         own e is k work = elim from [
           | inl n ↦ absurd (true≢false (sym (ap is_some is) ∙ ap is_some n))
-          | inr n ↦ (subst (λ x. IfSome x (λ e. (k : Key) → is_work k e log ≡ true → (mine.key ≡ k) × (floor_given (as_answer (ask_gives log now mine (made u old) ask).reply) ≡ Some (next_version log)))) (sym n ∙ is) (ask-own log now mine (made u old) ask job-key) k work).0
+          | inr n ↦ (subst (λ x. IfSome x (λ e. (k : Key) → is_work k e log ≡ true → (mine.key ≡ k)
+              × (floor_given (as_answer (ask_gives log now mine (made u old) ask).reply) ≡ Some (next_version log))))
+              (sym n ∙ is) (ask-own log now mine (made u old) ask job-key) k work).0
         ]
 
         others : (x : Option Entry) → o ≡ x → (u == w) ≡ false → made w asked ≡ made w old → IsFlight (grown log x) asked w b
@@ -230,7 +232,9 @@ module _ (log : List Entry) (stored : Stored log) (old : List Note) (h : IsBound
             at : (t : Bool) → is_work k x log ≡ t → cond t (length (x ∷ log)) (last_work k log) ≤ max m.0 (floor k asked).0
             at false t = omega (arith, s, floor-grows)
             at true t =
-                let own = subst (λ y. IfSome y (λ e. (k : Key) → is_work k e log ≡ true → (mine.key ≡ k) × (floor_given (as_answer (ask_gives log now mine (made u old) ask).reply) ≡ Some (next_version log)))) (sym from ∙ is) (ask-own log now mine (made u old) ask job-key) k t in
+                let own = subst (λ y. IfSome y (λ e. (k : Key) → is_work k e log ≡ true → (mine.key ≡ k)
+                × (floor_given (as_answer (ask_gives log now mine (made u old) ask).reply)
+                ≡ Some (next_version log)))) (sym from ∙ is) (ask-own log now mine (made u old) ask job-key) k t in
                 let same : same_key mine.key k ≡ true = ap (same_key mine.key) (sym own.0) ∙ same_key-itself mine.key in
                 let tells : floor k asked ≡ later_if (floor k old) (Some (next_version log)) = ap (λ b. later_if (floor k old) (cond b (floor_given given) None)) same ∙ ap (later_if (floor k old)) (ap floor_given answer ∙ own.1) in
                 let f = ap (λ (v : Version). v.0) tells in
@@ -289,7 +293,9 @@ IsPlaceIf n None = Unit {0}
 IsPlaceIf n (Some version) = version.0 ≤ n
 
 pub legal-within : (shape : Shape) (c : ℕ) (past : List Deed) → IsLegal shape past → (kind : Kind) (m : Version) → number kind (notes shape c past (log_given shape past)) ≡ Some m → m.0 ≤ length (log_given shape past)
-legal-within shape c past h kind m e = subst (IsPlaceIf (length (log_given shape past))) e (number-within (length (log_given shape past)) kind (notes shape c past (log_given shape past)) (notes-within (length (log_given shape past)) shape c past (log_given shape past) (legal-told shape past h)))
+legal-within shape c past h kind m e = subst (IsPlaceIf (length (log_given shape past))) e
+    (number-within (length (log_given shape past)) kind (notes shape c past (log_given shape past))
+    (notes-within (length (log_given shape past)) shape c past (log_given shape past) (legal-told shape past h)))
 
 pub legal-bounded : (shape : Shape) (deeds : List Deed) → shape.controllers ≡ 1 → IsLegal shape deeds → Stored (log_given shape deeds) → IsBounded (log_given shape deeds) (notes shape 0 deeds (log_given shape deeds))
 legal-bounded shape [] one h s = record { seen = λ k kind m e. absurd (true≢false (sym (ap is_some e))); flights = λ w b e. absurd (true≢false (sym (ap is_some e))) }

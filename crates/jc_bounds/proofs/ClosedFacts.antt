@@ -104,7 +104,10 @@ unfolding counted_in
 left-none job pods none =
     let own = own_pods job pods in
     let both = eqb-true (length (left_with job own outcome.Succeeded) + length (left_with job own outcome.Failed)) 0 none in
-    each-two (λ p. (is_candidate job p && (not (fits job own p) && same_outcome (outcome_of job.spec p) outcome.Succeeded)) ≡ false) (λ p. (is_candidate job p && (not (fits job own p) && same_outcome (outcome_of job.spec p) outcome.Failed)) ≡ false) (λ p. is_left_over job own p ≡ false)
+    each-two (λ p. (is_candidate job p && (not (fits job own p) && same_outcome (outcome_of job.spec p)
+    outcome.Succeeded)) ≡ false) (λ p. (is_candidate job p &&
+    (not (fits job own p) && same_outcome (outcome_of job.spec p) outcome.Failed)) ≡ false)
+    (λ p. is_left_over job own p ≡ false)
     (λ p s f. by-outcome (is_tracked p) (same_outcome (outcome_of job.spec p) outcome.Succeeded) (same_outcome (outcome_of job.spec p) outcome.Failed) (not (is_listed job.status p.uid)) (not (fits job own p)) s f) own
     (filtered-none (λ p. same_outcome (outcome_of job.spec p) outcome.Succeeded) (λ p. not (fits job own p)) (is_candidate job) own (omega (arith, both)))
     (filtered-none (λ p. same_outcome (outcome_of job.spec p) outcome.Failed) (λ p. not (fits job own p)) (is_candidate job) own (omega (arith, both)))
@@ -123,7 +126,10 @@ ended-due job own pod closed kept tracked =
         at true = refl
         at false = refl
 
-    by : (p : Phase) → not (is_final p) ≡ false → not (same_outcome (cond (is_succeeded p) outcome.Succeeded (cond (is_failed p || (counts_marked job.spec.replacement && is_marked pod)) (failure_of job.spec.failure pod) outcome.Alive)) outcome.Alive) ≡ true
+    by : (p : Phase) → not (is_final p) ≡ false
+        → not (same_outcome (cond (is_succeeded p) outcome.Succeeded
+        (cond (is_failed p || (counts_marked job.spec.replacement && is_marked pod)) (failure_of job.spec.failure pod)
+        outcome.Alive)) outcome.Alive) ≡ true
     by phase.Pending h = absurd (true≢false h)
     by phase.Running h = absurd (true≢false h)
     by phase.Succeeded h = refl

@@ -39,7 +39,7 @@ use Rattle.jc_log.proofs.WriteFacts.{is_born-more, job_in-born, job_in-key, lost
 use Rattle.jc_asks.specs.declared.asks.Ask.{Ask}
 use Rattle.jc_asks.specs.declared.asks.Ask.TheVariants.{WriteFirst, ReleasePod, WriteSecond}
 use Rattle.jc_asks.specs.Asks.{as_request}
-use Rattle.jc_bounds.specs.Requests.{lets_go_of, next_by_kind, ask_gives}
+use Rattle.jc_bounds.specs.RequestKinds.{lets_go_of, next_by_kind, ask_gives}
 use Rattle.jc_history.specs.Diaries.{moment, notes}
 use Rattle.jc_history.specs.Fresh.{basis, cache_lag}
 use Rattle.jc_history.specs.Legal.{IsLegal}
@@ -96,7 +96,9 @@ seen-key log b is job there = job_in-key b.key (upto b.jobs_at.0 log) job (sym i
 
 -- ---- other syncs, and requests that are no work of the key
 
-winding-more : (e : Entry) (log : List Entry) → Writes log e → Stored log → (b : Basis) → IsBasisOf log b → is_work b.key e log ≡ false → (before after : List (Request × Answer)) → Progress (e ∷ log) (planned b) after → (IsSilent (planned b) before → IsSilent (planned b) after) → IsWinding log before b → IsWinding (e ∷ log) after b
+winding-more : (e : Entry) (log : List Entry) → Writes log e → Stored log → (b : Basis) → IsBasisOf log b
+    → is_work b.key e log ≡ false → (before after : List (Request × Answer)) → Progress (e ∷ log) (planned b) after
+    → (IsSilent (planned b) before → IsSilent (planned b) after) → IsWinding log before b → IsWinding (e ∷ log) after b
 winding-more e log w stored b is idle before after progress silent h = record {
   progress = progress;
   known = Each-weaker (λ u. is_never (life u log) ≡ false) (λ u. is_never (life u (e ∷ log)) ≡ false) (λ u. known-entry u e log) (planned b).releases h.known;
@@ -113,7 +115,9 @@ lost-more e log w u = lost_entry u e log w
 
 -- ---- one turn
 
-module _ (log : List Entry) (stored : Stored log) (neat : AreNeat log) (old : List Note) (bounded : IsBounded log old) (h : IsFinal log old) (apart : HaveOwnKeys old) (within : (kind : Kind) (m : Version) → number kind old ≡ Some m → m.0 ≤ length log) where
+module _ (log : List Entry) (stored : Stored log) (neat : AreNeat log) (old : List Note) (bounded : IsBounded log old)
+    (h : IsFinal log old) (apart : HaveOwnKeys old)
+    (within : (kind : Kind) (m : Version) → number kind old ≡ Some m → m.0 ≤ length log) where
   same-winding : (new : List (Request × Answer)) (w : ℕ) (b : Basis) → register w old ≡ Some b → new ≡ made w old → IsWinding log new b
   same-winding new w b r e = subst (λ m. IsWinding log m b) (sym e) (h.flights w b r)
 
@@ -143,7 +147,10 @@ module _ (log : List Entry) (stored : Stored log) (neat : AreNeat log) (old : Li
     begun-winding = record {
       progress = Early (omega arith);
       known = subst (λ us. Each (λ u. is_never (life u log) ≡ false) us) (sym (planned-releases (basis old log now k j p)))
-          (uids-each (λ u. is_never (life u log) ≡ false) (filter (is_released (basis old log now k j p)) (pods_under k (upto p.0 log))) (Each-filter (λ pod. is_never (life pod.uid log) ≡ false) (is_released (basis old log now k j p)) (pods_under k (upto p.0 log)) known-pods));
+          (uids-each (λ u. is_never (life u log) ≡ false)
+          (filter (is_released (basis old log now k j p)) (pods_under k (upto p.0 log)))
+          (Each-filter (λ pod. is_never (life pod.uid log) ≡ false) (is_released (basis old log now k j p))
+          (pods_under k (upto p.0 log)) known-pods));
       over = λ seen job there is same.
           let s = fresh-seen log old bounded k j p jobs pods fresh in
           let status = status-stands k j.0 log stored (within Jobs j jobs) s.0 seen job there is same in
@@ -200,7 +207,9 @@ module _ (log : List Entry) (stored : Stored log) (neat : AreNeat log) (old : Li
         let new = ap (λ (s : JobStatus). has_end s.conditions) is ∙ end in
         (subst IsAtRest is (first-rests seen b none new), first-closes log stored old u b flight seen there (first-wound seen b none new) (first-released seen b none new))
 
-    sets-second : (seen : Job) (status : JobStatus) → b.job ≡ Some seen → (planned b).second ≡ Some status → ask ≡ WriteSecond → has_end seen.status.conditions ≡ false → has_end status.conditions ≡ true → IsAtRest status × IsClosed (own_pods seen (pods_under b.key log))
+    sets-second : (seen : Job) (status : JobStatus) → b.job ≡ Some seen → (planned b).second ≡ Some status → ask
+        ≡ WriteSecond → has_end seen.status.conditions ≡ false → has_end status.conditions ≡ true → IsAtRest status
+        × IsClosed (own_pods seen (pods_under b.key log))
     sets-second seen status there second a none end =
         let is = changed-is (first_value seen b) (second_value seen b) status (sym (plan-second b seen there) ∙ second) in
         let new = ap (λ (s : JobStatus). has_end s.conditions) is ∙ end in
@@ -219,7 +228,9 @@ module _ (log : List Entry) (stored : Stored log) (neat : AreNeat log) (old : Li
     -- What the request appends, where it appends.
     pub entry-own : (e : Entry) → (ask_gives log now b (made u old) ask).entry ≡ Some e → (k : Key) → is_work k e log ≡ true → b.key ≡ k
     entry-own e is k work =
-        (subst (λ x. IfSome x (λ e. (k : Key) → is_work k e log ≡ true → (b.key ≡ k) × (floor_given (as_answer (ask_gives log now b (made u old) ask).reply) ≡ Some (next_version log)))) is (ask-own log now b (made u old) ask (seen-key log b flight.basis)) k work).0
+        (subst (λ x. IfSome x (λ e. (k : Key) → is_work k e log ≡ true → (b.key ≡ k)
+        × (floor_given (as_answer (ask_gives log now b (made u old) ask).reply) ≡ Some (next_version log)))) is
+        (ask-own log now b (made u old) ask (seen-key log b flight.basis)) k work).0
 
     pub entry-is : (e : Entry) → (ask_gives log now b (made u old) ask).entry ≡ Some e → Appends log (planned b) b.job ask e
     entry-is e is = subst (λ x. IfSome x (Appends log (planned b) b.job ask)) is (appends log now b (made u old) (seen-key log b flight.basis) ask)
@@ -288,7 +299,9 @@ module _ (log : List Entry) (stored : Stored log) (neat : AreNeat log) (old : Li
         split-of (y ∷ done) rest x e = split-of done rest x e.1
     known-next (AtSecond f status s tail l) v a = absurd (true≢false (ap is_quiet (sym a ∙ f)))
 
-    self-progress : (o : Option Entry) → o ≡ (ask_gives log now b (made u old) ask).entry → ((v : Uid) → is_lost (life v log) ≡ true → is_lost (life v (grown log o)) ≡ true) → Progress (grown log o) (planned b) (more (made u old) (as_request ask) given)
+    self-progress : (o : Option Entry) → o ≡ (ask_gives log now b (made u old) ask).entry
+        → ((v : Uid) → is_lost (life v log) ≡ true → is_lost (life v (grown log o)) ≡ true)
+        → Progress (grown log o) (planned b) (more (made u old) (as_request ask) given)
     self-progress o from keep = progress-step log (planned b) (made u old) ask next (grown log o) keep given place loses
       where
         loses : (v : Uid) → ask ≡ ReleasePod v → is_lost (life v (grown log o)) ≡ true
@@ -313,7 +326,9 @@ module _ (log : List Entry) (stored : Stored log) (neat : AreNeat log) (old : Li
         known : Each (λ v. is_never (life v (e ∷ log)) ≡ false) (planned b).releases
         known = Each-weaker (λ v. is_never (life v log) ≡ false) (λ v. is_never (life v (e ∷ log)) ≡ false) (λ v. known-entry v e log) (planned b).releases winding.known
 
-        written : (mine : Job) (status : JobStatus) → b.job ≡ Some mine → is_quiet ask ≡ false → IsStatus log mine status e → (has_end mine.status.conditions ≡ false → has_end status.conditions ≡ true → IsSilent (planned b) (more (made u old) (as_request ask) given))
+        written : (mine : Job) (status : JobStatus) → b.job ≡ Some mine → is_quiet ask ≡ false
+            → IsStatus log mine status e → (has_end mine.status.conditions ≡ false → has_end status.conditions ≡ true
+            → IsSilent (planned b) (more (made u old) (as_request ask) given))
             → IsWinding (e ∷ log) (more (made u old) (as_request ask) given) b
         written mine status there loud s silent = record {
           progress = progress;
@@ -331,7 +346,9 @@ module _ (log : List Entry) (stored : Stored log) (neat : AreNeat log) (old : Li
               };
         }
 
-        silent-first : (mine : Job) (status : JobStatus) → b.job ≡ Some mine → (planned b).first ≡ Some status → ask ≡ WriteFirst → has_end mine.status.conditions ≡ false → has_end status.conditions ≡ true → IsSilent (planned b) (more (made u old) (as_request ask) given)
+        silent-first : (mine : Job) (status : JobStatus) → b.job ≡ Some mine → (planned b).first ≡ Some status → ask
+            ≡ WriteFirst → has_end mine.status.conditions ≡ false → has_end status.conditions ≡ true
+            → IsSilent (planned b) (more (made u old) (as_request ask) given)
         silent-first mine status there first a none end = by place
           where
             new : has_end (first_value mine b).conditions ≡ true
@@ -404,7 +421,9 @@ module _ (log : List Entry) (stored : Stored log) (neat : AreNeat log) (old : Li
         by v c rc (inr e) =
             let uv = eqb-true u v e.0 in
             let same = some_is b c (sym r ∙ ap (λ x. register x old) uv ∙ rc) in
-            subst (λ m. IsWinding (grown log o) m c) (sym e.1) (subst (λ x. IsWinding (grown log o) (more (made x old) (as_request ask) given) c) uv (subst (IsWinding (grown log o) (more (made u old) (as_request ask) given)) same (self-winding o s from)))
+            subst (λ m. IsWinding (grown log o) m c) (sym e.1)
+            (subst (λ x. IsWinding (grown log o) (more (made x old) (as_request ask) given) c) uv
+            (subst (IsWinding (grown log o) (more (made u old) (as_request ask) given)) same (self-winding o s from)))
 
     stopped-final : (o : Option Entry) (end : SyncEnd) → Stored (grown log o) → (o ≡ None) ⊎ (o ≡ (ask_gives log now b (made u old) ask).entry) → IsFinal (grown log o) (Ended u b end now ∷ asked)
     stopped-final o end s from = record {
@@ -414,7 +433,10 @@ module _ (log : List Entry) (stored : Stored log) (neat : AreNeat log) (old : Li
           subst (λ m. IsWinding (grown log o) m c) (sym (ended-made u b end now asked v)) (by v c n.0 n.1 (asked-made u b (as_request ask) given old v));
     }
       where
-        by : (v : ℕ) (c : Basis) → (u == v) ≡ false → register v old ≡ Some c → (((u == v) ≡ false) × (made v asked ≡ made v old)) ⊎ (((u == v) ≡ true) × (made v asked ≡ more (made v old) (as_request ask) given)) → IsWinding (grown log o) (made v asked) c
+        by : (v : ℕ) (c : Basis) → (u == v) ≡ false → register v old ≡ Some c
+            → (((u == v) ≡ false) × (made v asked ≡ made v old))
+            ⊎ (((u == v) ≡ true) × (made v asked ≡ more (made v old) (as_request ask) given))
+            → IsWinding (grown log o) (made v asked) c
         by v c ne rc (inl e) = subst (λ m. IsWinding (grown log o) m c) (sym e.1) (others o s from v c ne rc)
         by v c ne rc (inr e) = absurd (true≢false (sym e.0 ∙ ne))
 
@@ -452,5 +474,7 @@ unfolding log_given
 legal-final shape [] one h s neat = record { finished = λ k job e. absurd (true≢false (sym (ap is_some e))); flights = λ w b e. absurd (true≢false (sym (ap is_some e))) }
 legal-final shape (d ∷ past) one h s neat =
     let before = stored-before shape past d s in
-    turn-final (log_given shape past) before (neat-past shape past d neat) (notes shape 0 past (log_given shape past)) (legal-bounded shape past one h.1 before) (legal-final shape past one h.1 before (neat-past shape past d neat)) (fit-apart (notes shape 0 past (log_given shape past)) (legal-fit shape 0 past h.1)) (legal-within shape 0 past h.1)
+    turn-final (log_given shape past) before (neat-past shape past d neat) (notes shape 0 past (log_given shape past))
+    (legal-bounded shape past one h.1 before) (legal-final shape past one h.1 before (neat-past shape past d neat))
+    (fit-apart (notes shape 0 past (log_given shape past)) (legal-fit shape 0 past h.1)) (legal-within shape 0 past h.1)
     (moment shape past) (log_given shape (d ∷ past)) (notes shape 0 (d ∷ past) (log_given shape (d ∷ past))) s (turn shape past d one h)

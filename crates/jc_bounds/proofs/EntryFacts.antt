@@ -114,7 +114,9 @@ finished-idle e log w stored k idle h new is end =
     }
 
 -- A pod that is made for another Job.
-pub finished-made : (pod : Pod) (log : List Entry) (k : Key) → IsFinishedAt log k → is_work k (PodPut pod) log ≡ true → ((job : Job) → job_in k log ≡ Some job → has_end job.status.conditions ≡ true → same_uid pod.owner_uid job.uid ≡ false) → IsFinishedAt (PodPut pod ∷ log) k
+pub finished-made : (pod : Pod) (log : List Entry) (k : Key) → IsFinishedAt log k → is_work k (PodPut pod) log ≡ true
+    → ((job : Job) → job_in k log ≡ Some job → has_end job.status.conditions ≡ true → same_uid pod.owner_uid job.uid
+    ≡ false) → IsFinishedAt (PodPut pod ∷ log) k
 finished-made pod log k h work other job is end =
     let before = h job is end in
     let now = closed-now log k job before in
@@ -128,7 +130,9 @@ finished-made pod log k h work other job is end =
     }
 
 -- The write that sets the end.
-pub finished-written : (put : Job) (log : List Entry) (k : Key) → same_key put.key k ≡ true → is_work k (JobPut put) log ≡ true → (has_end put.status.conditions ≡ true → IsAtRest put.status × IsClosed (own_pods put (pods_under k log))) → IsFinishedAt (JobPut put ∷ log) k
+pub finished-written : (put : Job) (log : List Entry) (k : Key) → same_key put.key k ≡ true → is_work k (JobPut put) log
+    ≡ true → (has_end put.status.conditions ≡ true → IsAtRest put.status × IsClosed (own_pods put (pods_under k log)))
+    → IsFinishedAt (JobPut put ∷ log) k
 finished-written put log k key work sets job is end =
     let same : put ≡ job = some_is put job (sym (cond-true (same_key put.key k) (Some put) (job_in k log) key) ∙ is) in
     let at : last_work k (JobPut put ∷ log) ≡ length (JobPut put ∷ log) = cond-true (is_work k (JobPut put) log) (length (JobPut put ∷ log)) (last_work k log) work in

@@ -29,7 +29,7 @@ use Rattle.jc_log.proofs.WriteFacts.{Stored-from_legal}
 use Rattle.jc_asks.specs.declared.asks.Ask.{Ask}
 use Rattle.jc_asks.specs.declared.asks.Ask.TheVariants.{MakePod}
 use Rattle.jc_asks.specs.Steps.{make_gives}
-use Rattle.jc_bounds.specs.Requests.{next_by_kind, ask_gives}
+use Rattle.jc_bounds.specs.RequestKinds.{next_by_kind, ask_gives}
 use Rattle.jc_history.specs.Diaries.{moment, notes}
 use Rattle.jc_history.specs.Legal.{IsLegal, IsOfShape}
 use Rattle.jc_history.specs.Notes.{Note}
@@ -153,14 +153,18 @@ open-few [] = omega arith
 open-few (p ∷ own) = by (is_open p) (is_marked p) (is_tracked p) (open-few own)
   where
     by : (o m t : Bool) → length (filter is_tracked_open own) ≤ length (tracked_active_pods own) + length (ending_pods own)
-        → length (cond (o && t) (p ∷ filter is_tracked_open own) (filter is_tracked_open own)) ≤ length (cond ((o && not m) && t) (p ∷ tracked_active_pods own) (tracked_active_pods own)) + length (cond (o && m) (p ∷ ending_pods own) (ending_pods own))
+        → length (cond (o && t) (p ∷ filter is_tracked_open own) (filter is_tracked_open own)) ≤ length
+        (cond ((o && not m) && t) (p ∷ tracked_active_pods own) (tracked_active_pods own)) + length
+        (cond (o && m) (p ∷ ending_pods own) (ending_pods own))
     by true true true h = omega (arith, h)
     by true true false h = omega (arith, h)
     by true false true h = omega (arith, h)
     by true false false h = omega (arith, h)
     by false m t h = omega (arith, h)
 
-module _ (log : List Entry) (old : List Note) (legal : Legal log) (h : IsBounded log old) (w : ℕ) (b : Basis) (r : register w old ≡ Some b) (index : Option ℕ) (next : next_by_kind (planned b) (made w old) ≡ Some (MakePod index)) (job : Job) (there : b.job ≡ Some job) where
+module _ (log : List Entry) (old : List Note) (legal : Legal log) (h : IsBounded log old) (w : ℕ) (b : Basis)
+    (r : register w old ≡ Some b) (index : Option ℕ)
+    (next : next_by_kind (planned b) (made w old) ≡ Some (MakePod index)) (job : Job) (there : b.job ≡ Some job) where
   few : length (made w old) < length (wants_in job b).creates
   few = subst (λ (cs : List (Option ℕ)). length (made w old) < length cs) (plan-creates b job there) (makes-first (planned b) (made w old) index next)
 

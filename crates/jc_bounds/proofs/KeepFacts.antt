@@ -27,7 +27,7 @@ use Rattle.jc_log.proofs.BirthFacts.{life_is_interval}
 use Rattle.jc_log.proofs.LogFacts.{upto-all, upto-fixed}
 use Rattle.jc_log.proofs.WriteFacts.{Stored-from_legal, is_born-more, job_in-born, persists}
 use Rattle.jc_asks.specs.declared.asks.Ask.{Ask}
-use Rattle.jc_bounds.specs.Requests.{next_by_kind, ask_gives}
+use Rattle.jc_bounds.specs.RequestKinds.{next_by_kind, ask_gives}
 use Rattle.jc_history.specs.Diaries.{moment, notes}
 use Rattle.jc_history.specs.Legal.{IsLegal}
 use Rattle.jc_history.specs.Notes.{Note}
@@ -38,7 +38,7 @@ use Rattle.jc_history.proofs.LegalFacts.{legal-fit}
 use Rattle.jc_history.proofs.RegisterFacts.{fit-apart}
 use Rattle.jc_bounds.specs.Bounded.{IsBounded}
 use Rattle.jc_bounds.specs.Final.{AreNeat, IsClosed, IsFinal}
-use Rattle.jc_bounds.specs.Kept.{IsLeftAlone, IsShut, StatusesStand}
+use Rattle.jc_bounds.specs.KeptEnds.{IsLeftAlone, IsShut, StatusesStand}
 use Rattle.jc_bounds.specs.Work.{is_work}
 use Rattle.jc_bounds.proofs.Appends.{Appends, First, Idly, Makes, Second}
 use Rattle.jc_bounds.proofs.BoundFacts.{legal-bounded, legal-within}
@@ -59,7 +59,10 @@ own-of log k job legal is b =
 a-basis : Key → Basis
 a-basis k = record { key = k; job = None; pods = []; jobs_at = record { 0 = 0 }; pods_at = record { 0 = 0 }; now = 0; backoff = record { failures = 0; last = None } }
 
-module _ (now : ℕ) (log : List Entry) (old : List Note) (stored : Stored log) (neat : AreNeat log) (bounded : IsBounded log old) (h : IsFinal log old) (apart : HaveOwnKeys old) (within : (kind : Kind) (m : Version) → number kind old ≡ Some m → m.0 ≤ length log) (k : Key) (job : Job) (there : job_in k log ≡ Some job) (end : has_end job.status.conditions ≡ true) where
+module _ (now : ℕ) (log : List Entry) (old : List Note) (stored : Stored log) (neat : AreNeat log)
+    (bounded : IsBounded log old) (h : IsFinal log old) (apart : HaveOwnKeys old)
+    (within : (kind : Kind) (m : Version) → number kind old ≡ Some m → m.0 ≤ length log) (k : Key) (job : Job)
+    (there : job_in k log ≡ Some job) (end : has_end job.status.conditions ≡ true) where
   -- ---- its status
 
   idle-status : (e : Entry) → Writes log e → is_work k e log ≡ false → (new : Job) → job_in k (e ∷ log) ≡ Some new → new.uid ≡ job.uid → new.status ≡ job.status
@@ -67,13 +70,18 @@ module _ (now : ℕ) (log : List Entry) (old : List Note) (stored : Stored log) 
       let o = old-job e log w stored k idle new is (inr (ap (λ u. is_born u log) same ∙ job_in-born k log job there)) in
       o.status ∙ ap (λ (j : Job). j.status) (some_is o.job job (sym o.there ∙ there))
 
-  asked-status : (w : ℕ) (b : Basis) (ask : Ask) → register w old ≡ Some b → next_by_kind (planned b) (made w old) ≡ Some ask → (e : Entry) → Writes log e → (ask_gives log now b (made w old) ask).entry ≡ Some e → (new : Job) → job_in k (e ∷ log) ≡ Some new → new.uid ≡ job.uid → new.status ≡ job.status
+  asked-status : (w : ℕ) (b : Basis) (ask : Ask) → register w old ≡ Some b → next_by_kind (planned b) (made w old)
+      ≡ Some ask → (e : Entry) → Writes log e → (ask_gives log now b (made w old) ask).entry ≡ Some e → (new : Job)
+      → job_in k (e ∷ log) ≡ Some new → new.uid ≡ job.uid → new.status ≡ job.status
   asked-status w b ask r next e wr is new now_there same = at (is_work k e log) refl
     where
       loud : (seen : Job) → b.job ≡ Some seen → (current : Job) → job_in seen.key log ≡ Some current → current.uid ≡ seen.uid → is_quiet ask ≡ false → b.key ≡ k → ⊥
       loud seen seen_there current cur uid q bk =
           let here = current-there log stored neat old bounded h apart within w b ask answer.Unavailable now r next seen seen_there current cur in
-          true≢false (sym end ∙ ap (λ (j : Job). has_end j.status.conditions) (sym (some_is current job (sym here ∙ ap (λ q. job_in q log) bk ∙ there))) ∙ (unended log stored neat old bounded h apart within w b ask answer.Unavailable now r next seen current seen_there here uid q).0)
+          true≢false (sym end ∙ ap (λ (j : Job). has_end j.status.conditions)
+          (sym (some_is current job (sym here ∙ ap (λ q. job_in q log) bk ∙ there)))
+          ∙ (unended log stored neat old bounded h apart within w b ask answer.Unavailable now r next seen current
+          seen_there here uid q).0)
 
       by : Appends log (planned b) b.job ask e → b.key ≡ k → is_work k e log ≡ true → new.status ≡ job.status
       by (Idly q idle) bk work = absurd (true≢false (sym work ∙ idle k))
@@ -88,7 +96,10 @@ module _ (now : ℕ) (log : List Entry) (old : List Note) (stored : Stored log) 
   same-status : (log' : List Entry) → log' ≡ log → (new : Job) → job_in k log' ≡ Some new → new.status ≡ job.status
   same-status log' l new is = ap (λ (j : Job). j.status) (some_is new job (sym is ∙ ap (job_in k) l ∙ there))
 
-  asked-any : (w : ℕ) (b : Basis) (ask : Ask) → register w old ≡ Some b → next_by_kind (planned b) (made w old) ≡ Some ask → (o : Option Entry) → (o ≡ None) ⊎ (o ≡ (ask_gives log now b (made w old) ask).entry) → Stored (grown log o) → (new : Job) → job_in k (grown log o) ≡ Some new → new.uid ≡ job.uid → new.status ≡ job.status
+  asked-any : (w : ℕ) (b : Basis) (ask : Ask) → register w old ≡ Some b → next_by_kind (planned b) (made w old)
+      ≡ Some ask → (o : Option Entry) → (o ≡ None) ⊎ (o ≡ (ask_gives log now b (made w old) ask).entry)
+      → Stored (grown log o) → (new : Job) → job_in k (grown log o) ≡ Some new → new.uid ≡ job.uid → new.status
+      ≡ job.status
   asked-any w b ask r next None from s new is same = same-status log refl new is
   asked-any w b ask r next (Some e) (inl n) s new is same = absurd (true≢false (ap is_some n))
   asked-any w b ask r next (Some e) (inr n) s new is same = asked-status w b ask r next e s.0 (sym n) new is same
@@ -183,7 +194,9 @@ job-there : (u : Uid) (k : Key) (o : Option Job) → is_job_of u o ≡ true → 
 job-there u k None h = absurd (true≢false (sym h))
 job-there u k (Some job) h = record { job = job; is = refl; uid = same_uid-eq job.uid u h }
 
-stands-more : (e : Entry) (log : List Entry) → Stored (e ∷ log) → StatusesStand log → ((k : Key) (job : Job) → job_in k log ≡ Some job → has_end job.status.conditions ≡ true → (new : Job) → job_in k (e ∷ log) ≡ Some new → new.uid ≡ job.uid → new.status ≡ job.status) → StatusesStand (e ∷ log)
+stands-more : (e : Entry) (log : List Entry) → Stored (e ∷ log) → StatusesStand log
+    → ((k : Key) (job : Job) → job_in k log ≡ Some job → has_end job.status.conditions ≡ true → (new : Job)
+    → job_in k (e ∷ log) ≡ Some new → new.uid ≡ job.uid → new.status ≡ job.status) → StatusesStand (e ∷ log)
 stands-more e log s h keep = λ m k old new was end is same. by m k old new was end is same (nat_lt (length log) m) refl
   where
     by : (m : ℕ) (k : Key) (old new : Job) → job_in k (upto m (e ∷ log)) ≡ Some old → has_end old.status.conditions ≡ true → job_in k (e ∷ log) ≡ Some new → new.uid ≡ old.uid → (t : Bool) → nat_lt (length log) m ≡ t → new.status ≡ old.status
@@ -209,6 +222,8 @@ legal-stands shape (d ∷ past) one h all = by (legal-stands shape past one h.1 
     (λ k job there end. (legal-keeps shape past d one h (all (d ∷ past) h).0 (all (d ∷ past) h).1 k job there end).status)
   where
     by : StatusesStand (log_given shape past) → (o : Option Entry) → Stored (grown (log_given shape past) o)
-        → ((k : Key) (job : Job) → job_in k (log_given shape past) ≡ Some job → has_end job.status.conditions ≡ true → (new : Job) → job_in k (grown (log_given shape past) o) ≡ Some new → new.uid ≡ job.uid → new.status ≡ job.status) → StatusesStand (grown (log_given shape past) o)
+        → ((k : Key) (job : Job) → job_in k (log_given shape past) ≡ Some job → has_end job.status.conditions ≡ true
+        → (new : Job) → job_in k (grown (log_given shape past) o) ≡ Some new → new.uid ≡ job.uid → new.status
+        ≡ job.status) → StatusesStand (grown (log_given shape past) o)
     by before None s keep = before
     by before (Some e) s keep = stands-more e (log_given shape past) s before keep

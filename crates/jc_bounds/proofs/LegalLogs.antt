@@ -48,8 +48,8 @@ use Rattle.jc_moment.specs.Range.{end_of_moments}
 use Rattle.jc_asks.specs.declared.asks.Ask.{Ask}
 use Rattle.jc_asks.specs.declared.asks.Ask.TheVariants.{MakePod, MarkPod, LetPodGo, WriteFirst, ReleasePod, WriteSecond}
 use Rattle.jc_asks.specs.Steps.{make_gives, status_gives, stepped_at, written_gives}
-use Rattle.jc_history.specs.Asks.{so_far}
-use Rattle.jc_bounds.specs.Requests.{ask_gives}
+use Rattle.jc_history.specs.SoFar.{so_far}
+use Rattle.jc_bounds.specs.RequestKinds.{ask_gives}
 use Rattle.jc_history.specs.Diaries.{moment, notes}
 use Rattle.jc_history.specs.Fresh.{begin as begin_of}
 use Rattle.jc_history.specs.Legal.{IsLegal, IsOfShape}
@@ -237,7 +237,9 @@ module _ (log : List Entry) (legal : Legal log) (neat : AreNeat log) where
         one e w (First seen status a there first s) =
             status-good seen there status e w s (let v = changed-is seen.status (first_value seen b) status (sym (plan-first b seen there) ∙ first) in subst (λ x. IsNeat (given_status seen x)) v (first-neat seen b (seen-neat seen there)))
         one e w (Second seen status a there second s) =
-            status-good seen there status e w s (let v = changed-is (first_value seen b) (second_value seen b) status (sym (plan-second b seen there) ∙ second) in subst (λ x. IsNeat (given_status seen x)) v (second-neat seen b (seen-neat seen there)))
+            status-good seen there status e w s (let v = changed-is (first_value seen b) (second_value seen b) status
+            (sym (plan-second b seen there) ∙ second) in
+            subst (λ x. IsNeat (given_status seen x)) v (second-neat seen b (seen-neat seen there)))
 
         by : (o : Option Entry) → Stored (grown log o) → IfSome o (Appends log (planned b) b.job ask) → IfSome o (λ e. Allowed log e × IsNeatEntry e)
         by None s h = tt
@@ -264,7 +266,9 @@ module _ (log : List Entry) (legal : Legal log) (neat : AreNeat log) where
   deliver-good window None = tt
   deliver-good window (Some version) = by (nat_lt version.0 (length log - window)) (version.0 == length log)
     where
-      by : (b e : Bool) → IfSome (cond {A = Answered} b (refused (reply.Expired (record { 0 = length log - window }))) (cond e (refused reply.UpToDate) (refused (reply.Delivered (record { 0 = version.0 + 1 }))))).entry (λ e. Allowed log e × IsNeatEntry e)
+      by : (b e : Bool) → IfSome (cond {A = Answered} b (refused (reply.Expired (record { 0 = length log - window })))
+          (cond e (refused reply.UpToDate) (refused (reply.Delivered (record { 0 = version.0 + 1 }))))).entry
+          (λ e. Allowed log e × IsNeatEntry e)
       by true e = tt
       by false true = tt
       by false false = tt
@@ -282,10 +286,17 @@ module _ (log : List Entry) (legal : Legal log) (neat : AreNeat log) where
 act-good : (shape : Shape) (past : List Deed) → shape.controllers ≡ 1 → (act : Act) → IsOfShape shape act → Legal (log_given shape past) → AreNeat (log_given shape past) → IsBounded (log_given shape past) (notes shape 0 past (log_given shape past))
     → IfSome (gives shape past (log_given shape past) act).entry (λ e. Allowed (log_given shape past) e × IsNeatEntry e)
 unfolding gives
-act-good shape past one (does.Create key spec) w l n b = let log = log_given shape past in quiet-good log l n (create_job_gives log key spec (moment shape past)) (create_job-stored log (Stored-from_legal log l) key spec (moment shape past)) (create-quiet log key spec (moment shape past))
-act-good shape past one (does.Update key version given) w l n b = let log = log_given shape past in quiet-good log l n (update_spec_gives log key version given) (update_spec-stored log (Stored-from_legal log l) key version given) (update-quiet log key version given)
+act-good shape past one (does.Create key spec) w l n b = let log = log_given shape past in
+    quiet-good log l n (create_job_gives log key spec (moment shape past))
+    (create_job-stored log (Stored-from_legal log l) key spec (moment shape past))
+    (create-quiet log key spec (moment shape past))
+act-good shape past one (does.Update key version given) w l n b = let log = log_given shape past in
+    quiet-good log l n (update_spec_gives log key version given)
+    (update_spec-stored log (Stored-from_legal log l) key version given) (update-quiet log key version given)
 act-good shape past one (does.Delete key) w l n b = let log = log_given shape past in quiet-good log l n (delete_job_gives log key) (delete_job-stored log (Stored-from_legal log l) key) (delete-quiet log key)
-act-good shape past one (does.Mark pod) w l n b = let log = log_given shape past in quiet-good log l n (mark_pod_gives log pod (moment shape past)) (mark_pod-stored log (Stored-from_legal log l) pod (moment shape past)) (mark-quiet log pod (moment shape past))
+act-good shape past one (does.Mark pod) w l n b = let log = log_given shape past in
+    quiet-good log l n (mark_pod_gives log pod (moment shape past))
+    (mark_pod-stored log (Stored-from_legal log l) pod (moment shape past)) (mark-quiet log pod (moment shape past))
 act-good shape past one (does.Strip pod) w l n b = let log = log_given shape past in quiet-good log l n (release_gives log pod) (release-stored log (Stored-from_legal log l) pod) (release-quiet log pod)
 act-good shape past one (does.Finish uid exit) w l n b = finish-good (log_given shape past) l n uid (λ pod. finish_change pod exit) (pod_in uid (log_given shape past))
 act-good shape past one (does.Report pod given) w l n b = let log = log_given shape past in quiet-good log l n (report_phase_gives log pod given) (report_phase-stored log (Stored-from_legal log l) pod given) (report-quiet log pod given)
@@ -298,7 +309,9 @@ act-good shape past one (does.Begin c v) w l n b = by (register v (notes shape c
     by : (o : Option Basis) → IfSome (begin_gives o (begin_of (notes shape c past (log_given shape past)) (log_given shape past) (moment shape past))).entry (λ e. Allowed (log_given shape past) e × IsNeatEntry e)
     by None = tt
     by (Some basis) = tt
-act-good shape past one (does.Step zero v) w l n b = step-good (log_given shape past) l n (moment shape past) (notes shape 0 past (log_given shape past)) b v (pending v (notes shape 0 past (log_given shape past))) (register v (notes shape 0 past (log_given shape past))) refl
+act-good shape past one (does.Step zero v) w l n b = step-good (log_given shape past) l n (moment shape past)
+    (notes shape 0 past (log_given shape past)) b v (pending v (notes shape 0 past (log_given shape past)))
+    (register v (notes shape 0 past (log_given shape past))) refl
 act-good shape past one (does.Step (suc c) v) w l n b = let lt = w.0 in absurd (omega (arith, one, lt))
 act-good shape past one does.Node w l n b = node-good (log_given shape past) l n (node_step (log_given shape past) (fate past))
 act-good shape past one (does.Restart c) w l n b = tt

@@ -107,10 +107,15 @@ ended-number u gone end now older kind m e = by (forgets_caches end) refl e
 
 -- ---- a sync asks
 
-pub asked-made : (u : ℕ) (b : Basis) (asked : Request) (given : Answer) (older : List Note) (w : ℕ) → (((u == w) ≡ false) × (made w (Asked u b asked given ∷ older) ≡ made w older)) ⊎ (((u == w) ≡ true) × (made w (Asked u b asked given ∷ older) ≡ ((asked, given) ∷ made w older)))
+pub asked-made : (u : ℕ) (b : Basis) (asked : Request) (given : Answer) (older : List Note) (w : ℕ)
+    → (((u == w) ≡ false) × (made w (Asked u b asked given ∷ older) ≡ made w older))
+    ⊎ (((u == w) ≡ true) × (made w (Asked u b asked given ∷ older) ≡ ((asked, given) ∷ made w older)))
 asked-made u b asked given older w = by (u == w) refl
   where
-    by : (t : Bool) → (u == w) ≡ t → (((u == w) ≡ false) × (with_step (cond t (Some (asked, given)) None) (made w older) ≡ made w older)) ⊎ (((u == w) ≡ true) × (with_step (cond t (Some (asked, given)) None) (made w older) ≡ ((asked, given) ∷ made w older)))
+    by : (t : Bool) → (u == w) ≡ t → (((u == w) ≡ false)
+        × (with_step (cond t (Some (asked, given)) None) (made w older) ≡ made w older))
+        ⊎ (((u == w) ≡ true) × (with_step (cond t (Some (asked, given)) None) (made w older)
+        ≡ ((asked, given) ∷ made w older)))
     by true t = inr (t, refl)
     by false t = inl (t, refl)
 

@@ -20,7 +20,7 @@ use Rattle.jc_types.specs.declared.replies.Request.TheVariants as request
 use Rattle.jc_types.specs.Keys.{same_uid}
 use Rattle.jc_states.specs.UidLists.{is_in}
 use Rattle.jc_asks.specs.Readings.{gone_in, gone_of}
-use Rattle.jc_bounds.specs.Requests.{lets_go_of, was_let_go, let_go_asks, asks, next_by_kind}
+use Rattle.jc_bounds.specs.RequestKinds.{lets_go_of, was_let_go, let_go_asks, asks, next_by_kind}
 use Rattle.jc_bounds.specs.Order.{AreLost, Early, Idle, IsSilent, Late, AtEnd, Progress, Rests, early, late, asks_left, second_writes}
 
 -- ---- lists
@@ -92,7 +92,10 @@ lets-same made asked given none (row ∷ rows) = λ i. (LetPodGo row.0 row.1 ∷
 
 module _ (plan : Planned) (made : List (Request × Answer)) where
   asks-are : asks plan made ≡ early plan made ++ late plan
-  asks-are = sym (append_assoc (map MakePod plan.creates) (map MarkPod plan.marks ++ flat_map (let_go_asks made) plan.let_goes) (late plan) ∙ ap (λ rest. map MakePod plan.creates ++ rest) (append_assoc (map MarkPod plan.marks) (flat_map (let_go_asks made) plan.let_goes) (late plan)))
+  asks-are = sym (append_assoc (map MakePod plan.creates)
+      (map MarkPod plan.marks ++ flat_map (let_go_asks made) plan.let_goes) (late plan)
+      ∙ ap (λ rest. map MakePod plan.creates ++ rest)
+      (append_assoc (map MarkPod plan.marks) (flat_map (let_go_asks made) plan.let_goes) (late plan)))
 
   module _ (asked : Request) (given : Answer) where
     asks-same : ((u : Uid) → lets_go_of u asked ≡ false) → asks plan (more made asked given) ≡ asks plan made
@@ -162,13 +165,18 @@ module _ (log : List Entry) (plan : Planned) (made : List (Request × Answer)) (
   at-late : (done rest : List Uid) → plan.releases ≡ done ++ rest → asks_left plan made ≡ map ReleasePod rest ++ second_writes plan → AreLost log done → Where log plan made ask
   at-late done (u ∷ rest) split is lost =
       let e = sym is ∙ head-left in
-      AtRelease done u rest (sym (cons-head (ReleasePod u) ask (map ReleasePod rest ++ second_writes plan) (drop (suc (length made)) (asks plan made)) e)) split (sym (cons-tail (ReleasePod u) ask (map ReleasePod rest ++ second_writes plan) (drop (suc (length made)) (asks plan made)) e)) lost
+      AtRelease done u rest (sym (cons-head (ReleasePod u) ask (map ReleasePod rest ++ second_writes plan)
+      (drop (suc (length made)) (asks plan made)) e)) split
+      (sym (cons-tail (ReleasePod u) ask (map ReleasePod rest ++ second_writes plan)
+      (drop (suc (length made)) (asks plan made)) e)) lost
   at-late done [] split is lost = by plan.second refl (sym is ∙ head-left)
     where
       by : (o : Option JobStatus) → plan.second ≡ o → map (λ status. WriteSecond) (option_to_list o) ≡ ask ∷ drop (suc (length made)) (asks plan made) → Where log plan made ask
       by None s e = absurd (no-cons ask (drop (suc (length made)) (asks plan made)) e)
       by (Some status) s e =
-          AtSecond (sym (cons-head WriteSecond ask [] (drop (suc (length made)) (asks plan made)) e)) status s (sym (cons-tail WriteSecond ask [] (drop (suc (length made)) (asks plan made)) e)) (subst (AreLost log) (sym (split ∙ append-nil done)) lost)
+          AtSecond (sym (cons-head WriteSecond ask [] (drop (suc (length made)) (asks plan made)) e)) status s
+          (sym (cons-tail WriteSecond ask [] (drop (suc (length made)) (asks plan made)) e))
+          (subst (AreLost log) (sym (split ∙ append-nil done)) lost)
 
   pub where-is : Progress log plan made → Where log plan made ask
   where-is (AtEnd none) = absurd (no-cons ask (drop (suc (length made)) (asks plan made)) (sym none ∙ head-left))
@@ -182,13 +190,19 @@ module _ (log : List Entry) (plan : Planned) (made : List (Request × Answer)) (
       first None f is = at-late [] plan.releases refl is tt
       first (Some status) f is =
           let e = sym is ∙ head-left in
-          AtFirst (sym (cons-head WriteFirst ask (map ReleasePod plan.releases ++ second_writes plan) (drop (suc (length made)) (asks plan made)) e)) status f (sym (cons-tail WriteFirst ask (map ReleasePod plan.releases ++ second_writes plan) (drop (suc (length made)) (asks plan made)) e))
+          AtFirst (sym (cons-head WriteFirst ask (map ReleasePod plan.releases ++ second_writes plan)
+          (drop (suc (length made)) (asks plan made)) e)) status f
+          (sym (cons-tail WriteFirst ask (map ReleasePod plan.releases ++ second_writes plan)
+          (drop (suc (length made)) (asks plan made)) e))
 
       by : (b : Bool) → nat_lt (length made) (length (early plan made)) ≡ b → Where log plan made ask
       by true t =
           let lt = ltb-true (length made) (length (early plan made)) t in
           InEarly lt (each-front (λ a. is_early a ≡ true) (early plan made) (late plan) (length made) ask
-          (Each-append (λ a. is_early a ≡ true) (map MakePod plan.creates) (map MarkPod plan.marks ++ flat_map (let_go_asks made) plan.let_goes) (makes-early plan.creates) (Each-append (λ a. is_early a ≡ true) (map MarkPod plan.marks) (flat_map (let_go_asks made) plan.let_goes) (marks-early plan.marks) (lets-early made plan.let_goes)))
+          (Each-append (λ a. is_early a ≡ true) (map MakePod plan.creates)
+          (map MarkPod plan.marks ++ flat_map (let_go_asks made) plan.let_goes) (makes-early plan.creates)
+          (Each-append (λ a. is_early a ≡ true) (map MarkPod plan.marks) (flat_map (let_go_asks made) plan.let_goes)
+          (marks-early plan.marks) (lets-early made plan.let_goes)))
           lt (ap (λ some. slice_get some (length made)) (sym (asks-are plan made)) ∙ next))
       by false t = let ge = ltb-false (length made) (length (early plan made)) t in first plan.first refl (is_late (omega (arith, le, ge)))
 
@@ -250,7 +264,9 @@ module _ (plan : Planned) (made : List (Request × Answer)) (ask : Ask) (next : 
           (Each-append (λ a. is_quiet a ≡ true) (map MarkPod plan.marks) _ (marks-quiet plan.marks)
           (Each-append (λ a. is_quiet a ≡ true) (flat_map (let_go_asks made) plan.let_goes) (late plan) (lets-quiet made plan.let_goes)
           (Each-append (λ a. is_quiet a ≡ true) (map (λ status. WriteFirst) (option_to_list plan.first)) _ (subst (λ (o : Option JobStatus). Each (λ a. is_quiet a ≡ true) (map (λ status. WriteFirst) (option_to_list o))) (sym f) tt)
-          (Each-append (λ a. is_quiet a ≡ true) (map ReleasePod plan.releases) (second_writes plan) (releases-quiet plan.releases) (subst (λ (o : Option JobStatus). Each (λ a. is_quiet a ≡ true) (map (λ status. WriteSecond) (option_to_list o))) (sym s) tt)))))
+          (Each-append (λ a. is_quiet a ≡ true) (map ReleasePod plan.releases) (second_writes plan)
+          (releases-quiet plan.releases) (subst (λ (o : Option JobStatus). Each (λ a. is_quiet a ≡ true)
+          (map (λ status. WriteSecond) (option_to_list o))) (sym s) tt)))))
   silent-quiet (Rests rest is) = by rest (sym is ∙ drop-head (asks plan made) (length made) ask next)
     where
       by : (rest : List Uid) → map ReleasePod rest ≡ ask ∷ drop (suc (length made)) (asks plan made) → is_quiet ask ≡ true

@@ -13,7 +13,7 @@ use Rattle.jc_asks.specs.declared.asks.Ask.{Ask}
 use Rattle.jc_asks.specs.declared.asks.Ask.TheVariants.{MakePod, MarkPod, LetPodGo, WriteFirst, ReleasePod, WriteSecond}
 use Rattle.jc_asks.specs.Asks.{first_asks, let_go_ask, second_asks}
 use Rattle.jc_asks.specs.Readings.{gone_in, requests, with_marks}
-use Rattle.jc_bounds.specs.Requests.{asks, let_go_asks, next_by_kind}
+use Rattle.jc_bounds.specs.RequestKinds.{asks, let_go_asks, next_by_kind}
 use Rattle.jc_history.proofs.RequestFacts.{first_of_drop as first-of_drop}
 
 marks-append : (gone : List Uid) (xs ys : List Ask) → with_marks gone (xs ++ ys) ≡ with_marks gone xs ++ with_marks gone ys

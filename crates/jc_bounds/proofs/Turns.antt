@@ -44,9 +44,9 @@ use Rattle.jc_types.proofs.EqualityFacts.{status-exact}
 use Rattle.jc_log.proofs.WriteFacts.{job_in-key, life-uid}
 use Rattle.jc_asks.specs.declared.asks.Ask.{Ask}
 use Rattle.jc_asks.specs.Asks.{as_request}
-use Rattle.jc_history.specs.Asks.{so_far}
+use Rattle.jc_history.specs.SoFar.{so_far}
 use Rattle.jc_bounds.proofs.RequestFacts.{next-is}
-use Rattle.jc_bounds.specs.Requests.{next_by_kind, ask_gives}
+use Rattle.jc_bounds.specs.RequestKinds.{next_by_kind, ask_gives}
 use Rattle.jc_history.specs.Diaries.{end_by, moment, notes_taken, notes, on_begin, on_clock, on_delivery, on_step, restarts, on_lag}
 use Rattle.jc_history.specs.Fresh.{basis, begin as begin_of, begin_at, begin_first, begin_unless, cache_lag}
 use Rattle.jc_history.specs.Legal.{IsLegal, IsOfShape}
@@ -237,7 +237,9 @@ module _ (now : ℕ) (log : List Entry) (old : List Note) where
       by true = Noted (Ticked m) refl refl tt
       by false = Still refl refl
 
-  by-delivery : (kind : Kind) (window : ℕ) (o : Option Version) → number kind old ≡ o → Turn now log old (grown log (deliver_gives log window o).entry) (on_delivery kind (grown log (deliver_gives log window o).entry) (deliver_gives log window o).reply ++ old)
+  by-delivery : (kind : Kind) (window : ℕ) (o : Option Version) → number kind old ≡ o
+      → Turn now log old (grown log (deliver_gives log window o).entry)
+      (on_delivery kind (grown log (deliver_gives log window o).entry) (deliver_gives log window o).reply ++ old)
   by-delivery kind window None is = Still refl refl
   by-delivery kind window (Some version) is = by (nat_lt version.0 (length log - window)) (version.0 == length log)
     where
@@ -249,11 +251,16 @@ module _ (now : ℕ) (log : List Entry) (old : List Note) where
       by false true = Still refl refl
       by false false = Noted _ refl refl (subst (λ o. IsBefore o (record { 0 = version.0 + 1 })) (sym is) (omega arith))
 
-  by-begin : (w : ℕ) (o : Option Basis) → register w old ≡ o → Turn now log old (grown log (begin_gives o (begin_of old log now)).entry) (on_begin w now (grown log (begin_gives o (begin_of old log now)).entry) old (begin_gives o (begin_of old log now)).reply ++ old)
+  by-begin : (w : ℕ) (o : Option Basis) → register w old ≡ o
+      → Turn now log old (grown log (begin_gives o (begin_of old log now)).entry)
+      (on_begin w now (grown log (begin_gives o (begin_of old log now)).entry) old
+      (begin_gives o (begin_of old log now)).reply ++ old)
   by-begin w (Some b) is = Still refl refl
   by-begin w None is = at_numbers (number Jobs old) refl (number Pods old) refl
     where
-      unless : (j p : Version) (k : Key) → number Jobs old ≡ Some j → number Pods old ≡ Some p → (o : Option Lag) → cache_lag old log k j p ≡ o → Turn now log old log (on_begin w now log old (reply_of_begin (begin_unless (basis old log now k j p) o)) ++ old)
+      unless : (j p : Version) (k : Key) → number Jobs old ≡ Some j → number Pods old ≡ Some p → (o : Option Lag)
+          → cache_lag old log k j p ≡ o → Turn now log old log
+          (on_begin w now log old (reply_of_begin (begin_unless (basis old log now k j p) o)) ++ old)
       unless j p k a b None l = Began w k j p a b l is refl refl
       unless j p k a b (Some behind) l = back (line old)
         where
@@ -274,7 +281,11 @@ module _ (now : ℕ) (log : List Entry) (old : List Note) where
   by-step w fault None is = Still refl refl
   by-step w fault (Some b) is = by fault (so_far b (made w old)).left refl
     where
-      by : (fault : Option Fault) (left : List Ask) → (so_far b (made w old)).left ≡ left → Turn now log old (grown log (step_done (stepped_at now fault log (so_far b (made w old)).flight left)).entry) (on_step w now (Some b) (step_done (stepped_at now fault log (so_far b (made w old)).flight left)).reply ++ old)
+      by : (fault : Option Fault) (left : List Ask) → (so_far b (made w old)).left ≡ left
+          → Turn now log old (grown log (step_done
+          (stepped_at now fault log (so_far b (made w old)).flight left)).entry)
+          (on_step w now (Some b) (step_done (stepped_at now fault log (so_far b (made w old)).flight left)).reply
+          ++ old)
       by fault [] e = Finished w b is refl refl
       by (Some Drop) (ask ∷ left) e = Stopped w b ask answer.Unavailable None how.Unavailable is (next-is (planned b) (made w old) ask left e) (inl refl) (inl refl) refl refl
       by (Some Lose) (ask ∷ left) e = Stopped w b ask answer.Unavailable (ask_gives log now b (made w old) ask).entry how.Unavailable is (next-is (planned b) (made w old) ask left e) (inr refl) (inl refl) refl refl
@@ -307,7 +318,9 @@ turn_of shape past one (does.Deliver zero kind) w = by-delivery (moment shape pa
 turn_of shape past one (does.Deliver (suc c) kind) w = absurd (omega (arith, one, w))
 turn_of shape past one (does.Begin zero v) w = by-begin (moment shape past) (log_given shape past) (notes shape 0 past (log_given shape past)) v (register v (notes shape 0 past (log_given shape past))) refl
 turn_of shape past one (does.Begin (suc c) v) w = let lt = w.0 in absurd (omega (arith, one, lt))
-turn_of shape past one (does.Step zero v) w = by-step (moment shape past) (log_given shape past) (notes shape 0 past (log_given shape past)) v (pending v (notes shape 0 past (log_given shape past))) (register v (notes shape 0 past (log_given shape past))) refl
+turn_of shape past one (does.Step zero v) w = by-step (moment shape past) (log_given shape past)
+    (notes shape 0 past (log_given shape past)) v (pending v (notes shape 0 past (log_given shape past)))
+    (register v (notes shape 0 past (log_given shape past))) refl
 turn_of shape past one (does.Step (suc c) v) w = let lt = w.0 in absurd (omega (arith, one, lt))
 turn_of shape past one does.Node w = by-node (moment shape past) (log_given shape past) (notes shape 0 past (log_given shape past)) (node_step (log_given shape past) (fate past))
 turn_of shape past one (does.Restart zero) w = Restarted refl refl
@@ -323,5 +336,7 @@ pub turn : (shape : Shape) (past : List Deed) (d : Deed) → shape.controllers �
 unfolding log_given
 turn shape past d one h =
     subst (Turn (moment shape past) (log_given shape past) (notes shape 0 past (log_given shape past)) (log_given shape (d ∷ past)))
-    (ap (λ r. cond (restarts 0 d.act) [] (notes_taken 0 d.act r (moment shape past) (log_given shape (d ∷ past)) (notes shape 0 past (log_given shape past)) ++ notes shape 0 past (log_given shape past))) (sym h.0.reply) ∙ sym (notes-next shape 0 past d h.1))
+    (ap (λ r. cond (restarts 0 d.act) [] (notes_taken 0 d.act r (moment shape past) (log_given shape (d ∷ past))
+    (notes shape 0 past (log_given shape past)) ++ notes shape 0 past (log_given shape past))) (sym h.0.reply)
+    ∙ sym (notes-next shape 0 past d h.1))
     (turn_of shape past one d.act h.0.within)

@@ -16,7 +16,7 @@ use Rattle.jc_bounds.specs.Bounded.{IsBounded}
 use Rattle.jc_bounds.specs.Final.{IsFinal}
 use Rattle.jc_bounds.specs.Fitting.{IsMade}
 use Rattle.jc_bounds.specs.Histories.{HoldsBounds, KeepsBounds}
-use Rattle.jc_bounds.specs.Kept.{IsLeftAlone, IsShut, StatusesStand}
+use Rattle.jc_bounds.specs.KeptEnds.{IsLeftAlone, IsShut, StatusesStand}
 use Rattle.jc_bounds.proofs.BoundFacts.{legal-bounded}
 use Rattle.jc_bounds.proofs.EndFacts.{legal-final}
 use Rattle.jc_bounds.proofs.FitFacts.{legal-fits}
@@ -30,10 +30,14 @@ module _ (shape : Shape) where
   pub final : (deeds : List Deed) → shape.controllers ≡ 1 → IsLegal shape deeds → IsFinal (log_given shape deeds) (notes shape 0 deeds (log_given shape deeds))
   final deeds one h = let l = legal-log shape deeds one h in legal-final shape deeds one h (Stored-from_legal (log_given shape deeds) l.0) l.1
 
-  pub fits : (past : List Deed) (d : Deed) (pod : Pod) → shape.controllers ≡ 1 → IsLegal shape (d ∷ past) → log_given shape (d ∷ past) ≡ PodPut pod ∷ log_given shape past → life pod.uid (log_given shape past) ≡ Never → IsMade shape d.act (log_given shape past) (notes shape 0 past (log_given shape past)) pod
+  pub fits : (past : List Deed) (d : Deed) (pod : Pod) → shape.controllers ≡ 1 → IsLegal shape (d ∷ past)
+      → log_given shape (d ∷ past) ≡ PodPut pod ∷ log_given shape past → life pod.uid (log_given shape past) ≡ Never
+      → IsMade shape d.act (log_given shape past) (notes shape 0 past (log_given shape past)) pod
   fits past d pod one h = legal-fits shape past d pod one h (legal-log shape (d ∷ past) one h).0
 
-  pub keeps : (past : List Deed) (d : Deed) → shape.controllers ≡ 1 → IsLegal shape (d ∷ past) → (k : Key) (job : Job) → job_in k (log_given shape past) ≡ Some job → has_end job.status.conditions ≡ true → IsLeftAlone (log_given shape past) (log_given shape (d ∷ past)) k job
+  pub keeps : (past : List Deed) (d : Deed) → shape.controllers ≡ 1 → IsLegal shape (d ∷ past) → (k : Key) (job : Job)
+      → job_in k (log_given shape past) ≡ Some job → has_end job.status.conditions ≡ true
+      → IsLeftAlone (log_given shape past) (log_given shape (d ∷ past)) k job
   keeps past d one h = let l = legal-log shape (d ∷ past) one h in legal-keeps shape past d one h l.0 l.1
 
   pub shut : (deeds : List Deed) → shape.controllers ≡ 1 → IsLegal shape deeds → (k : Key) (job : Job) → job_in k (log_given shape deeds) ≡ Some job → has_end job.status.conditions ≡ true → IsShut (log_given shape deeds) job

@@ -174,7 +174,9 @@ module _ (f : Pod → Bool) where
         more true = omega arith
         more false = omega arith
 
-        by : (l : Life) → life pod.uid older ≡ l → CanPut older l pod → length (filter f (put_pod pod (pods_in older))) + pods_made k older ≤ length (filter f (pods_in older)) + cond (same_key pod.owner k && is_never (life pod.uid older)) (pods_made k older + 1) (pods_made k older)
+        by : (l : Life) → life pod.uid older ≡ l → CanPut older l pod
+            → length (filter f (put_pod pod (pods_in older))) + pods_made k older ≤ length (filter f (pods_in older)) +
+            cond (same_key pod.owner k && is_never (life pod.uid older)) (pods_made k older + 1) (pods_made k older)
         by Never is can =
             let n = newly (f pod) (same_key pod.owner k) (pods_made k older) (keyed pod) in
             let e = ap (λ l. cond (same_key pod.owner k && is_never l) (pods_made k older + 1) (pods_made k older)) is in

@@ -12,7 +12,7 @@ use Rattle.jc_log.specs.Deeds.{Deed}
 use Rattle.jc_log.specs.Log.{Never, job_in, life}
 use Rattle.jc_history.specs.Replies.{diary, log_given}
 use Rattle.jc_bounds.specs.Fitting.{IsMade}
-use Rattle.jc_bounds.specs.Kept.{IsLeftAlone, IsShut, StatusesStand}
+use Rattle.jc_bounds.specs.KeptEnds.{IsLeftAlone, IsShut, StatusesStand}
 
 -- A pod that comes into the log with the deed fits. A Job that had ended is left alone. After the
 -- deed each Job that has ended is shut, and its status is the one with which it ended.

@@ -1,8 +1,8 @@
-pub mod Requests
+pub mod RequestKinds
 pub mod Work
 pub mod Bounded
 pub mod Fitting
 pub mod Order
 pub mod Final
-pub mod Kept
+pub mod KeptEnds
 pub mod Histories

@@ -17,7 +17,7 @@ use Rattle.jc_types.specs.declared.replies.Request.{Request}
 use Rattle.jc_log.specs.Log.{is_lost, life}
 use Rattle.jc_asks.specs.declared.asks.Ask.{Ask}
 use Rattle.jc_asks.specs.declared.asks.Ask.TheVariants.{MakePod, MarkPod, WriteFirst, ReleasePod, WriteSecond}
-use Rattle.jc_bounds.specs.Requests.{let_go_asks, asks}
+use Rattle.jc_bounds.specs.RequestKinds.{let_go_asks, asks}
 
 -- The requests before the first status.
 abbrev pub early : Planned → List (Request × Answer) → List Ask

@@ -20,7 +20,7 @@ ghost use Rattle.jc_bounds.specs.Bounded.{IsBounded};
 ghost use Rattle.jc_bounds.specs.Final.{AreNeat, IsFinal};
 ghost use Rattle.jc_bounds.specs.Fitting.{IsMade};
 ghost use Rattle.jc_bounds.specs.Histories.{HoldsBounds};
-ghost use Rattle.jc_bounds.specs.Kept.{IsLeftAlone, IsShut, StatusesStand};
+ghost use Rattle.jc_bounds.specs.KeptEnds.{IsLeftAlone, IsShut, StatusesStand};
 ghost use Rattle.jc_bounds.specs.Work.{count, last_work, pods_made};
 
 /// What a log tells of a key since a version that is not before its last work: no pod was made for

@@ -22,7 +22,9 @@ use Rattle.jc_calm.proofs.NowFacts.{faults-most}
 use Rattle.jc_calm.proofs.TurnFacts.{begins-turn}
 
 module _ (shape : Shape) (past : List Deed) (some : 0 < shape.workers) (start : IsMoment shape.start) (legal : IsLegal shape past) (calm : IsCalm shape past) where
-  clock-moves : (d : Deed) (due : ℕ) → next_of_settle shape past ≡ Some d → d.act ≡ does.Clock (due - moment shape past) → least_of_all shape past (log_given shape past) ≡ Some due → HaveNoKeys shape past (log_given shape past) → MovesTheClock shape past d due
+  clock-moves : (d : Deed) (due : ℕ) → next_of_settle shape past ≡ Some d → d.act ≡ does.Clock (due - moment shape past)
+      → least_of_all shape past (log_given shape past) ≡ Some due → HaveNoKeys shape past (log_given shape past)
+      → MovesTheClock shape past d due
   clock-moves d due e a least none = record {
     next = e;
     act = a;

@@ -21,7 +21,7 @@ use Rattle.jc_log.specs.Requests.{Answered, grown}
 use Rattle.jc_plan.specs.Plans.{planned}
 use Rattle.jc_asks.specs.declared.asks.Ask.{Ask}
 use Rattle.jc_asks.specs.Steps.{stepped_at}
-use Rattle.jc_history.specs.Asks.{so_far}
+use Rattle.jc_history.specs.SoFar.{so_far}
 use Rattle.jc_history.specs.Diaries.{moment, on_step}
 use Rattle.jc_history.specs.Legal.{IsLegal, IsLegalNext}
 use Rattle.jc_history.specs.Notes.{Note, Ended, newest}

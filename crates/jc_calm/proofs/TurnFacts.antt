@@ -36,7 +36,7 @@ use Rattle.jc_asks.specs.Asks.{as_request, asks_of, last_asks, second_asks}
 use Rattle.jc_asks.specs.Readings.{with_step}
 use Rattle.jc_asks.specs.Sends.{sent_first}
 use Rattle.jc_asks.specs.Steps.{answered_to, as_answer, status_gives, written_gives}
-use Rattle.jc_history.specs.Asks.{so_far}
+use Rattle.jc_history.specs.SoFar.{so_far}
 use Rattle.jc_history.specs.Diaries.{moment, on_step, ticks}
 use Rattle.jc_history.specs.Legal.{IsLegal, IsLegalNext}
 use Rattle.jc_history.specs.Lines.{line}
@@ -71,7 +71,9 @@ wrote log = (request.Status, answer.Written (next_version log)) ∷ []
 left-then : (basis : Basis) (log : List Entry) (ask : Ask) (left : List Ask) → asks_of (planned basis) ≡ ask ∷ left → (so_far basis (wrote log)).left ≡ left
 left-then basis log ask left are = ap (drop 1) (with_marks-none (asks_of (planned basis)) ∙ are) ∙ drop-none left
 
-module _ (shape : Shape) (some : 0 < shape.workers) (past : List Deed) (legal : IsLegal shape past) (calm : IsCalm shape past) (d : Deed) (c w : ℕ) (k : Key) (rest : List Key) (e : next_of_settle shape past ≡ Some d) (lt : c < shape.controllers) (less : w < shape.workers)
+module _ (shape : Shape) (some : 0 < shape.workers) (past : List Deed) (legal : IsLegal shape past)
+    (calm : IsCalm shape past) (d : Deed) (c w : ℕ) (k : Key) (rest : List Key) (e : next_of_settle shape past ≡ Some d)
+    (lt : c < shape.controllers) (less : w < shape.workers)
     (a : d.act ≡ does.Begin c w) (first : line (diary shape c past) ≡ k ∷ rest) where
   abbrev log : List Entry
   log = log_given shape past
@@ -206,7 +208,10 @@ module _ (shape : Shape) (some : 0 < shape.workers) (past : List Deed) (legal : 
     failed-others : (x v : ℕ) → (pending v (diary shape x (step ∷ begun)) ≡ pending v (diary shape x past)) ⊎ (pending v (diary shape x (step ∷ begun)) ≡ None)
     failed-others x v = by (c == x) (ap (pending v) (noted-then x _ failed-reply)) (w == v)
       where
-        by : (b : Bool) → pending v (diary shape x (step ∷ begun)) ≡ pending v (cond b failed-notes [] ++ diary shape x begun) → Bool → (pending v (diary shape x (step ∷ begun)) ≡ pending v (diary shape x past)) ⊎ (pending v (diary shape x (step ∷ begun)) ≡ None)
+        by : (b : Bool) → pending v (diary shape x (step ∷ begun))
+            ≡ pending v (cond b failed-notes [] ++ diary shape x begun) → Bool
+            → (pending v (diary shape x (step ∷ begun)) ≡ pending v (diary shape x past))
+            ⊎ (pending v (diary shape x (step ∷ begun)) ≡ None)
         by false h t = inl (h ∙ pending-then x v)
         by true h t = on (w == v) refl
           where

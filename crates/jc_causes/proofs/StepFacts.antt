@@ -24,7 +24,7 @@ use Rattle.jc_asks.specs.declared.asks.Ask.{Ask}
 use Rattle.jc_asks.specs.declared.asks.Ask.TheVariants.{MakePod, MarkPod, LetPodGo, WriteFirst, ReleasePod, WriteSecond}
 use Rattle.jc_asks.specs.Readings.{gone_in, requests, with_marks}
 use Rattle.jc_asks.specs.Steps.{stepped_at}
-use Rattle.jc_history.specs.Asks.{so_far}
+use Rattle.jc_history.specs.SoFar.{so_far}
 use Rattle.jc_history.specs.Diaries.{moment}
 use Rattle.jc_history.specs.Legal.{IsLegal, IsLegalNext}
 use Rattle.jc_history.specs.Registers.{made, pending, register}
@@ -97,7 +97,10 @@ at-front gone (index ∷ indexes) others (suc n) ask h e = one-more (at-front go
     one-more (inr other) = inr other
 
 front-of : (plan : Planned) (gone : List Uid) (n : ℕ) (ask : Ask) → slice_get (requests plan gone) n ≡ Some ask → (n < length plan.creates) ⊎ (is_make ask ≡ false)
-front-of plan gone n ask e = at-front gone plan.creates others n ask none (subst (λ asks. slice_get (with_marks gone asks) n ≡ Some ask) (append_assoc (map MakePod plan.creates) (map MarkPod plan.marks ++ map let_go_ask plan.let_goes) (late_asks plan)) e)
+front-of plan gone n ask e = at-front gone plan.creates others n ask none
+    (subst (λ asks. slice_get (with_marks gone asks) n ≡ Some ask)
+    (append_assoc (map MakePod plan.creates) (map MarkPod plan.marks ++ map let_go_ask plan.let_goes) (late_asks plan))
+    e)
   where
     others : List Ask
     others = (map MarkPod plan.marks ++ map let_go_ask plan.let_goes) ++ late_asks plan

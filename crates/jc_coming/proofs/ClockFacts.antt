@@ -134,7 +134,9 @@ module _ (now later : ℕ) (within : later < end_of_moments) (job : Job) (own : 
   none-later : next_decided later job own ≡ None
   none-later = by (has_target job.status.conditions) refl none-now
     where
-      by : (t : Bool) → has_target job.status.conditions ≡ t → cond t None (decision (next_counted job own) job.spec own (is_overdue now job.spec job.status)) ≡ None → cond t None (decision (next_counted job own) job.spec own (is_overdue later job.spec job.status)) ≡ None
+      by : (t : Bool) → has_target job.status.conditions ≡ t
+          → cond t None (decision (next_counted job own) job.spec own (is_overdue now job.spec job.status)) ≡ None
+          → cond t None (decision (next_counted job own) job.spec own (is_overdue later job.spec job.status)) ≡ None
       by true i e = refl
       by false i e =
           let before = none-overdue (next_counted job own) now job own e in

@@ -26,7 +26,7 @@ use Rattle.jc_log.proofs.WriteFacts.{job_in-key}
 use Rattle.jc_account.specs.Accounts.{counted_in}
 use Rattle.jc_account.specs.Judged.{candidates}
 use Rattle.jc_plan.specs.Next.{ListsNoSuccess, next_status}
-use Rattle.jc_plan.specs.Numbers.{active_after, ending_after, is_let_go_of, ready_after}
+use Rattle.jc_plan.specs.PodNumbers.{active_after, ending_after, is_let_go_of, ready_after}
 use Rattle.jc_plan.specs.Plans.{changed, planned}
 use Rattle.jc_plan.specs.Statuses.{first_value, second_value, wants_in}
 use Rattle.jc_plan.proofs.NextFacts.{changed-none, second-next}

@@ -19,7 +19,7 @@ use Rattle.jc_plan.specs.Plans.{planned}
 use Rattle.jc_queue.specs.Delayed.{first_of, in_turn, is_before, is_due, put_in_turn, sooner}
 use Rattle.jc_queue.specs.Queued.{has_key}
 use Rattle.jc_history.specs.Delays.{delay, delays, earlier_if, ended_key, keys_due, least_delay, not_come}
-use Rattle.jc_history.specs.Keys.{once}
+use Rattle.jc_history.specs.KeyLists.{once}
 use Rattle.jc_history.specs.Lines.{OnlyAdds, is_dirty, is_processing, line}
 use Rattle.jc_history.specs.Notes.{Note, Began, Ticked}
 use Rattle.jc_history.specs.Registers.{backoff}
@@ -68,7 +68,9 @@ module _ (p : Key × ℕ → Bool) (f : Key → Option ℕ) (k : Key) where
   taken-out [] h = absurd (true≢false (sym h))
   taken-out (x ∷ keys) h = by (same_key k x) refl h (taken-out keys)
     where
-      by : (m : Bool) → same_key k x ≡ m → (m || has_key k keys) ≡ true → (has_key k keys ≡ true → weight p k (f k) + passing p f (others keys) ≤ passing p f keys) → weight p k (f k) + passing p f (cond (not m) (x ∷ others keys) (others keys)) ≤ passing p f (x ∷ keys)
+      by : (m : Bool) → same_key k x ≡ m → (m || has_key k keys) ≡ true
+          → (has_key k keys ≡ true → weight p k (f k) + passing p f (others keys) ≤ passing p f keys)
+          → weight p k (f k) + passing p f (cond (not m) (x ∷ others keys) (others keys)) ≤ passing p f (x ∷ keys)
       by true s h more =
           let few = others-fewer keys in
           let first = passing-first p f x keys in

@@ -11,7 +11,7 @@ use Rattle.jc_play.specs.declared.slots.Slot.{Slot}
 use Rattle.jc_play.specs.Slots.{is_slot_of}
 use Rattle.jc_core.specs.declared.changes.Change.{Change}
 use Rattle.jc_core.specs.declared.changes.Change.TheVariants as change
-use Rattle.jc_core.specs.Changes.{changed_slot, sole_register}
+use Rattle.jc_core.specs.RegisterChanges.{changed_slot, sole_register}
 use Rattle.jc_core.specs.Shared.{all_registers, is_seat, numbers_of}
 
 -- ---- places

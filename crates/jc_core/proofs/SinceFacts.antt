@@ -28,8 +28,8 @@ use Rattle.jc_history.specs.Registers.{asks_status, register, register_told}
 use Rattle.jc_history.specs.Replies.{diary, log_after, log_given}
 use Rattle.jc_history.proofs.DiaryFacts.{legal-stay}
 use Rattle.jc_runs.specs.Seen.{Seen, deeds_seen}
-use Rattle.jc_play.specs.Diaries.{diary_seen}
-use Rattle.jc_core.specs.Changes.{touch_of}
+use Rattle.jc_play.specs.DiariesSeen.{diary_seen}
+use Rattle.jc_core.specs.RegisterChanges.{touch_of}
 use Rattle.jc_core.specs.Since.{is_of_register, is_past_of, is_touch_of, seen_at}
 
 -- ---- touches

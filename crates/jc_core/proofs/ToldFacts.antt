@@ -11,12 +11,12 @@ use Rattle.jc_types.specs.declared.runs.Past.{Past}
 use Rattle.jc_log.specs.Acts.{Act}
 use Rattle.jc_log.specs.Deeds.{act_of_event}
 use Rattle.jc_runs.specs.Seen.{Seen, past_seen}
-use Rattle.jc_play.specs.Syncs.{IsSynced, Nothing, Began, begin_event}
+use Rattle.jc_play.specs.SyncsSeen.{IsSynced, Nothing, Began, begin_event}
 use Rattle.jc_play.specs.declared.slots.Slot.{Slot}
 use Rattle.jc_play.specs.Slots.{is_slot_of}
 use Rattle.jc_core.specs.declared.touches.Touch.{Touch}
 use Rattle.jc_core.specs.declared.touches.Touch.TheVariants as touch
-use Rattle.jc_core.specs.Changes.{touch_of, touched_slots}
+use Rattle.jc_core.specs.RegisterChanges.{touch_of, touched_slots}
 use Rattle.jc_core.specs.Shared.{HasKeptUp, KeepsShared, Shared, fresh_slot, freed_slots, has_holders, numbers_of, restarted_slots, slots_after, slots_told, wanting}
 use Rattle.jc_core.proofs.TouchFacts.{touched-by}
 
@@ -81,7 +81,9 @@ told-kept seen old new numbers h = record {
 -- ---- one event more
 
 -- What the events that are left lead to, once the first of them has happened.
-pub told-on : (commands : List Command) (events : List Past) (i : ℕ) (past : Past) (slots new first : List Slot) (t : Touch) → i < length events → past ≡ get_or events i past → t ≡ touch_of (act_of_event commands past.event) → new ≡ touched_slots t past.reply slots
+pub told-on : (commands : List Command) (events : List Past) (i : ℕ) (past : Past) (slots new first : List Slot)
+    (t : Touch) → i < length events → past ≡ get_or events i past → t ≡ touch_of (act_of_event commands past.event)
+    → new ≡ touched_slots t past.reply slots
     → slots_told commands (drop i events) slots ≡ slots_told commands events first → slots_told commands (drop (i + 1) events) new ≡ slots_told commands events first
 told-on commands events i past slots new first t within at touches made left =
     ap (slots_told commands (drop (i + 1) events)) (made ∙ ap (λ t. touched_slots t past.reply slots) touches ∙ touched-by (act_of_event commands past.event) past.reply slots)
@@ -130,7 +132,9 @@ synced-follows c w old new (Began steps) = record {
 }
 
 -- So the registers have kept up once a sync was done.
-pub synced-up : (before after : Seen) (slots : List Slot) (old new : Shared) (c w from : ℕ) (events : List Past) → record { seen = before; slots = slots } ≡ old → IsSynced c w before after → reverse events ≡ before.pasts → from ≡ length events → new.seen ≡ after
+pub synced-up : (before after : Seen) (slots : List Slot) (old new : Shared) (c w from : ℕ) (events : List Past)
+    → record { seen = before; slots = slots } ≡ old → IsSynced c w before after → reverse events ≡ before.pasts → from
+    ≡ length events → new.seen ≡ after
     → new.slots ≡ slots_told after.script.commands (drop from (reverse after.pasts)) slots → HasKeptUp old new
 synced-up before after slots old new c w from events view synced is count seen told = subst (λ (s : Shared). HasKeptUp s new) view (on (synced-follows c w before after synced))
   where

@@ -8,7 +8,7 @@ use Rattle.jc_log.specs.Acts.{Act}
 use Rattle.jc_runs.specs.Seen.{Seen, act_seen, reply_seen}
 use Rattle.jc_play.specs.declared.slots.Slot.{Slot}
 use Rattle.jc_core.specs.declared.touches.Touch.{Touch}
-use Rattle.jc_core.specs.Changes.{touch_of, touched_slots}
+use Rattle.jc_core.specs.RegisterChanges.{touch_of, touched_slots}
 use Rattle.jc_core.specs.Shared.{Shared, slots_after}
 
 -- What an act changes, by how it touches them.
@@ -18,7 +18,9 @@ touched-by (does.Begin c w) other slots = refl
 touched-by other answer slots = refl
 
 -- So it is with an event of a cluster, once it has happened.
-pub touched-seen : (seen : Seen) (slots new : List Slot) (shared : Shared) (event : Event) (t : Touch) (answer : Reply) → record { seen = seen; slots = slots } ≡ shared → t ≡ touch_of (act_seen seen event) → answer ≡ reply_seen shared.seen event → new ≡ touched_slots t answer slots
+pub touched-seen : (seen : Seen) (slots new : List Slot) (shared : Shared) (event : Event) (t : Touch) (answer : Reply)
+    → record { seen = seen; slots = slots } ≡ shared → t ≡ touch_of (act_seen seen event) → answer
+    ≡ reply_seen shared.seen event → new ≡ touched_slots t answer slots
     → new ≡ slots_after (act_seen shared.seen event) (reply_seen shared.seen event) shared.slots
 touched-seen seen slots new shared event t answer view touches replies made =
     made

@@ -1,9 +1,9 @@
-pub mod Changes
+pub mod RegisterChanges
 pub mod Shared
 pub mod Since
 -- Words of the crates below, handed on to those above.
 pub use Rattle.jc_play.specs.ApplyFault
-pub use Rattle.jc_play.specs.Diaries
+pub use Rattle.jc_play.specs.DiariesSeen
 pub use Rattle.jc_play.specs.Places
 pub use Rattle.jc_play.specs.Plays
 pub use Rattle.jc_play.specs.Actors

@@ -27,7 +27,7 @@ use Rattle.jc_log.specs.Deeds.{act_of_event}
 use Rattle.jc_history.specs.Available.{below}
 use Rattle.jc_history.specs.Registers.{register}
 use Rattle.jc_runs.specs.Seen.{Seen}
-use Rattle.jc_play.specs.Diaries.{diary_seen}
+use Rattle.jc_play.specs.DiariesSeen.{diary_seen}
 use Rattle.jc_play.specs.Plays.{IsProper}
 use Rattle.jc_play.specs.declared.actors.Actor.{Actor}
 use Rattle.jc_play.specs.declared.actors.Actor.TheVariants as actor

@@ -1,7 +1,7 @@
 //! How the registers of a threaded run change, as its seats see them.
 
 ghost use Rattle.std.specs.Prelude.{◌≡◌, ◌+◌, ◌*◌, Some, map};
-ghost use Rattle.jc_core.specs.Changes.{changed_slot, sole_register};
+ghost use Rattle.jc_core.specs.RegisterChanges.{changed_slot, sole_register};
 ghost use Rattle.jc_core.specs.Shared.{all_registers, fresh_slot, holds_slot, is_seat, numbers_of};
 
 use jc_play::Slot;

@@ -4,7 +4,7 @@ ghost use Rattle.std.specs.Prelude.{◌≡◌, ◌↔◌, ◌<◌, IfOk, IfSome,
 ghost use Rattle.std.specs.List.{list_any};
 ghost use Rattle.jc_runs.specs.Bases.{CanPlan};
 ghost use Rattle.jc_history.specs.Registers.{register};
-ghost use Rattle.jc_play.specs.Diaries.{diary_seen};
+ghost use Rattle.jc_play.specs.DiariesSeen.{diary_seen};
 ghost use Rattle.jc_core.specs.Shared.{all_registers, freed_slots, has_holders, holds_slot, is_open_slot, numbers_of, put_back_by, submitted_by, taken_by};
 ghost use Rattle.jc_core.specs.Since.{seen_at};
 

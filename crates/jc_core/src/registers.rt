@@ -5,7 +5,7 @@ ghost use Rattle.std.specs.List.{list_any};
 ghost use Rattle.jc_runs.specs.Bases.{CanPlan};
 ghost use Rattle.jc_history.specs.Available.{below};
 ghost use Rattle.jc_history.specs.Registers.{register};
-ghost use Rattle.jc_play.specs.Diaries.{diary_seen};
+ghost use Rattle.jc_play.specs.DiariesSeen.{diary_seen};
 ghost use Rattle.jc_play.specs.Slots.{has_holder, is_slot_of};
 ghost use Rattle.jc_core.specs.Shared.{fresh_slot, holds_slot, is_held_actor, is_open_slot, numbers_of, all_registers};
 

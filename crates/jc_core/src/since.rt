@@ -3,7 +3,7 @@
 ghost use Rattle.std.specs.Prelude.{◌≡◌, ◌↔◌, ◌<◌, IsTrue, Some, drop, not, reverse};
 ghost use Rattle.std.specs.List.{list_any};
 ghost use Rattle.jc_history.specs.Registers.{register};
-ghost use Rattle.jc_play.specs.Diaries.{diary_seen};
+ghost use Rattle.jc_play.specs.DiariesSeen.{diary_seen};
 ghost use Rattle.jc_core.specs.Since.{is_past_of, is_touch_of, seen_at};
 
 use crate::registers::is_of_sync;

@@ -3,7 +3,7 @@
 ghost use Rattle.std.specs.Prelude.{◌≡◌, false, map};
 ghost use Rattle.jc_log.specs.Deeds.{act_of_action, act_of_event, act_of_system};
 ghost use Rattle.jc_play.specs.Turns.{is_begun_reply};
-ghost use Rattle.jc_core.specs.Changes.{touch_of, touched_slots};
+ghost use Rattle.jc_core.specs.RegisterChanges.{touch_of, touched_slots};
 ghost use Rattle.jc_core.specs.Shared.{all_registers, has_holders, numbers_of};
 
 use crate::changes::{Change, change_all};

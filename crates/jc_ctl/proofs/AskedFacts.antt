@@ -16,7 +16,7 @@ use Rattle.jc_single.specs.declared.status.Status.{Status}
 use Rattle.jc_single.proofs.EndFacts.{EndsBad}
 use Rattle.jc_single.proofs.RunFacts.{order_same, same_bad}
 use Rattle.jc_single.specs.Played.{as_script}
-use Rattle.jc_single.specs.Runs.{OfInput, answer_of, reported}
+use Rattle.jc_single.specs.RunAnswers.{OfInput, answer_of, reported}
 
 -- A bad line is the same on any number of threads.
 pub bad-same : (threads : ℕ) (lock : LockKind) (shape : Shape) (input : List ℕ) (bad : BadLine) → script_of shape input ≡ Err bad

@@ -11,8 +11,8 @@ use Rattle.jc_script.specs.Scripts.{BadLine, most_bytes}
 use Rattle.jc_words.specs.declared.words.Order.TheVariants.{Audit}
 use Rattle.jc_single.proofs.EndFacts.{EndsLong, good-words, is-whole, long-ends, long-taken, most-taken, no-line, read-rose, stopped-not-front, stopped-not-whole}
 use Rattle.jc_single.proofs.RunFacts.{long_input, of_each, of_read, of_short}
-use Rattle.jc_single.specs.Ends.{AtLength, AtLine, AtMemory, AtRead, Change, RunHasEnded, HasStopped, Stopped}
-use Rattle.jc_single.specs.Runs.{Printed, answer_of}
+use Rattle.jc_single.specs.RunEnds.{AtLength, AtLine, AtMemory, AtRead, Change, RunHasEnded, HasStopped, Stopped}
+use Rattle.jc_single.specs.RunAnswers.{Printed, answer_of}
 use Rattle.jc_single.specs.declared.status.Status.{Status}
 use Rattle.jc_single.specs.declared.status.Status.TheVariants as status
 use Rattle.jc_ctl.specs.Audited.{IsAudited, TellsVerdict, TellsVerdictFront}

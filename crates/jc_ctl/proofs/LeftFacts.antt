@@ -15,9 +15,9 @@ use Rattle.jc_single.specs.Promises.{KeepsPromises}
 use Rattle.jc_single.proofs.DeedFacts.{deeds-are}
 use Rattle.jc_lines.specs.Reports.{report_text}
 use Rattle.jc_lines.specs.Told.{AreEvents}
-use Rattle.jc_shared.specs.Runs.{IsEndOfRun, IsLeft}
+use Rattle.jc_shared.specs.SharedEnds.{IsEndOfRun, IsLeft}
 use Rattle.jc_single.specs.declared.orders.Output.{Output}
-use Rattle.jc_single.specs.Told.{IsReport}
+use Rattle.jc_single.specs.Headlines.{IsReport}
 
 module _ (seen : Seen) (h : History) (events : reverse h.events.items ≡ seen.pasts) where
   -- The deeds are those of the history.

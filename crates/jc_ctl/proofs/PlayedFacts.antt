@@ -17,7 +17,7 @@ use Rattle.jc_single.specs.Play.{whole_play}
 use Rattle.jc_single.specs.Plays.{IsProper}
 use Rattle.jc_single.specs.Seen.{Seen}
 use Rattle.jc_single.specs.Finds.{seen_at_end}
-use Rattle.jc_single.specs.Said.{Creates, CanBeSaid, IsSmallTtl}
+use Rattle.jc_single.specs.ReapedCommands.{Creates, CanBeSaid, IsSmallTtl}
 use Rattle.jc_single.specs.Reaping.{command, reap_list}
 use Rattle.jc_script.specs.Scripts.{BadLine}
 use Rattle.jc_single.proofs.ReapFacts.{both, history_of, last-holds}

@@ -15,9 +15,9 @@ use Rattle.jc_script.specs.Scripts.{script_of}
 use Rattle.jc_words.specs.declared.words.LockKind.{LockKind}
 use Rattle.jc_words.specs.declared.words.Order.{Order}
 use Rattle.jc_words.specs.declared.words.Order.TheVariants as order
-use Rattle.jc_single.specs.Ends.{Change, RunHasEnded, HasRun, HasStopped, InputIsRead}
-use Rattle.jc_single.specs.Runs.{IsSingle, Printed}
-use Rattle.jc_single.specs.Told.{IsReport}
+use Rattle.jc_single.specs.RunEnds.{Change, RunHasEnded, HasRun, HasStopped, InputIsRead}
+use Rattle.jc_single.specs.RunAnswers.{IsSingle, Printed}
+use Rattle.jc_single.specs.Headlines.{IsReport}
 use Rattle.jc_single.specs.declared.status.Status.{Status}
 use Rattle.jc_single.specs.declared.status.Status.TheVariants as status
 use Rattle.jc_ctl.specs.Audited.{verdict_status, verdict_text}

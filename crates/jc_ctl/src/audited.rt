@@ -7,8 +7,8 @@ ghost use Rattle.jc_io.specs.Moved.{AppendsFront, TakesAtMost, TakesCount};
 ghost use Rattle.jc_script.specs.Scripts.{most_bytes};
 ghost use Rattle.jc_script.specs.Cause.{Cause};
 ghost use Rattle.jc_audit.specs.declared.verdicts.Verdict.TheVariants.{No, Yes};
-ghost use Rattle.jc_words.specs.Fits.{IsFitShape};
-ghost use Rattle.jc_single.specs.Ends.{change};
+ghost use Rattle.jc_words.specs.FitOrders.{IsFitShape};
+ghost use Rattle.jc_single.specs.RunEnds.{change};
 ghost use Rattle.jc_ctl.specs.Audited.{IsAudited, TellsVerdict, TellsVerdictFront, verdict_status, verdict_text};
 ghost use Rattle.jc_ctl.specs.Done.{HasAudited, HasJudged, HasSaid};
 

@@ -6,10 +6,10 @@ ghost use Rattle.jc_words.specs.Words.{order_of};
 ghost use Rattle.jc_words.specs.declared.words.Order.{Order};
 ghost use Rattle.jc_words.specs.declared.words.Order.TheVariants.{Audit};
 ghost use Rattle.jc_audit.specs.declared.verdicts.Verdict.TheVariants.{Yes};
-ghost use Rattle.jc_single.specs.Ends.{change};
+ghost use Rattle.jc_single.specs.RunEnds.{change};
 ghost use Rattle.jc_single.specs.Played.{script_played, staging_of};
-ghost use Rattle.jc_single.specs.Runs.{IsSingle};
-ghost use Rattle.jc_single.specs.Told.{TellsHistory, ends_full};
+ghost use Rattle.jc_single.specs.RunAnswers.{IsSingle};
+ghost use Rattle.jc_single.specs.Headlines.{TellsHistory, ends_full};
 ghost use Rattle.jc_ctl.specs.Audited.{IsPromised, PassesAudit, TellsVerdict};
 ghost use Rattle.jc_ctl.specs.Done.{HasDone};
 

@@ -17,7 +17,7 @@ use Rattle.jc_history.specs.Diaries.{moment}
 use Rattle.jc_history.specs.Legal.{IsLegal}
 use Rattle.jc_history.specs.Notes.{Note, Ticked}
 use Rattle.jc_history.specs.Replies.{diary, log_given}
-use Rattle.jc_runs.specs.Runs.{AllAskValid, AsksValid}
+use Rattle.jc_runs.specs.Machines.{AllAskValid, AsksValid}
 use Rattle.jc_settle.specs.Settles.{CalmsDown, ComesToRest, IsCalm, next_of_settle, settled_on, with_next}
 use Rattle.jc_settle.specs.Totals.{total}
 use Rattle.jc_settle.proofs.CalmFacts.{calms-down}
@@ -174,7 +174,11 @@ module _ (statuses : ℕ → List Entry → ℕ) (moments keys : ℕ → List En
           less-own : keys (moment shape done) (log_given shape done) (diary shape c done) < keys now log (diary shape c past)
           less-own =
               let less = known.one_key (diary shape c past) log now w basis b.rest b.first b.saw h.writes in
-              let same : keys (moment shape done) (log_given shape done) (diary shape c done) ≡ keys now log (notes_of_nothing w basis now ++ diary shape c past) = (λ i. keys (h.now_is i) (h.log_is i) (h.notes c i)) ∙ ap (λ t. keys now log (cond t (notes_of_nothing w basis now) [] ++ diary shape c past)) (eq-eqb c c refl) in
+              let same : keys (moment shape done) (log_given shape done) (diary shape c done)
+              ≡ keys now log (notes_of_nothing w basis now ++ diary shape c past) =
+              (λ i. keys (h.now_is i) (h.log_is i) (h.notes c i))
+              ∙ ap (λ t. keys now log (cond t (notes_of_nothing w basis now) [] ++ diary shape c past))
+              (eq-eqb c c refl) in
               omega (arith, less, same)
 
           keys-others : (e : ℕ) → e < shape.controllers → keys (moment shape done) (log_given shape done) (diary shape e done) ≤ keys now log (diary shape e past)
@@ -183,7 +187,9 @@ module _ (statuses : ℕ → List Entry → ℕ) (moments keys : ℕ → List En
               by : (t : Bool) → (c == e) ≡ t → keys (moment shape done) (log_given shape done) (diary shape e done) ≤ keys now log (diary shape e past)
               by true s = let less = subst (λ x. keys (moment shape done) (log_given shape done) (diary shape x done) < keys now log (diary shape x past)) (eqb-true c e s) less-own in omega (arith, less)
               by false s =
-                  let same : keys (moment shape done) (log_given shape done) (diary shape e done) ≡ keys now log (diary shape e past) = (λ i. keys (h.now_is i) (h.log_is i) (h.notes e i)) ∙ ap (λ t. keys now log (cond t (notes_of_nothing w basis now) [] ++ diary shape e past)) s in
+                  let same : keys (moment shape done) (log_given shape done) (diary shape e done)
+                  ≡ keys now log (diary shape e past) = (λ i. keys (h.now_is i) (h.log_is i) (h.notes e i))
+                  ∙ ap (λ t. keys now log (cond t (notes_of_nothing w basis now) [] ++ diary shape e past)) s in
                   omega (arith, same)
 
           less-keys : total (λ e. keys (moment shape done) (log_given shape done) (diary shape e done)) shape.controllers < total (λ e. keys now log (diary shape e past)) shape.controllers

@@ -21,7 +21,7 @@ use Rattle.jc_ledger.proofs.PutFacts.{ties_of}
 use Rattle.jc_ledger.proofs.QuietFacts.{seen_job-entry}
 use Rattle.jc_history.specs.Legal.{IsLegal}
 use Rattle.jc_history.specs.Replies.{log_given}
-use Rattle.jc_runs.specs.Runs.{AllAskValid}
+use Rattle.jc_runs.specs.Machines.{AllAskValid}
 use Rattle.jc_runs.proofs.LegalRuns.{legal_run}
 
 module _ (deeds : List Deed) (log : List Entry) (flights : List Flight) (t : Tied deeds log flights) (k : Key) (job : Job) (there : job_in k log ≡ Some job) where

@@ -6,7 +6,7 @@ ghost use Rattle.jc_types.specs.declared.runs.Shape.{Shape};
 ghost use Rattle.jc_log.specs.Deeds.{Deed};
 ghost use Rattle.jc_log.specs.Range.{IsMoment};
 ghost use Rattle.jc_history.specs.Legal.{IsLegal};
-ghost use Rattle.jc_runs.specs.Runs.{AllAskValid};
+ghost use Rattle.jc_runs.specs.Machines.{AllAskValid};
 ghost use Rattle.jc_settle.specs.Settles.{ComesToRest};
 ghost use Rattle.jc_ends.specs.Podless.{LeavesPods};
 

@@ -86,8 +86,13 @@ module _ (counted : CountIn) (now : ℕ) (job : Job) (own : List Pod) where
     where
       by : (b : Bool) → has_target job.status.conditions ≡ b → cond b None (first_line counted now job own) ≡ Some target → (is_target_kind target.0 ≡ true) × (has_target job.status.conditions ≡ false)
       by true t g = cc
-      by false t g =
-          (chosen-kind (is_failed_by_pod job.spec own) (is_past_limit (counts counted).0 job.spec own) (is_overdue now job.spec job.status) (is_past_most job.spec.max_failed counted.failed_indexes) (is_failed_by_indexes job.spec.completions counted.completed counted.failed_indexes own) (is_policy_met job.spec.success counted.completed) (is_complete (counts counted).1 job.spec own) target g, t)
+      by false t g = (
+        chosen-kind (is_failed_by_pod job.spec own) (is_past_limit (counts counted).0 job.spec own)
+            (is_overdue now job.spec job.status) (is_past_most job.spec.max_failed counted.failed_indexes)
+            (is_failed_by_indexes job.spec.completions counted.completed counted.failed_indexes own)
+            (is_policy_met job.spec.success counted.completed) (is_complete (counts counted).1 job.spec own) target g,
+        t,
+      )
 
   -- A pod for which the failure policy fails the Job: a target stands, or this is decided.
   pub failure_decides : is_failed_by_pod job.spec own ≡ true → (has_target job.status.conditions ≡ true) ⊎ (decided counted now job own ≡ Some (FailureTarget, reason.PodFailurePolicy))
@@ -95,7 +100,10 @@ module _ (counted : CountIn) (now : ℕ) (job : Job) (own : List Pod) where
     where
       by : (b : Bool) → (b ≡ true) ⊎ (cond b None (first_line counted now job own) ≡ Some (FailureTarget, reason.PodFailurePolicy))
       by true = inl refl
-      by false = inr (ap (λ b. chosen b (is_past_limit (counts counted).0 job.spec own) (is_overdue now job.spec job.status) (is_past_most job.spec.max_failed counted.failed_indexes) (is_failed_by_indexes job.spec.completions counted.completed counted.failed_indexes own) (is_policy_met job.spec.success counted.completed) (is_complete (counts counted).1 job.spec own)) h)
+      by false = inr (ap (λ b. chosen b (is_past_limit (counts counted).0 job.spec own)
+          (is_overdue now job.spec job.status) (is_past_most job.spec.max_failed counted.failed_indexes)
+          (is_failed_by_indexes job.spec.completions counted.completed counted.failed_indexes own)
+          (is_policy_met job.spec.success counted.completed) (is_complete (counts counted).1 job.spec own)) h)
 
 -- The first reason that holds, by what it reads of the counts alone.
 abbrev decided_by : ℕ → ℕ → List ℕ → List ℕ → ℕ → Job → List Pod → Option (CondKind × Reason)
@@ -106,7 +114,9 @@ decided_by failed succeeded completed failed_indexes now job own =
     (is_policy_met job.spec.success completed) (is_complete succeeded job.spec own))
 
 -- Where two counts, the completed and the failed indexes agree, the same is decided.
-pub decided_same : (old new : CountIn) (now : ℕ) (job : Job) (own : List Pod) → (counts old).0 ≡ (counts new).0 → (counts old).1 ≡ (counts new).1 → old.completed ≡ new.completed → old.failed_indexes ≡ new.failed_indexes → decided old now job own ≡ decided new now job own
+pub decided_same : (old new : CountIn) (now : ℕ) (job : Job) (own : List Pod) → (counts old).0 ≡ (counts new).0
+    → (counts old).1 ≡ (counts new).1 → old.completed ≡ new.completed → old.failed_indexes ≡ new.failed_indexes
+    → decided old now job own ≡ decided new now job own
 decided_same old new now job own failed succeeded completed failing = λ i. decided_by (failed i) (succeeded i) (completed i) (failing i) now job own
 
 -- A tracked pod for which the failure policy fails the Job.

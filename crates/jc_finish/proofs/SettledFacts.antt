@@ -78,7 +78,9 @@ suspended-in_place new (one ∷ rest) s = by (suspended-in_place new rest s) (is
     twice false true = refl
     twice false false = refl
 
-    by : stands Suspended (map (in_place new) rest) ≡ (list_any is_suspension rest && new.status) → (b : Bool) → is_suspension one ≡ b → (is_one Suspended (cond b new one) || stands Suspended (map (in_place new) rest)) ≡ ((b || list_any is_suspension rest) && new.status)
+    by : stands Suspended (map (in_place new) rest) ≡ (list_any is_suspension rest && new.status) → (b : Bool)
+        → is_suspension one ≡ b → (is_one Suspended (cond b new one) || stands Suspended (map (in_place new) rest))
+        ≡ ((b || list_any is_suspension rest) && new.status)
     by ih true t =
         ap (λ p. (p && new.status) || stands Suspended (map (in_place new) rest)) s ∙ ap (λ r. new.status || r) ih
         ∙ twice new.status (list_any is_suspension rest)
@@ -272,7 +274,9 @@ settled-suspended now suspend due conditions unsettled =
     ∙ suspended-settled_suspended now suspend conditions unsettled
 
 -- The end that is due stands, where a target stands or is decided.
-pub settled-ends : (now : ℕ) (suspend : Bool) (target : Option (CondKind × Reason)) (conditions : List Condition) → IfSome target (λ pair. is_target_kind pair.0 ≡ true) → (has_target conditions ≡ true) ⊎ IsSome target → has_end (settled now suspend target true conditions) ≡ true
+pub settled-ends : (now : ℕ) (suspend : Bool) (target : Option (CondKind × Reason)) (conditions : List Condition)
+    → IfSome target (λ pair. is_target_kind pair.0 ≡ true) → (has_target conditions ≡ true) ⊎ IsSome target
+    → has_end (settled now suspend target true conditions) ≡ true
 settled-ends now suspend None conditions k (inl h) =
     ends now (settled_suspended now suspend false conditions) (kept h)
   where

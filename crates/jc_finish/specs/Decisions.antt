@@ -27,7 +27,7 @@ use Rattle.jc_types.specs.Counts.{counts}
 use Rattle.jc_states.specs.Pods.{is_active, is_tracked}
 use Rattle.jc_states.specs.Tallies.{restarts_of}
 use Rattle.jc_failpol.specs.FailJob.{fails_job}
-use Rattle.jc_succpol.specs.Rules.{met_place}
+use Rattle.jc_succpol.specs.SuccessRules.{met_place}
 use Rattle.jc_finish.specs.Starts.{end_after, start_of}
 
 -- ---- too many restarts

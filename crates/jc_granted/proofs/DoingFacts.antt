@@ -29,7 +29,7 @@ use Rattle.jc_sync.specs.Ask.TheVariants.{MakePod, MarkPod, LetPodGo, WriteFirst
 use Rattle.jc_sync.specs.Asks.{as_request, asks_after, asks_of, early_asks, first_asks, is_gone, last_asks, late_asks, left_when, let_go_ask, second_asks}
 use Rattle.jc_sync.specs.Flight.{Flight}
 use Rattle.jc_sync.specs.Flights.{Flies}
-use Rattle.jc_sync.specs.Places.{IfGoesOn, IsAt}
+use Rattle.jc_sync.specs.SyncPlaces.{IfGoesOn, IsAt}
 use Rattle.jc_sync.specs.Steps.{SyncEnd, answered_to, as_answer, end_given, flight_after, next_unless, stepped_at}
 use Rattle.jc_sync.proofs.StepFacts.{after_basis}
 use Rattle.jc_granted.specs.Done.{HasItsPlan, HasStatus, IsAmong, IsDoing, IsDoneOrLeft, IsMarked, IsStopped, IsUntracked, makes, status_after}
@@ -313,7 +313,9 @@ done-all log basis h = record {
 
 -- ---- a step of the sync
 
-module _ (log : List Entry) (now : ℕ) (flight : Flight) (stored : Stored log) (flies : Flies log flight) (ask : Ask) (left : List Ask) (at : IsAt flight (ask ∷ left)) (ready : AreReady log flight (ask ∷ left)) (seen : flight.basis.pods_at.0 ≤ length log) where
+module _ (log : List Entry) (now : ℕ) (flight : Flight) (stored : Stored log) (flies : Flies log flight) (ask : Ask)
+    (left : List Ask) (at : IsAt flight (ask ∷ left)) (ready : AreReady log flight (ask ∷ left))
+    (seen : flight.basis.pods_at.0 ≤ length log) where
   next-doing : (o : Option Entry) → (answered_to log now flight ask).entry ≡ o → is_some o ≡ true → Stored (grown log o) → IsDoing log flight.basis (ask ∷ left)
       → IsDoing (grown log o) flight.basis (asks_after ask (as_answer (answered_to log now flight ask).reply) left)
   next-doing None is some all h = absurd (true≢false (sym some))

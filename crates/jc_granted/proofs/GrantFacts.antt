@@ -29,7 +29,7 @@ use Rattle.jc_sync.specs.Ask.TheVariants.{MakePod, MarkPod, LetPodGo, WriteFirst
 use Rattle.jc_sync.specs.Asks.{as_request, asks_after, unchanged_of}
 use Rattle.jc_sync.specs.Flight.{Flight}
 use Rattle.jc_sync.specs.Flights.{Flies}
-use Rattle.jc_sync.specs.Places.{IsAt}
+use Rattle.jc_sync.specs.SyncPlaces.{IsAt}
 use Rattle.jc_sync.specs.Quiet.{GoesOnTo}
 use Rattle.jc_sync.specs.Steps.{answered_to, as_answer, make_gives, next_after, status_gives, stepped_at, written_gives}
 use Rattle.jc_sync.proofs.ApiFacts.{StatusCases, Accepted, Same, Conflicts, Absent, status_cases}

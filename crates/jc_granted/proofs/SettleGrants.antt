@@ -35,10 +35,10 @@ use Rattle.jc_sync.specs.Asks.{asks_of}
 use Rattle.jc_sync.specs.Quiet.{EndedAreLost, HasNext}
 use Rattle.jc_sync.specs.Readings.{is_step, step_told, steps_of, told_step, with_step}
 use Rattle.jc_sync.specs.Leftovers.{IsLeftBy}
-use Rattle.jc_sync.specs.Registers.{flights_of_all}
+use Rattle.jc_sync.specs.AllRegisters.{flights_of_all}
 use Rattle.jc_sync.specs.Sends.{sends_of, sent_first}
 use Rattle.jc_sync.proofs.ReadFacts.{reads_begun}
-use Rattle.jc_runs.specs.Runs.{AllAskValid}
+use Rattle.jc_runs.specs.Machines.{AllAskValid}
 use Rattle.jc_runs.specs.Teams.{registers_of}
 use Rattle.jc_runs.proofs.LegalRuns.{Machine, legal_run}
 use Rattle.jc_settle.specs.Comes.{AreUpToDate, Comes, NoSyncIsUnderWay, Lists, Delivers, Steps, Begins, Acts, Ticks}
@@ -154,7 +154,9 @@ module _ (stay : Stay) (shape : Shape) (some : 0 < shape.workers) (past : List D
       stepped n a (inr g) = inr (further shape (run ++ past) d legal.1 legal.0 (legal_run stay shape (run ++ past) legal.1 valid.1) c w basis a lt less (kept n) g r (stored-at stay shape (d ∷ run ++ past) legal valid))
 
       -- A step is that of the sync that runs alone.
-      steps : Going run c w basis → is_begin_of_any d.act ≡ false → (e v : ℕ) (begun : Basis) → e < shape.controllers → v < shape.workers → d.act ≡ does.Step e v → register v (diary shape e (run ++ past)) ≡ Some begun → IsOldOrAlone shape run past c w basis
+      steps : Going run c w basis → is_begin_of_any d.act ≡ false → (e v : ℕ) (begun : Basis) → e < shape.controllers
+          → v < shape.workers → d.act ≡ does.Step e v → register v (diary shape e (run ++ past)) ≡ Some begun
+          → IsOldOrAlone shape run past c w basis
           → NoneBegan (d ∷ run) ⊎ IsGoing shape c w basis (d ∷ run ++ past)
       steps before n e v begun lt' less' a reg (inl old) = inl (n, old.0)
       steps before n e v begun lt' less' a reg (inr it) =

@@ -35,9 +35,9 @@ use Rattle.jc_history.specs.Replies.{diary, log_given}
 use Rattle.jc_history.proofs.LegalFacts.{notes-next}
 use Rattle.jc_sync.specs.Ask.{Ask}
 use Rattle.jc_sync.specs.Asks.{as_request}
-use Rattle.jc_sync.specs.Places.{IfGoesOn, IsAt}
+use Rattle.jc_sync.specs.SyncPlaces.{IfGoesOn, IsAt}
 use Rattle.jc_sync.specs.Quiet.{EndedAreLost, GoesOnTo, HasNext, Leaves}
-use Rattle.jc_sync.specs.Registers.{HasSyncs, flights_of_all, put_at, register_at, register_of}
+use Rattle.jc_sync.specs.AllRegisters.{HasSyncs, flights_of_all, put_at, register_at, register_of}
 use Rattle.jc_sync.specs.Steps.{Ends, GoesOn, Next, Sync, answered_to, as_answer, stepped_at}
 use Rattle.jc_sync.proofs.ReachFacts.{ended_all, has_next}
 use Rattle.jc_sync.proofs.RegisterFacts.{step_basis, step_syncs}
@@ -219,7 +219,10 @@ module _ (shape : Shape) (past : List Deed) (d : Deed) (before : IsLegal shape p
         by true e = not-free (e ∙ ap (λ b. is_some (unwrap_or (option_or (cond b (Some None) None) (newest (register_told w) behind)) None)) (eq-eqb w w refl))
         by false e = not-free (e ∙ ap (λ b. is_some (unwrap_or (option_or (cond b (Some None) None) (newest (register_told w) behind)) None)) (eq-eqb w w refl))
 
-    goes-to : (entry : Option Entry) (next : Next) → log_given shape (d ∷ past) ≡ grown m.log entry → GoesOnTo next (λ s. AreReady (grown m.log entry) s.flight s.left) → IfGoesOn next (λ s. s.flight.basis ≡ its.sync.flight.basis) → IfGoesOn next (λ s. IsDoing (grown m.log entry) s.flight.basis s.left)
+    goes-to : (entry : Option Entry) (next : Next) → log_given shape (d ∷ past) ≡ grown m.log entry
+        → GoesOnTo next (λ s. AreReady (grown m.log entry) s.flight s.left)
+        → IfGoesOn next (λ s. s.flight.basis ≡ its.sync.flight.basis)
+        → IfGoesOn next (λ s. IsDoing (grown m.log entry) s.flight.basis s.left)
         → HasSyncs (d ∷ past) (grown m.log entry) (put_at c w (register_of next) (registers_of m.teams)) → IsGoing shape c w basis (d ∷ past)
     goes-to entry (Ends end) grew ready same doing has = absurd ready
     goes-to entry (GoesOn s) grew ready same doing has =

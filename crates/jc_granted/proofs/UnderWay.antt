@@ -20,11 +20,11 @@ use Rattle.jc_sync.specs.Ask.{Ask}
 use Rattle.jc_sync.specs.Flights.{Flies}
 use Rattle.jc_sync.specs.Leftovers.{IsLeftBy}
 use Rattle.jc_sync.specs.Readings.{gone_in, requests, steps_of}
-use Rattle.jc_sync.specs.Registers.{IsRegister, flights_of_all, put_at, register_at}
+use Rattle.jc_sync.specs.AllRegisters.{IsRegister, flights_of_all, put_at, register_at}
 use Rattle.jc_sync.specs.Sends.{sends_of}
 use Rattle.jc_sync.specs.Steps.{Sync}
 use Rattle.jc_sync.proofs.RegisterFacts.{Around, around}
-use Rattle.jc_runs.specs.Runs.{IsTeam}
+use Rattle.jc_runs.specs.Machines.{IsTeam}
 use Rattle.jc_runs.specs.Teams.{Team, registers_of}
 use Rattle.jc_runs.proofs.LegalRuns.{Machine}
 use Rattle.jc_runs.proofs.ListFacts.{missing, register_there}

@@ -18,7 +18,7 @@ use Rattle.jc_log.specs.Acts.{Act}
 use Rattle.jc_log.specs.Deeds.{Deed}
 use Rattle.jc_ledger.proofs.SyncFacts.{sync_of-other as skipped}
 use Rattle.jc_queue.specs.Queued.{has_key}
-use Rattle.jc_history.specs.Acts.{SameActs}
+use Rattle.jc_history.specs.ActsAlone.{SameActs}
 use Rattle.jc_history.specs.Agrees.{IsHeld}
 use Rattle.jc_history.specs.Diaries.{end_by, moment, notes_taken, notes, on_begin, on_clock, on_delivery, on_list, on_step, restarts, on_lag}
 use Rattle.jc_history.specs.Fresh.{basis as basis_of}
@@ -124,7 +124,9 @@ module _ (shape : Shape) (c w : ℕ) (past : List Deed) (log : List Entry) (d : 
     told-by r e x y p q = (λ i. cond (is_begin c w (a i)) (began_of (e i)) None) ∙ (λ i. cond (p i && q i) (began_of r) None)
 
     -- Of the controller.
-    mine : (r : Reply) → d.reply ≡ r → (controller == c) ≡ true → (basis : Basis) → register w (on_begin worker (moment shape past) log (notes shape c past log) r ++ notes shape c past log) ≡ Some basis → sync_of c w (d ∷ past) ≡ Some (sync_from basis)
+    mine : (r : Reply) → d.reply ≡ r → (controller == c) ≡ true → (basis : Basis)
+        → register w (on_begin worker (moment shape past) log (notes shape c past log) r ++ notes shape c past log)
+        ≡ Some basis → sync_of c w (d ∷ past) ≡ Some (sync_from basis)
     mine (reply.Begun key jobs_at pods_at) e p basis g = by (worker == w) refl g
       where
         by : (y : Bool) → (worker == w) ≡ y → unwrap_or (option_or (cond y (Some (Some (basis_of (notes shape c past log) log (moment shape past) key jobs_at pods_at))) None) (newest (register_told w) (notes shape c past log))) None ≡ Some basis

@@ -9,7 +9,7 @@ use Rattle.jc_types.proofs.ListFacts.{filter_filter}
 use Rattle.jc_control.specs.ControllerCalls.{all_added}
 use Rattle.jc_queue.proofs.KeySets.{is_in-plus}
 use Rattle.jc_queue.specs.Queued.{Queued, added, has_key, plus_key}
-use Rattle.jc_history.specs.Keys.{once}
+use Rattle.jc_history.specs.KeyLists.{once}
 use Rattle.jc_history.proofs.KeyFacts.{once-filter}
 
 -- The key is neither processing nor dirty.

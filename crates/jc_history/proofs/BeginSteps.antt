@@ -44,7 +44,10 @@ noted-same schedule k j = by (at same_key schedule.known k) refl
         at_test true s = sym (ap (λ o. unwrap_or o unknown) (ap (λ j. at same_key schedule.known j) (sym (same_key-eq k j s)) ∙ e))
         at_test false s = refl
 
-pub held-began : (older : List Note) (schedule : Schedule) (worker : ℕ) (basis : Basis) (rest : List Key) → IsHeld older schedule → line older ≡ basis.key ∷ rest → IsHeld (Began worker basis ∷ older) (record schedule { queue = got schedule.queue; known = noted schedule.known basis.key })
+pub held-began : (older : List Note) (schedule : Schedule) (worker : ℕ) (basis : Basis) (rest : List Key)
+    → IsHeld older schedule → line older ≡ basis.key ∷ rest
+    → IsHeld (Began worker basis ∷ older) (record schedule
+    { queue = got schedule.queue; known = noted schedule.known basis.key })
 held-began older schedule worker basis rest h first = record {
   number_is = numbers;
   queued = queued-began older schedule _ basis.key rest h.queue h.queued first worker basis refl refl;

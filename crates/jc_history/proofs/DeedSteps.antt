@@ -59,7 +59,11 @@ module _ (shape : Shape) (c : ℕ) (past : List Deed) (d : Deed) (h : IsLegal sh
   untouched schedule r e g = held-next schedule [] r (ap (λ new. new ++ before) e) g
 
   pub restarted : d.act ≡ does.Restart c → IsHeld after idle
-  restarted a = subst (λ some. IsHeld some idle) (sym (notes-next shape c past d h ∙ ap (λ act. cond (restarts c act) [] (notes_taken c act d.reply (moment shape past) (log_given shape (d ∷ past)) before ++ before)) a ∙ ap (λ b. cond b [] (notes_taken c (does.Restart c) d.reply (moment shape past) (log_given shape (d ∷ past)) before ++ before)) (eq-eqb c c refl))) held-idle
+  restarted a = subst (λ some. IsHeld some idle)
+      (sym (notes-next shape c past d h ∙ ap (λ act. cond (restarts c act) []
+      (notes_taken c act d.reply (moment shape past) (log_given shape (d ∷ past)) before ++ before)) a
+      ∙ ap (λ b. cond b [] (notes_taken c (does.Restart c) d.reply (moment shape past) (log_given shape (d ∷ past))
+      before ++ before)) (eq-eqb c c refl))) held-idle
 
   noted_is : (act : Act) (r : Reply) → d.act ≡ act → d.reply ≡ r → told_now ≡ notes_taken c act r (moment shape past) (log_given shape (d ∷ past)) before
   noted_is act r a e = λ i. notes_taken c (a i) (e i) (moment shape past) (log_given shape (d ∷ past)) before
@@ -125,7 +129,9 @@ module _ (shape : Shape) (c : ℕ) (past : List Deed) (d : Deed) (h : IsLegal sh
   busy schedule worker basis mine g = g.queued.processing_is basis.key ∙ (fit-apart before (legal-fit shape c past h)).busy worker basis mine
 
   -- It has no request left.
-  pub finished : (schedule : Schedule) (worker : ℕ) (basis : Basis) → d.act ≡ does.Step c worker → d.reply ≡ reply.Ended → register worker before ≡ Some basis → IsHeld before schedule → IsHeld after (ended schedule basis.key (how.Ended (planned basis).next) (moment shape past))
+  pub finished : (schedule : Schedule) (worker : ℕ) (basis : Basis) → d.act ≡ does.Step c worker → d.reply ≡ reply.Ended
+      → register worker before ≡ Some basis → IsHeld before schedule
+      → IsHeld after (ended schedule basis.key (how.Ended (planned basis).next) (moment shape past))
   finished schedule worker basis a e mine g =
       step-next _ worker basis reply.Ended a e mine (held-ended before schedule worker basis (how.Ended (planned basis).next) (moment shape past) g (busy schedule worker basis mine g))
 
@@ -137,7 +143,9 @@ module _ (shape : Shape) (c : ℕ) (past : List Deed) (d : Deed) (h : IsLegal sh
       (subst (λ o. IsHeld ((option_to_list (option_map (λ end. Ended worker basis end (moment shape past)) o) ++ Asked worker basis asked given ∷ []) ++ before) schedule) (sym none) g)
 
   -- Or its answer ends the sync.
-  pub breaks_off : (schedule : Schedule) (worker : ℕ) (basis : Basis) (asked : Request) (given : Answer) (end : SyncEnd) → d.act ≡ does.Step c worker → d.reply ≡ reply.Stepped asked given → register worker before ≡ Some basis → end_by (asks_status asked) given ≡ Some end
+  pub breaks_off : (schedule : Schedule) (worker : ℕ) (basis : Basis) (asked : Request) (given : Answer) (end : SyncEnd)
+      → d.act ≡ does.Step c worker → d.reply ≡ reply.Stepped asked given → register worker before ≡ Some basis
+      → end_by (asks_status asked) given ≡ Some end
       → IsHeld (Asked worker basis asked given ∷ before) schedule → has_key basis.key schedule.queue.processing ≡ true → IsHeld after (ended schedule basis.key end (moment shape past))
   breaks_off schedule worker basis asked given end a e mine some g processing =
       step-next _ worker basis (reply.Stepped asked given) a e mine

@@ -17,7 +17,7 @@ use Rattle.jc_log.proofs.TableFacts.{Apart, Sets-puts, Sets-takes, at_none}
 use Rattle.jc_queue.specs.Delayed.{Delayed, delayed, delayed_within, due_keys, earlier, failed, failure_count_after, is_due, left_after, retried, seconds_after}
 use Rattle.jc_queue.specs.Queued.{has_key}
 use Rattle.jc_history.specs.Delays.{added_by_end, tries_after, delay, delays, keys_due, ended_key, failures, if_moment, not_come, tries, earlier_if}
-use Rattle.jc_history.specs.Keys.{once}
+use Rattle.jc_history.specs.KeyLists.{once}
 use Rattle.jc_history.specs.Notes.{Note, Listed, Told, Expired, Began, SentBack, Asked, Ended, Faulted, Ticked}
 use Rattle.jc_history.proofs.KeyFacts.{distinct-once, is_in-once}
 use Rattle.jc_queue.proofs.OrderFacts.{in_turn-same}

@@ -191,7 +191,9 @@ deliver-within : (log : List Entry) (window : ℕ) (o : Option Version) → IsNu
 deliver-within log window None h = tt
 deliver-within log window (Some version) h = by (nat_lt version.0 (length log - window)) (version.0 == length log) refl
   where
-    by : (b e : Bool) → (version.0 == length log) ≡ e → TellsWithin (length log) (cond {A = Answered} b (refused (reply.Expired (record { 0 = length log - window }))) (cond e (refused reply.UpToDate) (refused (reply.Delivered (record { 0 = version.0 + 1 }))))).reply
+    by : (b e : Bool) → (version.0 == length log) ≡ e
+        → TellsWithin (length log) (cond {A = Answered} b (refused (reply.Expired (record { 0 = length log - window })))
+        (cond e (refused reply.UpToDate) (refused (reply.Delivered (record { 0 = version.0 + 1 }))))).reply
     by true e s = tt
     by false true s = tt
     by false false s = let other = eqb-false version.0 (length log) s in omega (arith, h, other)

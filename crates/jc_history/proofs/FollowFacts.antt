@@ -22,7 +22,9 @@ holds-after shape past d con h = by (gives shape past (log_given shape past) d.a
     by (Some e) = grown-holds e (log_given shape past) con h
 
 -- A controller that takes no note of the deed.
-pub quiet-agrees : (shape : Shape) (past : List Deed) (d : Deed) (c : ℕ) (con : ControllerView) → IsLegal shape past → TakesNoNote shape past d c → Agrees shape past (log_given shape past) c con → Agrees shape (d ∷ past) (log_given shape (d ∷ past)) c con
+pub quiet-agrees : (shape : Shape) (past : List Deed) (d : Deed) (c : ℕ) (con : ControllerView) → IsLegal shape past
+    → TakesNoNote shape past d c → Agrees shape past (log_given shape past) c con
+    → Agrees shape (d ∷ past) (log_given shape (d ∷ past)) c con
 quiet-agrees shape past d c con legal q a = record {
   schedule = untouched shape c past d legal con.schedule q.goes_on q.nothing a.schedule;
   holds = holds-after shape past d con a.holds;
@@ -45,7 +47,9 @@ set-cases (z ∷ xs) (suc i) (suc c) x y e = by (set-cases xs i c x y e)
     by (inr h) = inr (λ s. h.0 (omega (arith, s)), h.1)
 
 -- No controller takes note: commands to the store, and the node.
-pub follows-store : (shape : Shape) (past : List Deed) (d : Deed) (log : List Entry) (cons : List ControllerView) → FollowsHistory shape past log cons → IsLegalNext shape past d → ((c : ℕ) → TakesNoNote shape past d c) → FollowsHistory shape (d ∷ past) (log_given shape (d ∷ past)) cons
+pub follows-store : (shape : Shape) (past : List Deed) (d : Deed) (log : List Entry) (cons : List ControllerView)
+    → FollowsHistory shape past log cons → IsLegalNext shape past d → ((c : ℕ) → TakesNoNote shape past d c)
+    → FollowsHistory shape (d ∷ past) (log_given shape (d ∷ past)) cons
 follows-store shape past d log cons f next q = record {
   legal = (next, f.legal);
   log_is = refl;
@@ -53,7 +57,9 @@ follows-store shape past d log cons f next q = record {
 }
 
 -- One controller takes note: its list, delivery, begin, step or restart.
-pub follows-one : (shape : Shape) (past : List Deed) (d : Deed) (log : List Entry) (cons : List ControllerView) (i : ℕ) (new : ControllerView) → FollowsHistory shape past log cons → IsLegalNext shape past d → ((c : ℕ) → (c ≡ i → ⊥) → TakesNoNote shape past d c)
+pub follows-one : (shape : Shape) (past : List Deed) (d : Deed) (log : List Entry) (cons : List ControllerView) (i : ℕ)
+    (new : ControllerView) → FollowsHistory shape past log cons → IsLegalNext shape past d
+    → ((c : ℕ) → (c ≡ i → ⊥) → TakesNoNote shape past d c)
     → Agrees shape (d ∷ past) (log_given shape (d ∷ past)) i new → FollowsHistory shape (d ∷ past) (log_given shape (d ∷ past)) (set cons i new)
 follows-one shape past d log cons i new f next q a = record {
   legal = (next, f.legal);

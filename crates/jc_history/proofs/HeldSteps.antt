@@ -279,20 +279,41 @@ module _ (older : List Note) (schedule : Schedule) (worker : ℕ) (basis : Basis
       (ap (λ f. later f version) (h.floor_is basis.key) ∙ sym (ap (later_if (floor basis.key older)) some))
       (sym (ap (λ b. cond b (planned basis).backoff (backoff basis.key older)) kept))
     where
-      twice : (k : Key) → known_of k (kept_backoff (answered schedule basis.key version) basis.key (planned basis).backoff) ≡ cond (same_key basis.key k) (record { floor = later (floor_of basis.key schedule) version; backoff = (planned basis).backoff }) (known_of k schedule)
+      twice : (k : Key) → known_of k (kept_backoff (answered schedule basis.key version) basis.key
+          (planned basis).backoff) ≡ cond (same_key basis.key k)
+          (record { floor = later (floor_of basis.key schedule) version; backoff = (planned basis).backoff })
+          (known_of k schedule)
       twice k =
           known-by basis.key k (answered schedule basis.key version) _
-          ∙ (λ i. cond (same_key basis.key k) (record { floor = (known_of-same basis.key schedule (record { floor = later (floor_of basis.key schedule) version; backoff = backoff_of basis.key schedule }) i).floor; backoff = (planned basis).backoff }) (known-by basis.key k schedule (record { floor = later (floor_of basis.key schedule) version; backoff = backoff_of basis.key schedule }) i))
+          ∙ (λ i. cond (same_key basis.key k) (record {
+            floor = (known_of-same basis.key schedule
+                (record { floor = later (floor_of basis.key schedule) version; backoff = backoff_of basis.key schedule })
+                i).floor;
+            backoff = (planned basis).backoff;
+          })
+          (known-by basis.key k schedule (record {
+            floor = later (floor_of basis.key schedule) version;
+            backoff =
+                backoff_of basis.key schedule;
+          }) i))
           ∙ by (same_key basis.key k)
         where
-          by : (m : Bool) → cond {A = Known} m (record { floor = later (floor_of basis.key schedule) version; backoff = (planned basis).backoff }) (cond m (record { floor = later (floor_of basis.key schedule) version; backoff = backoff_of basis.key schedule }) (known_of k schedule))
+          by : (m : Bool) → cond {A = Known} m (record
+              { floor = later (floor_of basis.key schedule) version; backoff = (planned basis).backoff })
+              (cond m (record {
+                floor = later (floor_of basis.key schedule) version;
+                backoff = backoff_of basis.key
+                    schedule;
+              }) (known_of k schedule))
               ≡ cond m (record { floor = later (floor_of basis.key schedule) version; backoff = (planned basis).backoff }) (known_of k schedule)
           by true = refl
           by false = refl
 
 -- ---- the end of a sync
 
-pub held-ended : (older : List Note) (schedule : Schedule) (worker : ℕ) (basis : Basis) (end : SyncEnd) (now : ℕ) → IsHeld older schedule → has_key basis.key schedule.queue.processing ≡ true → IsHeld (Ended worker basis end now ∷ older) (ended schedule basis.key end now)
+pub held-ended : (older : List Note) (schedule : Schedule) (worker : ℕ) (basis : Basis) (end : SyncEnd) (now : ℕ)
+    → IsHeld older schedule → has_key basis.key schedule.queue.processing ≡ true
+    → IsHeld (Ended worker basis end now ∷ older) (ended schedule basis.key end now)
 held-ended older schedule worker basis end now h busy = record {
   number_is = numbers;
   queued = queued-ended older schedule _ worker basis end now h.queue h.queued busy refl;

@@ -10,7 +10,7 @@ use Rattle.jc_types.proofs.KeyFacts.{same_key-eq, same_key-itself, same_key-eith
 use Rattle.jc_types.proofs.ListFacts.{Each-filter, Each-passes, Each-weaker, filter_filter, filter_swap}
 use Rattle.jc_queue.specs.Queued.{has_key}
 use Rattle.jc_queue.proofs.KeyLists.{none_is}
-use Rattle.jc_history.specs.Keys.{once, last_of}
+use Rattle.jc_history.specs.KeyLists.{once, last_of}
 use Rattle.std.proofs.lemmas.Bool.{not-true as not-true_is}
 
 pub filter-all : (keys : List Key) → filter (λ k. true) keys ≡ keys
@@ -66,7 +66,10 @@ once-filter p (x ∷ keys) = by (p x) refl (once-filter p keys)
     drops k t true s = ap p (sym (same_key-eq x k s)) ∙ t
     drops k t false s = refl
 
-    by : (b : Bool) → p x ≡ b → once (filter p keys) ≡ filter p (once keys) → once (cond b (x ∷ filter p keys) (filter p keys)) ≡ cond b (x ∷ filter p (filter (λ j. not (same_key x j)) (once keys))) (filter p (filter (λ j. not (same_key x j)) (once keys)))
+    by : (b : Bool) → p x ≡ b → once (filter p keys) ≡ filter p (once keys)
+        → once (cond b (x ∷ filter p keys) (filter p keys))
+        ≡ cond b (x ∷ filter p (filter (λ j. not (same_key x j)) (once keys)))
+        (filter p (filter (λ j. not (same_key x j)) (once keys)))
     by true t ih = ap (λ rest. x ∷ filter (λ j. not (same_key x j)) rest) ih ∙ ap (λ rest. x ∷ rest) (filter_swap (λ j. not (same_key x j)) p (once keys))
     by false t ih = ih ∙ filter_agree _ _ (λ k. drops k t (same_key x k) refl) (once keys) ∙ sym (filter_filter p (λ j. not (same_key x j)) (once keys))
 

@@ -11,7 +11,7 @@ use Rattle.jc_types.specs.Keys.{same_key}
 use Rattle.jc_types.proofs.KeyFacts.{same_key-eq, same_key-itself, same_key-either_way}
 use Rattle.jc_types.proofs.ListFacts.{Each-weaker, filter_filter, filter_same}
 use Rattle.jc_queue.specs.Queued.{has_key}
-use Rattle.jc_history.specs.Keys.{once, last_of}
+use Rattle.jc_history.specs.KeyLists.{once, last_of}
 use Rattle.jc_history.specs.Lines.{OnlyAdds, begins_or_ends, comers, comes, comings, is_dirty, is_processing, line, waits}
 use Rattle.jc_history.specs.Notes.{Note, Began, SentBack, Ended, newest}
 use Rattle.jc_history.proofs.KeyFacts.{distinct-filter, distinct-once, each_in, filter-all, is_in-filter, is_in-once, last_of-append, last_of-distinct}

@@ -16,7 +16,7 @@ use Rattle.jc_types.specs.Keys.{same_key}
 use Rattle.jc_types.proofs.KeyFacts.{same_key-itself, same_key-either_way}
 use Rattle.jc_types.proofs.ListFacts.{Each-weaker, filter_same}
 use Rattle.jc_history.specs.Agrees.{IsQueued}
-use Rattle.jc_history.specs.Keys.{once}
+use Rattle.jc_history.specs.KeyLists.{once}
 use Rattle.jc_history.specs.Lines.{OnlyAdds, is_dirty, is_processing, line}
 use Rattle.jc_history.specs.Notes.{Note, Began, SentBack, Ended}
 use Rattle.jc_history.proofs.AddFacts.{all_added-dirty, all_added-line, is_fresh}
@@ -96,7 +96,9 @@ module _ (older : List Note) (schedule new : Schedule) (k : Key) (rest : List Ke
 
 -- ---- the end of a sync
 
-pub queued-ended : (older : List Note) (schedule new : Schedule) (worker : ℕ) (basis : Basis) (end : SyncEnd) (now : ℕ) → IsQueue schedule.queue → IsQueued older schedule → has_key basis.key schedule.queue.processing ≡ true → new.queue ≡ finished schedule.queue basis.key
+pub queued-ended : (older : List Note) (schedule new : Schedule) (worker : ℕ) (basis : Basis) (end : SyncEnd) (now : ℕ)
+    → IsQueue schedule.queue → IsQueued older schedule → has_key basis.key schedule.queue.processing ≡ true → new.queue
+    ≡ finished schedule.queue basis.key
     → IsQueued (Ended worker basis end now ∷ older) new
 queued-ended older schedule new worker basis end now queue q busy e = record {
   line_is = ap (λ (queue : Queued). queue.line) e ∙ (λ i. cond (q.dirty_is basis.key i) (q.line_is i ++ basis.key ∷ []) (q.line_is i))

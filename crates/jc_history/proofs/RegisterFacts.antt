@@ -15,7 +15,7 @@ use Rattle.jc_types.proofs.KeyFacts.{same_key-eq, same_key-itself, same_key-eith
 use Rattle.jc_types.proofs.ListFacts.{Each-passes}
 use Rattle.jc_history.specs.Diaries.{end_by, on_begin, on_step, on_lag}
 use Rattle.jc_history.specs.Fresh.{basis, begin, begin_at, begin_first, begin_unless, cache_lag}
-use Rattle.jc_history.specs.Keys.{last_of}
+use Rattle.jc_history.specs.KeyLists.{last_of}
 use Rattle.jc_history.specs.Lines.{comings, is_dirty, is_processing, line, waits}
 use Rattle.jc_history.specs.Notes.{Note, Listed, Told, Expired, Began, SentBack, Asked, Ended, Faulted, Ticked, newest}
 use Rattle.jc_history.specs.Registers.{AllFit, HaveOwnKeys, asks_status, register, register_told}

@@ -27,7 +27,7 @@ use Rattle.jc_asks.specs.declared.asks.Ask.TheVariants.{MakePod, MarkPod, LetPod
 use Rattle.jc_asks.specs.Readings.{is_step, next_ask, step_told, steps_of, told_step, with_step}
 use Rattle.jc_asks.specs.Sends.{sends_of}
 use Rattle.jc_asks.specs.Steps.{Sync, answered_to, stepped, stepped_by, written_gives, status_gives}
-use Rattle.jc_history.specs.Asks.{so_far}
+use Rattle.jc_history.specs.SoFar.{so_far}
 use Rattle.jc_history.specs.Diaries.{end_by, moment, notes_taken, notes, on_begin, on_clock, on_delivery, on_list, on_step, restarts, on_lag}
 use Rattle.jc_history.specs.Fresh.{basis as basis_at}
 use Rattle.jc_history.specs.Lines.{line}
@@ -62,7 +62,9 @@ same_answer : (log : List Entry) (now : ℕ) (a b : Flight) (ask : Ask) → a.ba
 same_answer log now a b ask x s = bare_answer log now a ask ∙ (λ i. answered_to log now (record { basis = x i; written = None; sends = s i; released = [] }) ask) ∙ sym (bare_answer log now b ask)
 
 -- Two syncs that an answer reads alike make the same step.
-same_step : (log : List Entry) (now : ℕ) (pending : Option Fault) (a b : Sync) → a.flight.basis ≡ b.flight.basis → a.flight.sends ≡ b.flight.sends → slice_get a.left 0 ≡ slice_get b.left 0 → step_done (stepped now pending log a) ≡ step_done (stepped now pending log b)
+same_step : (log : List Entry) (now : ℕ) (pending : Option Fault) (a b : Sync) → a.flight.basis ≡ b.flight.basis
+    → a.flight.sends ≡ b.flight.sends → slice_get a.left 0 ≡ slice_get b.left 0 → step_done (stepped now pending log a)
+    ≡ step_done (stepped now pending log b)
 same_step log now pending a b x s = by a.left b.left pending
   where
     by : (l m : List Ask) (pending : Option Fault) → slice_get l 0 ≡ slice_get m 0 → step_done (stepped now pending log (record { flight = a.flight; left = l })) ≡ step_done (stepped now pending log (record { flight = b.flight; left = m }))
@@ -150,7 +152,9 @@ module _ (shape : Shape) (c w : ℕ) (past : List Deed) (log : List Entry) (d : 
     none_if true = refl
     none_if false = refl
 
-    begin_mine : (r : Reply) → d.reply ≡ r → (controller == c) ≡ true → (basis : Basis) → register w (on_begin worker (moment shape past) log before r ++ before) ≡ Some basis → made w (on_begin worker (moment shape past) log before r ++ before) ≡ steps_of c w (d ∷ past)
+    begin_mine : (r : Reply) → d.reply ≡ r → (controller == c) ≡ true → (basis : Basis)
+        → register w (on_begin worker (moment shape past) log before r ++ before) ≡ Some basis
+        → made w (on_begin worker (moment shape past) log before r ++ before) ≡ steps_of c w (d ∷ past)
     begin_mine (reply.Begun key jobs_at pods_at) e p basis g = by (worker == w) refl g
       where
         by : (y : Bool) → (worker == w) ≡ y → unwrap_or (option_or (cond y (Some (Some (basis_at before log (moment shape past) key jobs_at pods_at))) None) (newest (register_told w) before)) None ≡ Some basis
@@ -161,10 +165,16 @@ module _ (shape : Shape) (c w : ℕ) (past : List Deed) (log : List Entry) (d : 
         passes (on_lag (line before)) (mute_back w before (line before)) (begin_told _ e true (worker == w) p refl ∙ none_if (worker == w)) (no_step _ a refl) basis g
     begin_mine other e p basis g = passes [] (none_new w before) (begin_told _ e true (worker == w) p refl ∙ none_if (worker == w)) (no_step _ a refl) basis g
 
-    begin_tells : (basis : Basis) → register w (cond (controller == c) (on_begin worker (moment shape past) log before d.reply) [] ++ before) ≡ Some basis → made w (cond (controller == c) (on_begin worker (moment shape past) log before d.reply) [] ++ before) ≡ steps_of c w (d ∷ past)
+    begin_tells : (basis : Basis) → register w
+        (cond (controller == c) (on_begin worker (moment shape past) log before d.reply) [] ++ before) ≡ Some basis
+        → made w (cond (controller == c) (on_begin worker (moment shape past) log before d.reply) [] ++ before)
+        ≡ steps_of c w (d ∷ past)
     begin_tells basis = by (controller == c) refl
       where
-        by : (x : Bool) → (controller == c) ≡ x → register w (cond x (on_begin worker (moment shape past) log before d.reply) [] ++ before) ≡ Some basis → made w (cond x (on_begin worker (moment shape past) log before d.reply) [] ++ before) ≡ steps_of c w (d ∷ past)
+        by : (x : Bool) → (controller == c) ≡ x
+            → register w (cond x (on_begin worker (moment shape past) log before d.reply) [] ++ before) ≡ Some basis
+            → made w (cond x (on_begin worker (moment shape past) log before d.reply) [] ++ before)
+            ≡ steps_of c w (d ∷ past)
         by true p = begin_mine d.reply refl p basis
         by false p = passes [] (none_new w before) (begin_told d.reply refl false (worker == w) p refl) (no_step _ a refl) basis
 
@@ -193,7 +203,9 @@ module _ (shape : Shape) (c w : ℕ) (past : List Deed) (log : List Entry) (d : 
         by true e = absurd (none_some basis e)
         by false e = e
 
-    step_mine : (o : Option Basis) (r : Reply) → register worker before ≡ o → d.reply ≡ r → (controller == c) ≡ true → (basis : Basis) → register w (on_step worker (moment shape past) o r ++ before) ≡ Some basis → made w (on_step worker (moment shape past) o r ++ before) ≡ steps_of c w (d ∷ past)
+    step_mine : (o : Option Basis) (r : Reply) → register worker before ≡ o → d.reply ≡ r → (controller == c) ≡ true
+        → (basis : Basis) → register w (on_step worker (moment shape past) o r ++ before) ≡ Some basis
+        → made w (on_step worker (moment shape past) o r ++ before) ≡ steps_of c w (d ∷ past)
     step_mine (Some b) (reply.Stepped asked given) is e p basis g = by (end_by (asks_status asked) given) g
       where
         by : (o : Option SyncEnd) → register w ((option_to_list (option_map (λ end. Ended worker b end (moment shape past)) o) ++ Asked worker b asked given ∷ []) ++ before) ≡ Some basis
@@ -217,7 +229,9 @@ module _ (shape : Shape) (c w : ℕ) (past : List Deed) (log : List Entry) (d : 
         by true p = step_mine (register worker before) d.reply refl refl p basis
         by false p = passes [] (none_new w before) (no_begin _ a refl) (step_is d.reply refl false (worker == w) p refl) basis
 
-  one_deed : (act : Act) → d.act ≡ act → (basis : Basis) → register w (notes_taken c act d.reply (moment shape past) log before ++ before) ≡ Some basis → made w (notes_taken c act d.reply (moment shape past) log before ++ before) ≡ steps_of c w (d ∷ past)
+  one_deed : (act : Act) → d.act ≡ act → (basis : Basis)
+      → register w (notes_taken c act d.reply (moment shape past) log before ++ before) ≡ Some basis
+      → made w (notes_taken c act d.reply (moment shape past) log before ++ before) ≡ steps_of c w (d ∷ past)
   one_deed (does.Begin controller worker) a basis g = begin_tells controller worker a basis g
   one_deed (does.Step controller worker) a basis g = step_tells controller worker a basis g
   one_deed (does.List controller kind) a basis g = passes _ (mute_if w before (controller == c) _ (mute_list w before kind log d.reply)) (no_begin _ a refl) (no_step _ a refl) basis g

@@ -1,12 +1,12 @@
 pub mod Notes
-pub mod Keys
+pub mod KeyLists
 pub mod Numbers
 pub mod Delays
 pub mod Lines
 pub mod Registers
 pub mod Fresh
 pub mod Diaries
-pub mod Asks
+pub mod SoFar
 pub mod Nodes
 pub mod Replies
 pub mod Available
@@ -14,7 +14,7 @@ pub mod Legal
 pub mod Agrees
 pub mod Bounds
 pub mod Play
-pub mod Acts
+pub mod ActsAlone
 pub mod Follows
 pub mod Samples
 pub mod SampleScripts

@@ -13,7 +13,7 @@ use Rattle.jc_queue.specs.Queued.{has_key}
 use Rattle.jc_types.specs.declared.objects.Key.{Key}
 use Rattle.jc_types.specs.Keys.{same_key}
 use Rattle.jc_history.specs.Delays.{keys_due}
-use Rattle.jc_history.specs.Keys.{once, last_of}
+use Rattle.jc_history.specs.KeyLists.{once, last_of}
 use Rattle.jc_history.specs.Notes.{Note, Listed, Told, Began, SentBack, Ended, Ticked, newest}
 
 -- The note gets the key: its sync begins, or a cache is behind and the key is added again at once.

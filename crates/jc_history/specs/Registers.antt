@@ -19,7 +19,7 @@ use Rattle.jc_types.specs.declared.replies.Request.TheVariants as request
 use Rattle.jc_types.specs.declared.syncs.Backoff.{Backoff}
 use Rattle.jc_states.specs.declared.bases.Basis.{Basis}
 use Rattle.jc_types.specs.Keys.{same_key}
-use Rattle.jc_history.specs.Asks.{is_write_first}
+use Rattle.jc_history.specs.SoFar.{is_write_first}
 use Rattle.jc_asks.specs.Readings.{next_ask, with_step}
 use Rattle.jc_history.specs.Lines.{is_processing}
 use Rattle.jc_history.specs.Notes.{Note, Began, Asked, Ended, Faulted, newest}

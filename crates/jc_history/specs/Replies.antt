@@ -25,7 +25,7 @@ use Rattle.jc_log.specs.Requests.{Answered, grown, refused, create_job_gives, de
 use Rattle.jc_log.specs.Acts.{Act}
 use Rattle.jc_log.specs.Deeds.{Deed}
 use Rattle.jc_log.specs.Log.{pod_in}
-use Rattle.jc_history.specs.Asks.{so_far}
+use Rattle.jc_history.specs.SoFar.{so_far}
 use Rattle.jc_asks.specs.Steps.{Stepped, stepped}
 use Rattle.jc_history.specs.Diaries.{moment, notes, on_begin}
 use Rattle.jc_history.specs.Fresh.{begin as begin_of}

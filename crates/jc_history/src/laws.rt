@@ -31,7 +31,7 @@ ghost use Rattle.jc_types.specs.declared.replies.Reply.TheVariants as reply;
 ghost use Rattle.jc_types.specs.declared.replies.Request.{Request};
 ghost use Rattle.jc_types.specs.declared.runs.Shape.{Shape};
 ghost use Rattle.jc_states.specs.declared.bases.Basis.{Basis};
-ghost use Rattle.jc_history.specs.Acts.{SameActs};
+ghost use Rattle.jc_history.specs.ActsAlone.{SameActs};
 ghost use Rattle.jc_history.specs.Agrees.{IsHeld, IsQueued};
 ghost use Rattle.jc_history.specs.Available.{IsOrderly};
 ghost use Rattle.jc_history.specs.Bounds.{AreTold};

@@ -322,12 +322,17 @@ module _ (job : Job) (basis : Basis) (this : basis.job ≡ Some job) (rises : Is
     none-made : job.spec.suspend ≡ false → creatable (is_settled job (decided_in job basis)) job (own_pods job basis.pods) (accounted job basis) ≡ [] → HasEnough job (own_pods job basis.pods)
     none-made awake e =
         subst (λ n. wanted job.spec.parallelism job.spec.completions n (length job.status.failed_indexes) (length (tracked_active_pods (own_pods job basis.pods))) ≤ length (tracked_active_pods (own_pods job basis.pods))) counts-stay
-        (subst (λ (l : List ℕ). wanted job.spec.parallelism job.spec.completions (counts (accounted job basis)).1 (length l) (length (tracked_active_pods (own_pods job basis.pods))) ≤ length (tracked_active_pods (own_pods job basis.pods))) failed-stay
+        (subst (λ (l : List ℕ). wanted job.spec.parallelism job.spec.completions (counts (accounted job basis)).1
+        (length l) (length (tracked_active_pods (own_pods job basis.pods))) ≤ length
+        (tracked_active_pods (own_pods job basis.pods))) failed-stay
         (by job.spec.mode refl (sym shape ∙ e)))
       where
         shape : creatable (is_settled job (decided_in job basis)) job (own_pods job basis.pods) (accounted job basis)
             ≡ new_pods job.spec.mode (job_lacks job (own_pods job basis.pods) (accounted job basis)) (free (unwrap_or job.spec.completions 0) (accounted job basis) (keepers job.spec.replacement (own_pods job basis.pods)))
-        shape = (λ i. cond (unsettled i || awake i) [] (new_pods job.spec.mode (job_lacks job (own_pods job basis.pods) (accounted job basis)) (free (unwrap_or job.spec.completions 0) (accounted job basis) (keepers job.spec.replacement (own_pods job basis.pods)))))
+        shape = (λ i. cond (unsettled i || awake i) []
+            (new_pods job.spec.mode (job_lacks job (own_pods job basis.pods) (accounted job basis))
+            (free (unwrap_or job.spec.completions 0) (accounted job basis)
+            (keepers job.spec.replacement (own_pods job basis.pods)))))
 
         -- Where none is lacking.
         full : job_lacks job (own_pods job basis.pods) (accounted job basis) ≡ 0 → job_wants job (own_pods job basis.pods) (accounted job basis) ≤ length (tracked_active_pods (own_pods job basis.pods))
@@ -344,14 +349,22 @@ module _ (job : Job) (basis : Basis) (this : basis.job ≡ Some job) (rises : Is
             (omega (arith, used, same)) kept-few
 
         some : (n : ℕ) → job_lacks job (own_pods job basis.pods) (accounted job basis) ≡ n → (mode : Mode) → job.spec.mode ≡ mode
-            → new_pods mode n (free (unwrap_or job.spec.completions 0) (accounted job basis) (keepers job.spec.replacement (own_pods job basis.pods))) ≡ [] → job_wants job (own_pods job basis.pods) (accounted job basis) ≤ length (tracked_active_pods (own_pods job basis.pods))
+            → new_pods mode n (free (unwrap_or job.spec.completions 0) (accounted job basis)
+            (keepers job.spec.replacement (own_pods job basis.pods))) ≡ []
+            → job_wants job (own_pods job basis.pods) (accounted job basis) ≤ length
+            (tracked_active_pods (own_pods job basis.pods))
         some zero is mode at e = full is
         some (suc n) is NonIndexed at e = absurd (some-replicated (suc n) None (omega arith) e)
         some (suc n) is Indexed at e =
             all at job.spec.completions refl (valid.indexed at)
             (some-taken (λ index. Some index) (suc n) (free (unwrap_or job.spec.completions 0) (accounted job basis) (keepers job.spec.replacement (own_pods job basis.pods))) (omega arith) e)
 
-        by : (mode : Mode) → job.spec.mode ≡ mode → new_pods mode (job_lacks job (own_pods job basis.pods) (accounted job basis)) (free (unwrap_or job.spec.completions 0) (accounted job basis) (keepers job.spec.replacement (own_pods job basis.pods))) ≡ [] → job_wants job (own_pods job basis.pods) (accounted job basis) ≤ length (tracked_active_pods (own_pods job basis.pods))
+        by : (mode : Mode) → job.spec.mode ≡ mode
+            → new_pods mode (job_lacks job (own_pods job basis.pods) (accounted job basis))
+            (free (unwrap_or job.spec.completions 0) (accounted job basis)
+            (keepers job.spec.replacement (own_pods job basis.pods))) ≡ []
+            → job_wants job (own_pods job basis.pods) (accounted job basis) ≤ length
+            (tracked_active_pods (own_pods job basis.pods))
         by mode at e = some (job_lacks job (own_pods job basis.pods) (accounted job basis)) refl mode at e
 
     -- ---- so it waits

@@ -24,7 +24,9 @@ after lane p [] k n m far e = absurd (true≢false (sym (ap is_some e)))
 after lane p (c ∷ cs) k n zero far e = absurd (let f = above lane p (c ∷ cs) k n e in omega (arith, f, far))
 after lane p (c ∷ cs) k n (suc m) far e = by (λ k e. after lane (p + 1) cs k n m (omega (arith, far)) e) (c.lane == lane) k e
   where
-    by : ((k : ℕ) → slice_get (places_from lane (p + 1) cs) k ≡ Some n → slice_get (places_from lane (p + 1) cs) (suc k) ≡ slice_get (places_from lane (n + 1) (drop m cs)) 0) → (b : Bool) (k : ℕ) → slice_get (cond b (p ∷ places_from lane (p + 1) cs) (places_from lane (p + 1) cs)) k ≡ Some n
+    by : ((k : ℕ) → slice_get (places_from lane (p + 1) cs) k ≡ Some n → slice_get (places_from lane (p + 1) cs) (suc k)
+        ≡ slice_get (places_from lane (n + 1) (drop m cs)) 0) → (b : Bool) (k : ℕ)
+        → slice_get (cond b (p ∷ places_from lane (p + 1) cs) (places_from lane (p + 1) cs)) k ≡ Some n
         → slice_get (cond b (p ∷ places_from lane (p + 1) cs) (places_from lane (p + 1) cs)) (suc k) ≡ slice_get (places_from lane (n + 1) (drop m cs)) 0
     by ih true zero e =
         let f = ap (λ o. unwrap_or o n) e in
@@ -35,7 +37,9 @@ after lane p (c ∷ cs) k n (suc m) far e = by (λ k e. after lane (p + 1) cs k 
     by ih false k e = ih k e
 
 -- Its next command once this one was played.
-pub next_after : (commands : List Command) (before : List Past) (lane number : ℕ) (past : Past) → next_place commands lane before ≡ Some number → past.event ≡ event.Command lane number → next_place commands lane (past ∷ before) ≡ next_from lane (number + 1) commands
+pub next_after : (commands : List Command) (before : List Past) (lane number : ℕ) (past : Past)
+    → next_place commands lane before ≡ Some number → past.event ≡ event.Command lane number
+    → next_place commands lane (past ∷ before) ≡ next_from lane (number + 1) commands
 next_after commands before lane number past next is =
     ap (slice_get (lane_places lane commands)) count ∙ after lane 0 commands (lane_count lane before) number (number + 1) (omega arith) next
   where
@@ -65,7 +69,9 @@ set_apart (y ∷ xs) (suc i) zero x apart = refl
 set_apart (y ∷ xs) (suc i) (suc j) x apart = set_apart xs i j x (λ e. apart (ap suc e))
 
 -- A command of the lane was played, and its next one is put in its place.
-pub advanced : (commands : List Command) (before : List Past) (old : List (Option ℕ)) (mine number : ℕ) (next : Option ℕ) (past : Past) → length old ≡ most_lanes → HasPlaces commands before old → next_place commands mine before ≡ Some number → past.event ≡ event.Command mine number
+pub advanced : (commands : List Command) (before : List Past) (old : List (Option ℕ)) (mine number : ℕ)
+    (next : Option ℕ) (past : Past) → length old ≡ most_lanes → HasPlaces commands before old
+    → next_place commands mine before ≡ Some number → past.event ≡ event.Command mine number
     → next ≡ next_from mine (number + 1) commands → HasPlaces commands (past ∷ before) (set old mine next)
 advanced commands before old mine number next past count has comes is found lane inside = by (decide (mine == lane) refl)
   where

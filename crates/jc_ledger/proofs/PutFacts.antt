@@ -97,8 +97,12 @@ job_in-newest k log job key =
 -- An element that passes is among those that pass: what it has, one of them has.
 any_passing : {X : Type 0} (test : X → Bool) (xs : List X) → Each (λ x. test x ≡ true → (q : X → Bool) → q x ≡ true → list_any q (filter test xs) ≡ true) xs
 any_passing {X} test [] = tt
-any_passing {X} test (x ∷ xs) =
-    (here (test x) refl, Each-weaker (λ y. test y ≡ true → (q : X → Bool) → q y ≡ true → list_any q (filter test xs) ≡ true) (λ y. test y ≡ true → (q : X → Bool) → q y ≡ true → list_any q (filter test (x ∷ xs)) ≡ true) (λ y h t q k. more q (test x) (h t q k)) xs (any_passing test xs))
+any_passing {X} test (x ∷ xs) = (
+  here (test x) refl,
+  Each-weaker (λ y. test y ≡ true → (q : X → Bool) → q y ≡ true → list_any q (filter test xs)
+      ≡ true) (λ y. test y ≡ true → (q : X → Bool) → q y ≡ true → list_any q (filter test (x ∷ xs)) ≡ true)
+      (λ y h t q k. more q (test x) (h t q k)) xs (any_passing test xs),
+)
   where
     here : (b : Bool) → test x ≡ b → b ≡ true → (q : X → Bool) → q x ≡ true → list_any q (cond b (x ∷ filter test xs) (filter test xs)) ≡ true
     here true e t q h = or_left (q x) (list_any q (filter test xs)) h

@@ -187,7 +187,9 @@ Flies-released log flight u f lost = record {
         last v false s g = absurd (true≢false (sym g))
 
 -- A release finds no pod that has the finalizer.
-pub tied_not_tracked : (d : Deed) (past : List Deed) (log : List Entry) (front back : List Flight) (flight : Flight) (u : Uid) → Tied past log (front ++ flight ∷ back) → FindsNothing d log u → Tied (d ∷ past) log (front ++ with_released flight u ∷ back)
+pub tied_not_tracked : (d : Deed) (past : List Deed) (log : List Entry) (front back : List Flight) (flight : Flight)
+    (u : Uid) → Tied past log (front ++ flight ∷ back) → FindsNothing d log u
+    → Tied (d ∷ past) log (front ++ with_released flight u ∷ back)
 tied_not_tracked d past log front back flight u t f =
     tied_flying (d ∷ past) log (front ++ flight ∷ back) (front ++ with_released flight u ∷ back) (tied_quiet d past log (front ++ flight ∷ back) t f.quiet)
     (AllFly-put log front back flight (with_released flight u) t.flying (Flies-released log flight u (AllFly-one log front back flight t.flying) f.lost))

@@ -6,7 +6,7 @@ use Rattle.jc_types.proofs.ListFacts.{Each-weaker}
 use Rattle.jc_log.specs.Deeds.{Deed}
 use Rattle.jc_ledger.specs.declared.flights.Flight.{Flight}
 use Rattle.jc_ledger.specs.Once.{Once}
-use Rattle.jc_ledger.specs.Runs.{World, IsTied, Replaces, Adds, Drops, Step, Quiet, Dropped, Created, Updated, Deleted, PodWritten, Begun, NotTracked, FirstWritten, SecondWritten, Released, OrphanReleased, LetGo, IsRun}
+use Rattle.jc_ledger.specs.LawRuns.{World, IsTied, Replaces, Adds, Drops, Step, Quiet, Dropped, Created, Updated, Deleted, PodWritten, Begun, NotTracked, FirstWritten, SecondWritten, Released, OrphanReleased, LetGo, IsRun}
 use Rattle.jc_ledger.specs.Tied.{Tied}
 use Rattle.jc_ledger.proofs.JobLaws.{tied_created, tied_updated, tied_deleted, tied_pod}
 use Rattle.jc_ledger.proofs.FirstStatus.{first_written}

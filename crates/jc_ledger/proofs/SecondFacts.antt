@@ -186,7 +186,13 @@ module _ (made : Job) (log : List Entry) (ledger : Ledger) (job : Job) (pods : L
   among =
       let tracked = λ (pod : Pod). is_tracked pod ≡ true → is_in pod.uid (uids_of (filter is_tracked own)) ≡ true in
       let index = λ (pod : Pod). is_new job Succeeded pod ≡ true → IfSome pod.index (λ n. has n (indexes_of (filter (is_new job Succeeded) own)) ≡ true) in
-      Each-weaker (λ pod. tracked pod × index pod) IsAmong (λ pod b. (b.0, λ at. subst (λ ps. is_new job Succeeded pod ≡ true → IfSome pod.index (λ n. has n (indexes_of ps) ≡ true)) (sym (newly-free job own Succeeded refl (ap (λ m. joins_list m Succeeded) at))) b.1)) own
+      Each-weaker (λ pod. tracked pod × index pod) IsAmong
+      (λ pod b. (
+        b.0,
+        λ at. subst (λ ps. is_new job Succeeded pod ≡ true
+            → IfSome pod.index (λ n. has n (indexes_of ps) ≡ true))
+            (sym (newly-free job own Succeeded refl (ap (λ m. joins_list m Succeeded) at))) b.1,
+      )) own
       (Each-both tracked index own (passes_in is_tracked own) (index_in (is_new job Succeeded) own))
 
   -- The parts of the test of a pod that is still to be judged.

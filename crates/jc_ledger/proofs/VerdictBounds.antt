@@ -99,7 +99,9 @@ records_put j (d ∷ past) log = by (judging_of d past log) (records_put j past 
         (Each-filter (λ pod. is_put pod.uid log ≡ true) (has_room job.spec (space job ledger.records (pods_of j (upto seen log))) (fresh job ledger.records (pods_of j (upto seen log))))
         (fresh job ledger.records (pods_of j (upto seen log)))
         (Each-filter (λ pod. is_put pod.uid log ≡ true) (is_fresh job.spec (has_record ledger.records)) (pods_of j (upto seen log))
-        (Each-weaker (λ pod. life pod.uid (upto seen log) ≡ Live pod) (λ pod. is_put pod.uid log ≡ true) (λ pod live. put_upto pod.uid seen log (live_put pod.uid (upto seen log) pod live)) (pods_of j (upto seen log)) (pods_of-live j (upto seen log))))))
+        (Each-weaker (λ pod. life pod.uid (upto seen log) ≡ Live pod) (λ pod. is_put pod.uid log ≡ true)
+        (λ pod live. put_upto pod.uid seen log (live_put pod.uid (upto seen log) pod live)) (pods_of j (upto seen log))
+        (pods_of-live j (upto seen log))))))
 
     chosen_by : (b : Bool) (judging : Judging) (ledger : Ledger) → Each (λ (r : Record). is_put r.pod.uid log ≡ true) ledger.records
         → Each (λ (r : Record). is_put r.pod.uid log ≡ true) (cond b (entered judging.job (pods_of j (upto judging.seen log)) judging.seen judging.at ledger) ledger).records

@@ -4,4 +4,4 @@ pub mod Once
 pub mod Flights
 pub mod Tied
 pub mod EventKinds
-pub mod Runs
+pub mod LawRuns

@@ -11,7 +11,7 @@ ghost use Rattle.jc_log.specs.Deeds.{Deed};
 ghost use Rattle.jc_log.specs.Log.{upto};
 ghost use Rattle.jc_ledger.specs.Ledger.{judged_uids, ledger_of};
 ghost use Rattle.jc_ledger.specs.Once.{Once, OnceAtEach};
-ghost use Rattle.jc_ledger.specs.Runs.{IsRun, IsTied, Step, World, start};
+ghost use Rattle.jc_ledger.specs.LawRuns.{IsRun, IsTied, Step, World, start};
 ghost use Rattle.jc_ledger.specs.Tied.{PodsHaveIndexes, TotalsAreWithin};
 
 /// At the start, where nothing has happened, all is tied.

@@ -5,9 +5,9 @@ use Rattle.jc_types.specs.declared.actions.ContainerChange.{ContainerChange}
 use Rattle.jc_types.specs.declared.actions.End.{End}
 use Rattle.jc_types.specs.declared.actions.PhaseChange.{PhaseChange}
 use Rattle.jc_types.specs.declared.policies.Pattern.{Pattern}
-use Rattle.jc_lines.specs.Changes.{container_data, exit_data, pod_condition_data}
-use Rattle.jc_lines.specs.Words.{phase_word}
-use Rattle.jc_print.specs.Members.{list_data, number_data}
+use Rattle.jc_lines.specs.ChangeTexts.{container_data, exit_data, pod_condition_data}
+use Rattle.jc_lines.specs.ReportWords.{phase_word}
+use Rattle.jc_print.specs.PrintedMembers.{list_data, number_data}
 use Rattle.jc_print.specs.PrintedSpecs.{truth_word}
 use Rattle.jc_print.proofs.Writing.{Named}
 

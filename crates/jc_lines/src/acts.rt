@@ -3,8 +3,8 @@
 ghost use Rattle.std.specs.Prelude.{◌≡◌, ◌++◌, OnOk, codes, decimal, string_bytes};
 ghost use Rattle.jc_log.specs.Acts as does;
 ghost use Rattle.jc_log.specs.Deeds.{act_of_action, act_of_system};
-ghost use Rattle.jc_lines.specs.Acts.{act_text, wanted_text, worker_text};
-ghost use Rattle.jc_lines.specs.Words.{key_text, objects_word};
+ghost use Rattle.jc_lines.specs.ActTexts.{act_text, wanted_text, worker_text};
+ghost use Rattle.jc_lines.specs.ReportWords.{key_text, objects_word};
 
 use crate::changes::{print_ends, print_phase_change};
 use crate::keys::{print_key, print_pod, print_version};

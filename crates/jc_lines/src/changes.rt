@@ -3,9 +3,9 @@
 ghost use Rattle.std.specs.Prelude.{◌≡◌, ◌++◌, OnOk, codes, map, option_map, string_bytes};
 ghost use Rattle.serde_json.specs.Data.{string};
 ghost use Rattle.serde_json.specs.Written.{compact_text};
-ghost use Rattle.jc_lines.specs.Changes.{pod_condition_data, container_data, phase_change_data};
-ghost use Rattle.jc_lines.specs.Changes.{end_data, ends_data, exit_data};
-ghost use Rattle.jc_print.specs.Members.{list_data};
+ghost use Rattle.jc_lines.specs.ChangeTexts.{pod_condition_data, container_data, phase_change_data};
+ghost use Rattle.jc_lines.specs.ChangeTexts.{end_data, ends_data, exit_data};
+ghost use Rattle.jc_print.specs.PrintedMembers.{list_data};
 ghost use Rattle.jc_print.specs.Tokens.{AddsTokens, data_tokens, given_tokens};
 
 use crate::words::{phase_word, truth_word};

@@ -2,7 +2,7 @@
 
 ghost use Rattle.std.specs.Prelude.{◌≡◌, ◌++◌, ◌<◌, OnErr, OnOk, Some, codes, length, slice_get, string_bytes};
 ghost use Rattle.jc_log.specs.Deeds.{act_of_command, act_of_event, deed, lane_of};
-ghost use Rattle.jc_lines.specs.Acts.{act_text};
+ghost use Rattle.jc_lines.specs.ActTexts.{act_text};
 ghost use Rattle.jc_verdicts.specs.Verdicts.{IsPlace};
 ghost use Rattle.jc_lines.specs.Events.{event_line, tag_text};
 

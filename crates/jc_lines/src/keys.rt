@@ -1,7 +1,7 @@
 //! The texts of keys, of versions and of pods. Fixed words come with the blank behind them, in one piece.
 
 ghost use Rattle.std.specs.Prelude.{◌≡◌, ◌++◌, OnOk, decimal, string_bytes};
-ghost use Rattle.jc_lines.specs.Words.{key_text};
+ghost use Rattle.jc_lines.specs.ReportWords.{key_text};
 
 use jc_print::put_long;
 use jc_types::{Key, Uid, Version, Want};

@@ -4,7 +4,7 @@ ghost use Rattle.std.specs.Prelude.{◌≡◌, ◌++◌, OnOk, codes, string_byt
 ghost use Rattle.jc_types.specs.declared.replies.Answer.TheVariants as answer;
 ghost use Rattle.jc_types.specs.declared.replies.Reply.TheVariants as reply;
 ghost use Rattle.jc_types.specs.declared.replies.Request.TheVariants as request;
-ghost use Rattle.jc_lines.specs.Replies.{TellsThree, answer_text, index_text, reply_text, request_text};
+ghost use Rattle.jc_lines.specs.ReplyTexts.{TellsThree, answer_text, index_text, reply_text, request_text};
 
 use crate::keys::{print_key, print_pod, print_version};
 use crate::words::{field_word, kind_word, phase_word};

@@ -2,7 +2,7 @@
 
 ghost use Rattle.std.specs.Prelude.{◌≡◌};
 ghost use Rattle.jc_print.specs.PrintedSpecs.{truth_word};
-ghost use Rattle.jc_lines.specs.Words.{fault_word, field_word, objects_word, phase_word};
+ghost use Rattle.jc_lines.specs.ReportWords.{fault_word, field_word, objects_word, phase_word};
 
 use jc_types::{Fault, Field, Kind, Phase, Truth};
 

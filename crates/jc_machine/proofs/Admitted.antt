@@ -11,7 +11,7 @@ use Rattle.jc_log.specs.Deeds.{act_of_event}
 use Rattle.jc_history.specs.Available.{is_quiescent}
 use Rattle.jc_history.specs.Legal.{ComesNext, MaySettle}
 use Rattle.jc_runs.specs.Seen.{Admits, Seen, act_seen, deeds_seen, log_seen}
-use Rattle.jc_machine.specs.Fits.{FitsShape}
+use Rattle.jc_machine.specs.ShapeFits.{FitsShape}
 use Rattle.jc_machine.specs.Idle.{is_settle}
 use Rattle.jc_machine.proofs.Closing.{view_of}
 

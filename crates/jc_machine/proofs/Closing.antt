@@ -19,10 +19,10 @@ use Rattle.jc_log.specs.Acts.{Act}
 use Rattle.jc_log.specs.Deeds.{Deed, act_of_event, deed}
 use Rattle.jc_history.specs.Available.{is_quiescent}
 use Rattle.jc_history.specs.Legal.{ComesNext, IsOfShape, MaySettle}
-use Rattle.jc_runs.specs.Runs.{IsMachine, IsTeam}
+use Rattle.jc_runs.specs.Machines.{IsMachine, IsTeam}
 use Rattle.jc_runs.specs.Seen.{Admits, Seen, act_seen, deeds_in, happened, reply_seen}
 use Rattle.jc_runs.specs.Teams.{Team}
-use Rattle.jc_machine.specs.Kept.{IsMachineKept, fates_in}
+use Rattle.jc_machine.specs.MachineKept.{IsMachineKept, fates_in}
 use Rattle.jc_lanes.specs.Places.{HasPlaces, MovesOn}
 use Rattle.jc_runs.proofs.ClusterFacts.{act_is, closed_by, few_deeds, few_entries, member_at, reply_is, seen_after, settled_is, within_is}
 

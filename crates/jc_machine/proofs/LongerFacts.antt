@@ -15,9 +15,9 @@ use Rattle.jc_runs.specs.ValidActions.{IsValidAction}
 use Rattle.jc_history.specs.Legal.{InLanes}
 use Rattle.jc_lanes.specs.LongerScripts.{longer}
 use Rattle.jc_lanes.specs.Places.{HasPlaces}
-use Rattle.jc_runs.specs.Runs.{IsMachine}
+use Rattle.jc_runs.specs.Machines.{IsMachine}
 use Rattle.jc_runs.specs.Teams.{Team}
-use Rattle.jc_machine.specs.Kept.{IsMachineKept, fates_in}
+use Rattle.jc_machine.specs.MachineKept.{IsMachineKept, fates_in}
 
 each_more : (cs : List Command) (c : Command) → Each (λ (command : Command). IsValidAction command.action) cs → IsValidAction c.action → Each (λ (command : Command). IsValidAction command.action) (cs ++ c ∷ [])
 each_more [] c all one = (one, tt)

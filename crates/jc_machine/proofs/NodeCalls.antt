@@ -21,7 +21,7 @@ use Rattle.jc_history.specs.Nodes as does
 use Rattle.jc_history.specs.Notes.{newest}
 use Rattle.jc_history.specs.Replies.{node_gives, version_in}
 use Rattle.jc_node.specs.declared.acts.NodeStep.{NodeStep}
-use Rattle.jc_node.specs.Steps.{act_of, act_kind, step_of}
+use Rattle.jc_node.specs.NodeSteps.{act_of, act_kind, step_of}
 use Rattle.jc_node.proofs.LawFacts.{act-again}
 use Rattle.std.proofs.lemmas.Option.{same_Some as of_some}
 

@@ -29,10 +29,10 @@ use Rattle.jc_history.specs.Registers.{backoff, register, register_told}
 use Rattle.jc_history.specs.Replies.{begin_gives, diary, gives, log_given}
 use Rattle.jc_order.proofs.EndFacts.{end-begins}
 use Rattle.jc_runs.specs.QuietRuns.{AreSteps, BeginsCurrent, IsAtNext, IsQuietSync, WritesNoStatus}
-use Rattle.jc_runs.specs.Runs.{AllAskValid}
+use Rattle.jc_runs.specs.Machines.{AllAskValid}
 use Rattle.jc_runs.specs.Seen.{Seen, deeds_in, deeds_seen, happened, log_seen, past_seen, reply_seen}
-use Rattle.jc_machine.specs.Diaries.{diary_seen}
-use Rattle.jc_machine.specs.Syncs.{StartsCurrent, IsLast, StepsOn, StepsQuietly, begin_event, next_seen, tells_begin}
+use Rattle.jc_machine.specs.DiariesSeen.{diary_seen}
+use Rattle.jc_machine.specs.SyncsSeen.{StartsCurrent, IsLast, StepsOn, StepsQuietly, begin_event, next_seen, tells_begin}
 
 -- ---- what the laws of syncs on current caches say
 

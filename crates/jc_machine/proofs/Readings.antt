@@ -29,11 +29,11 @@ use Rattle.jc_history.specs.Numbers.{number}
 use Rattle.jc_history.specs.Registers.{register}
 use Rattle.jc_history.proofs.BeginSteps.{begun-answer_is}
 use Rattle.jc_history.proofs.DelayFacts.{apart-delays, at-delays}
-use Rattle.jc_runs.specs.Runs.{IsTeam}
+use Rattle.jc_runs.specs.Machines.{IsTeam}
 use Rattle.jc_runs.specs.Seen.{Seen, deeds_in, log_seen}
 use Rattle.jc_runs.specs.Teams.{Team}
-use Rattle.jc_machine.specs.Diaries.{diary_seen}
-use Rattle.jc_machine.specs.Kept.{IsMachineKept}
+use Rattle.jc_machine.specs.DiariesSeen.{diary_seen}
+use Rattle.jc_machine.specs.MachineKept.{IsMachineKept}
 use Rattle.jc_machine.proofs.Closing.{view_of}
 use Rattle.jc_runs.proofs.ClusterFacts.{member_at}
 use Rattle.jc_runs.proofs.ListFacts.{set_itself}

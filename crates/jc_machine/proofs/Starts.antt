@@ -20,11 +20,11 @@ use Rattle.jc_log.specs.Log.{job_in}
 use Rattle.jc_runs.specs.Once.{AllJustified, OnceAtEach}
 use Rattle.jc_history.specs.Legal.{IsHistory, IsLegal}
 use Rattle.jc_runs.specs.Fates.{Fates, WithFate}
-use Rattle.jc_runs.specs.Runs.{IsMachine}
+use Rattle.jc_runs.specs.Machines.{IsMachine}
 use Rattle.jc_runs.specs.ValidActions.{IsValidAction}
 use Rattle.jc_runs.specs.Seen.{IsCluster, Seen, deeds_in, deeds_seen, log_seen}
 use Rattle.jc_runs.specs.Teams.{KnowsNothing, Team}
-use Rattle.jc_machine.specs.Kept.{IsMachineKept, fates_in}
+use Rattle.jc_machine.specs.MachineKept.{IsMachineKept, fates_in}
 use Rattle.jc_lanes.specs.Places.{HasPlaces}
 use Rattle.jc_machine.proofs.Closing.{view_of}
 

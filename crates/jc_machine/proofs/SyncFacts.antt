@@ -14,8 +14,8 @@ use Rattle.jc_history.specs.Registers.{register}
 use Rattle.jc_history.specs.Replies.{diary}
 use Rattle.jc_runs.specs.QuietRuns.{AreSteps}
 use Rattle.jc_runs.specs.Seen.{Admits, Seen, deeds_in, deeds_seen, happened, past_seen, reply_seen}
-use Rattle.jc_machine.specs.Diaries.{diary_seen}
-use Rattle.jc_machine.specs.Syncs.{IsLast, IsSynced, Nothing, Began, StepsOn, begin_event, stepping_event}
+use Rattle.jc_machine.specs.DiariesSeen.{diary_seen}
+use Rattle.jc_machine.specs.SyncsSeen.{IsLast, IsSynced, Nothing, Began, StepsOn, begin_event, stepping_event}
 
 module _ (c w : ℕ) where
   -- A begin and a step may come next at any time.

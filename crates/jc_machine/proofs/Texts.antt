@@ -12,7 +12,7 @@ use Rattle.jc_types.specs.Equality.{same_phase}
 use Rattle.jc_runs.specs.Pods.{is_final}
 use Rattle.jc_log.specs.Log.{next_version, pod_in}
 use Rattle.jc_log.specs.Requests.{Answered, accepted, grown, is_unnamed, pod_entry, refused, report_phase_at, report_phase_gives, report_unless, same_course_of, with_report}
-use Rattle.jc_runs.specs.Texts.{HasNoText}
+use Rattle.jc_runs.specs.TextlessReplies.{HasNoText}
 
 -- The answer tells of a container that the pod does not have, and appends nothing.
 pub record IsNamed (a : Answered) : Type 0 where

@@ -16,7 +16,7 @@ use Rattle.jc_history.specs.Notes.{Note}
 use Rattle.jc_history.specs.Numbers.{number}
 use Rattle.jc_history.specs.Registers.{register}
 use Rattle.jc_runs.specs.Seen.{Seen, log_seen}
-use Rattle.jc_machine.specs.Diaries.{diary_seen}
+use Rattle.jc_machine.specs.DiariesSeen.{diary_seen}
 
 -- The cache of this number has seen the whole log.
 abbrev pub has_seen : List Entry → Option Version → Bool

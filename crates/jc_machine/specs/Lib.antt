@@ -1,10 +1,10 @@
-pub mod Kept
+pub mod MachineKept
 pub mod Calls
-pub mod Finishes
-pub mod Fits
-pub mod Diaries
+pub mod FinishedPods
+pub mod ShapeFits
+pub mod DiariesSeen
 pub mod Idle
-pub mod Syncs
+pub mod SyncsSeen
 pub mod Longer
 -- Words of the crates below, handed on to those above.
 pub use Rattle.jc_lanes.specs.Places

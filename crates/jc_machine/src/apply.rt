@@ -7,7 +7,7 @@ ghost use Rattle.jc_history.specs.Available.{is_quiescent};
 ghost use Rattle.jc_history.specs.Legal.{MaySettle};
 ghost use Rattle.jc_runs.specs.Seen.{Admits, act_seen, deeds_seen, happened, log_seen, reply_seen};
 ghost use Rattle.jc_lanes.specs.Places.{AreUsedUp};
-ghost use Rattle.jc_machine.specs.Fits.{FitsShape, HasController, HasWorker};
+ghost use Rattle.jc_machine.specs.ShapeFits.{FitsShape, HasController, HasWorker};
 ghost use Rattle.jc_machine.specs.Idle.{is_settle};
 ghost use Rattle.jc_machine.specs.declared.apply.ApplyFault.TheVariants.{HistoryFull};
 ghost use Rattle.jc_machine.specs.Calls.{HappensOrKeeps, MayCome};

@@ -1,7 +1,7 @@
 //! The event that is kept, with its reply, once all else has changed.
 
 ghost use Rattle.std.specs.Prelude.{◌≡◌, ◌<◌, ◌^◌, ◌∷◌, ◌++◌, [], length};
-ghost use Rattle.jc_runs.specs.Texts.{HasNoText};
+ghost use Rattle.jc_runs.specs.TextlessReplies.{HasNoText};
 ghost use Rattle.jc_lanes.specs.Places.{MovesOn};
 
 use jc_lanes::Lanes;

@@ -18,7 +18,7 @@ ghost use Rattle.jc_history.specs.Registers.{register};
 ghost use Rattle.jc_bounds.specs.Histories.{HoldsBounds};
 ghost use Rattle.jc_runs.specs.Seen.{deeds_seen, log_seen};
 ghost use Rattle.jc_runs.specs.Teams.{KnowsNothing};
-ghost use Rattle.jc_machine.specs.Diaries.{diary_seen};
+ghost use Rattle.jc_machine.specs.DiariesSeen.{diary_seen};
 ghost use Rattle.jc_machine.specs.Longer.{extended};
 
 use jc_bounds::one_controller_holds_the_bounds;
@@ -53,7 +53,7 @@ pub struct Machine {
 impl Model for Machine {
     ghost use Rattle.std.specs.Prelude.{reverse};
     ghost use Rattle.jc_runs.specs.Seen.{Seen};
-    ghost use Rattle.jc_machine.specs.Kept.{IsMachineKept};
+    ghost use Rattle.jc_machine.specs.MachineKept.{IsMachineKept};
 
     ghost Value = { Seen };
 

@@ -6,8 +6,8 @@ ghost use Rattle.jc_log.specs.Requests.{grown};
 ghost use Rattle.jc_history.specs.Nodes.{node_step};
 ghost use Rattle.jc_history.specs.Replies.{node_gives, version_in};
 ghost use Rattle.jc_node.specs.Fated.{ends_at_key};
-ghost use Rattle.jc_node.specs.Steps.{step_of};
-ghost use Rattle.jc_runs.specs.Texts.{HasNoText};
+ghost use Rattle.jc_node.specs.NodeSteps.{step_of};
+ghost use Rattle.jc_runs.specs.TextlessReplies.{HasNoText};
 ghost use Rattle.jc_runs.specs.Teams.{clocked_team};
 ghost use Rattle.jc_machine.specs.Calls.{HappensOrKeeps, MayCome};
 

@@ -6,7 +6,7 @@ ghost use Rattle.jc_history.specs.Available.{is_quiescent};
 ghost use Rattle.jc_history.specs.Fresh.{may_begin};
 ghost use Rattle.jc_history.specs.Numbers.{number};
 ghost use Rattle.jc_runs.specs.Seen.{deeds_seen, log_seen};
-ghost use Rattle.jc_machine.specs.Diaries.{diary_seen};
+ghost use Rattle.jc_machine.specs.DiariesSeen.{diary_seen};
 ghost use Rattle.jc_machine.specs.Idle.{AreIdle, HaveNoSyncs, IsTeamIdle, has_seen};
 ghost use Rattle.jc_machine.specs.Calls.{HappensOrKeeps, MayCome};
 

@@ -4,7 +4,7 @@ ghost use Rattle.std.specs.Prelude.{◌≡◌, IfOk, OnErr, OnOk, length};
 ghost use Rattle.jc_runs.specs.ValidSpecs.{IsValidSpec};
 ghost use Rattle.jc_log.specs.Acts as does;
 ghost use Rattle.jc_log.specs.Requests.{grown, report_phase_gives};
-ghost use Rattle.jc_machine.specs.Finishes.{finished_gives};
+ghost use Rattle.jc_machine.specs.FinishedPods.{finished_gives};
 ghost use Rattle.jc_machine.specs.Calls.{HappensOrKeeps, MayCome};
 
 use crate::keeping::{keep, keep_twice};

@@ -9,10 +9,10 @@ ghost use Rattle.jc_history.specs.Diaries.{moment};
 ghost use Rattle.jc_history.specs.Legal.{IsLegal};
 ghost use Rattle.jc_history.specs.Registers.{backoff, register};
 ghost use Rattle.jc_runs.specs.QuietRuns.{IsAtNext};
-ghost use Rattle.jc_runs.specs.Runs.{AllAskValid};
+ghost use Rattle.jc_runs.specs.Machines.{AllAskValid};
 ghost use Rattle.jc_runs.specs.Seen.{deeds_seen, happened, log_seen, reply_seen};
-ghost use Rattle.jc_machine.specs.Diaries.{diary_seen};
-ghost use Rattle.jc_machine.specs.Syncs.{StartsCurrent, IsLast, IsSynced, StepsOn, StepsQuietly, begin_event, next_seen, tells_begin};
+ghost use Rattle.jc_machine.specs.DiariesSeen.{diary_seen};
+ghost use Rattle.jc_machine.specs.SyncsSeen.{StartsCurrent, IsLast, IsSynced, StepsOn, StepsQuietly, begin_event, next_seen, tells_begin};
 
 use crate::apply::ApplyFault;
 use crate::machine::Machine;

@@ -5,7 +5,7 @@ ghost use Rattle.std.specs.Option.{option_copied};
 ghost use Rattle.jc_runs.specs.Bases.{CanPlan};
 ghost use Rattle.jc_log.specs.Acts as does;
 ghost use Rattle.jc_history.specs.Registers.{register};
-ghost use Rattle.jc_machine.specs.Diaries.{diary_seen};
+ghost use Rattle.jc_machine.specs.DiariesSeen.{diary_seen};
 ghost use Rattle.jc_machine.specs.Calls.{HappensOrKeeps, MayCome};
 
 use crate::keeping::{keep, keep_twice};

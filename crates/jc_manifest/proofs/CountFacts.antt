@@ -7,7 +7,7 @@ use Rattle.jc_manifest.specs.declared.index_limits.IndexLimits.{IndexLimits}
 use Rattle.jc_manifest.specs.declared.limits.Limits.{Limits}
 use Rattle.jc_manifest.specs.IndexLimits.{index_limits_in}
 use Rattle.jc_manifest.specs.Limits.{suspend_in, usual_backoff, limits_in}
-use Rattle.jc_rows.specs.Rows.{number_in}
+use Rattle.jc_rows.specs.ManifestRows.{number_in}
 
 -- the limits by index
 pub index_limits_said : (path : List ℕ) (spec : Data) (per_index max_failed : Option ℕ)

@@ -7,8 +7,8 @@ use Rattle.jc_log.specs.Requests.{is_indexed}
 use Rattle.jc_types.specs.declared.limits.TheConstants.{GREATEST_COMPLETIONS, GREATEST_LIMIT}
 use Rattle.jc_rows.specs.declared.counts.Counts.{Counts}
 use Rattle.jc_manifest.specs.declared.index_limits.IndexLimits.{IndexLimits}
-use Rattle.jc_rows.specs.Counts.{completions_of}
-use Rattle.jc_rows.specs.Rows.{Row, first_refusal, rule_row, number_row, number_in}
+use Rattle.jc_rows.specs.PodCountRows.{completions_of}
+use Rattle.jc_rows.specs.ManifestRows.{Row, first_refusal, rule_row, number_row, number_in}
 
 -- the two numbers
 unfoldable pub index_limits_refusal : List ℕ → Data → Row

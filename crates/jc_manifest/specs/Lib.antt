@@ -1,4 +1,4 @@
-pub mod Faults
+pub mod UpdateFaults
 pub mod IndexLimits
 pub mod Limits
 pub mod Manifests

@@ -5,7 +5,7 @@ use Rattle.serde_json.specs.Data.{Data}
 use Rattle.jc_json.specs.Field.{optional_bool}
 use Rattle.jc_types.specs.declared.limits.TheConstants.{GREATEST_LIMIT}
 use Rattle.jc_manifest.specs.declared.limits.Limits.{Limits}
-use Rattle.jc_rows.specs.Rows.{Row, first_refusal, given_text_row, number_row, bool_row, number_in}
+use Rattle.jc_rows.specs.ManifestRows.{Row, first_refusal, given_text_row, number_row, bool_row, number_in}
 
 -- This controller manages the Job: rule 26.
 abbrev pub managed_row : List ℕ → Data → Row

@@ -15,12 +15,12 @@ use Rattle.jc_types.specs.declared.specifications.Template.{Template}
 use Rattle.jc_rows.specs.declared.counts.Counts.{Counts}
 use Rattle.jc_manifest.specs.declared.manifests.Head.{Head}
 use Rattle.jc_manifest.specs.declared.manifests.Policies.{Policies}
-use Rattle.jc_rows.specs.Counts.{counts_refusal, counts_in}
+use Rattle.jc_rows.specs.PodCountRows.{counts_refusal, counts_in}
 use Rattle.jc_policies.specs.FailurePolicies.{failure_refusal, failure_in}
 use Rattle.jc_manifest.specs.IndexLimits.{index_limits_refusal, index_limits_in, is_by_index, by_index_refusal}
 use Rattle.jc_manifest.specs.Limits.{managed_row, limits_refusal, limits_in}
 use Rattle.jc_manifest.specs.Metadata.{type_refusal, metadata_refusal, key_in}
-use Rattle.jc_rows.specs.Rows.{Row, first_refusal, rule_row, given_text_row, object_row, object_in}
+use Rattle.jc_rows.specs.ManifestRows.{Row, first_refusal, rule_row, given_text_row, object_row, object_in}
 use Rattle.jc_policies.specs.SuccessPolicies.{success_refusal, success_in}
 use Rattle.jc_rows.specs.Templates.{template_refusal, template_in}
 

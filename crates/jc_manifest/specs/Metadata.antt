@@ -4,8 +4,8 @@ use Rattle.std.specs.Result.{result_unwrap_or}
 use Rattle.serde_json.specs.Data.{Data}
 use Rattle.jc_json.specs.Field.{needed_text, optional_text}
 use Rattle.jc_types.specs.declared.objects.Key.{Key}
-use Rattle.jc_rows.specs.Rows.{Row, first_refusal, text_row, given_text_row}
-use Rattle.jc_rows.specs.Words.{is_label, is_subdomain}
+use Rattle.jc_rows.specs.ManifestRows.{Row, first_refusal, text_row, given_text_row}
+use Rattle.jc_rows.specs.NameForms.{is_label, is_subdomain}
 
 -- what is made: rules 1 and 2
 unfoldable pub type_refusal : List ℕ → Data → Row

@@ -4,7 +4,7 @@ ghost use Rattle.std.specs.Prelude.{◌≡◌, codes};
 ghost use Rattle.jc_json.specs.View.{view};
 ghost use Rattle.jc_json.specs.Place.{path_to};
 ghost use Rattle.jc_manifest.specs.IndexLimits.{index_limits_refusal, index_limits_in, is_by_index, has_indexes_to_limit, has_indexes_to_fail, by_index_refusal};
-ghost use Rattle.jc_rows.specs.Rows.{Checks, Reads, rule_row};
+ghost use Rattle.jc_rows.specs.ManifestRows.{Checks, Reads, rule_row};
 
 use jc_json::{Path, Value};
 use jc_rows::{Counts, ManifestFault, broken, may_count};

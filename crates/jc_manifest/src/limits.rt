@@ -2,7 +2,7 @@
 
 ghost use Rattle.std.specs.Prelude.{◌≡◌, codes};
 ghost use Rattle.jc_json.specs.View.{view};
-ghost use Rattle.jc_rows.specs.Rows.{Checks, Reads, bool_row};
+ghost use Rattle.jc_rows.specs.ManifestRows.{Checks, Reads, bool_row};
 ghost use Rattle.jc_manifest.specs.Limits.{managed_row, limits_refusal, suspend_in, usual_backoff, limits_in};
 
 use jc_json::{Path, Value, may_bool, may_text};
@@ -19,7 +19,7 @@ pub struct Limits {
 }
 
 /// That this controller manages the Job.
-#[tactic(auto, unfolding(jc_rows::specs::Rows::given_text_row))]
+#[tactic(auto, unfolding(jc_rows::specs::ManifestRows::given_text_row))]
 pub fn check_managed(alloc: Global, spec: &Value, path: &Path) -> Result<(), ManifestFault>
     ensures { Checks result (managed_row path.now (view spec.now)) }
 {
@@ -33,7 +33,7 @@ pub fn check_managed(alloc: Global, spec: &Value, path: &Path) -> Result<(), Man
 }
 
 // Whether the Job makes no pods for now.
-#[tactic(auto, unfolding(jc_rows::specs::Rows::bool_row, crate::specs::Limits::suspend_in))]
+#[tactic(auto, unfolding(jc_rows::specs::ManifestRows::bool_row, crate::specs::Limits::suspend_in))]
 fn read_suspend(alloc: Global, spec: &Value, path: &Path) -> Result<bool, ManifestFault>
     ensures { Reads (λ suspend. suspend) result
         (bool_row path.now (view spec.now) (codes "suspend"))

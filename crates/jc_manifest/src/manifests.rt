@@ -4,8 +4,8 @@ ghost use Rattle.std.specs.Prelude.{◌≡◌, ◌&&◌, IfOk, codes, is_some, n
 ghost use Rattle.jc_json.specs.View.{view};
 ghost use Rattle.jc_json.specs.Place.{path_to};
 ghost use Rattle.jc_types.specs.ValidSpecs.{IsValidSpec};
-ghost use Rattle.jc_rows.specs.Counts.{counts_in};
-ghost use Rattle.jc_rows.specs.Rows.{Checks, Reads, rule_row, given_text_row};
+ghost use Rattle.jc_rows.specs.PodCountRows.{counts_in};
+ghost use Rattle.jc_rows.specs.ManifestRows.{Checks, Reads, rule_row, given_text_row};
 ghost use Rattle.jc_manifest.specs.Manifests.{replacement_of, is_replacement, usual_replacement, replacement_in, is_early, replacement_refusal, policies_refusal, policies_in, head_refusal, head_in, spec_refusal, spec_with, spec_in, metadata_part_refusal, spec_part_refusal, manifest_refusal, key_of, spec_of};
 
 use crate::index_limits::{IndexLimits, check_by_index, is_by_index, read_index_limits};
@@ -57,7 +57,7 @@ fn usual_replacement(has_failure: bool) -> Replacement
 }
 
 // The replacement policy that a manifest says.
-#[tactic(auto, unfolding(jc_rows::specs::Rows::given_text_row, crate::specs::Manifests::replacement_in))]
+#[tactic(auto, unfolding(jc_rows::specs::ManifestRows::given_text_row, crate::specs::Manifests::replacement_in))]
 fn read_known_replacement(
     alloc: Global,
     spec: &Value,

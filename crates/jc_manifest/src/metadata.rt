@@ -2,8 +2,8 @@
 
 ghost use Rattle.std.specs.Prelude.{bytes_eq, codes};
 ghost use Rattle.jc_json.specs.View.{view};
-ghost use Rattle.jc_rows.specs.Rows.{Checks, Reads, text_row, given_text_row};
-ghost use Rattle.jc_rows.specs.Words.{is_label, is_subdomain};
+ghost use Rattle.jc_rows.specs.ManifestRows.{Checks, Reads, text_row, given_text_row};
+ghost use Rattle.jc_rows.specs.NameForms.{is_label, is_subdomain};
 ghost use Rattle.jc_manifest.specs.Metadata.{type_refusal, metadata_refusal, name_in, namespace_in, key_in};
 
 use jc_json::{Path, Value, may_text, need_text};
@@ -12,7 +12,7 @@ use jc_types::{Key, Name};
 use std::alloc::Global;
 
 // That a member is that word.
-#[tactic(auto, unfolding(jc_rows::specs::Rows::text_row))]
+#[tactic(auto, unfolding(jc_rows::specs::ManifestRows::text_row))]
 fn check_word(
     alloc: Global,
     object: &Value,
@@ -42,7 +42,7 @@ pub fn check_type(alloc: Global, job: &Value, path: &Path) -> Result<(), Manifes
 }
 
 // The Job's name.
-#[tactic(auto, unfolding(jc_rows::specs::Rows::text_row, crate::specs::Metadata::name_in))]
+#[tactic(auto, unfolding(jc_rows::specs::ManifestRows::text_row, crate::specs::Metadata::name_in))]
 fn read_name(alloc: Global, metadata: &Value, path: &Path) -> Result<Name, ManifestFault>
     ensures { Reads (λ name. name) result
         (text_row path.now (view metadata.now) (codes "name") 3 is_subdomain)
@@ -56,7 +56,7 @@ fn read_name(alloc: Global, metadata: &Value, path: &Path) -> Result<Name, Manif
 }
 
 // The Job's namespace.
-#[tactic(auto, unfolding(jc_rows::specs::Rows::given_text_row, crate::specs::Metadata::namespace_in))]
+#[tactic(auto, unfolding(jc_rows::specs::ManifestRows::given_text_row, crate::specs::Metadata::namespace_in))]
 fn read_namespace(alloc: Global, metadata: &Value, path: &Path) -> Result<Name, ManifestFault>
     ensures { Reads (λ name. name) result
         (given_text_row path.now (view metadata.now) (codes "namespace") 4 is_label)

@@ -2,7 +2,7 @@
 
 ghost use Rattle.std.specs.Prelude.{◌≡◌, option_map};
 ghost use Rattle.jc_log.specs.Requests.{is_above, is_elastic, is_given_else, is_immutable, update_refusal};
-ghost use Rattle.jc_manifest.specs.Faults.{reply_to};
+ghost use Rattle.jc_manifest.specs.UpdateFaults.{reply_to};
 
 use jc_types::{Field, GREATEST_LIMIT, GREATEST_PARALLELISM, JobSpec, Mode, SpecChange};
 

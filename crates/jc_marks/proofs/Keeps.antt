@@ -12,7 +12,7 @@ use Rattle.jc_types.specs.declared.runs.Past.{Past}
 use Rattle.jc_turn.proofs.Places.{there_set}
 use Rattle.jc_turn.proofs.Prefixes.{prefix_self, prefix_trans}
 use Rattle.jc_marks.specs.declared.board.LogPlaceView.{LogPlaceView}
-use Rattle.jc_marks.specs.Rules.{IsMarkOf, KeepsLog, Mine, log_view, mark_of, blank_mark, met_views, now_grown, now_compared}
+use Rattle.jc_marks.specs.MarkRules.{IsMarkOf, KeepsLog, Mine, log_view, mark_of, blank_mark, met_views, now_grown, now_compared}
 
 -- each view but one is behind this list
 abbrev Behind : List LogPlaceView → ℕ → List Past → Type 0

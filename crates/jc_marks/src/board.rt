@@ -19,7 +19,7 @@ pub(crate) struct LogPlaceView {
 pub(crate) struct LogRule;
 
 impl TableRule<(), LogPlaceView, ()> for LogRule {
-    ghost use Rattle.jc_marks.specs.Rules.{KeepsLog, log_view};
+    ghost use Rattle.jc_marks.specs.MarkRules.{KeepsLog, log_view};
     ghost use Rattle.std.specs.Prelude.{[]};
 
     ghost holds = { λ _ s. KeepsLog s.views };

@@ -20,7 +20,7 @@ pub struct Log {
 impl Model for Log {
     ghost use Rattle.std.specs.Prelude.{◌≡◌, []};
     ghost use Rattle.jc_marks.specs.Views.{LogView};
-    ghost use Rattle.jc_marks.specs.Rules.{log_view};
+    ghost use Rattle.jc_marks.specs.MarkRules.{log_view};
 
     ghost Value = { LogView };
 

@@ -1,6 +1,6 @@
 //! What each step on the table tells.
 
-ghost use Rattle.jc_marks.specs.Rules.{now_grown, now_compared, mark_of, met_views, blank_mark};
+ghost use Rattle.jc_marks.specs.MarkRules.{now_grown, now_compared, mark_of, met_views, blank_mark};
 
 use crate::board::LogPlaceView;
 use crate::list_tag::ListTag;

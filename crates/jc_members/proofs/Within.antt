@@ -6,7 +6,7 @@ use Rattle.serde_json.specs.Data.{Data}
 use Rattle.serde_json.specs.Find.{as_integer, as_number}
 use Rattle.jc_json.specs.Field.{◌>>=◌, wrong_type, out_of_range, member_of, bounded_number, may_be, within_bounds, optional_number}
 use Rattle.jc_json.specs.Place.{path_to}
-use Rattle.jc_members.specs.Causes.{read_as}
+use Rattle.jc_members.specs.LineCauses.{read_as}
 use Rattle.jc_members.specs.Members.{given_number_in}
 
 -- ---- answers one after the other

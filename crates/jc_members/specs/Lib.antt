@@ -1,5 +1,5 @@
-pub mod Causes
-pub mod Ends
+pub mod LineCauses
+pub mod EndMembers
 pub mod Items
 pub mod Members
 pub mod Named

@@ -12,7 +12,7 @@ use Rattle.jc_json.specs.Place.{path_to}
 use Rattle.jc_rows.specs.Templates.{is_among}
 use Rattle.jc_members.specs.declared.causes.Cause.{Cause}
 use Rattle.jc_members.specs.declared.causes.Cause.TheVariants.{Invalid}
-use Rattle.jc_members.specs.Causes.{read_as}
+use Rattle.jc_members.specs.LineCauses.{read_as}
 
 -- ---- known members
 

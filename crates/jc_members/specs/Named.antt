@@ -5,7 +5,7 @@
 use Rattle.std.specs.Prelude.{ℕ, ◌-◌, List, [], codes, Result, Ok, unwrap_or}
 use Rattle.serde_json.specs.Data.{Data}
 use Rattle.jc_json.specs.Field.{◌>>=◌}
-use Rattle.jc_rows.specs.Words.{is_label, is_subdomain}
+use Rattle.jc_rows.specs.NameForms.{is_label, is_subdomain}
 use Rattle.jc_types.specs.declared.numbers.Uid.{Uid}
 use Rattle.jc_types.specs.declared.objects.Key.{Key}
 use Rattle.jc_types.specs.declared.runs.Shape.{Shape}

@@ -17,11 +17,11 @@ use Rattle.jc_types.specs.declared.policies.Truth.{Truth}
 use Rattle.jc_types.specs.declared.policies.Truth.TheVariants.{True}
 use Rattle.jc_members.specs.declared.causes.Cause.{Cause}
 use Rattle.jc_members.specs.declared.causes.Cause.TheVariants.{Invalid}
-use Rattle.jc_members.specs.Causes.{read_as}
+use Rattle.jc_members.specs.LineCauses.{read_as}
 use Rattle.jc_members.specs.Items.{each_said, all_said}
 use Rattle.jc_members.specs.Members.{only_known, text_in, tested, word_in}
 use Rattle.jc_policies.specs.FailurePolicies.{is_type, truth_of}
-use Rattle.jc_rows.specs.Words.{is_label}
+use Rattle.jc_rows.specs.NameForms.{is_label}
 
 -- ---- words
 

@@ -2,7 +2,7 @@
 
 ghost use Rattle.std.specs.Prelude.{IfOk, ◌≡◌, string_bytes};
 ghost use Rattle.jc_json.specs.Place.{path_to};
-ghost use Rattle.jc_members.specs.Causes.{IsCause, shown, cause_text};
+ghost use Rattle.jc_members.specs.LineCauses.{IsCause, shown, cause_text};
 ghost use Rattle.jc_members.specs.declared.causes.Cause.TheVariants.{Invalid};
 
 use jc_json::{FieldFault, Path};
@@ -57,7 +57,7 @@ impl Copied for Cause {
 
 impl From<FieldFault> for LineFault {
     ghost use Rattle.std.specs.Prelude.{◌≡◌};
-    ghost use Rattle.jc_members.specs.Causes.{fault_of_field};
+    ghost use Rattle.jc_members.specs.LineCauses.{fault_of_field};
 
     ghost from_gives = { λ field fault. fault ≡ fault_of_field field };
 
@@ -79,7 +79,7 @@ impl From<FieldFault> for LineFault {
 
 impl From<ManifestFault> for LineFault {
     ghost use Rattle.std.specs.Prelude.{◌≡◌};
-    ghost use Rattle.jc_members.specs.Causes.{of_manifest};
+    ghost use Rattle.jc_members.specs.LineCauses.{of_manifest};
 
     ghost from_gives = { λ manifest fault. fault ≡ of_manifest manifest };
 

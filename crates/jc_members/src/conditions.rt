@@ -3,7 +3,7 @@
 ghost use Rattle.std.specs.Prelude.{◌≡◌, codes, map};
 ghost use Rattle.jc_json.specs.View.{view};
 ghost use Rattle.jc_policies.specs.FailurePolicies.{is_type, truth_of};
-ghost use Rattle.jc_members.specs.Causes.{Says};
+ghost use Rattle.jc_members.specs.LineCauses.{Says};
 ghost use Rattle.jc_members.specs.Items.{each_said};
 ghost use Rattle.jc_members.specs.Members.{only_known, text_in};
 ghost use Rattle.jc_members.specs.Phases.{condition_members, condition_truth, condition_of, condition_at, conditions_in};

@@ -4,7 +4,7 @@ ghost use Rattle.std.specs.Prelude.{◌≡◌, ◌≤◌, ◌<◌, ◌≤ℤ◌,
 ghost use Rattle.serde_json.specs.Data.{boolean, null, no_members, put};
 ghost use Rattle.jc_json.specs.View.{view, ordered_view};
 ghost use Rattle.jc_json.specs.Field.{unless_null};
-ghost use Rattle.jc_members.specs.Causes.{Says};
+ghost use Rattle.jc_members.specs.LineCauses.{Says};
 ghost use Rattle.jc_members.specs.Items.{all_said};
 ghost use Rattle.jc_members.specs.Phases.{given_names, member_names, entry_in, entries_fit, container_numbers, put_names, names_in_either, exit_in, container_restarts, container_count, container_change, containers_in};
 

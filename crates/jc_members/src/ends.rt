@@ -3,8 +3,8 @@
 ghost use Rattle.std.specs.Prelude.{◌≡◌, codes, map};
 ghost use Rattle.jc_json.specs.View.{view};
 ghost use Rattle.jc_policies.specs.FailurePolicies.{is_type};
-ghost use Rattle.jc_members.specs.Causes.{Says};
-ghost use Rattle.jc_members.specs.Ends.{end_members, end_said, end_said_at, rightly_many, ends_said};
+ghost use Rattle.jc_members.specs.LineCauses.{Says};
+ghost use Rattle.jc_members.specs.EndMembers.{end_members, end_said, end_said_at, rightly_many, ends_said};
 ghost use Rattle.jc_members.specs.Items.{each_said};
 ghost use Rattle.jc_members.specs.Members.{only_known, given_text_in};
 
@@ -31,7 +31,7 @@ fn read_condition(alloc: Global, end: &Value, path: &Path) -> Result<Option<Text
 }
 
 // The members of one end.
-#[tactic(auto, unfolding(crate::specs::Ends::end_said))]
+#[tactic(auto, unfolding(crate::specs::EndMembers::end_said))]
 fn read_members(alloc: Global, end: &Value, path: &Path) -> Result<End, LineFault>
     ensures { Says (λ end. end) result (end_said path.now (view end.now)) }
 {
@@ -53,7 +53,7 @@ fn check_members(alloc: Global, end: &Value, path: &Path) -> Result<(), LineFaul
 }
 
 // One end, at its place in the list.
-#[tactic(auto, unfolding(crate::specs::Ends::end_said_at))]
+#[tactic(auto, unfolding(crate::specs::EndMembers::end_said_at))]
 fn read_end(alloc: Global, item: &Value, list: &Path, place: usize) -> Result<End, LineFault>
     ensures { Says (λ end. end) result (end_said_at list.now place (view item.now)) }
 {
@@ -64,7 +64,7 @@ fn read_end(alloc: Global, item: &Value, list: &Path, place: usize) -> Result<En
 }
 
 // That there are 1 to 100 of them.
-#[tactic(auto, unfolding(crate::specs::Ends::rightly_many))]
+#[tactic(auto, unfolding(crate::specs::EndMembers::rightly_many))]
 fn check_many(items: &[Value], path: &Path) -> Result<(), LineFault>
     ensures { Says (λ u. u) result (rightly_many path.now (map view items.now)) }
 {
@@ -93,7 +93,7 @@ fn read_items(alloc: Global, items: &[Value], path: &Path) -> Result<Ends, LineF
 }
 
 /// How the pods of a Job are to end, by the member `ends`.
-#[tactic(auto, unfolding(crate::specs::Ends::ends_said))]
+#[tactic(auto, unfolding(crate::specs::EndMembers::ends_said))]
 pub fn read_ends(alloc: Global, value: &Value) -> Result<Ends, LineFault>
     ensures { Says (λ ends. ends) result (ends_said (view value.now)) }
 {

@@ -6,7 +6,7 @@ ghost use Rattle.serde_json.specs.Data.{no_members};
 ghost use Rattle.jc_json.specs.View.{view, members_view, ordered_view};
 ghost use Rattle.jc_json.specs.Field.{needed_object, needed_list};
 ghost use Rattle.jc_rows.specs.Templates.{is_among};
-ghost use Rattle.jc_members.specs.Causes.{Says, read_as};
+ghost use Rattle.jc_members.specs.LineCauses.{Says, read_as};
 ghost use Rattle.jc_members.specs.Members.{is_unknown, unknown_among, unknown_in, only_known, whole_number_in, given_number_in};
 
 use crate::causes::{LineFault, broken};

@@ -1,7 +1,7 @@
 //! What a line names: Jobs, pods, controllers and workers.
 
 ghost use Rattle.jc_json.specs.View.{view};
-ghost use Rattle.jc_members.specs.Causes.{Says};
+ghost use Rattle.jc_members.specs.LineCauses.{Says};
 ghost use Rattle.jc_members.specs.Named.{job_name_in, job_namespace_in, job_key_in, pod_named, controller_in, worker_in, seat_in, times_in};
 
 use crate::causes::{LineFault, broken};

@@ -8,7 +8,7 @@ use Rattle.std.proofs.lemmas.List.Elements.{filter_map-append}
 use Rattle.jc_types.specs.declared.actions.ContainerChange.{ContainerChange}
 use Rattle.jc_types.specs.declared.objects.Container.{Container}
 use Rattle.jc_history.specs.Nodes.{exits, killed, with_exit}
-use Rattle.jc_node.specs.Steps.{code_after, code_for}
+use Rattle.jc_node.specs.NodeSteps.{code_after, code_for}
 
 -- Where the code is 0, all exit with it.
 exits-zero : (containers : List Container) → exits (pos 0) containers ≡ map (with_exit (pos 0)) containers

@@ -17,7 +17,7 @@ use Rattle.jc_history.specs.Nodes.{NodeAct as Act, act_on, act_with, fate, fate_
 use Rattle.jc_history.specs.Nodes as does
 use Rattle.jc_history.specs.Notes.{newest}
 use Rattle.jc_node.specs.Fated.{ends_at_key}
-use Rattle.jc_node.specs.Steps.{act_of, act_kind}
+use Rattle.jc_node.specs.NodeSteps.{act_of, act_kind}
 use Rattle.jc_node.proofs.NextFacts.{tells}
 
 -- ---- the node's next step

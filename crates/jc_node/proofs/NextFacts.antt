@@ -19,7 +19,7 @@ use Rattle.jc_history.specs.Nodes.{NodeAct as Act, act_on, act_with, pod_end}
 use Rattle.jc_history.specs.Nodes as does
 use Rattle.jc_history.specs.Notes.{newest}
 use Rattle.jc_node.specs.declared.acts.NodeAct.{NodeAct}
-use Rattle.jc_node.specs.Steps.{act_kind, step_of}
+use Rattle.jc_node.specs.NodeSteps.{act_kind, step_of}
 
 -- No UID of a pod is above the number of entries.
 pub pods-within : (log : List Entry) → Stored log → Each (λ pod. pod.uid.0 ≤ length log) (pods_in log)

@@ -1,2 +1,2 @@
 pub mod Fated
-pub mod Steps
+pub mod NodeSteps

@@ -5,7 +5,7 @@ ghost use Rattle.std.specs.Option.{option_map_or};
 ghost use Rattle.jc_finish.specs.Decisions.{restarts_on_failure};
 ghost use Rattle.jc_history.specs.Nodes.{act_on, act_with, first_container, is_again};
 ghost use Rattle.jc_node.specs.Fated.{ends_at_key};
-ghost use Rattle.jc_node.specs.Steps.{act_kind};
+ghost use Rattle.jc_node.specs.NodeSteps.{act_kind};
 
 use crate::fates::Fates;
 use jc_states::{is_marked, is_open, is_pending};

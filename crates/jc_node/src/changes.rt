@@ -5,7 +5,7 @@ ghost use Rattle.std.specs.Ordering.{int_eq};
 ghost use Rattle.jc_types.specs.declared.objects.Phase.TheVariants.{Failed, Succeeded};
 ghost use Rattle.jc_history.specs.Nodes.{again_change, change_by, exits, finish_change, finishes, first_container, killed, once_more, pod_end, start_change, stop_change, true_pattern, with_exit};
 ghost use Rattle.jc_node.specs.Fated.{ends_at_key};
-ghost use Rattle.jc_node.specs.Steps.{act_of, code_after, code_for};
+ghost use Rattle.jc_node.specs.NodeSteps.{act_of, code_after, code_for};
 
 use crate::acts::{NodeAct, NodeStep};
 use crate::fates::Fates;

@@ -12,7 +12,7 @@ ghost use Rattle.jc_log.specs.Deeds.{Deed};
 ghost use Rattle.jc_log.specs.Log.{pod_in};
 ghost use Rattle.jc_history.specs.Nodes.{NodeAct as Act, act_on, fate, fate_told, node_step, pod_end};
 ghost use Rattle.jc_node.specs.Fated.{ends_at_key};
-ghost use Rattle.jc_node.specs.Steps.{act_of, act_kind};
+ghost use Rattle.jc_node.specs.NodeSteps.{act_of, act_kind};
 
 /// The pod of the node's next step is there, the act is what befalls it, and what is told of the
 /// act and the pod's fate give the act again: the change of each step can be asked for.

@@ -5,7 +5,7 @@ ghost use Rattle.std.specs.List.{AllByRecursion as Each};
 ghost use Rattle.jc_history.specs.Nodes.{node_step};
 ghost use Rattle.jc_log.specs.Log.{pods_in};
 ghost use Rattle.jc_node.specs.Fated.{ends_at_key};
-ghost use Rattle.jc_node.specs.Steps.{step_of};
+ghost use Rattle.jc_node.specs.NodeSteps.{step_of};
 
 use crate::acts::{NodeStep, act_on};
 use crate::fates::Fates;

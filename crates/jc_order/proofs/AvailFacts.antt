@@ -124,7 +124,10 @@ module _ (shape : Shape) (past : List Deed) (log : List Entry) where
     pub step-in : (w : ℕ) → w < shape.workers → is_some (register w (of c)) ≡ true → Is (does.Step c w) (available shape past log)
     step-in w less e =
         in-all (does.Step c w) (right (does.Step c w) all-lists _ (right (does.Step c w) all-deliveries _ (left (does.Step c w) (flat_map (λ c. step_events (of c) shape.workers c) (below shape.controllers)) _
-        (flat (does.Step c w) (λ c. step_events (of c) shape.workers c) shape.controllers c lt (flat (does.Step c w) (step_event (of c) c) shape.workers w less (subst (λ b. Is (does.Step c w) (cond b (sys.Step c w ∷ []) [])) (sym e) (one (does.Step c w) (sys.Step c w) refl)))))))
+        (flat (does.Step c w) (λ c. step_events (of c) shape.workers c) shape.controllers c lt
+        (flat (does.Step c w) (step_event (of c) c) shape.workers w less
+        (subst (λ b. Is (does.Step c w) (cond b (sys.Step c w ∷ []) [])) (sym e)
+        (one (does.Step c w) (sys.Step c w) refl)))))))
 
 -- ---- all of them
 
@@ -198,7 +201,9 @@ module _ (shape : Shape) (past : List Deed) (log : List Entry) (P : Sys → Type
 
       begins-of : (c : ℕ) → 0 ≤ c → c < 0 + shape.controllers → Each P (begin_events (notes shape c past log) log shape.workers c)
       begins-of c le lt =
-          begin-of c (may_begin (notes shape c past log) log) (free_worker (notes shape c past log) shape.workers) (λ w e. let less = found-below (λ w. is_none (register w (notes shape c past log))) 0 shape.workers w e in omega (arith, less)) (omega (arith, lt))
+          begin-of c (may_begin (notes shape c past log) log) (free_worker (notes shape c past log) shape.workers)
+          (λ w e. let less = found-below (λ w. is_none (register w (notes shape c past log))) 0 shape.workers w e in
+          omega (arith, less)) (omega (arith, lt))
 
       all : Each P (but_clock shape past log)
       all =

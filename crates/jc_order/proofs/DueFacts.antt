@@ -36,7 +36,7 @@ use Rattle.jc_control.specs.declared.ends.SyncEnd.TheVariants as end
 use Rattle.jc_history.specs.Available.{available, below, earliest, least_of_all}
 use Rattle.jc_history.specs.Delays.{added_by_end, delay, delays, earlier_if, ended_key, least_delay, moment_added, moment_left, tries}
 use Rattle.jc_history.specs.Diaries.{end_by, moment, notes, notes_taken, on_begin, on_clock, on_delivery, on_lag, on_list, on_step, restarts}
-use Rattle.jc_history.specs.Keys.{once}
+use Rattle.jc_history.specs.KeyLists.{once}
 use Rattle.jc_history.specs.Lines.{line}
 use Rattle.jc_history.specs.Notes.{Note, Asked, Ended, Faulted, Ticked}
 use Rattle.jc_history.specs.Registers.{asks_status, register}

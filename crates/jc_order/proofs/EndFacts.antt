@@ -46,7 +46,7 @@ use Rattle.jc_ledger.specs.declared.flights.Flight.{Flight}
 use Rattle.jc_asks.specs.declared.asks.Ask.{Ask}
 use Rattle.jc_asks.specs.declared.asks.Ask.TheVariants.{MakePod, MarkPod, LetPodGo, WriteFirst, ReleasePod, WriteSecond}
 use Rattle.jc_asks.specs.Steps.{as_answer, answered_to, make_gives, status_gives, stepped_at, written_gives, floor_given as version_in}
-use Rattle.jc_history.specs.Asks.{so_far}
+use Rattle.jc_history.specs.SoFar.{so_far}
 use Rattle.jc_history.specs.Diaries.{end_by, moment, notes_taken, notes, on_begin, on_clock, on_delivery, on_list, on_step, restarts, on_lag}
 use Rattle.jc_history.specs.Fresh.{basis, begin as begin_of, begin_at, begin_first, begin_unless, cache_lag}
 use Rattle.jc_history.specs.Legal.{IsLegal}
@@ -159,7 +159,9 @@ module _ (log : List Entry) where
     where
       unless : (o : Option Reply) → IfTold o → Fits log (update_unless log job change o)
       unless (Some r) e = no r e
-      unless None e = which (same_limits job.spec (changed_spec job.spec change)) _ _ (no (reply.Unchanged job.version) w) (yes (reply.Written (next_version log)) (JobPut (with_spec log job (changed_spec job.spec change))) (omega arith) (omega arith))
+      unless None e = which (same_limits job.spec (changed_spec job.spec change)) _ _
+          (no (reply.Unchanged job.version) w) (yes (reply.Written (next_version log))
+          (JobPut (with_spec log job (changed_spec job.spec change))) (omega arith) (omega arith))
 
   status-fits : (uid : Uid) (version : Version) (status : JobStatus) (o : Option Job) → IfJob (length log) o → Fits log (write_status_at log uid version status o)
   status-fits uid version status None w = no reply.NotFound tt
@@ -420,7 +422,10 @@ not-behind kind need have w = by (nat_lt have.0 need.0) refl
 pub end-fresh : (shape : Shape) (c : ℕ) (deeds : List Deed) → IsLegal shape deeds → (k : Key)
     → cache_lag (notes shape c deeds (log_given shape deeds)) (log_given shape deeds) k (log_end (log_given shape deeds)) (log_end (log_given shape deeds)) ≡ None
 end-fresh shape c deeds h k =
-    (λ i. first_lag (not-behind Jobs low end (floor-within shape c deeds h k) i) (not-behind Pods (pods_need low (job_in k (upto (length log) log))) end (subst (λ some. (pods_need low (job_in k some)).0 ≤ length log) (sym (upto-all (length log) log (omega arith))) (need (job_in k log) (job-placed k log (log-placed shape deeds)))) i))
+    (λ i. first_lag (not-behind Jobs low end (floor-within shape c deeds h k) i)
+    (not-behind Pods (pods_need low (job_in k (upto (length log) log))) end
+    (subst (λ some. (pods_need low (job_in k some)).0 ≤ length log) (sym (upto-all (length log) log (omega arith)))
+    (need (job_in k log) (job-placed k log (log-placed shape deeds)))) i))
   where
     log : List Entry
     log = log_given shape deeds
@@ -438,7 +443,9 @@ end-fresh shape c deeds h k =
 -- So a begin of a free worker is never answered Behind there.
 pub end-begins : (shape : Shape) (c : ℕ) (deeds : List Deed) → IsLegal shape deeds → IsUpToDate (notes shape c deeds (log_given shape deeds)) (log_given shape deeds) → (now : ℕ) (k : Key) (rest : List Key)
     → line (notes shape c deeds (log_given shape deeds)) ≡ k ∷ rest
-    → begin_of (notes shape c deeds (log_given shape deeds)) (log_given shape deeds) now ≡ begin.Begun (basis (notes shape c deeds (log_given shape deeds)) (log_given shape deeds) now k (log_end (log_given shape deeds)) (log_end (log_given shape deeds)))
+    → begin_of (notes shape c deeds (log_given shape deeds)) (log_given shape deeds) now
+    ≡ begin.Begun (basis (notes shape c deeds (log_given shape deeds)) (log_given shape deeds) now k
+    (log_end (log_given shape deeds)) (log_end (log_given shape deeds)))
 end-begins shape c deeds h up now k rest first =
     (λ i. begin_at (notes shape c deeds (log_given shape deeds)) (log_given shape deeds) now (up Jobs i) (up Pods i))
     ∙ ap (begin_first (notes shape c deeds (log_given shape deeds)) (log_given shape deeds) now (log_end (log_given shape deeds)) (log_end (log_given shape deeds))) first

@@ -184,7 +184,10 @@ pod-listed k j u log h = by (pods_in log) (ap (λ o. option_map_or (is_forgotten
     right true b e = refl
     right false b e = e
 
-    at-test : (pod : Pod) (pods : List Pod) (b : Bool) → option_map_or (is_forgotten k j) (cond b (Some pod) (pod_among u pods)) false ≡ true → (option_map_or (is_forgotten k j) (pod_among u pods) false ≡ true → has_key k (map (λ (pod : Pod). pod.owner) pods) ≡ true)
+    at-test : (pod : Pod) (pods : List Pod) (b : Bool)
+        → option_map_or (is_forgotten k j) (cond b (Some pod) (pod_among u pods)) false ≡ true
+        → (option_map_or (is_forgotten k j) (pod_among u pods) false ≡ true
+        → has_key k (map (λ (pod : Pod). pod.owner) pods) ≡ true)
         → (same_key k pod.owner || has_key k (map (λ (pod : Pod). pod.owner) pods)) ≡ true
     at-test pod pods true e ih = left (same_key k pod.owner) (has_key k (map (λ (pod : Pod). pod.owner) pods)) (same_key-either_way k pod.owner ∙ owned (same_key pod.owner k) (same_uid pod.owner_uid j && (pod.tracked && is_final pod.phase)) e)
     at-test pod pods false e ih = right (same_key k pod.owner) (has_key k (map (λ (pod : Pod). pod.owner) pods)) (ih e)

@@ -171,7 +171,10 @@ all-true shape c (d ∷ past) legal =
         of false s = ih
         of true s =
             subst (λ r. AreTrue now (on_begin worker (moment shape past) now old r ++ old))
-            (sym (legal.0.reply ∙ ap (reply_given shape past (log_given shape past)) e ∙ ap (λ x. (begin_gives (register worker (notes shape x past (log_given shape past))) (begin_of (notes shape x past (log_given shape past)) (log_given shape past) (moment shape past))).reply) (eqb-true controller c s)))
+            (sym (legal.0.reply ∙ ap (reply_given shape past (log_given shape past)) e
+            ∙ ap (λ x. (begin_gives (register worker (notes shape x past (log_given shape past)))
+            (begin_of (notes shape x past (log_given shape past)) (log_given shape past) (moment shape past))).reply)
+            (eqb-true controller c s)))
             (begin-true (log_given shape past) now (longer-log shape d past) old ih worker (moment shape past) (register worker old))
     act-true ih (does.Step controller worker) e =
         if-mine (log_given shape past) now (longer-log shape d past) old ih (controller == c) (on_step worker (moment shape past) (register worker old) d.reply)
@@ -198,5 +201,7 @@ true-honest k a b log stands (note ∷ older) h well = (one note h.0 well.0, tru
     one (Ended w basis end now) h well = well
     one other h well = tt
 
-pub honest : (k : Key) (a b : ℕ) (shape : Shape) (c : ℕ) (deeds : List Deed) → IsLegal shape deeds → Stands k a b (log_given shape deeds) → EndWell k a b (notes shape c deeds (log_given shape deeds)) → AreHonest k a b (notes shape c deeds (log_given shape deeds))
+pub honest : (k : Key) (a b : ℕ) (shape : Shape) (c : ℕ) (deeds : List Deed) → IsLegal shape deeds
+    → Stands k a b (log_given shape deeds) → EndWell k a b (notes shape c deeds (log_given shape deeds))
+    → AreHonest k a b (notes shape c deeds (log_given shape deeds))
 honest k a b shape c deeds legal stands well = true-honest k a b (log_given shape deeds) stands (notes shape c deeds (log_given shape deeds)) (all-true shape c deeds legal) well

@@ -151,7 +151,10 @@ played-is commands (past ∷ before) h lane r n e = by past.event h.0 (played-is
         let there : rank-is other 0 commands (lane_count other before) n = subst (λ m. rank-is other 0 commands (lane_count other before) m) (eqb-true m n s) f in
         absurd (eqb-false other lane t (same-lane other lane commands n (place-of other 0 commands (lane_count other before) n there) (place-of lane 0 commands r n e)))
     command other m f false true s t ih =
-        ih ∙ more (nat_lt r (lane_count lane before)) refl (λ same. eqb-false m n s (some-same m n (sym f ∙ (λ i. slice_get (places_from (eqb-true other lane t i) 0 commands) (lane_count (eqb-true other lane t i) before)) ∙ ap (slice_get (places_from lane 0 commands)) (sym same) ∙ e)))
+        ih ∙ more (nat_lt r (lane_count lane before)) refl
+        (λ same. eqb-false m n s (some-same m n
+        (sym f ∙ (λ i. slice_get (places_from (eqb-true other lane t i) 0 commands)
+        (lane_count (eqb-true other lane t i) before)) ∙ ap (slice_get (places_from lane 0 commands)) (sym same) ∙ e)))
     command other m f false false s t ih = ih
 
     by : (x : Event) → ComesNext commands before x → list_any (is_command n) before ≡ nat_lt r (lane_count lane before)

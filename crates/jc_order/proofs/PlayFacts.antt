@@ -334,17 +334,28 @@ module _ (script : Script) (shape : Shape) (start : List Deed) where
         up = adds-both p _ _ jobs.adds pods.adds
 
         begun : Own place p (began-at c)
-        begun = own-event lane place p _ up pods.plays (λ lt. own-comes _ up (subst (λ action. MaySettle (act_of_action action) (is_quiescent shape (deeds_played script (brought_up script shape c Pods (brought_up script shape c Jobs p))) (brought_up script shape c Pods (brought_up script shape c Jobs p)).log)) (sym e) tt))
+        begun = own-event lane place p _ up pods.plays
+            (λ lt. own-comes _ up (subst (λ action. MaySettle (act_of_action action)
+            (is_quiescent shape (deeds_played script
+            (brought_up script shape c Pods (brought_up script shape c Jobs p)))
+            (brought_up script shape c Pods (brought_up script shape c Jobs p)).log)) (sym e) tt))
 
         on : (b : Bool) → Loops (began-at c) (stepped_if script shape c w b (began-at c))
         on true = stepped-on c w both.0 both.1 (began-at c) begun.plays
         on false = record { plays = begun.plays; adds = adds-none (began-at c) }
-    commanded-plays act.Settle e = own-event lane place p (settled_down script shape p) rest.adds rest.plays (λ lt. own-comes (settled_down script shape p) rest.adds (subst (λ action. MaySettle (act_of_action action) (is_quiescent shape (deeds_played script (settled_down script shape p)) (settled_down script shape p).log)) (sym e) (quiet lt (settled-rests p h))))
+    commanded-plays act.Settle e = own-event lane place p (settled_down script shape p) rest.adds rest.plays
+        (λ lt. own-comes (settled_down script shape p) rest.adds
+        (subst (λ action. MaySettle (act_of_action action)
+        (is_quiescent shape (deeds_played script (settled_down script shape p)) (settled_down script shape p).log))
+        (sym e) (quiet lt (settled-rests p h))))
       where
         rest : Loops p (settled_down script shape p)
         rest = settled-on p h
 
-        quiet : length (settled_down script shape p).pasts < shape.events → ((settled_down script shape p).full ≡ true) ⊎ (is_quiescent shape (deeds_played script (settled_down script shape p)) (settled_down script shape p).log ≡ true) → is_quiescent shape (deeds_played script (settled_down script shape p)) (settled_down script shape p).log ≡ true
+        quiet : length (settled_down script shape p).pasts < shape.events → ((settled_down script shape p).full ≡ true)
+            ⊎ (is_quiescent shape (deeds_played script (settled_down script shape p)) (settled_down script shape p).log
+            ≡ true) → is_quiescent shape (deeds_played script (settled_down script shape p))
+            (settled_down script shape p).log ≡ true
         quiet lt (inl f) = let w = rest.plays.filled f in absurd (omega (arith, w, lt))
         quiet lt (inr q) = q
     commanded-plays (act.Create key spec) e = plain (subst (λ action. MaySettle (act_of_action action) (is_quiescent shape (deeds_played script p) p.log)) (sym e) tt)
@@ -469,7 +480,14 @@ module _ (script : Script) (shape : Shape) (start : List Deed) where
       by : (b : Bool) → nat_lt (length q.pasts) shape.events ≡ b → (after-own lane place q b).full ≡ false → Rests (after-own lane place q b)
       by false s f = absurd (true≢false f)
       by true s f =
-          subst (λ act. is_quiescent shape (record { lane = Some lane; act = act; reply = (gives shape (deeds_played script q) q.log act).reply; length = log_end (grown q.log (gives shape (deeds_played script q) q.log act).entry) } ∷ deeds_played script q) (grown q.log (gives shape (deeds_played script q) q.log act).entry) ≡ true)
+          subst (λ act. is_quiescent shape (record {
+            lane = Some lane;
+            act = act;
+            reply = (gives shape (deeds_played script q) q.log act).reply;
+            length =
+                log_end (grown q.log (gives shape (deeds_played script q) q.log act).entry);
+          } ∷ deeds_played script q)
+          (grown q.log (gives shape (deeds_played script q) q.log act).entry) ≡ true)
           (sym act-is) (settle-leaves (deeds_played script q) q.log (Some lane) (log_end q.log) ∙ quiet (ltb-true (length q.pasts) shape.events s) rests)
 
   settle-of : (action : Action1) → is_settle_action action ≡ true → action ≡ act.Settle
@@ -597,7 +615,9 @@ history-rests script shape proper history is f e =
 pub rest-is : (script : Script) (shape : Shape) (start : List Deed) (p : Playing) → IsProper script shape → IsPlayed script shape start p → IsPlayed script shape start (rest_played script shape 0 script.commands p)
 rest-is script shape start p proper h = (plays-on script shape start p proper h).plays
 
-pub rest-used : (script : Script) (shape : Shape) (start : List Deed) (p : Playing) → IsProper script shape → IsPlayed script shape start p → (rest_played script shape 0 script.commands p).full ≡ false → AreUsed script.commands (rest_played script shape 0 script.commands p).pasts
+pub rest-used : (script : Script) (shape : Shape) (start : List Deed) (p : Playing) → IsProper script shape
+    → IsPlayed script shape start p → (rest_played script shape 0 script.commands p).full ≡ false
+    → AreUsed script.commands (rest_played script shape 0 script.commands p).pasts
 rest-used script shape start p proper h f = used-up script shape start _ (plays-on script shape start p proper h) f
 
 pub settled-is : (script : Script) (shape : Shape) (start : List Deed) (p : Playing) → IsPlayed script shape start p → IsPlayed script shape start (settled_down script shape p)

@@ -21,7 +21,7 @@ use Rattle.jc_history.specs.Delays.{delay, delays, ended_key, least_delay}
 use Rattle.jc_history.specs.Diaries.{moment, notes}
 use Rattle.jc_history.specs.Fresh.{begin_at, begin_first, may_begin}
 use Rattle.jc_control.specs.ControllerCalls.{is_begun}
-use Rattle.jc_history.specs.Keys.{once}
+use Rattle.jc_history.specs.KeyLists.{once}
 use Rattle.jc_history.specs.Legal.{IsLegal}
 use Rattle.jc_history.specs.Lines.{line}
 use Rattle.jc_history.specs.Nodes.{NodeAct, fate, node_step}
@@ -114,7 +114,11 @@ module _ (shape : Shape) (past : List Deed) (legal : IsLegal shape past) (some :
       by (Some due) e = absurd (no-cons _ _ e)
 
   no-node : node_step log (fate past) ≡ None
-  no-node = by (node_step log (fate past)) (nil-rest (flat_map (λ c. begin_events (of c) log shape.workers c) (below shape.controllers)) _ (nil-rest (flat_map (λ c. step_events (of c) shape.workers c) (below shape.controllers)) _ (nil-rest (flat_map (λ c. delivery_events (of c) log c) (below shape.controllers)) _ (nil-rest (flat_map (λ c. list_events (of c) c) (below shape.controllers)) _ all-but))))
+  no-node = by (node_step log (fate past))
+      (nil-rest (flat_map (λ c. begin_events (of c) log shape.workers c) (below shape.controllers)) _
+      (nil-rest (flat_map (λ c. step_events (of c) shape.workers c) (below shape.controllers)) _
+      (nil-rest (flat_map (λ c. delivery_events (of c) log c) (below shape.controllers)) _
+      (nil-rest (flat_map (λ c. list_events (of c) c) (below shape.controllers)) _ all-but))))
     where
       by : (o : Option (Pod × NodeAct)) → node_events (is_some o) ≡ [] → o ≡ None
       by None e = refl
@@ -128,10 +132,17 @@ module _ (shape : Shape) (past : List Deed) (legal : IsLegal shape past) (some :
     of-deliveries = flat-none (λ c. delivery_events (of c) log c) 0 shape.controllers c (nil-first _ _ (nil-rest (flat_map (λ c. list_events (of c) c) (below shape.controllers)) _ all-but)) (omega arith) (omega arith)
 
     of-steps : step_events (of c) shape.workers c ≡ []
-    of-steps = flat-none (λ c. step_events (of c) shape.workers c) 0 shape.controllers c (nil-first _ _ (nil-rest (flat_map (λ c. delivery_events (of c) log c) (below shape.controllers)) _ (nil-rest (flat_map (λ c. list_events (of c) c) (below shape.controllers)) _ all-but))) (omega arith) (omega arith)
+    of-steps = flat-none (λ c. step_events (of c) shape.workers c) 0 shape.controllers c
+        (nil-first _ _ (nil-rest (flat_map (λ c. delivery_events (of c) log c) (below shape.controllers)) _
+        (nil-rest (flat_map (λ c. list_events (of c) c) (below shape.controllers)) _ all-but))) (omega arith)
+        (omega arith)
 
     of-begins : begin_events (of c) log shape.workers c ≡ []
-    of-begins = flat-none (λ c. begin_events (of c) log shape.workers c) 0 shape.controllers c (nil-first _ _ (nil-rest (flat_map (λ c. step_events (of c) shape.workers c) (below shape.controllers)) _ (nil-rest (flat_map (λ c. delivery_events (of c) log c) (below shape.controllers)) _ (nil-rest (flat_map (λ c. list_events (of c) c) (below shape.controllers)) _ all-but)))) (omega arith) (omega arith)
+    of-begins = flat-none (λ c. begin_events (of c) log shape.workers c) 0 shape.controllers c
+        (nil-first _ _ (nil-rest (flat_map (λ c. step_events (of c) shape.workers c) (below shape.controllers)) _
+        (nil-rest (flat_map (λ c. delivery_events (of c) log c) (below shape.controllers)) _
+        (nil-rest (flat_map (λ c. list_events (of c) c) (below shape.controllers)) _ all-but)))) (omega arith)
+        (omega arith)
 
     up : IsUpToDate (of c) log
     up Jobs = number-is c Jobs log _ (nil-first _ _ of-lists) (nil-first _ _ of-deliveries) (numbers-within shape c past legal Jobs)

@@ -17,7 +17,7 @@ use Rattle.jc_types.specs.Keys.{same_key}
 use Rattle.jc_log.specs.Tables.{at}
 use Rattle.jc_types.proofs.KeyFacts.{same_key-either_way, same_key-eq, same_key-itself}
 use Rattle.jc_history.specs.Delays.{added_by_end, delay, delays, keys_due, moment_added, not_come, tries, earlier_if}
-use Rattle.jc_history.specs.Keys.{last_of, once}
+use Rattle.jc_history.specs.KeyLists.{last_of, once}
 use Rattle.jc_history.specs.Lines.{adds, comers, comes, comings, ends, gets, is_dirty, is_processing, line, waits}
 use Rattle.jc_history.specs.Notes.{Note, Listed, Told, Expired, Began, SentBack, Asked, Ended, Faulted, Ticked, newest}
 use Rattle.jc_history.specs.Numbers.{number, number_told}

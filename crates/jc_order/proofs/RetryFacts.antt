@@ -41,7 +41,7 @@ use Rattle.jc_asks.specs.Asks.{as_request, first_written, written_version}
 use Rattle.jc_asks.specs.Readings.{gone_in, next_ask, requests, with_step}
 use Rattle.jc_asks.specs.Sends.{sends_of, sent_first}
 use Rattle.jc_asks.specs.Steps.{answered_to, as_answer, status_gives, stepped_at, written_gives}
-use Rattle.jc_history.specs.Asks.{so_far}
+use Rattle.jc_history.specs.SoFar.{so_far}
 use Rattle.jc_history.specs.Bounds.{TellsWithin, IsTold}
 use Rattle.jc_history.specs.Delays.{added_by_end, is_retried, tries}
 use Rattle.jc_history.specs.Diaries.{end_by, moment, notes, notes_taken, on_begin, on_clock, on_delivery, on_lag, on_list, on_step, restarts}

@@ -12,7 +12,7 @@ use Rattle.jc_asks.specs.declared.asks.Ask.{Ask}
 use Rattle.jc_asks.specs.declared.asks.Ask.TheVariants.{MakePod, MarkPod, LetPodGo, WriteFirst, ReleasePod, WriteSecond}
 use Rattle.jc_asks.specs.Steps.{answered_to, make_gives, status_gives, stepped_at, written_gives}
 use Rattle.jc_finish.specs.Settled.{end_kind, in_place, is_suspension, is_target, settled, settled_suspended, suspension, true_since, with_end, with_last, with_target}
-use Rattle.jc_history.specs.Asks.{so_far}
+use Rattle.jc_history.specs.SoFar.{so_far}
 use Rattle.jc_history.specs.Diaries.{end_by, moment, notes, notes_taken, on_answer, on_begin, on_clock, on_delivery, on_lag, on_list, on_step, restarts}
 use Rattle.jc_control.specs.declared.begins.Begin.{Begin}
 use Rattle.jc_control.specs.declared.ends.SyncEnd.{SyncEnd}
@@ -270,7 +270,10 @@ module _ (P : Key → Type 0) (n m : ℕ) where
         by : (o : Option Pod) → IfSome o (PodHasOrigin m) → GivesLimited (report_phase_at log change o)
         by None h = tt
         by (Some pod) h =
-            unless_gives (is_final pod.phase) (reply.Final pod.phase) (cond (same_phase pod.phase Running && same_phase change.phase Pending) (refused (reply.BadStep Running Pending)) (report_unless log pod change (find (is_unnamed pod) change.containers)))
+            unless_gives (is_final pod.phase) (reply.Final pod.phase)
+            (cond (same_phase pod.phase Running && same_phase change.phase Pending)
+            (refused (reply.BadStep Running Pending))
+            (report_unless log pod change (find (is_unnamed pod) change.containers)))
             (unless_gives (same_phase pod.phase Running && same_phase change.phase Pending) (reply.BadStep Running Pending) (report_unless log pod change (find (is_unnamed pod) change.containers))
             (unless pod h (find (is_unnamed pod) change.containers)))
 

@@ -11,7 +11,7 @@ use Rattle.jc_types.specs.declared.statuses.IndexCount.{IndexCount}
 use Rattle.jc_types.specs.Pieces.{items_in}
 use Rattle.jc_types.proofs.PieceFacts.{around, items_more, place_inside}
 use Rattle.jc_account.proofs.Placed.{Found, found}
-use Rattle.jc_perindex.specs.Steps.{one_failure, raise, with_failure}
+use Rattle.jc_perindex.specs.FillingSteps.{one_failure, raise, with_failure}
 
 -- The place in the list: the first count whose index is not below.
 abbrev pub place : ℕ → List IndexCount → ℕ

@@ -14,7 +14,7 @@ use Rattle.jc_states.specs.UidLists.{join}
 use Rattle.jc_states.proofs.UidListFacts.{has-join}
 use Rattle.jc_account.specs.Modes.{indexes_of}
 use Rattle.jc_perindex.specs.Failures.{count_at, fails_at, failures_of, policy_fails_index, raised, raised_at}
-use Rattle.jc_perindex.specs.Steps.{one_failure, raise, raise_each, raise_for, with_failure}
+use Rattle.jc_perindex.specs.FillingSteps.{one_failure, raise, raise_each, raise_for, with_failure}
 use Rattle.jc_perindex.proofs.Sets.{increasing-join, with-before, with-behind, with-here}
 
 -- ---- one index more

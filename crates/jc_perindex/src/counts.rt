@@ -23,7 +23,7 @@ ghost use Rattle.jc_types.specs.declared.statuses.IndexCount.{IndexCount};
 ghost use Rattle.jc_states.specs.Bases.{is_own, own_pods};
 ghost use Rattle.jc_states.specs.UidLists.{is_in};
 ghost use Rattle.jc_perindex.specs.Failures.{is_fail_index_action, newly_failed, policy_fails_index};
-ghost use Rattle.jc_perindex.specs.Steps.{one_failure, raise, raise_each, raise_for, with_failure};
+ghost use Rattle.jc_perindex.specs.FillingSteps.{one_failure, raise, raise_each, raise_for, with_failure};
 
 use jc_failpol::decided_action;
 use jc_states::{is_among, is_own};

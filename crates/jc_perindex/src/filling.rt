@@ -20,7 +20,7 @@ ghost use Rattle.jc_types.specs.declared.statuses.IndexCount.{IndexCount};
 ghost use Rattle.jc_states.specs.Bases.{FailuresFit, own_pods};
 ghost use Rattle.jc_types.specs.ValidSpecs.{IsValidSpec};
 ghost use Rattle.jc_perindex.specs.Failures.{failed_set, filled_counts, has_failed, newly_failed};
-ghost use Rattle.jc_perindex.specs.Steps.{raise_each};
+ghost use Rattle.jc_perindex.specs.FillingSteps.{raise_each};
 
 use crate::counts::raise_each;
 use jc_ranges::Ranges;

@@ -84,7 +84,9 @@ module _ (job : Job) (basis : Basis) (stays : first_value job basis ≡ job.stat
           new-succeeded job basis.pods at
           ∙ none-judged job (own_pods job basis.pods) outcome.Succeeded job.status.uncounted_succeeded refl
           (λ u h. or_left (is_in u job.status.uncounted_succeeded) (is_in u job.status.uncounted_failed) h)
-          (λ u h. ap (is_in u) (sym (sym (first-succeeded_list job basis) ∙ ap (λ (s : JobStatus). s.uncounted_succeeded) stays)) ∙ succeeded-in u job basis.pods at ∙ or_right _ (is_in u (uids_of (newly job (own_pods job basis.pods) outcome.Succeeded))) h)
+          (λ u h. ap (is_in u) (sym (sym (first-succeeded_list job basis)
+          ∙ ap (λ (s : JobStatus). s.uncounted_succeeded) stays)) ∙ succeeded-in u job basis.pods at
+          ∙ or_right _ (is_in u (uids_of (newly job (own_pods job basis.pods) outcome.Succeeded))) h)
 
 -- ---- the plan
 

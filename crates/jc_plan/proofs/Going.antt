@@ -14,7 +14,7 @@ use Rattle.jc_account.proofs.Owned.{filter-least as filter-few}
 use Rattle.jc_manage.specs.Creations.{creatable, creates, job_wants, wanted}
 use Rattle.jc_manage.specs.LetGoes.{going, is_let_go, is_needless, is_to_mark, let_goes, marks, seen}
 use Rattle.jc_manage.specs.declared.results.Wants.{Wants}
-use Rattle.jc_plan.specs.Numbers.{is_let_go_of, keeps_on, ready_after, stopped_by}
+use Rattle.jc_plan.specs.PodNumbers.{is_let_go_of, keeps_on, ready_after, stopped_by}
 use Rattle.jc_manage.proofs.Bounds.{creatable-few, creates-few, lacks-few, wanted-few}
 
 -- 1 where it holds.
@@ -74,7 +74,11 @@ going-active false job own counted =
       arith,
       length-map (filter (is_to_mark false) own) (λ (pod : Pod). pod.uid),
       length-map (going false job own counted) seen,
-      going-few job.spec.suspend (tracked_active_pods own) (filter (is_let_go job.spec.mode (is_needless (unwrap_or job.spec.completions 0) counted) (job_wants job own counted) (tracked_active_pods own)) (tracked_active_pods own)) (filter-few (is_let_go job.spec.mode (is_needless (unwrap_or job.spec.completions 0) counted) (job_wants job own counted) (tracked_active_pods own)) (tracked_active_pods own)),
+      going-few job.spec.suspend (tracked_active_pods own)
+          (filter (is_let_go job.spec.mode (is_needless (unwrap_or job.spec.completions 0) counted)
+          (job_wants job own counted) (tracked_active_pods own)) (tracked_active_pods own))
+          (filter-few (is_let_go job.spec.mode (is_needless (unwrap_or job.spec.completions 0) counted)
+          (job_wants job own counted) (tracked_active_pods own)) (tracked_active_pods own)),
       filters-within (is_to_mark false) is_tracked_active is_active (λ pod. apart-own (is_active pod) (is_tracked pod)) own,
     )
 
@@ -102,7 +106,9 @@ wants-few None parallelism succeeded failed a h = by (succeeded == 0)
     by false = omega arith
 
 -- A sync makes no more pods than may run at once.
-pub creates-bounded : (opening : Option ℕ) (now : ℕ) (target : Bool) (job : Job) (own : List Pod) (counted : CountIn) → job.spec.parallelism ≤ GREATEST_PARALLELISM → length (creates opening now (creatable target job own counted)) ≤ GREATEST_PARALLELISM
+pub creates-bounded : (opening : Option ℕ) (now : ℕ) (target : Bool) (job : Job) (own : List Pod) (counted : CountIn)
+    → job.spec.parallelism ≤ GREATEST_PARALLELISM
+    → length (creates opening now (creatable target job own counted)) ≤ GREATEST_PARALLELISM
 creates-bounded opening now target job own counted h =
     omega (
       arith,

@@ -36,7 +36,7 @@ use Rattle.jc_manage.specs.Creations.{creates, holds, keepers, lacking, new_pods
 use Rattle.jc_manage.specs.LetGoes.{marks, seen, surplus}
 use Rattle.jc_perindex.specs.Failures.{filled_counts}
 use Rattle.jc_plan.specs.Next.{next_counted, next_decided, next_status, next_wants}
-use Rattle.jc_plan.specs.Numbers.{active_after, ending_after, ready_after}
+use Rattle.jc_plan.specs.PodNumbers.{active_after, ending_after, ready_after}
 use Rattle.jc_plan.specs.Plans.{changed, planned, planned_for}
 use Rattle.jc_plan.specs.Statuses.{accounted, completed_at, conditions_at, first_status_of, first_value, decided_in, is_first_due, is_none, is_over, is_second_due, is_settled, leaves_none, lists_none, second_value, wants_at, wants_in}
 use Rattle.jc_plan.proofs.Targets.{IsTarget, target-kind}
@@ -138,7 +138,9 @@ module _ (job : Job) (basis : Basis) (rises : IsRising basis.pods) (tidy : job.s
 
   wants-are : wants_in job basis ≡ next_wants basis.now basis.backoff job (own_pods job basis.pods)
   wants-are =
-      λ i. wants_by basis.now basis.backoff job (own_pods job basis.pods) (is_settled job (target-is i)) (succeeded-is job basis.pods rises tidy i) (completed-is job basis.pods rises tidy i) (failing-is job basis.pods rises tidy i) (new-failed job basis.pods i) (gain-is job basis.pods rises tidy i)
+      λ i. wants_by basis.now basis.backoff job (own_pods job basis.pods) (is_settled job (target-is i))
+      (succeeded-is job basis.pods rises tidy i) (completed-is job basis.pods rises tidy i)
+      (failing-is job basis.pods rises tidy i) (new-failed job basis.pods i) (gain-is job basis.pods rises tidy i)
 
   pub second-next : second_value job basis ≡ next_status basis.now basis.backoff job (own_pods job basis.pods)
   unfolding second_value next_status counted_out

@@ -38,7 +38,7 @@ use Rattle.jc_manage.proofs.Bounds.{creatable-fit, creatable-fit_ending, creates
 use Rattle.jc_manage.proofs.Numbered.{creatable-numbered, creates-numbered}
 use Rattle.jc_perindex.specs.Failures.{failing_by, failing_in, failures_by, failures_in, has_failed, newly_failed, raised}
 use Rattle.jc_perindex.proofs.Raised.{none-raised}
-use Rattle.jc_plan.specs.Numbers.{active_after, ending_after, keeps_on, ready_after}
+use Rattle.jc_plan.specs.PodNumbers.{active_after, ending_after, keeps_on, ready_after}
 use Rattle.jc_plan.specs.Plans.{planned, planned_for}
 use Rattle.jc_plan.specs.declared.plans.Planned.{Planned}
 use Rattle.jc_plan.specs.Statuses.{accounted, completed_at, conditions_at, first_value, decided_in, is_first_due, is_none, is_over, is_second_due, is_settled, leaves_none, lists_none, second_value, wants_in, first_status_of}
@@ -64,7 +64,9 @@ module _ (job : Job) (basis : Basis) where
         creatable-fit (is_settled job (decided_in job basis)) job (own_pods job basis.pods) (accounted job basis) (omega (arith, some, few)),
       )
 
-  pub creates-fit_ending : 0 < length (wants_in job basis).creates → job.spec.replacement ≡ FailedOnly → length (wants_in job basis).creates + length (tracked_active_pods (own_pods job basis.pods)) + length (ending_pods (own_pods job basis.pods)) ≤ job.spec.parallelism
+  pub creates-fit_ending : 0 < length (wants_in job basis).creates → job.spec.replacement ≡ FailedOnly
+      → length (wants_in job basis).creates + length (tracked_active_pods (own_pods job basis.pods)) + length
+      (ending_pods (own_pods job basis.pods)) ≤ job.spec.parallelism
   creates-fit_ending some only =
       omega (
         arith,
@@ -193,7 +195,9 @@ module _ (job : Job) (basis : Basis) (none : has_end job.status.conditions ≡ f
     out : JobStatus
     out = counted_out (first_status_of basis.now job (own_pods job basis.pods) (accounted job basis) (decided_in job basis) (wants_in job basis)) (accounted job basis).releases
 
-    second-due : is_second_due (is_settled job (decided_in job basis)) (own_pods job basis.pods) (accounted job basis) (counted_out (first_status_of basis.now job (own_pods job basis.pods) (accounted job basis) (decided_in job basis) (wants_in job basis)) (accounted job basis).releases) ≡ true
+    second-due : is_second_due (is_settled job (decided_in job basis)) (own_pods job basis.pods) (accounted job basis)
+        (counted_out (first_status_of basis.now job (own_pods job basis.pods) (accounted job basis)
+        (decided_in job basis) (wants_in job basis)) (accounted job basis).releases) ≡ true
     unfolding second_value
     second-due = new-due basis.now job (decided_in job basis) _ (target-kind (accounted job basis) basis.now job (own_pods job basis.pods)) none new
 
@@ -291,7 +295,10 @@ module _ (job : Job) (basis : Basis) (rests : IsAtRest job.status) (neat : IsNea
       own = own_pods job basis.pods
 
       us : merge (stayed (own_pods job basis.pods) job.status.uncounted_succeeded) (listing job.spec.mode (newly job (own_pods job basis.pods) outcome.Succeeded)) ≡ []
-      us = by job.spec.mode (stayed (own_pods job basis.pods) job.status.uncounted_succeeded) (stays-empty (own_pods job basis.pods) job.status.uncounted_succeeded rests.succeeded_list) (newly job (own_pods job basis.pods) outcome.Succeeded) (none-tracked job (own_pods job basis.pods) outcome.Succeeded untracked)
+      us = by job.spec.mode (stayed (own_pods job basis.pods) job.status.uncounted_succeeded)
+          (stays-empty (own_pods job basis.pods) job.status.uncounted_succeeded rests.succeeded_list)
+          (newly job (own_pods job basis.pods) outcome.Succeeded)
+          (none-tracked job (own_pods job basis.pods) outcome.Succeeded untracked)
         where
           by : (mode : Mode) (old : List Uid) → old ≡ [] → (new : List Pod) → new ≡ [] → merge old (listing mode new) ≡ []
           by NonIndexed old e new f = ap (λ (us : List Uid). merge us (listing NonIndexed new)) e ∙ ap (λ (ps : List Pod). merge [] (listing NonIndexed ps)) f
@@ -326,7 +333,11 @@ module _ (job : Job) (basis : Basis) (rests : IsAtRest job.status) (neat : IsNea
       by : (o : Option ℕ) → job.spec.per_index ≡ o → failing_by o job (counted_in job basis.pods).completed (newly_failed (own_pods job basis.pods) (counted_in job basis.pods).judged_failed) ≡ job.status.failed_indexes
       by None at = sym (neat.failing at).0
       by (Some limit) at =
-          ap (λ e. cond e job.status.failed_indexes (map (λ (count : IndexCount). count.index) (filter (has_failed limit (unwrap_or job.spec.completions 0) (counted_in job basis.pods).completed) (raised job.spec.failure job.status.index_failures (newly_failed (own_pods job basis.pods) (counted_in job basis.pods).judged_failed))))) end
+          ap (λ e. cond e job.status.failed_indexes
+          (map (λ (count : IndexCount). count.index)
+          (filter (has_failed limit (unwrap_or job.spec.completions 0) (counted_in job basis.pods).completed)
+          (raised job.spec.failure job.status.index_failures
+          (newly_failed (own_pods job basis.pods) (counted_in job basis.pods).judged_failed))))) end
 
   -- No index has one failure more.
   idle-failures : (accounted job basis).index_failures ≡ job.status.index_failures

@@ -113,7 +113,9 @@ released-none n uids = omega (arith, count-none uids)
     count-none (u ∷ us) = count-none us
 
 -- With nothing to count out, the second status is as the first.
-second-same : (now : ℕ) (job : Job) (own : List Pod) (counted : CountIn) (target : Option (CondKind × Reason)) (wants : Wants) → counted.releases ≡ [] → second_status_of now job own counted target wants ≡ first_status_of now job own counted target wants
+second-same : (now : ℕ) (job : Job) (own : List Pod) (counted : CountIn) (target : Option (CondKind × Reason))
+    (wants : Wants) → counted.releases ≡ [] → second_status_of now job own counted target wants
+    ≡ first_status_of now job own counted target wants
 unfolding counted_out
 second-same now job own counted target wants none =
     let us = counted.uncounted_succeeded in
@@ -160,7 +162,9 @@ module _ (job : Job) (basis : Basis) (kind : CondKind) (proper : kind ≢ Suspen
   unfolding second_value
   second-keeps =
       settled-keeps basis.now job.spec.suspend (decided_in job basis)
-      (is_second_due (is_settled job (decided_in job basis)) (own_pods job basis.pods) (accounted job basis) (counted_out (first_status_of basis.now job (own_pods job basis.pods) (accounted job basis) (decided_in job basis) (wants_in job basis)) (accounted job basis).releases))
+      (is_second_due (is_settled job (decided_in job basis)) (own_pods job basis.pods) (accounted job basis)
+      (counted_out (first_status_of basis.now job (own_pods job basis.pods) (accounted job basis) (decided_in job basis)
+      (wants_in job basis)) (accounted job basis).releases))
       job.status.conditions kind proper stood
 
 -- The end is new only where it is due.
@@ -237,6 +241,9 @@ first-fails job basis pod there tracked fails =
     settles (inl e) = or_left (has_target job.status.conditions) (is_some (decided_in job basis)) e
     settles (inr e) = or_right (has_target job.status.conditions) (is_some (decided_in job basis)) (ap (λ (o : Option (CondKind × Reason)). is_some o) e)
 
-pub policy-fails : (job : Job) (basis : Basis) (policy : FailurePolicy) (pod : Pod) → Contains (own_pods job basis.pods) pod → is_tracked pod ≡ true → outcome_of job.spec pod ≡ outcome.Failed → job.spec.failure ≡ Some policy → action_of policy pod ≡ FailJob → has_target (first_value job basis).conditions ≡ true
+pub policy-fails : (job : Job) (basis : Basis) (policy : FailurePolicy) (pod : Pod)
+    → Contains (own_pods job basis.pods) pod → is_tracked pod ≡ true → outcome_of job.spec pod ≡ outcome.Failed
+    → job.spec.failure ≡ Some policy → action_of policy pod ≡ FailJob → has_target (first_value job basis).conditions
+    ≡ true
 policy-fails job basis policy pod there tracked failed has_policy action =
     first-fails job basis pod there tracked (failing_pod job.spec policy pod failed has_policy action)

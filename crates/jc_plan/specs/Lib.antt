@@ -1,5 +1,5 @@
 pub mod Releases
-pub mod Numbers
+pub mod PodNumbers
 pub mod Statuses
 pub mod Plans
 pub mod Next

@@ -37,7 +37,7 @@ use Rattle.jc_manage.specs.Backoffs.{backoff_after, opening}
 use Rattle.jc_manage.specs.Creations.{creatable, creates, next}
 use Rattle.jc_manage.specs.LetGoes.{let_goes, marks}
 use Rattle.jc_perindex.specs.Failures.{filled_counts}
-use Rattle.jc_plan.specs.Numbers.{active_after, ending_after, ready_after}
+use Rattle.jc_plan.specs.PodNumbers.{active_after, ending_after, ready_after}
 
 -- How the Job ends is settled: a target stands, or is decided now.
 abbrev pub is_settled : Job → Option (CondKind × Reason) → Bool

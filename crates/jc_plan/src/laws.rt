@@ -31,7 +31,7 @@ ghost use Rattle.jc_plan.specs.PodCounts.{created_for, running_of, stopping_of};
 ghost use Rattle.jc_plan.specs.Finishes.{GainsEnd, HasFinished, IsAtRest, IsIdle, IsWound};
 ghost use Rattle.jc_plan.specs.Next.{ListsNoSuccess, next_value};
 ghost use Rattle.jc_plan.specs.Plans.{IsDated, WritesNothing, last_status, planned, planned_for};
-ghost use Rattle.jc_plan.specs.Numbers.{stopped_by};
+ghost use Rattle.jc_plan.specs.PodNumbers.{stopped_by};
 ghost use Rattle.jc_plan.specs.Releases.{ReleasedPod, is_released};
 ghost use Rattle.jc_plan.specs.Statuses.{accounted, first_released, first_value, second_value, wants_in};
 

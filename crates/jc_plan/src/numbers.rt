@@ -4,7 +4,7 @@ ghost use Rattle.std.specs.Prelude.{◌≡◌, ◌<◌, ◌≤◌, ◌^◌, ◌�
 ghost use Rattle.jc_types.specs.declared.limits.TheConstants.{GREATEST_PARALLELISM};
 ghost use Rattle.jc_states.specs.Bases.{own_pods};
 ghost use Rattle.jc_states.specs.Pods.{active_pods, is_ready};
-ghost use Rattle.jc_plan.specs.Numbers.{active_after, ending_after, is_let_go_of, keeps_on, ready_after, stopped_by};
+ghost use Rattle.jc_plan.specs.PodNumbers.{active_after, ending_after, is_let_go_of, keeps_on, ready_after, stopped_by};
 
 use jc_manage::Wants;
 use jc_states::{Pods, is_among, is_own, is_ready};

@@ -8,7 +8,7 @@ ghost use Rattle.jc_states.specs.Conditions.{has_target};
 ghost use Rattle.jc_states.specs.Pods.{active_pods};
 ghost use Rattle.jc_finish.specs.Settled.{is_target_kind, settled_of};
 ghost use Rattle.jc_finish.specs.Starts.{start_of};
-ghost use Rattle.jc_plan.specs.Numbers.{stopped_by};
+ghost use Rattle.jc_plan.specs.PodNumbers.{stopped_by};
 ghost use Rattle.jc_plan.specs.Statuses.{completed_at, conditions_at, with_due_end, filled, first_status_of, is_first_due, is_none, is_over, is_second_due, is_settled, leaves_none, lists_none, second_after, second_status_of};
 
 use crate::numbers::{Numbers, numbers_after};

@@ -18,7 +18,7 @@ use Rattle.jc_history.specs.Nodes.{fate, node_step}
 use Rattle.jc_history.specs.Numbers.{number}
 use Rattle.jc_history.specs.Play.{first_event}
 use Rattle.jc_history.specs.Registers.{register}
-use Rattle.jc_machine.specs.Diaries.{diary_seen}
+use Rattle.jc_machine.specs.DiariesSeen.{diary_seen}
 use Rattle.jc_runs.specs.Seen.{Seen, deeds_seen, log_seen}
 use Rattle.jc_order.proofs.AvailFacts.{Is, delivery-in, list-in, step-in}
 use Rattle.jc_play.specs.Actors.{CanCome, IsOnly}

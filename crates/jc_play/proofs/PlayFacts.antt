@@ -68,7 +68,13 @@ rest-settles other b e = tt
 
 -- The event has come.
 pub own-grown : (s new : Seen) (event : Event) → IsOwn s event → new ≡ happened s event → HasGrown s new
-own-grown s new event h e = subst (HasGrown s) (sym e) (grown-on s s (happened s event) (none-grown s) (past_seen s event ∷ []) refl refl refl (λ o. (subst (λ event. WasAvailable (act_of_event s.script.commands event) (lane_of event) (available s.shape (deeds_seen s) (log_seen s))) (sym h.is) tt, o)))
+own-grown s new event h e = subst (HasGrown s) (sym e)
+    (grown-on s s (happened s event) (none-grown s) (past_seen s event ∷ []) refl refl refl
+    (λ o. (
+      subst (λ event. WasAvailable (act_of_event s.script.commands event) (lane_of event)
+          (available s.shape (deeds_seen s) (log_seen s))) (sym h.is) tt,
+      o,
+    )))
 
 -- It needs no rest in the same script.
 pub no-rest-later : (old s : Seen) (event : Event) → s.script ≡ old.script → NeedsNoRest old event → NeedsNoRest s event
@@ -149,8 +155,14 @@ module _ (old new : Seen) (event : Event) where
   -- So far its play has come.
   pub plain-reaches : (r : Result (Unit {0}) ApplyFault) → OnOk r (new ≡ happened old event) → OnErr r (new ≡ old) → (old.shape.events ≤ length old.pasts → r ≡ stop HistoryFull) → (r ≡ stop HistoryFull → old.shape.events ≤ length old.pasts)
       → Reaches r (event_played old.script old.shape event (playing_of false old)) new
-  plain-reaches (Ok tt) ok kept full room = done-reaches (event_played old.script old.shape event (playing_of false old)) new (happens old event (room-left (length old.pasts) old.shape.events (λ le. ok-err tt HistoryFull (full le))) ∙ ap (playing_of false) (sym ok))
-  plain-reaches (Err e) ok kept full room = subst (Reaches (stop e) (event_played old.script old.shape event (playing_of false old))) (sym kept) (stop-reaches (stop e) e (event_played old.script old.shape event (playing_of false old)) old refl (λ h. (fills old event (room h), room h)))
+  plain-reaches (Ok tt) ok kept full room = done-reaches
+      (event_played old.script old.shape event (playing_of false old)) new
+      (happens old event (room-left (length old.pasts) old.shape.events (λ le. ok-err tt HistoryFull (full le)))
+      ∙ ap (playing_of false) (sym ok))
+  plain-reaches (Err e) ok kept full room = subst
+      (Reaches (stop e) (event_played old.script old.shape event (playing_of false old))) (sym kept)
+      (stop-reaches (stop e) e (event_played old.script old.shape event (playing_of false old)) old refl
+      (λ h. (fills old event (room h), room h)))
 
   pub plain-grown : (r : Result (Unit {0}) ApplyFault) → IsOwn old event → OnOk r (new ≡ happened old event) → OnErr r (new ≡ old) → HasGrown old new
   plain-grown (Ok tt) own ok kept = own-grown old new event own ok

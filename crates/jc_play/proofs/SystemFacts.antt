@@ -87,7 +87,10 @@ first-coming seen event e = by (events_of seen) refl e
     }
 
 -- What brings a cache on is one.
-pub bring-coming : (seen : Seen) (c : ℕ) (kind : Kind) → c < seen.shape.controllers → IsLegal seen.shape (deeds_seen seen) → (o : Option Event) → o ≡ brings c kind (log_seen seen) (number kind (diary seen.shape c (deeds_seen seen))) → IfSome o (λ event. IsComing seen event)
+pub bring-coming : (seen : Seen) (c : ℕ) (kind : Kind) → c < seen.shape.controllers
+    → IsLegal seen.shape (deeds_seen seen) → (o : Option Event) → o
+    ≡ brings c kind (log_seen seen) (number kind (diary seen.shape c (deeds_seen seen)))
+    → IfSome o (λ event. IsComing seen event)
 bring-coming seen c kind lt legal o e = by (number kind (diary seen.shape c (deeds_seen seen))) refl (numbers-within seen.shape c (deeds_seen seen) legal kind) o e
   where
     by : (n : Option Version) → number kind (diary seen.shape c (deeds_seen seen)) ≡ n → IsAtMost (length (log_seen seen)) n → (o : Option Event) → o ≡ brings c kind (log_seen seen) n → IfSome o (λ event. IsComing seen event)

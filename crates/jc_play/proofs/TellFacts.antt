@@ -185,5 +185,7 @@ module _ (shape : Shape) (past : List Deed) (log : List Entry) where
   clock-in due none e = by (but_clock shape past log) none
     where
       by : (events : List Sys) → first_event events ≡ None → Is (does.Clock (due - moment shape past)) (or_clock events clock_now)
-      by [] s = subst (λ (o : Option ℕ). Is (does.Clock (due - moment shape past)) (clock_events (moment shape past) o)) (sym e) (is-of (does.Clock (due - moment shape past)) (sys.Clock (due - moment shape past)) (sys.Clock (due - moment shape past) ∷ []) (sole (sys.Clock (due - moment shape past))) refl)
+      by [] s = subst (λ (o : Option ℕ). Is (does.Clock (due - moment shape past)) (clock_events (moment shape past) o))
+          (sym e) (is-of (does.Clock (due - moment shape past)) (sys.Clock (due - moment shape past))
+          (sys.Clock (due - moment shape past) ∷ []) (sole (sys.Clock (due - moment shape past))) refl)
       by (x ∷ xs) s = absurd (true≢false (ap is_some s))

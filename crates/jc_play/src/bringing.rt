@@ -2,7 +2,7 @@
 //! its worker steps after.
 
 ghost use Rattle.std.specs.Prelude.{◌≡◌, ◌<◌, IfSome, false, is_some};
-ghost use Rattle.jc_machine.specs.Diaries.{diary_seen};
+ghost use Rattle.jc_machine.specs.DiariesSeen.{diary_seen};
 ghost use Rattle.jc_history.specs.Numbers.{number};
 ghost use Rattle.jc_history.specs.Play.{brings, brought_up, next_step, stepped_through};
 ghost use Rattle.jc_history.specs.Registers.{register};

@@ -1,7 +1,7 @@
 //! The first event of each kind that a controller can do of itself.
 
 ghost use Rattle.std.specs.Prelude.{◌≡◌, ◌<◌};
-ghost use Rattle.jc_machine.specs.Diaries.{diary_seen};
+ghost use Rattle.jc_machine.specs.DiariesSeen.{diary_seen};
 ghost use Rattle.jc_history.specs.Available.{begin_events, delivery_event, delivery_events, free_worker, list_event, list_events, step_events};
 ghost use Rattle.jc_history.specs.Numbers.{number};
 ghost use Rattle.jc_history.specs.Play.{first_event};

@@ -2,7 +2,7 @@
 
 ghost use Rattle.std.specs.Prelude.{◌≡◌, ◌<◌, IfSome, None, filter};
 ghost use Rattle.std.specs.List.{flat_map};
-ghost use Rattle.jc_machine.specs.Diaries.{diary_seen};
+ghost use Rattle.jc_machine.specs.DiariesSeen.{diary_seen};
 ghost use Rattle.jc_history.specs.Available.{below, but_clock, step_event, step_events};
 ghost use Rattle.jc_history.specs.Play.{first_event};
 ghost use Rattle.jc_runs.specs.Seen.{deeds_seen, log_seen};

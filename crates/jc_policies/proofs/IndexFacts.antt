@@ -6,7 +6,7 @@ use Rattle.std.specs.Result.{result_unwrap_or}
 use Rattle.serde_json.specs.Data.{Data}
 use Rattle.jc_json.specs.Place.{path_to}
 use Rattle.jc_json.specs.Field.{optional_text}
-use Rattle.jc_rows.specs.Rows.{rule_row, passes, given_text_row, invalid}
+use Rattle.jc_rows.specs.ManifestRows.{rule_row, passes, given_text_row, invalid}
 use Rattle.jc_policies.specs.SuccessPolicies.{indexes_read, names_indexes, indexes_row, succeeded_indexes_in}
 
 -- the row by what the text names

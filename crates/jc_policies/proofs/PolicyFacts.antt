@@ -6,7 +6,7 @@ use Rattle.jc_json.specs.View.{view}
 use Rattle.jc_json.specs.declared.value.Value.{Value}
 use Rattle.jc_json.specs.Field.{Refusal}
 use Rattle.jc_rows.specs.declared.refusals.ManifestFault.{ManifestFault}
-use Rattle.jc_rows.specs.Rows.{Row, IsRefusal, rows_of_given}
+use Rattle.jc_rows.specs.ManifestRows.{Row, IsRefusal, rows_of_given}
 
 -- the value that was read is the one that is given
 given : (read : Result (Option Data) Refusal) (found : Option (Bor Value)) (value : Bor Value)

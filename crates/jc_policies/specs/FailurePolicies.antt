@@ -21,7 +21,7 @@ use Rattle.jc_types.specs.declared.policies.Requirement.TheVariants.{ExitCodes, 
 use Rattle.jc_types.specs.declared.policies.Truth.{Truth}
 use Rattle.jc_types.specs.declared.policies.Truth.TheVariants.{True, False, Unknown}
 use Rattle.jc_types.specs.declared.specifications.Template.{Template}
-use Rattle.jc_rows.specs.Rows.{Row, first_refusal, each, rule_row, reads, passes, text_row, given_text_row, object_row, object_in, rows_of_given, given_in}
+use Rattle.jc_rows.specs.ManifestRows.{Row, first_refusal, each, rule_row, reads, passes, text_row, given_text_row, object_row, object_in, rows_of_given, given_in}
 use Rattle.jc_rows.specs.Templates.{never_restarts, objects_row, list_in, is_among}
 
 -- ---- words

@@ -11,9 +11,9 @@ use Rattle.jc_types.specs.declared.policies.SuccessPolicy.{SuccessPolicy}
 use Rattle.jc_types.specs.declared.policies.SuccessRule.{SuccessRule}
 use Rattle.jc_rows.specs.declared.counts.Counts.{Counts}
 use Rattle.jc_log.specs.Requests.{is_indexed}
-use Rattle.jc_rows.specs.Counts.{completions_of}
+use Rattle.jc_rows.specs.PodCountRows.{completions_of}
 use Rattle.jc_policies.specs.IndexSets.{set_of}
-use Rattle.jc_rows.specs.Rows.{Row, first_refusal, each, rule_row, reads, passes, given_text_row, rows_of_given, given_in}
+use Rattle.jc_rows.specs.ManifestRows.{Row, first_refusal, each, rule_row, reads, passes, given_text_row, rows_of_given, given_in}
 use Rattle.jc_rows.specs.Templates.{objects_row, list_in}
 
 -- ---- indexes

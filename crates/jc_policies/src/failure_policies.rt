@@ -3,7 +3,7 @@
 ghost use Rattle.std.specs.Prelude.{◌≡◌, ◌++◌, None, bytes_eq, IfOk, codes, if◌then◌else◌, length, map, nat_le, Some};
 ghost use Rattle.jc_json.specs.View.{view};
 ghost use Rattle.jc_json.specs.Place.{path_to};
-ghost use Rattle.jc_rows.specs.Rows.{Checks, Reads, each, rule_row, text_row, given_text_row, object_in};
+ghost use Rattle.jc_rows.specs.ManifestRows.{Checks, Reads, each, rule_row, text_row, given_text_row, object_in};
 ghost use Rattle.jc_rows.specs.Templates.{never_restarts, list_in, is_among};
 ghost use Rattle.jc_policies.specs.FailurePolicies.{action_named, operator_of, truth_of, is_action, is_operator, is_truth, operator_in, container_in, number_at, code_row, codes_in, rises_from, has_zero, is_operator_within, are_codes, values_refusal, exit_codes_refusal, exit_codes_in, is_type, pattern_refusal, type_in, truth_in, pattern_in, pattern_row, patterns_from, patterns_refusal, is_fail_index, action_row, action_in, action_refusal, is_no_empty_list, has_exit_codes, has_patterns, is_just_one, given_exit_codes_refusal, given_patterns_refusal, requirement_refusal, requirement_in, failure_rule_refusal, failure_rule_in, failure_rule_row, failure_rules_from, failure_rules_refusal, failure_rules_in, given_failure_refusal, failure_refusal, failure_in};
 
@@ -62,7 +62,7 @@ pub fn truth_of(text: &str) -> Option<Truth>
 }
 
 // How the exit codes of a rule are meant.
-#[tactic(auto, unfolding(jc_rows::specs::Rows::text_row, crate::specs::FailurePolicies::operator_in))]
+#[tactic(auto, unfolding(jc_rows::specs::ManifestRows::text_row, crate::specs::FailurePolicies::operator_in))]
 fn read_operator(alloc: Global, exits: &Value, path: &Path) -> Result<Operator, ManifestFault>
     ensures { Reads (λ operator. operator) result
         (text_row path.now (view exits.now) (codes "operator") 16 is_operator)
@@ -189,7 +189,7 @@ fn named(template: &Template, text: &str) -> Result<Option<Name>, Want>
 }
 
 // The container whose exit codes count, where one is named.
-#[tactic(auto, unfolding(jc_rows::specs::Rows::given_text_row, crate::specs::FailurePolicies::container_in))]
+#[tactic(auto, unfolding(jc_rows::specs::ManifestRows::given_text_row, crate::specs::FailurePolicies::container_in))]
 fn read_container(
     alloc: Global,
     exits: &Value,
@@ -240,7 +240,7 @@ pub fn is_type(text: &str) -> bool
 }
 
 // The type of a condition.
-#[tactic(auto, unfolding(jc_rows::specs::Rows::text_row, crate::specs::FailurePolicies::type_in))]
+#[tactic(auto, unfolding(jc_rows::specs::ManifestRows::text_row, crate::specs::FailurePolicies::type_in))]
 fn read_type(alloc: Global, pattern: &Value, path: &Path) -> Result<Text, ManifestFault>
     ensures { Reads (λ kind. kind) result
         (text_row path.now (view pattern.now) (codes "type") 30 is_type)
@@ -254,7 +254,7 @@ fn read_type(alloc: Global, pattern: &Value, path: &Path) -> Result<Text, Manife
 }
 
 // The status of a condition.
-#[tactic(auto, unfolding(jc_rows::specs::Rows::given_text_row, crate::specs::FailurePolicies::truth_in))]
+#[tactic(auto, unfolding(jc_rows::specs::ManifestRows::given_text_row, crate::specs::FailurePolicies::truth_in))]
 fn read_truth(alloc: Global, pattern: &Value, path: &Path) -> Result<Truth, ManifestFault>
     ensures { Reads (λ truth. truth) result
         (given_text_row path.now (view pattern.now) (codes "status") 20 is_truth)
@@ -317,7 +317,7 @@ fn read_few_patterns(alloc: Global, items: &[Value], path: &Path) -> Result<Patt
 }
 
 // The action of that word.
-#[tactic(auto, unfolding(jc_rows::specs::Rows::text_row, crate::specs::FailurePolicies::action_in))]
+#[tactic(auto, unfolding(jc_rows::specs::ManifestRows::text_row, crate::specs::FailurePolicies::action_in))]
 fn read_known_action(alloc: Global, rule: &Value, path: &Path) -> Result<Action, ManifestFault>
     ensures { Reads (λ action. action) result
         (text_row path.now (view rule.now) (codes "action") 14 is_action)

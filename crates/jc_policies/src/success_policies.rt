@@ -4,10 +4,10 @@ ghost use Rattle.std.specs.Prelude.{◌≡◌, ◌&&◌, IfOk, codes, length, ma
 ghost use Rattle.std.specs.Option.{option_map_or};
 ghost use Rattle.jc_json.specs.View.{view};
 ghost use Rattle.jc_json.specs.Place.{path_to};
-ghost use Rattle.jc_rows.specs.Rows.{Checks, Reads, each, rule_row};
+ghost use Rattle.jc_rows.specs.ManifestRows.{Checks, Reads, each, rule_row};
 ghost use Rattle.jc_log.specs.Requests.{is_indexed};
 ghost use Rattle.jc_policies.specs.IndexSets.{set_of};
-ghost use Rattle.jc_rows.specs.Counts.{completions_of};
+ghost use Rattle.jc_rows.specs.PodCountRows.{completions_of};
 ghost use Rattle.jc_policies.specs.SuccessPolicies.{are_indexes, indexes_read, indexes_row, succeeded_indexes_in, is_reachable, count_in, count_row, count_refusal, says_something, success_rule_refusal, success_rule_in, success_rule_row, success_rules_from, success_rules_refusal, success_rules_in, given_success_refusal, success_refusal, success_in};
 
 use jc_json::{Path, Value, may_number, may_object, may_text, member, need_list};
@@ -50,7 +50,7 @@ fn indexes_read(alloc: Global, text: &str, completions: u32) -> Result<Option<Ra
 }
 
 // The indexes that count, where they are given.
-#[tactic(auto, unfolding(jc_rows::specs::Rows::given_text_row, crate::specs::SuccessPolicies::indexes_row, crate::specs::SuccessPolicies::succeeded_indexes_in))]
+#[tactic(auto, unfolding(jc_rows::specs::ManifestRows::given_text_row, crate::specs::SuccessPolicies::indexes_row, crate::specs::SuccessPolicies::succeeded_indexes_in))]
 fn read_indexes(
     alloc: Global,
     rule: &Value,

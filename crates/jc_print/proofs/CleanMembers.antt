@@ -6,7 +6,7 @@ use Rattle.std.specs.Ordering.{match_ordering}
 use Rattle.serde_json.specs.Data.{Data, Members, no_members, member, put}
 use Rattle.serde_json.specs.View.{items_of}
 use Rattle.serde_json.specs.Written.{has_float, items_have_float, members_have_float}
-use Rattle.jc_print.specs.Members.{with_json_member}
+use Rattle.jc_print.specs.PrintedMembers.{with_json_member}
 use Rattle.std.proofs.lemmas.Bool.{or_from as both}
 
 pub or_left : (a b : Bool) → (a || b) ≡ false → a ≡ false

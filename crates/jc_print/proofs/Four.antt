@@ -13,7 +13,21 @@ ends_in_four n low high =
     let c : n / 10 / 10 % 10 ≡ n % 10000 / 100 % 10 = omega arith in
     let d : n / 10 % 10 ≡ n % 10000 / 10 % 10 = omega arith in
     let e : n % 10 ≡ n % 10000 % 10 = omega arith in
-    rw (decimal_step n (omega arith) high, decimal_step (n / 10) (omega arith) (omega arith), decimal_step (n / 10 / 10) (omega arith) (omega arith), decimal_step (n / 10 / 10 / 10) (omega arith) (omega arith), append_assoc, append_assoc, append_assoc, a, b, c, d, ← e)
+    rw (
+      decimal_step n (omega arith) high,
+      decimal_step (n / 10) (omega arith) (omega arith),
+      decimal_step (n / 10 / 10)
+          (omega arith) (omega arith),
+      decimal_step (n / 10 / 10 / 10) (omega arith) (omega arith),
+      append_assoc,
+      append_assoc,
+      append_assoc,
+      a,
+      b,
+      c,
+      d,
+      ← e,
+    )
 
 pub behind_one : (n : ℕ) → n < 10000 → decimal (10000 + n) ≡ 49 ∷ four n
 behind_one n small =

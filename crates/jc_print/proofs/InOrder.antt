@@ -3,7 +3,7 @@ use Rattle.std.proofs.Common.{◌≡◌, ℕ, List, [], ◌∷◌, Bool, true, f
 use Rattle.std.specs.Cmp.Lexicographic.{slice_cmp}
 use Rattle.std.specs.Ordering.{match_ordering}
 use Rattle.serde_json.specs.Data.{Data, Members, no_members, member, put}
-use Rattle.jc_print.specs.Members.{with_json_member}
+use Rattle.jc_print.specs.PrintedMembers.{with_json_member}
 use Rattle.std.proofs.lemmas.Bool.{and_parts}
 use Rattle.jc_print.proofs.Writing.{Named, members_from}
 

@@ -6,7 +6,7 @@ use Rattle.jc_types.specs.declared.policies.Operator.{Operator}
 use Rattle.jc_types.specs.declared.policies.Pattern.{Pattern}
 use Rattle.jc_types.specs.declared.policies.Requirement.{Requirement}
 use Rattle.jc_types.specs.declared.policies.Requirement.TheVariants.{Conditions, ExitCodes}
-use Rattle.jc_print.specs.Members.{list_data, with_json_member}
+use Rattle.jc_print.specs.PrintedMembers.{list_data, with_json_member}
 use Rattle.jc_print.specs.PrintedSpecs.{exit_codes_data, pattern_data, with_requirement}
 use Rattle.jc_print.specs.Tokens.{AddsTokens, front_tokens, given_tokens}
 use Rattle.jc_print.proofs.Writing.{Named, adds_same, group_of, is_ordered, more, more_of, no_more}

@@ -9,7 +9,7 @@ use Rattle.jc_types.specs.declared.policies.Pattern.{Pattern}
 use Rattle.jc_types.specs.declared.policies.SuccessRule.{SuccessRule}
 use Rattle.jc_types.specs.declared.specifications.JobSpec.{JobSpec}
 use Rattle.jc_types.specs.declared.specifications.Template.{Template}
-use Rattle.jc_print.specs.Members.{list_data, number_data, texts_data}
+use Rattle.jc_print.specs.PrintedMembers.{list_data, number_data, texts_data}
 use Rattle.jc_print.specs.PrintedSpecs.{failure_data, mode_word, operator_word, replacement_word, restart_word, success_data, template_data, truth_word}
 use Rattle.jc_print.proofs.Writing.{Named}
 

@@ -19,7 +19,7 @@ use Rattle.serde_json.specs.Find.{of_integer}
 use Rattle.serde_json.specs.View.{items_of}
 use Rattle.serde_json.specs.Written.{compact_text, items_outline, members_outline, outline}
 use Rattle.serde_json.proofs.Texts.{print-outline}
-use Rattle.jc_print.specs.Members.{list_data, number_data, with_json_member}
+use Rattle.jc_print.specs.PrintedMembers.{list_data, number_data, with_json_member}
 use Rattle.jc_print.specs.Tokens.{AddsTokens, data_tokens, front_tokens, given_tokens}
 
 -- ---- one thing behind another

@@ -1,4 +1,4 @@
-pub mod Members
+pub mod PrintedMembers
 pub mod PrintedSpecs
 pub mod PrintedStatuses
 pub mod Tokens

@@ -25,7 +25,7 @@ use Rattle.jc_types.specs.declared.specifications.Replacement.TheVariants.{Termi
 use Rattle.jc_types.specs.declared.specifications.Restart.{Restart}
 use Rattle.jc_types.specs.declared.specifications.Restart.TheVariants.{Never, OnFailure}
 use Rattle.jc_types.specs.declared.specifications.Template.{Template}
-use Rattle.jc_print.specs.Members.{with_json_member, number_data, list_data, texts_data}
+use Rattle.jc_print.specs.PrintedMembers.{with_json_member, number_data, list_data, texts_data}
 
 -- ---- words
 

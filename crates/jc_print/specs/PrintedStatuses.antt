@@ -14,7 +14,7 @@ use Rattle.jc_types.specs.declared.statuses.IndexCount.{IndexCount}
 use Rattle.jc_types.specs.declared.statuses.JobStatus.{JobStatus}
 use Rattle.jc_types.specs.declared.statuses.Reason.{Reason}
 use Rattle.jc_types.specs.declared.statuses.Reason.TheVariants.{BackoffLimitExceeded, DeadlineExceeded, PodFailurePolicy, SuccessPolicy, CompletionsReached, JobSuspended, JobResumed, MaxFailedIndexesExceeded, FailedIndexes}
-use Rattle.jc_print.specs.Members.{with_json_member, number_data, unless_zero, unless_empty}
+use Rattle.jc_print.specs.PrintedMembers.{with_json_member, number_data, unless_zero, unless_empty}
 
 abbrev pub kind_word : CondKind → List ℕ
 kind_word Suspended = codes "Suspended"

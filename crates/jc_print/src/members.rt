@@ -3,7 +3,7 @@
 ghost use Rattle.std.specs.Prelude.{◌≡◌, OnOk, Some, option_map};
 ghost use Rattle.serde_json.specs.Data.{boolean, string};
 ghost use Rattle.serde_json.specs.View.{view, members_view};
-ghost use Rattle.jc_print.specs.Members.{with_json_member, number_data, unless_zero};
+ghost use Rattle.jc_print.specs.PrintedMembers.{with_json_member, number_data, unless_zero};
 
 use jc_types::Want;
 use serde_json::{Map, Value};
@@ -13,7 +13,7 @@ use std::alloc::Global;
 pub type Members = Map<String, Value>;
 
 /// Puts a member.
-#[tactic(auto, unfolding(crate::specs::Members::with_json_member))]
+#[tactic(auto, unfolding(crate::specs::PrintedMembers::with_json_member))]
 pub fn put_value(members: &mut Members, alloc: Global, name: &str, value: Value) -> Result<(), Want>
     ensures { OnOk result (members_view members.new.entries
         ≡ with_json_member name.now (Some (view value)) (members_view members.old.entries)) }
@@ -22,7 +22,7 @@ pub fn put_value(members: &mut Members, alloc: Global, name: &str, value: Value)
 }
 
 /// Puts a member where it is given.
-#[tactic(auto, unfolding(crate::specs::Members::with_json_member))]
+#[tactic(auto, unfolding(crate::specs::PrintedMembers::with_json_member))]
 pub fn put_given(
     members: &mut Members,
     alloc: Global,
@@ -64,7 +64,7 @@ pub fn put_bool(members: &mut Members, alloc: Global, name: &str, truth: bool) -
 }
 
 /// Puts a truth where it is given.
-#[tactic(auto, unfolding(crate::specs::Members::with_json_member))]
+#[tactic(auto, unfolding(crate::specs::PrintedMembers::with_json_member))]
 pub fn put_given_bool(
     members: &mut Members,
     alloc: Global,
@@ -81,7 +81,7 @@ pub fn put_given_bool(
 }
 
 /// Puts a number, unless it is 0.
-#[tactic(auto, unfolding(crate::specs::Members::with_json_member))]
+#[tactic(auto, unfolding(crate::specs::PrintedMembers::with_json_member))]
 pub fn put_unless_zero(
     members: &mut Members,
     alloc: Global,

@@ -4,7 +4,7 @@ ghost use Rattle.std.specs.Prelude.{◌≡◌, ◌++◌, IfOk, OnOk, codes, map,
 ghost use Rattle.serde_json.specs.Data.{boolean, number, string, no_members};
 ghost use Rattle.serde_json.specs.View.{view, members_view};
 ghost use Rattle.serde_json.specs.Written.{compact_text};
-ghost use Rattle.jc_print.specs.Members.{unless_zero, unless_empty};
+ghost use Rattle.jc_print.specs.PrintedMembers.{unless_zero, unless_empty};
 ghost use Rattle.jc_print.specs.PrintedStatuses.{kind_word, reason_word, status_word, moment_data, uid_data, unless_no_index, with_kind, condition_data, uncounted_data, given_uncounted, unless_false, index_count_data, with_pods, with_totals, with_failures, with_times, with_lists, status_data};
 
 use crate::members::{

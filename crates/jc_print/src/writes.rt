@@ -4,7 +4,7 @@ ghost use Rattle.std.specs.Prelude.{◌≡◌, ◌++◌, [], IfOk, OnOk, Some, o
 ghost use Rattle.json.specs.Print.{print};
 ghost use Rattle.serde_json.specs.Data.{boolean, number, string};
 ghost use Rattle.serde_json.specs.Find.{of_integer};
-ghost use Rattle.jc_print.specs.Members.{number_data};
+ghost use Rattle.jc_print.specs.PrintedMembers.{number_data};
 ghost use Rattle.jc_print.specs.Tokens.{AddsTokens, given_tokens};
 
 use jc_types::Want;

@@ -31,8 +31,8 @@ use Rattle.jc_history.proofs.LegalFacts.{notes-next}
 use Rattle.jc_order.proofs.HonestFacts.{longer-log}
 use Rattle.jc_order.proofs.RetryFacts.{step-reply}
 use Rattle.jc_runs.specs.QuietRuns.{AreSteps, BeginsCurrent, IsAtNext, IsQuietSync, WritesNoStatus}
-use Rattle.jc_runs.specs.Runs.{AllAskValid}
-use Rattle.jc_promise.specs.Quiet.{EndsAtNext, GoesOn, IsOver, RunsQuietly, SyncsWell}
+use Rattle.jc_runs.specs.Machines.{AllAskValid}
+use Rattle.jc_promise.specs.QuietEnds.{EndsAtNext, GoesOn, IsOver, RunsQuietly, SyncsWell}
 
 -- ---- a history and an earlier part of it
 

@@ -153,7 +153,10 @@ unwanted-is job basis pod (IsOfSuspended q) = ap (λ b. b || rest) q
     rest = is_let_go job.spec.mode (is_needless (wanted_successes job) (accounted job basis)) (job_wants job (own_pods job basis.pods) (accounted job basis)) (tracked_in job basis) pod
 unwanted-is job basis pod (IsOfNoUse m e) = spare-is job basis pod m (or_left (option_map_or (is_needless (wanted_successes job) (accounted job basis)) pod.index false) (is_doubled (tracked_in job basis) pod) e)
 unwanted-is job basis pod (IsDoubled m e) = spare-is job basis pod m (or_right (option_map_or (is_needless (wanted_successes job) (accounted job basis)) pod.index false) (is_doubled (tracked_in job basis) pod) e)
-unwanted-is job basis pod (IsTooMany rest is e) = or_right job.spec.suspend _ (or_right (is_spare job.spec.mode (is_needless (wanted_successes job) (accounted job basis)) (tracked_in job basis) pod) _ (subst (λ pods. is_one_of (length pods - job_wants job (own_pods job basis.pods) (accounted job basis)) job.spec.mode pods pod ≡ true) is e))
+unwanted-is job basis pod (IsTooMany rest is e) = or_right job.spec.suspend _
+    (or_right (is_spare job.spec.mode (is_needless (wanted_successes job) (accounted job basis)) (tracked_in job basis)
+    pod) _ (subst (λ pods. is_one_of (length pods - job_wants job (own_pods job basis.pods) (accounted job basis))
+    job.spec.mode pods pod ≡ true) is e))
 
 let-go-refused : (u : Uid) (job : Job) (basis : Basis) → not (list_any (is_unwanted job basis) (tracked_in job basis)) ≡ true → MayLetGo job basis u → ⊥
 let-go-refused u job basis e m = not-one (is_unwanted job basis) (tracked_in job basis) m.pod e m.seen (unwanted-is job basis m.pod m.unwanted)

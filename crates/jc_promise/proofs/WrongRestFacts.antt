@@ -20,7 +20,7 @@ use Rattle.jc_history.specs.Samples.{pi_key, sample_spec, usual_shape, version_a
 use Rattle.jc_rest.specs.Orphans.{is_sure_of, last_about}
 use Rattle.jc_rest.specs.Stuck.{HasEnded, IsOpen, IsWaiting, is_sure}
 use Rattle.jc_promise.specs.Promises.{ReleasesWell, WaitsWell}
-use Rattle.jc_promise.specs.Quiet.{RunsQuietly, SyncsWell}
+use Rattle.jc_promise.specs.QuietEnds.{RunsQuietly, SyncsWell}
 use Rattle.jc_promise.specs.Wrong.{job_is_made, pi_job, pi_pod, sync_begins, sync_steps}
 use Rattle.jc_promise.specs.WrongEnds.{minute_spec}
 use Rattle.jc_promise.specs.WrongRests.{asleep, begun_status, both_list, doomed_status, kept_orphan, over_limit, unmarked_pod, unwritten_end, wrong_status}

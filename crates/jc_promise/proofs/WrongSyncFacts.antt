@@ -33,7 +33,7 @@ use Rattle.jc_runs.specs.Sends.{sends_of}
 use Rattle.jc_runs.specs.Conflicts.{AreToldLater}
 use Rattle.jc_bounds.specs.Fitting.{IsMade}
 use Rattle.jc_bounds.specs.Histories.{HoldsBounds}
-use Rattle.jc_bounds.specs.Kept.{IsShut}
+use Rattle.jc_bounds.specs.KeptEnds.{IsShut}
 use Rattle.jc_lines.specs.Events.{event_lines}
 use Rattle.jc_rest.specs.LetGo.{IsLetGoOnceEnded}
 use Rattle.jc_rest.specs.Stuck.{HasEnded, HasPods, IsHalted, IsHeldBack, IsOpen, IsSuspended, IsWaiting, MayRunNone, is_sure}

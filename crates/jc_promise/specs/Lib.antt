@@ -1,4 +1,4 @@
-pub mod Quiet
+pub mod QuietEnds
 pub mod Promises
 pub mod SomeDeeds
 pub mod Wrong

@@ -26,7 +26,7 @@ use Rattle.jc_rest.specs.LetGo.{EndedAreLetGo}
 use Rattle.jc_rest.specs.Lost.{AreLostWell}
 use Rattle.jc_rest.specs.Orphans.{LeavesNone}
 use Rattle.jc_rest.specs.Stuck.{IsWaiting, is_sure}
-use Rattle.jc_promise.specs.Quiet.{SyncsWell}
+use Rattle.jc_promise.specs.QuietEnds.{SyncsWell}
 use Rattle.jc_lines.specs.Events.{event_lines}
 use Rattle.jc_lines.specs.Told.{AreEvents}
 

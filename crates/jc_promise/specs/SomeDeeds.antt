@@ -23,7 +23,7 @@ use Rattle.jc_history.specs.Play.{deeds_played, whole_play}
 use Rattle.jc_history.specs.Replies.{log_given}
 use Rattle.jc_history.specs.Samples.{pi_key, sample_script, sample_spec, usual_shape}
 use Rattle.jc_history.specs.SampleScripts.{one_pod_script}
-use Rattle.jc_promise.specs.Quiet.{RunsQuietly}
+use Rattle.jc_promise.specs.QuietEnds.{RunsQuietly}
 use Rattle.jc_promise.specs.WrongRests.{first_sync}
 
 -- P holds of a deed of the history and what came before it.

@@ -13,14 +13,14 @@ use Rattle.jc_types.specs.declared.specifications.Mode.TheVariants.{NonIndexed, 
 use Rattle.jc_manifest.specs.declared.index_limits.IndexLimits.{IndexLimits}
 use Rattle.jc_reading.specs.Allowed.{IsAllowedSpec}
 use Rattle.jc_log.specs.Requests.{is_indexed}
-use Rattle.jc_rows.specs.Counts.{mode_of, is_mode, mode_in, completions_or, indexed_row, parallelism_in, completions_in, numbers_refusal, counts_refusal, counts_in}
+use Rattle.jc_rows.specs.PodCountRows.{mode_of, is_mode, mode_in, completions_or, indexed_row, parallelism_in, completions_in, numbers_refusal, counts_refusal, counts_in}
 use Rattle.jc_manifest.specs.IndexLimits.{index_limits_refusal, index_limits_in, by_index_refusal}
 use Rattle.jc_manifest.specs.Limits.{managed_row, limits_refusal, suspend_in, limits_in, usual_backoff}
 use Rattle.jc_reading.specs.Manifested.{manifest_spec, pod_spec_of}
-use Rattle.jc_print.specs.Members.{number_data}
+use Rattle.jc_print.specs.PrintedMembers.{number_data}
 use Rattle.jc_print.specs.PrintedSpecs.{mode_word, replacement_word, failure_data, success_data, template_data, spec_data, with_policies, with_counts, with_index_limits, with_limits}
-use Rattle.jc_print.specs.Members.{with_json_member}
-use Rattle.jc_rows.specs.Rows.{rule_row, passes, given_text_row, number_row, bool_row, number_in, reads}
+use Rattle.jc_print.specs.PrintedMembers.{with_json_member}
+use Rattle.jc_rows.specs.ManifestRows.{rule_row, passes, given_text_row, number_row, bool_row, number_in, reads}
 use Rattle.jc_reading.proofs.Found.{puts, get_found, member_found}
 use Rattle.jc_rows.proofs.RowFacts.{none_or}
 

@@ -9,8 +9,8 @@ use Rattle.jc_json.specs.Field.{◌>>=◌, bounded_number, item_object, member_o
 use Rattle.jc_json.specs.Place.{path_at, path_to}
 use Rattle.jc_members.specs.declared.causes.Cause.{Cause}
 use Rattle.jc_members.specs.declared.causes.Cause.TheVariants.{Invalid}
-use Rattle.jc_members.specs.Causes.{read_as}
-use Rattle.jc_members.specs.Ends.{end_members, end_said, end_said_at, ends_said, rightly_many}
+use Rattle.jc_members.specs.LineCauses.{read_as}
+use Rattle.jc_members.specs.EndMembers.{end_members, end_said, end_said_at, ends_said, rightly_many}
 use Rattle.jc_members.specs.Items.{each_said, then_each}
 use Rattle.jc_members.specs.Members.{given_number_in, given_text_in, only_known, text_in}
 use Rattle.jc_members.specs.Phases.{condition_at, condition_members, condition_of, condition_truth, conditions_in}

@@ -10,12 +10,12 @@ use Rattle.jc_json.specs.Field.{Refusal, ◌>>=◌, bounded_number, may_be, memb
 use Rattle.jc_json.specs.Place.{path_to}
 use Rattle.jc_members.specs.declared.causes.Cause.{Cause}
 use Rattle.jc_members.specs.declared.causes.Cause.TheVariants.{Invalid}
-use Rattle.jc_members.specs.Causes.{read_as}
+use Rattle.jc_members.specs.LineCauses.{read_as}
 use Rattle.jc_members.specs.Items.{all_said, then_each}
 use Rattle.jc_members.specs.Members.{word_in}
 use Rattle.jc_members.specs.Phases.{conditions_in, container_change, container_count, container_numbers, container_restarts, containers_in, entries_fit, entry_in, exit_in, given_names, member_names, names_in_either, phase_of, put_names, report_in}
 use Rattle.jc_members.proofs.Within.{IsUpTo, using_first, whatever}
-use Rattle.jc_rows.specs.Words.{is_label}
+use Rattle.jc_rows.specs.NameForms.{is_label}
 use Rattle.jc_types.specs.declared.actions.ContainerChange.{ContainerChange}
 use Rattle.jc_reading.specs.Proper.{AreAscending, IsAllowedContainer, IsAllowedReport}
 use Rattle.jc_reading.specs.Spelled.{HasSpelled, IsSpelled}

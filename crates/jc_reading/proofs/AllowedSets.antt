@@ -18,9 +18,9 @@ use Rattle.jc_types.specs.declared.policies.SuccessPolicy.{SuccessPolicy}
 use Rattle.jc_types.proofs.ListFacts.{find_passes as passes_found}
 use Rattle.jc_rows.specs.declared.counts.Counts.{Counts}
 use Rattle.jc_log.specs.Requests.{is_indexed}
-use Rattle.jc_rows.specs.Counts.{completions_of}
+use Rattle.jc_rows.specs.PodCountRows.{completions_of}
 use Rattle.jc_manifest.specs.IndexSets.{all_pairs, is_spelled, run_of, runs_of, set_of}
-use Rattle.jc_rows.specs.Rows.{each, reads, passes, given_text_row, rows_of_given}
+use Rattle.jc_rows.specs.ManifestRows.{each, reads, passes, given_text_row, rows_of_given}
 use Rattle.jc_manifest.specs.SuccessPolicies.{are_indexes, indexes_read, names_indexes, indexes_row, succeeded_indexes_in, is_reachable, count_in, count_row, count_refusal, says_something, success_rule_refusal, success_rule_in, success_rule_row, success_rules_from, success_rules_refusal, success_rules_in, given_success_refusal, success_refusal, success_in}
 use Rattle.jc_rows.specs.Templates.{list_in}
 use Rattle.jc_manifest.proofs.IndexSetFacts.{names_set}

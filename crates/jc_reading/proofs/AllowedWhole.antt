@@ -16,15 +16,15 @@ use Rattle.jc_types.specs.ValidSpecs.{IsValidSpec}
 use Rattle.jc_rows.specs.declared.counts.Counts.{Counts}
 use Rattle.jc_manifest.specs.declared.index_limits.IndexLimits.{IndexLimits}
 use Rattle.jc_log.specs.Requests.{is_indexed}
-use Rattle.jc_rows.specs.Counts.{counts_in, counts_refusal}
+use Rattle.jc_rows.specs.PodCountRows.{counts_in, counts_refusal}
 use Rattle.jc_manifest.specs.IndexLimits.{by_index_refusal, has_indexes_to_fail, has_indexes_to_limit, index_limits_in, index_limits_refusal, is_by_index}
 use Rattle.jc_manifest.specs.Limits.{managed_row}
 use Rattle.jc_manifest.specs.Manifests.{head_in, head_refusal, key_of, manifest_refusal, metadata_part_refusal, policies_in, policies_refusal, replacement_refusal, spec_in, spec_of, spec_part_refusal, spec_refusal}
 use Rattle.jc_manifest.specs.Metadata.{key_in, metadata_refusal, name_in, namespace_in, type_refusal}
-use Rattle.jc_rows.specs.Rows.{object_in, object_row, passes, text_row, given_text_row}
+use Rattle.jc_rows.specs.ManifestRows.{object_in, object_row, passes, text_row, given_text_row}
 use Rattle.jc_manifest.specs.SuccessPolicies.{success_in}
 use Rattle.jc_rows.specs.Templates.{all_containers_refusal, all_names_in, all_names_refusal, given_list_in, list_in, names_in, names_of_both, never_restarts, pod_path, pod_refusal, pod_spec_in, restart_refusal, template_in, template_in_pod, template_refusal}
-use Rattle.jc_rows.specs.Words.{has_length_of_name, is_label, is_part, is_subdomain}
+use Rattle.jc_rows.specs.NameForms.{has_length_of_name, is_label, is_part, is_subdomain}
 use Rattle.jc_manifest.proofs.AcceptedFacts.{accepted_is_valid, parts, kept, passed}
 use Rattle.jc_reading.specs.Allowed.{are_new_labels, IsAllowedKey, IsAllowedSpec, IsAllowedSuccess, IsAllowedSuccessRule}
 use Rattle.jc_reading.proofs.AllowedFacts.{failure_allowed, labels}

@@ -6,7 +6,7 @@ use Rattle.std.specs.List.{flat_map, list_all}
 use Rattle.json.proofs.Printed.Utf8.{IsUtf8-are_ascii, are_ascii}
 use Rattle.jc_ranges.specs.declared.runs.Run.{Run}
 use Rattle.jc_ranges.specs.Texts.{element, joined, ranges_text, runs, written}
-use Rattle.jc_rows.specs.Words.{has_length_of_name, is_label, is_part, is_plain}
+use Rattle.jc_rows.specs.NameForms.{has_length_of_name, is_label, is_part, is_plain}
 
 -- Each byte is of ASCII.
 abbrev pub AreAscii : List ℕ → Type 0

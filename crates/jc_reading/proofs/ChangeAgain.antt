@@ -3,9 +3,9 @@ use Rattle.std.proofs.Common.{◌≡◌, ℕ, List, [], ◌∷◌, Bool, codes, 
 use Rattle.serde_json.specs.Data.{Data, boolean, object}
 use Rattle.jc_json.specs.Field.{◌>>=◌, bool_of, may_be, member_of, optional_bool}
 use Rattle.jc_json.specs.Place.{path_to}
-use Rattle.jc_print.specs.Members.{number_data, with_json_member}
+use Rattle.jc_print.specs.PrintedMembers.{number_data, with_json_member}
 use Rattle.jc_print.specs.PrintedSpecs.{change_data, with_changed_counts, with_changed_limits}
-use Rattle.jc_members.specs.Causes.{read_as}
+use Rattle.jc_members.specs.LineCauses.{read_as}
 use Rattle.jc_members.specs.Members.{given_number_in, only_known}
 use Rattle.jc_script.specs.Updates.{change_at, change_in, change_members, counts_of, limits_of}
 use Rattle.jc_types.specs.declared.actions.SpecChange.{SpecChange}

@@ -8,15 +8,15 @@ use Rattle.serde_json.specs.View.{items_of}
 use Rattle.jc_json.specs.Field.{◌>>=◌, bounded_number, item_object, member_of, missing, needed_number, out_of_range}
 use Rattle.jc_json.specs.Place.{path_at, path_to}
 use Rattle.jc_json.proofs.Items.{items_listed as listed}
-use Rattle.jc_lines.specs.Changes.{end_data, ends_data, exit_data}
+use Rattle.jc_lines.specs.ChangeTexts.{end_data, ends_data, exit_data}
 use Rattle.jc_members.specs.declared.causes.Cause.{Cause}
 use Rattle.jc_members.specs.declared.causes.Cause.TheVariants.{Invalid}
-use Rattle.jc_members.specs.Causes.{read_as}
-use Rattle.jc_members.specs.Ends.{end_members, end_said, end_said_at, ends_said, rightly_many}
+use Rattle.jc_members.specs.LineCauses.{read_as}
+use Rattle.jc_members.specs.EndMembers.{end_members, end_said, end_said_at, ends_said, rightly_many}
 use Rattle.jc_members.specs.Items.{each_said, then_each, with_front}
 use Rattle.jc_members.specs.Members.{given_number_in, given_tested, given_text_in}
 use Rattle.jc_manifest.specs.FailurePolicies.{is_type}
-use Rattle.jc_print.specs.Members.{list_data, number_data, with_json_member}
+use Rattle.jc_print.specs.PrintedMembers.{list_data, number_data, with_json_member}
 use Rattle.jc_types.specs.declared.actions.End.{End}
 use Rattle.jc_types.specs.declared.limits.TheConstants.{GREATEST_LIMIT}
 use Rattle.jc_reading.specs.Proper.{AreAllowedEnds, IsAllowedEnd, IsAllowedType}
@@ -66,7 +66,9 @@ module _ (end : End) where
     said_again : (path : List ℕ) → end_said path made ≡ Ok end
     unfolding end_said
     said_again path =
-        ap (λ r. read_as r >>= λ exit. given_number_in path (codes "restarts") 0 GREATEST_LIMIT made >>= λ restarts. given_text_in path (codes "condition") 30 is_type made >>= λ condition. Ok (record { exit = exit; restarts = unwrap_or restarts 0; condition = condition })) (code_again path)
+        ap (λ r. read_as r >>= λ exit. given_number_in path (codes "restarts") 0 GREATEST_LIMIT made >>= λ restarts.
+        given_text_in path (codes "condition") 30 is_type made >>= λ condition. Ok
+        (record { exit = exit; restarts = unwrap_or restarts 0; condition = condition })) (code_again path)
         ∙ ap (λ r. r >>= λ restarts. given_text_in path (codes "condition") 30 is_type made >>= λ condition. Ok (record { exit = end.exit; restarts = unwrap_or restarts 0; condition = condition }))
         (given_in path (codes "restarts") GREATEST_LIMIT made (Some end.restarts) (member_found (codes "restarts") rows) allowed.restarts)
         ∙ ap (λ r. r >>= λ condition. Ok (record { exit = end.exit; restarts = end.restarts; condition = condition }))

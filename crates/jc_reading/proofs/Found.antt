@@ -7,7 +7,7 @@ use Rattle.serde_json.specs.Data.{Data, object, Members, no_members, put}
 use Rattle.serde_json.specs.Find.{get_member}
 use Rattle.serde_json.proofs.Views.{get_member-put, get_member-put_other}
 use Rattle.jc_json.specs.Field.{member_of, unless_null}
-use Rattle.jc_print.specs.Members.{put_given}
+use Rattle.jc_print.specs.PrintedMembers.{put_given}
 
 -- the members, the last one put first
 abbrev pub puts : List (List ℕ × Option Data) → Members

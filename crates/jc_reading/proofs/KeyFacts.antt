@@ -4,8 +4,8 @@ use Rattle.std.specs.Prelude.{nat_le}
 use Rattle.std.specs.List.{list_all, onto_first}
 use Rattle.std.proofs.lemmas.Bool.{leb-true}
 use Rattle.json.proofs.Printed.Utf8.{IsUtf8-are_ascii, are_ascii}
-use Rattle.jc_rows.specs.Words.{has_length_of_name, is_label, is_part, is_subdomain}
-use Rattle.jc_reading.specs.Readings.{onto_front, label_if, parted, slash_in, subdomain_if}
+use Rattle.jc_rows.specs.NameForms.{has_length_of_name, is_label, is_part, is_subdomain}
+use Rattle.jc_reading.specs.LineReadings.{onto_front, label_if, parted, slash_in, subdomain_if}
 use Rattle.jc_reading.proofs.ReadFacts.{all_bytes, is_name_byte, parts_of, weaker}
 use Rattle.jc_manifest.proofs.IndexSetFacts.{left, right}
 

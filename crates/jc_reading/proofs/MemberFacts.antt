@@ -8,8 +8,8 @@ use Rattle.std.proofs.lemmas.Bool.{and_parts}
 use Rattle.serde_json.specs.Data.{Data, number, object, Members, no_members, member, put}
 use Rattle.serde_json.specs.Find.{of_integer}
 use Rattle.jc_json.specs.Field.{◌>>=◌, member_of, unless_null}
-use Rattle.jc_print.specs.Members.{number_data, put_given}
-use Rattle.jc_members.specs.Causes.{read_as}
+use Rattle.jc_print.specs.PrintedMembers.{number_data, put_given}
+use Rattle.jc_members.specs.LineCauses.{read_as}
 use Rattle.jc_members.specs.Members.{given_number_in, only_known, refuses_unknown, unknown_among, unknown_in}
 use Rattle.jc_rows.specs.Templates.{is_among}
 use Rattle.jc_reading.proofs.AgainHead.{given_number}

@@ -5,7 +5,7 @@ use Rattle.serde_json.specs.Data.{Data, boolean, object, Members, no_members, me
 use Rattle.serde_json.specs.Find.{get_member}
 use Rattle.jc_json.specs.Field.{unless_null}
 use Rattle.jc_members.specs.Phases.{given_names, member_names, names_in_either, put_names}
-use Rattle.jc_print.specs.Members.{put_given}
+use Rattle.jc_print.specs.PrintedMembers.{put_given}
 use Rattle.jc_reading.specs.Compact.{IsAfter}
 use Rattle.jc_reading.specs.Proper.{AreLater, AreAscending}
 use Rattle.jc_reading.proofs.RisingFacts.{found_first, found_later, names_after, names_behind, none_found, put_behind, put_front, put_same}

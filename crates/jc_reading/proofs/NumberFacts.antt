@@ -4,13 +4,13 @@ use Rattle.std.specs.Prelude.{IfOk}
 use Rattle.std.specs.Result.{result_ok}
 use Rattle.std.proofs.lemmas.Bool.{ltb-true}
 use Rattle.std.proofs.lemmas.Option.{none-some, same_Some, cond_some as tested_by}
-use Rattle.jc_rows.specs.Words.{is_label, is_subdomain}
+use Rattle.jc_rows.specs.NameForms.{is_label, is_subdomain}
 use Rattle.jc_types.specs.declared.numbers.Uid.{Uid}
 use Rattle.jc_types.specs.declared.numbers.Version.{Version}
 use Rattle.jc_types.specs.declared.objects.Key.{Key}
 use Rattle.jc_reading.specs.Allowed.{IsAllowedKey}
 use Rattle.jc_reading.specs.Proper.{IsPod}
-use Rattle.jc_reading.specs.Readings.{number_below, digits_from, is_digit, key_said, label_if, lane_behind, digits_said, parted, pod_said, subdomain_if, tag_said, uid_at, version_from, version_behind, version_printed}
+use Rattle.jc_reading.specs.LineReadings.{number_below, digits_from, is_digit, key_said, label_if, lane_behind, digits_said, parted, pod_said, subdomain_if, tag_said, uid_at, version_from, version_behind, version_printed}
 use Rattle.jc_manifest.proofs.IndexSetFacts.{right}
 
 -- ---- steps that said something

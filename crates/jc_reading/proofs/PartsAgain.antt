@@ -6,9 +6,9 @@ use Rattle.serde_json.specs.Data.{Data, boolean, string}
 use Rattle.serde_json.specs.Read.{read}
 use Rattle.serde_json.specs.Written.{compact_text}
 use Rattle.jc_json.specs.Line.{data_of}
-use Rattle.jc_lines.specs.Changes.{container_data, end_data, ends_data, exit_data, phase_change_data, pod_condition_data, with_container, with_exit_member}
-use Rattle.jc_lines.specs.Words.{phase_word}
-use Rattle.jc_print.specs.Members.{number_data}
+use Rattle.jc_lines.specs.ChangeTexts.{container_data, end_data, ends_data, exit_data, phase_change_data, pod_condition_data, with_container, with_exit_member}
+use Rattle.jc_lines.specs.ReportWords.{phase_word}
+use Rattle.jc_print.specs.PrintedMembers.{number_data}
 use Rattle.jc_print.specs.PrintedSpecs.{change_data, spec_data, with_changed_counts, with_changed_limits}
 use Rattle.jc_types.specs.declared.actions.ContainerChange.{ContainerChange}
 use Rattle.jc_types.specs.declared.actions.End.{End}

@@ -12,21 +12,21 @@ use Rattle.jc_json.specs.Place.{path_to}
 use Rattle.jc_manifest.specs.Manifests.{key_of, manifest_refusal, spec_of}
 use Rattle.jc_members.specs.declared.causes.Cause.{Cause}
 use Rattle.jc_members.specs.declared.causes.Cause.TheVariants.{LineTooLong, TooMany}
-use Rattle.jc_members.specs.Causes.{read_as}
-use Rattle.jc_members.specs.Ends.{ends_said}
+use Rattle.jc_members.specs.LineCauses.{read_as}
+use Rattle.jc_members.specs.EndMembers.{ends_said}
 use Rattle.jc_members.specs.Items.{with_front}
 use Rattle.jc_members.specs.Members.{given_number_in, given_text_in, text_in, whole_number_in}
 use Rattle.jc_members.specs.Named.{controller_in, job_key_in, job_name_in, job_namespace_in, pod_named, seat_in, times_in}
 use Rattle.jc_members.specs.Phases.{report_in}
 use Rattle.jc_members.proofs.Within.{IsUpTo, given_is_within, using_first, whatever}
-use Rattle.jc_rows.specs.Rows.{Row, invalid, unread}
-use Rattle.jc_rows.specs.Words.{has_length_of_name, is_label, is_part, is_subdomain}
+use Rattle.jc_rows.specs.ManifestRows.{Row, invalid, unread}
+use Rattle.jc_rows.specs.NameForms.{has_length_of_name, is_label, is_part, is_subdomain}
 use Rattle.jc_script.specs.declared.commands.Said.{Said}
 use Rattle.jc_script.specs.declared.verbs.Verb.{Verb}
 use Rattle.jc_script.specs.declared.verbs.Verb.TheVariants as verb
 use Rattle.jc_script.specs.Commands.{action_said, begin_in, clock_in, command_in, create_in, delete_in, deliver_in, fate_in, fault_in, fault_kind_in, finish_in, job_said, kind_in, lane_in, list_command_in, mark_in, object_says, phase_in, restart_command_in, said_unless, step_in, strip_in, sync_in, update_in, value_says}
 use Rattle.jc_script.specs.Fits.{NamesShape}
-use Rattle.jc_script.specs.Lines.{lines_of}
+use Rattle.jc_script.specs.TextLines.{lines_of}
 use Rattle.jc_script.specs.Scripts.{BadLine, commands_said, json_says, line_before, line_says, lines_say, most_commands, most_line_bytes, script_of, text_says}
 use Rattle.jc_script.specs.Updates.{change_in, version_said}
 use Rattle.jc_script.specs.Verbs.{verb_in}

@@ -7,10 +7,10 @@ use Rattle.serde_json.specs.Data.{Data, string, boolean}
 use Rattle.serde_json.specs.Find.{as_integer, as_number}
 use Rattle.jc_json.specs.Field.{◌>>=◌, wrong_type, out_of_range, member_of, bounded_number, may_be, within_bounds, needed_object, optional_bool, optional_number}
 use Rattle.jc_json.specs.Place.{path_to}
-use Rattle.jc_print.specs.Members.{number_data}
+use Rattle.jc_print.specs.PrintedMembers.{number_data}
 use Rattle.jc_print.specs.PrintedSpecs.{change_data, with_changed_counts, with_changed_limits}
-use Rattle.jc_rows.specs.Words.{is_label}
-use Rattle.jc_script.specs.Causes.{read_as}
+use Rattle.jc_rows.specs.NameForms.{is_label}
+use Rattle.jc_script.specs.LineCauses.{read_as}
 use Rattle.jc_script.specs.Cause.{Cause}
 use Rattle.jc_script.specs.Members.{given_number_in, only_known, tested}
 use Rattle.jc_script.specs.Phases.{container_count, container_restarts, entry_in, exit_in}
@@ -23,7 +23,7 @@ use Rattle.jc_types.specs.declared.limits.TheConstants.{GREATEST_COMPLETIONS, GR
 use Rattle.jc_types.specs.declared.policies.Pattern.{Pattern}
 use Rattle.jc_script.proofs.Within.{IsUpTo, given_is_within, member_is_within, using_first, whatever}
 use Rattle.jc_reading.specs.Allowed.{IsCode}
-use Rattle.jc_lines.specs.Changes.{container_data, end_data, ends_data, exit_data, phase_change_data, pod_condition_data, with_container, with_exit_member}
+use Rattle.jc_lines.specs.ChangeTexts.{container_data, end_data, ends_data, exit_data, phase_change_data, pod_condition_data, with_container, with_exit_member}
 use Rattle.jc_reading.specs.Proper.{IsAllowedChange, IsAllowedContainer, IsAllowedEnd, IsAllowedReport, IsExit}
 use Rattle.jc_reading.proofs.ToldFacts.{IsToldWithin, always, any_given, code_told, each, given_told, leaf_bool, leaf_number, leaf_text, list_told, none_told, object_told, with_told}
 

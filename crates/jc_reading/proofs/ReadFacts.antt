@@ -14,8 +14,8 @@ use Rattle.jc_log.specs.Deeds.{act_of_action, act_of_system}
 use Rattle.jc_manifest.specs.Manifests.{key_of, spec_of}
 use Rattle.jc_manifest.proofs.IndexSetFacts.{left, right}
 use Rattle.jc_print.specs.PrintedSpecs.{change_data, spec_data}
-use Rattle.jc_rows.specs.Words.{has_length_of_name, is_part, is_plain}
-use Rattle.jc_script.specs.Ends.{ends_said}
+use Rattle.jc_rows.specs.NameForms.{has_length_of_name, is_part, is_plain}
+use Rattle.jc_script.specs.EndMembers.{ends_said}
 use Rattle.jc_script.specs.Phases.{report_in}
 use Rattle.jc_script.specs.Updates.{change_in}
 use Rattle.jc_types.specs.declared.actions.Action1.{Action1}
@@ -31,13 +31,13 @@ use Rattle.jc_types.specs.declared.objects.Key.{Key}
 use Rattle.jc_types.specs.declared.objects.Kind.{Kind}
 use Rattle.jc_types.specs.declared.objects.Kind.TheVariants.{Jobs, Pods}
 use Rattle.jc_types.specs.declared.specifications.JobSpec.{JobSpec}
-use Rattle.jc_lines.specs.Acts.{act_text, wanted_text}
+use Rattle.jc_lines.specs.ActTexts.{act_text, wanted_text}
 use Rattle.jc_reading.specs.Allowed.{IsAllowedKey}
-use Rattle.jc_lines.specs.Changes.{ends_data, phase_change_data}
+use Rattle.jc_lines.specs.ChangeTexts.{ends_data, phase_change_data}
 use Rattle.jc_reading.specs.Cuts.{IsWord, behind_word, first_word_in}
 use Rattle.jc_reading.specs.Manifested.{manifest_data}
 use Rattle.jc_reading.specs.Proper.{IsPod, IsPossibleSeat, IsExit, IsProperAction, IsProperSystem, as_begin}
-use Rattle.jc_reading.specs.Readings.{action_read, act_said, number_below, change_said, digits_from, ends_printed, fault_said, is_digit, job_if, printed_job, key_if, key_said, kind_said, digits_said, parted, onto_front, pod_said, report_said, subdomain_if, system_said, tag_said, uid_at, verb_named, verb_said, version_from, version_printed}
+use Rattle.jc_reading.specs.LineReadings.{action_read, act_said, number_below, change_said, digits_from, ends_printed, fault_said, is_digit, job_if, printed_job, key_if, key_said, kind_said, digits_said, parted, onto_front, pod_said, report_said, subdomain_if, system_said, tag_said, uid_at, verb_named, verb_said, version_from, version_printed}
 use Rattle.jc_reading.specs.Turned.{of_member, report_of, ReadAsEnds, ReadsAsChange, ReadsAsJob, ReadsAsReport}
 use Rattle.jc_lines.specs.Events.{tag_text}
 use Rattle.jc_reading.specs.Reads.{IsProperOf, IsProperRead, act_of_line, begun_act, begun_read, event_said, front_text, if_printed, read_by, starts, system_read}
@@ -46,7 +46,7 @@ use Rattle.jc_reading.specs.declared.reads.LineAct.TheVariants.{Command, System}
 use Rattle.jc_reading.specs.declared.reads.LineRead.{LineRead}
 use Rattle.jc_types.specs.declared.runs.Sys.{Sys}
 use Rattle.jc_types.specs.declared.runs.Sys.TheVariants as sys
-use Rattle.jc_lines.specs.Words.{fault_word, key_text, objects_word}
+use Rattle.jc_lines.specs.ReportWords.{fault_word, key_text, objects_word}
 use Rattle.jc_reading.specs.declared.reading.Verb.{Verb}
 use Rattle.jc_reading.specs.declared.reading.Verb.TheVariants as verb
 use Rattle.jc_reading.proofs.CutFacts.{ArePlain, IsPlain, after_word, decimal_word, first_word, plain_word, text_word}

@@ -9,18 +9,18 @@ use Rattle.serde_json.specs.View.{items_of}
 use Rattle.jc_json.specs.Field.{◌>>=◌, bounded_number, item_object, may_be, member_of, object_of, optional_number, optional_object, out_of_range, unless_null}
 use Rattle.jc_json.specs.Place.{path_at, path_to}
 use Rattle.jc_json.proofs.Items.{items_listed as listed}
-use Rattle.jc_lines.specs.Changes.{container_data, exit_data, phase_change_data, pod_condition_data, with_container, with_exit_member}
-use Rattle.jc_lines.specs.Words.{phase_word}
+use Rattle.jc_lines.specs.ChangeTexts.{container_data, exit_data, phase_change_data, pod_condition_data, with_container, with_exit_member}
+use Rattle.jc_lines.specs.ReportWords.{phase_word}
 use Rattle.jc_members.specs.declared.causes.Cause.{Cause}
 use Rattle.jc_members.specs.declared.causes.Cause.TheVariants.{Invalid}
-use Rattle.jc_members.specs.Causes.{read_as}
+use Rattle.jc_members.specs.LineCauses.{read_as}
 use Rattle.jc_members.specs.Items.{all_said, each_said, then_each, with_front}
 use Rattle.jc_members.specs.Members.{tested, text_in, word_in}
 use Rattle.jc_members.specs.Phases.{condition_at, condition_members, condition_of, condition_truth, conditions_in, container_change, container_count, container_numbers, container_restarts, containers_in, entries_fit, entry_in, exit_in, given_names, member_names, names_in_either, phase_of, report_in, truth_said}
 use Rattle.jc_manifest.specs.FailurePolicies.{is_type, truth_of}
-use Rattle.jc_print.specs.Members.{list_data, number_data, put_given, with_json_member}
+use Rattle.jc_print.specs.PrintedMembers.{list_data, number_data, put_given, with_json_member}
 use Rattle.jc_print.specs.PrintedSpecs.{truth_word}
-use Rattle.jc_rows.specs.Words.{is_label}
+use Rattle.jc_rows.specs.NameForms.{is_label}
 use Rattle.jc_types.specs.declared.actions.ContainerChange.{ContainerChange}
 use Rattle.jc_types.specs.declared.actions.PhaseChange.{PhaseChange}
 use Rattle.jc_types.specs.declared.objects.Phase.{Phase}

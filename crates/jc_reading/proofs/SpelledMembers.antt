@@ -9,7 +9,7 @@ use Rattle.serde_json.specs.Find.{as_object, get, get_member}
 use Rattle.jc_json.specs.Field.{Refusal, ◌>>=◌, item_object, list_of, listed_items, may_be, member_of, missing, needed_list, needed_object, needed_text, object_of, optional_list, optional_object, optional_text, text_of, unless_null, wrong_type}
 use Rattle.jc_json.specs.Place.{path_at, path_to}
 use Rattle.jc_members.specs.declared.causes.Cause.TheVariants.{Invalid}
-use Rattle.jc_members.specs.Causes.{read_as}
+use Rattle.jc_members.specs.LineCauses.{read_as}
 use Rattle.jc_members.specs.Members.{given_tested, given_text_in, tested, text_in}
 use Rattle.jc_members.proofs.Within.{using_first}
 use Rattle.jc_reading.specs.Spelled.{AreSpelled, HasSpelled, IsSpelled}

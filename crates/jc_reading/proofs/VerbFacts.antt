@@ -2,7 +2,7 @@
 use Rattle.std.proofs.Common.{◌≡◌, List, ℕ, Bool, true, false, cond, IsUtf8, None, refl, sym, ap, ◌∙◌}
 use Rattle.std.proofs.lemmas.Str.{is_utf8-from_IsUtf8, IsUtf8-from_is_utf8}
 use Rattle.std.specs.Str.{is_utf8}
-use Rattle.jc_reading.specs.Readings.{verb_named, verb_said}
+use Rattle.jc_reading.specs.LineReadings.{verb_named, verb_said}
 
 pub verb_text : (word text : List ℕ) → text ≡ word → IsUtf8 word → verb_named text ≡ verb_said word
 unfolding verb_said

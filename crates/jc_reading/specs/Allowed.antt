@@ -25,7 +25,7 @@ use Rattle.jc_manifest.specs.IndexSets.{set_of}
 use Rattle.jc_manifest.specs.Manifests.{is_early}
 use Rattle.jc_manifest.specs.SuccessPolicies.{are_indexes, is_reachable}
 use Rattle.jc_rows.specs.Templates.{is_among, is_new_label, never_restarts}
-use Rattle.jc_rows.specs.Words.{is_label, is_subdomain}
+use Rattle.jc_rows.specs.NameForms.{is_label, is_subdomain}
 
 -- ---- names
 

@@ -3,7 +3,7 @@ pub mod Compact
 pub mod Cuts
 pub mod Manifested
 pub mod Proper
-pub mod Readings
+pub mod LineReadings
 pub mod Reads
 pub mod Spelled
 pub mod Turned

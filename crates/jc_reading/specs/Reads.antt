@@ -7,11 +7,11 @@ use Rattle.std.specs.Prelude.{◌≡◌, ℕ, ◌<◌, ◌^◌, Bool, List, ◌+
 use Rattle.jc_log.specs.Acts.{Act}
 use Rattle.jc_log.specs.Deeds.{act_of_action, act_of_system}
 use Rattle.jc_types.specs.declared.runs.Sys.{Sys}
-use Rattle.jc_lines.specs.Acts.{act_text}
+use Rattle.jc_lines.specs.ActTexts.{act_text}
 use Rattle.jc_reading.specs.Cuts.{behind_word, first_word_in}
 use Rattle.jc_lines.specs.Events.{tag_text}
 use Rattle.jc_reading.specs.Proper.{IsProperAction, IsProperSystem, as_begin}
-use Rattle.jc_reading.specs.Readings.{action_by, digits_said, system_said, tag_said, verb_said}
+use Rattle.jc_reading.specs.LineReadings.{action_by, digits_said, system_said, tag_said, verb_said}
 use Rattle.jc_reading.specs.declared.reads.LineAct.{LineAct}
 use Rattle.jc_reading.specs.declared.reads.LineAct.TheVariants.{Command, System}
 use Rattle.jc_reading.specs.declared.reads.LineRead.{LineRead}

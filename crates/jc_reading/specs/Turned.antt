@@ -10,7 +10,7 @@ use Rattle.serde_json.specs.Written.{compact_text}
 use Rattle.jc_json.specs.Line.{data_of}
 use Rattle.jc_manifest.specs.Manifests.{key_of, manifest_refusal, spec_of}
 use Rattle.jc_print.specs.PrintedSpecs.{change_data, spec_data}
-use Rattle.jc_script.specs.Ends.{ends_said}
+use Rattle.jc_script.specs.EndMembers.{ends_said}
 use Rattle.jc_script.specs.Phases.{report_in}
 use Rattle.jc_script.specs.Updates.{change_in}
 use Rattle.jc_types.specs.declared.actions.End.{End}
@@ -18,7 +18,7 @@ use Rattle.jc_types.specs.declared.actions.PhaseChange.{PhaseChange}
 use Rattle.jc_types.specs.declared.actions.SpecChange.{SpecChange}
 use Rattle.jc_types.specs.declared.objects.Key.{Key}
 use Rattle.jc_types.specs.declared.specifications.JobSpec.{JobSpec}
-use Rattle.jc_lines.specs.Changes.{ends_data, phase_change_data}
+use Rattle.jc_lines.specs.ChangeTexts.{ends_data, phase_change_data}
 use Rattle.jc_reading.specs.Manifested.{manifest_data}
 
 -- ---- lines

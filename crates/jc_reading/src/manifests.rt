@@ -13,7 +13,7 @@ use serde_json::{Map, Value};
 use std::alloc::Global;
 
 /// The object of one member.
-#[tactic(auto, unfolding(jc_print::specs::Members::with_json_member))]
+#[tactic(auto, unfolding(jc_print::specs::PrintedMembers::with_json_member))]
 pub fn with_only(alloc: Global, name: &str, value: Value) -> Result<Value, Want>
     ensures { IfOk result (λ v. view v ≡ of_member name.now (view value)) }
 {
@@ -61,7 +61,7 @@ fn members_in(alloc: Global, value: &Value) -> Result<Members, Want>
 }
 
 // The specification of a pod, by the printed template.
-#[tactic(auto, unfolding(crate::specs::Manifested::pod_spec_of, jc_print::specs::Members::with_json_member))]
+#[tactic(auto, unfolding(crate::specs::Manifested::pod_spec_of, jc_print::specs::PrintedMembers::with_json_member))]
 fn pod_value(alloc: Global, template: &Value) -> Result<Value, Want>
     ensures { IfOk result (λ v. view v ≡ pod_spec_of (Some (view template.now))) }
 {
@@ -85,7 +85,7 @@ fn pod_in(alloc: Global, spec: &Value) -> Result<Value, Want>
 }
 
 // The specification of a manifest, by the printed one.
-#[tactic(auto, unfolding(crate::specs::Manifested::manifest_spec, jc_print::specs::Members::with_json_member))]
+#[tactic(auto, unfolding(crate::specs::Manifested::manifest_spec, jc_print::specs::PrintedMembers::with_json_member))]
 fn spec_value(alloc: Global, spec: &Value) -> Result<Value, Want>
     ensures { IfOk result (λ v. view v ≡ manifest_spec (view spec.now)) }
 {
@@ -97,7 +97,7 @@ fn spec_value(alloc: Global, spec: &Value) -> Result<Value, Want>
 }
 
 // The names of a Job.
-#[tactic(auto, unfolding(crate::specs::Manifested::metadata_data, jc_print::specs::Members::with_json_member))]
+#[tactic(auto, unfolding(crate::specs::Manifested::metadata_data, jc_print::specs::PrintedMembers::with_json_member))]
 fn metadata_value(alloc: Global, key: &Key) -> Result<Value, Want>
     ensures { IfOk result (λ v. view v ≡ metadata_data key.now) }
 {
@@ -108,7 +108,7 @@ fn metadata_value(alloc: Global, key: &Key) -> Result<Value, Want>
 }
 
 // Puts what a manifest is of.
-#[tactic(auto, unfolding(jc_print::specs::Members::with_json_member))]
+#[tactic(auto, unfolding(jc_print::specs::PrintedMembers::with_json_member))]
 fn put_type(members: &mut Members, alloc: Global) -> Result<(), Want>
     ensures { OnOk result (members_view members.new.entries
         ≡ put (codes "kind") (string (codes "Job"))
@@ -120,7 +120,7 @@ fn put_type(members: &mut Members, alloc: Global) -> Result<(), Want>
 }
 
 /// The manifest of the Job of that key, by the printed value of its specification.
-#[tactic(auto, unfolding(crate::specs::Manifested::manifest_data, jc_print::specs::Members::with_json_member))]
+#[tactic(auto, unfolding(crate::specs::Manifested::manifest_data, jc_print::specs::PrintedMembers::with_json_member))]
 pub fn manifest_of(alloc: Global, key: &Key, spec: &Value) -> Result<Value, Want>
     ensures { IfOk result (λ v. view v ≡ manifest_data key.now (view spec.now)) }
 {

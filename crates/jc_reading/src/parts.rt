@@ -3,7 +3,7 @@
 ghost use Rattle.std.specs.Prelude.{◌≡◌, ◌+◌, ◌≤◌, IfOk, drop, length, option_map};
 ghost use Rattle.serde_json.specs.View.{view};
 ghost use Rattle.jc_json.specs.Line.{data_of};
-ghost use Rattle.jc_reading.specs.Readings.{change_if, change_said, ends_if, ends_printed, job_if, printed_job, key_said, label_if, parted, report_if, report_said, slash_in, subdomain_if};
+ghost use Rattle.jc_reading.specs.LineReadings.{change_if, change_said, ends_if, ends_printed, job_if, printed_job, key_said, label_if, parted, report_if, report_said, slash_in, subdomain_if};
 
 use crate::manifests::{manifest_of, with_only};
 use crate::pod_reports::report_of;
@@ -85,7 +85,7 @@ fn read_subdomain(alloc: Global, word: &[u8]) -> Result<Option<Name>, Want>
 }
 
 /// The key of a Job.
-#[tactic(auto, unfolding(crate::specs::Readings::key_said))]
+#[tactic(auto, unfolding(crate::specs::LineReadings::key_said))]
 pub fn read_key(alloc: Global, word: &[u8]) -> Result<Option<Key>, Want>
     ensures { IfOk result (λ o. o ≡ key_said word.now) }
 {
@@ -122,7 +122,7 @@ fn accepted(alloc: Global, manifest: &Value) -> Result<Option<(Key, JobSpec)>, W
 }
 
 /// The Job that a printed specification and the key say.
-#[tactic(auto, unfolding(crate::specs::Readings::printed_job))]
+#[tactic(auto, unfolding(crate::specs::LineReadings::printed_job))]
 pub fn read_created(alloc: Global, key: &Key, word: &[u8]) -> Result<Option<(Key, JobSpec)>, Want>
     ensures { IfOk result (λ o. o ≡ printed_job key.now word.now) }
 {
@@ -146,7 +146,7 @@ fn change_in(alloc: Global, line: &Value) -> Result<Option<SpecChange>, Want>
 }
 
 /// The change of a specification.
-#[tactic(auto, unfolding(crate::specs::Readings::change_said))]
+#[tactic(auto, unfolding(crate::specs::LineReadings::change_said))]
 pub fn read_changed(alloc: Global, word: &[u8]) -> Result<Option<SpecChange>, Want>
     ensures { IfOk result (λ o. o ≡ change_said word.now) }
 {
@@ -170,7 +170,7 @@ fn report_in(alloc: Global, line: &Value) -> Result<Option<PhaseChange>, Want>
 }
 
 /// What is reported of a pod.
-#[tactic(auto, unfolding(crate::specs::Readings::report_said))]
+#[tactic(auto, unfolding(crate::specs::LineReadings::report_said))]
 pub fn read_reported(alloc: Global, word: &[u8]) -> Result<Option<PhaseChange>, Want>
     ensures { IfOk result (λ o. o ≡ report_said word.now) }
 {
@@ -194,7 +194,7 @@ fn ends_in(alloc: Global, line: &Value) -> Result<Option<Ends>, Want>
 }
 
 /// How pods are to end.
-#[tactic(auto, unfolding(crate::specs::Readings::ends_printed))]
+#[tactic(auto, unfolding(crate::specs::LineReadings::ends_printed))]
 pub fn read_printed_ends(alloc: Global, word: &[u8]) -> Result<Option<Ends>, Want>
     ensures { IfOk result (λ o. o ≡ ends_printed word.now) }
 {

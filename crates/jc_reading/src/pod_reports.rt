@@ -33,7 +33,7 @@ fn text_at<'v>(object: &'v Value, name: &str) -> Option<&'v str>
 }
 
 // Puts the number of a container by its name, where both are given.
-#[tactic(auto, unfolding(jc_print::specs::Members::with_json_member))]
+#[tactic(auto, unfolding(jc_print::specs::PrintedMembers::with_json_member))]
 fn put_number(
     members: &mut Members,
     alloc: Global,
@@ -76,7 +76,7 @@ fn items_at<'v>(value: &'v Value, name: &str) -> &'v [Value]
 }
 
 // Puts the numbers of the containers.
-#[tactic(auto, unfolding(jc_print::specs::Members::with_json_member))]
+#[tactic(auto, unfolding(jc_print::specs::PrintedMembers::with_json_member))]
 fn put_numbers(members: &mut Members, alloc: Global, report: &Value) -> Result<(), Want>
     ensures { OnOk result (members_view members.new.entries
         ≡ with_numbers (items_at (codes "containers") (view report.now))
@@ -91,7 +91,7 @@ fn put_numbers(members: &mut Members, alloc: Global, report: &Value) -> Result<(
 }
 
 /// The line of a script, by the printed value of a report.
-#[tactic(auto, unfolding(crate::specs::Turned::report_of, jc_print::specs::Members::with_json_member))]
+#[tactic(auto, unfolding(crate::specs::Turned::report_of, jc_print::specs::PrintedMembers::with_json_member))]
 pub fn report_of(alloc: Global, report: &Value) -> Result<Value, Want>
     ensures { IfOk result (λ v. view v ≡ report_of (view report.now)) }
 {

@@ -2,12 +2,12 @@
 
 ghost use Rattle.std.specs.Prelude.{◌≡◌, IfOk};
 ghost use Rattle.serde_json.specs.View.{view};
-ghost use Rattle.jc_reading.specs.Readings.{number_below, digits_from, fault_said, kind_said, digits_said, pod_said, tag_said, verb_named, verb_said, version_printed};
+ghost use Rattle.jc_reading.specs.LineReadings.{number_below, digits_from, fault_said, kind_said, digits_said, pod_said, tag_said, verb_named, verb_said, version_printed};
 
 use jc_types::{Fault, Kind, Uid, Version};
 
 /// The number of 64 bits that decimal digits spell; zeros may stand in front of it.
-#[tactic(auto, unfolding(crate::specs::Readings::digits_said))]
+#[tactic(auto, unfolding(crate::specs::LineReadings::digits_said))]
 pub fn read_number(word: &[u8]) -> Option<u64>
     ensures { result ≡ digits_said word.now }
 {
@@ -132,7 +132,7 @@ fn verb_of(text: &str) -> Option<Verb>
 }
 
 /// The verb that a word names, where it is text.
-#[tactic(auto, unfolding(crate::specs::Readings::verb_said))]
+#[tactic(auto, unfolding(crate::specs::LineReadings::verb_said))]
 pub fn read_verb(word: &[u8]) -> Option<Verb>
     ensures { result ≡ verb_said word.now }
 {

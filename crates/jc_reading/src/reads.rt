@@ -2,9 +2,9 @@
 
 ghost use Rattle.std.specs.Prelude.{◌≡◌, ◌++◌, IfOk, IfSome, OnOk, Some, option_and_then, string_bytes};
 ghost use Rattle.jc_lines.specs.Events.{tag_text};
-ghost use Rattle.jc_lines.specs.Acts.{act_text};
+ghost use Rattle.jc_lines.specs.ActTexts.{act_text};
 ghost use Rattle.jc_reading.specs.Cuts.{first_word_in};
-ghost use Rattle.jc_reading.specs.Readings.{action_by, act_said, create_said, delete_said, fate_said, plain_said, reported_said, system_said, tag_said, turn_said, update_said};
+ghost use Rattle.jc_reading.specs.LineReadings.{action_by, act_said, create_said, delete_said, fate_said, plain_said, reported_said, system_said, tag_said, turn_said, update_said};
 ghost use Rattle.jc_reading.specs.Reads.{BeginsWith, IsProperRead, act_of_line, begun_read, event_said, front_text, if_printed, of_words, starts, system_by};
 ghost use Rattle.jc_reading.specs.declared.reading.Verb.TheVariants as verb;
 ghost use Rattle.jc_reading.specs.declared.reads.LineRead.{LineRead};
@@ -181,7 +181,7 @@ fn read_put_fault(first: &[u8], second: &[u8], third: &[u8]) -> Option<Action1>
 }
 
 // What a command does, by its verb and the words behind it.
-#[tactic(auto, unfolding(crate::specs::Readings::act_said))]
+#[tactic(auto, unfolding(crate::specs::LineReadings::act_said))]
 fn read_action(alloc: Global, verb: Verb, words: &Words<'_>) -> Result<Option<Action1>, Want>
     ensures { IfOk result (λ o. o
         ≡ act_said verb words.now.first.now words.now.second.now words.now.third.now) }
@@ -200,7 +200,7 @@ fn read_action(alloc: Global, verb: Verb, words: &Words<'_>) -> Result<Option<Ac
 }
 
 // The event of the system, by its verb and the words behind it.
-#[tactic(auto, unfolding(crate::specs::Readings::system_said))]
+#[tactic(auto, unfolding(crate::specs::LineReadings::system_said))]
 fn read_system(verb: Verb, first: &[u8], second: &[u8]) -> Option<Sys>
     ensures { result ≡ system_said verb first.now second.now }
 {

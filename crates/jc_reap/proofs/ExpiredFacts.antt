@@ -242,7 +242,9 @@ keyed (PodGone pod ∷ older) = keyed older
 pub jobs-apart : (log : List Entry) → ApartBy (λ (a b : Key × Job). same_key a.1.key b.1.key) (jobs_in log)
 jobs-apart log = by (jobs_in log) (keyed log) (Apart-jobs_in log)
   where
-    others : (row : Key × Job) (rows : List (Key × Job)) → row.0 ≡ row.1.key → Each (λ (r : Key × Job). r.0 ≡ r.1.key) rows → Each (λ (r : Key × Job). same_key row.0 r.0 ≡ false) rows → Each (λ (r : Key × Job). same_key row.1.key r.1.key ≡ false) rows
+    others : (row : Key × Job) (rows : List (Key × Job)) → row.0 ≡ row.1.key
+        → Each (λ (r : Key × Job). r.0 ≡ r.1.key) rows → Each (λ (r : Key × Job). same_key row.0 r.0 ≡ false) rows
+        → Each (λ (r : Key × Job). same_key row.1.key r.1.key ≡ false) rows
     others row [] own all apart = tt
     others row (r ∷ rows) own all apart =
         (ap (λ (k : Key). same_key k r.1.key) (sym own) ∙ ap (same_key row.0) (sym all.0) ∙ apart.0, others row rows own all.1 apart.1)

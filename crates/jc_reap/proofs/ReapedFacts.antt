@@ -14,7 +14,7 @@ use Rattle.jc_runs.specs.Diaries.{all_jobs, moment}
 use Rattle.jc_runs.specs.Seen.{Seen, deeds_in, deeds_seen, log_seen}
 use Rattle.jc_script.proofs.Within.{given_is_within, using_first, whatever}
 use Rattle.jc_script.specs.Cause.{Cause}
-use Rattle.jc_script.specs.Lines.{lines_of}
+use Rattle.jc_script.specs.TextLines.{lines_of}
 use Rattle.jc_script.specs.Scripts.{BadLine, text_says}
 use Rattle.jc_runs.specs.PodLists.{put_pod}
 use Rattle.jc_types.specs.Keys.{same_uid}
@@ -37,7 +37,7 @@ use Rattle.jc_types.specs.declared.statuses.Condition.{Condition}
 use Rattle.jc_reap.specs.declared.expiries.Expiry.{Expiry}
 use Rattle.jc_reap.specs.Expiries.{MayGo, ended_at, expired, is_end, ttl_at}
 use Rattle.jc_origins.specs.Origins.{AllCreateOf, AreDated, CreatesOf, HasOrigin, JobHasOrigin, PodHasOrigin}
-use Rattle.jc_reap.specs.Said.{Creates, CanBeSaid, IsSmallTtl}
+use Rattle.jc_reap.specs.ReapedCommands.{Creates, CanBeSaid, IsSmallTtl}
 use Rattle.jc_reap.specs.Makers.{maker}
 use Rattle.jc_reap.specs.Reaping.{clock_to, command, is_ownerless, later_moment, mark_commands, ownerless, reap_list, removal, removals, then_settle, ttl_seen, unsettled}
 use Rattle.jc_reap.specs.TtlLines.{greatest_ttl, line_ttls, makes_job, spec_member, spec_path, text_ttls, ttl_given, ttl_of_command, ttl_of_spec, ttls_before, ttls_of, ttls_say}

@@ -11,10 +11,10 @@ use Rattle.jc_types.specs.declared.runs.Shape.{Shape}
 use Rattle.jc_script.specs.Cause.{Cause}
 use Rattle.jc_script.specs.Cause.TheVariants.{OutOfRange, TooMany, WrongType}
 use Rattle.jc_script.specs.declared.commands.Said.{Said}
-use Rattle.jc_script.specs.Causes.{read_as}
+use Rattle.jc_script.specs.LineCauses.{read_as}
 use Rattle.jc_script.specs.Commands.{commands_of}
 use Rattle.jc_script.specs.Items.{with_front}
-use Rattle.jc_script.specs.Lines.{lines_of}
+use Rattle.jc_script.specs.TextLines.{lines_of}
 use Rattle.jc_script.specs.Members.{given_number_in}
 use Rattle.jc_script.specs.Scripts.{BadLine, commands_said, line_before, line_says, lines_say, most_commands, script_of, text_says}
 use Rattle.jc_reap.specs.TtlLines.{RefusesTtl, greatest_ttl, line_ttls, makes_job, spec_member, spec_path, text_ttls, ttl_given, ttl_of_command, ttl_of_spec, ttl_path, ttls_before, ttls_of, ttls_say}

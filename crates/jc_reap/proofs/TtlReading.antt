@@ -11,7 +11,7 @@ use Rattle.jc_script.specs.Cause.TheVariants.{TooMany}
 use Rattle.jc_script.specs.declared.commands.Said.{Said}
 use Rattle.jc_script.specs.Commands.{commands_of}
 use Rattle.jc_script.specs.Items.{with_front}
-use Rattle.jc_script.specs.Lines.{lines_of, lines_left}
+use Rattle.jc_script.specs.TextLines.{lines_of, lines_left}
 use Rattle.jc_script.specs.Scripts.{BadLine, commands_said, line_before, line_says, lines_say, most_commands, script_of, text_says}
 use Rattle.jc_reap.specs.TtlLines.{line_ttls, text_ttls, ttl_of_command, ttls_before, ttls_of, ttls_say}
 use Rattle.jc_script.proofs.Reading.{front_nil, front_twice}

@@ -1,6 +1,6 @@
 pub mod Expiries
 pub mod Finds
-pub mod Said
+pub mod ReapedCommands
 pub mod Makers
 pub mod Reaping
 pub mod TtlLines

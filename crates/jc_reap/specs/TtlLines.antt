@@ -21,7 +21,7 @@ use Rattle.jc_script.specs.Cause.{Cause}
 use Rattle.jc_script.specs.Cause.TheVariants.{OutOfRange, WrongType}
 use Rattle.jc_reap.specs.declared.ttls.Given.{Given}
 use Rattle.jc_script.specs.Items.{with_front}
-use Rattle.jc_script.specs.Lines.{lines_of}
+use Rattle.jc_script.specs.TextLines.{lines_of}
 use Rattle.jc_script.specs.Members.{given_number_in}
 use Rattle.jc_script.specs.Scripts.{BadLine, text_says}
 

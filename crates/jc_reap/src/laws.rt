@@ -18,13 +18,13 @@ ghost use Rattle.jc_runs.specs.ValidActions.{IsValidAction};
 ghost use Rattle.jc_runs.specs.Legal.{IsLegal, IsOfShape};
 ghost use Rattle.jc_runs.specs.Play.{Playing, deeds_played, is_command, rest_played, whole_play};
 ghost use Rattle.jc_core.specs.Plays.{IsProper};
-ghost use Rattle.jc_runs.specs.Runs.{AllAskValid};
+ghost use Rattle.jc_runs.specs.Machines.{AllAskValid};
 ghost use Rattle.jc_runs.specs.Seen.{Seen, deeds_seen, log_seen};
 ghost use Rattle.jc_script.specs.Scripts.{BadLine, script_of};
 ghost use Rattle.jc_reap.specs.declared.expiries.Expiry.{Expiry};
 ghost use Rattle.jc_reap.specs.Expiries.{MayGo, expired, expiry_order};
 ghost use Rattle.jc_reap.specs.Finds.{AreDue, IsCollected, seen_at_end};
-ghost use Rattle.jc_reap.specs.Said.{Creates, CanBeSaid, IsSmallTtl};
+ghost use Rattle.jc_reap.specs.ReapedCommands.{Creates, CanBeSaid, IsSmallTtl};
 ghost use Rattle.jc_reap.specs.Reaping.{reap_list, ttl_seen};
 ghost use Rattle.jc_reap.specs.TtlLines.{RefusesTtl, ttls_of};
 

@@ -4,7 +4,7 @@ ghost use Rattle.std.specs.Prelude.{◌≡◌, ◌≤◌, ◌+◌, ◌++◌, ◌
 ghost use Rattle.std.specs.Option.{option_map, option_map_or};
 ghost use Rattle.jc_json.specs.View.{view};
 ghost use Rattle.jc_json.specs.Line.{data_of};
-ghost use Rattle.jc_script.specs.Causes.{Says};
+ghost use Rattle.jc_script.specs.LineCauses.{Says};
 ghost use Rattle.jc_script.specs.Items.{with_front};
 ghost use Rattle.jc_script.specs.Scripts.{most_bytes, script_of};
 ghost use Rattle.jc_reap.specs.TtlLines.{entries_of, line_ttls, makes_job, some_ttls, spec_member, spec_path, ttl_given, ttl_in, ttl_of_command, ttl_of_spec, ttls_of, ttls_say};

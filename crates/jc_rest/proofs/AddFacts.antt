@@ -211,7 +211,9 @@ module _ (pod : Pod) (a : ℕ) where
     busy-since (note ∷ older) fit so timely well sure p =
         by (split (has_key pod.owner (adds note older) && has_reached a (number Jobs (note ∷ older))) (is_sure_of pod a older) sure) (λ before seen. busy-since older fit.1 so.1 timely.1 well.1 before seen)
       where
-        later : is_sure_of pod a older ≡ true → (HasCacheSeen (number Pods older) b → IsBusy pod.owner a b older) → (note : Note) → (AllFit (note ∷ older)) → IsTrue log note older → EndWell pod.owner a b (note ∷ older) → HasCacheSeen (number Pods (note ∷ older)) b → IsBusy pod.owner a b (note ∷ older)
+        later : is_sure_of pod a older ≡ true → (HasCacheSeen (number Pods older) b → IsBusy pod.owner a b older)
+            → (note : Note) → (AllFit (note ∷ older)) → IsTrue log note older → EndWell pod.owner a b (note ∷ older)
+            → HasCacheSeen (number Pods (note ∷ older)) b → IsBusy pod.owner a b (note ∷ older)
         later before was (Listed Jobs at keys) fit t well p = same-busy pod.owner a b (Listed Jobs at keys) older (or_right (has_key pod.owner keys) (is_dirty pod.owner older)) refl (λ w. refl) (was p)
         later before was (Listed Pods at keys) fit t well p = listed pod.owner a b Pods at keys older (ap (has_key pod.owner) t.1 ∙ lists at.0 p t.0)
         later before was (Told Jobs version key) fit t well p =

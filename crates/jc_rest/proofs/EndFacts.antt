@@ -57,8 +57,8 @@ use Rattle.jc_sync.specs.Ask.{Ask}
 use Rattle.jc_sync.specs.Ask.TheVariants.{MakePod, MarkPod, LetPodGo, WriteFirst, ReleasePod, WriteSecond}
 use Rattle.jc_sync.specs.Asks.{as_request, second_asks}
 use Rattle.jc_sync.specs.Steps.{as_answer, answered_to, status_gives, stepped_at, written_gives}
-use Rattle.jc_sync.specs.Places.{AreReleased, IsAt, IsUnder, KnowsFirst, Over, Under}
-use Rattle.jc_sync.specs.Registers.{NoneWritten, PutLater, WritesShow}
+use Rattle.jc_sync.specs.SyncPlaces.{AreReleased, IsAt, IsUnder, KnowsFirst, Over, Under}
+use Rattle.jc_sync.specs.AllRegisters.{NoneWritten, PutLater, WritesShow}
 use Rattle.jc_sync.proofs.ApiFacts.{Absent, Accepted, Conflicts, Same, StatusCases, status_cases}
 use Rattle.jc_sync.proofs.PlaceFacts.{AtEarly, AtFirst, AtLast, Place, at_first, at_second, is_asked, place_of}
 use Rattle.jc_history.specs.Delays.{is_retried}

@@ -33,12 +33,12 @@ use Rattle.jc_log.proofs.PodFacts.{pods_of-live, pods_of-owned}
 use Rattle.jc_sync.specs.Ask.{Ask}
 use Rattle.jc_sync.specs.Flight.{Flight}
 use Rattle.jc_sync.specs.Flights.{Flies}
-use Rattle.jc_sync.specs.Places.{IsAt}
+use Rattle.jc_sync.specs.SyncPlaces.{IsAt}
 use Rattle.jc_sync.specs.Once.{AllJustified}
 use Rattle.jc_sync.proofs.FrameFacts.{AllFly-one}
 use Rattle.jc_sync.proofs.OwnFacts.{owner-key}
 use Rattle.jc_sync.specs.Steps.{Sync, stepped_at}
-use Rattle.jc_sync.specs.Registers.{WritesShow, flights_of_all, put_at, register_at}
+use Rattle.jc_sync.specs.AllRegisters.{WritesShow, flights_of_all, put_at, register_at}
 use Rattle.jc_sync.proofs.RegisterFacts.{Around, around}
 use Rattle.jc_history.specs.Available.{is_quiescent}
 use Rattle.jc_history.specs.Diaries.{end_by, moment, notes, notes_taken, on_begin, on_clock, on_delivery, on_lag, on_list, on_step, restarts}
@@ -52,7 +52,7 @@ use Rattle.jc_history.proofs.DiaryFacts.{either}
 use Rattle.jc_history.proofs.LegalFacts.{notes-next}
 use Rattle.jc_order.specs.Restless.{FailsIf, has_forgotten, is_forgotten}
 use Rattle.jc_order.proofs.ForgetFacts.{no-rest}
-use Rattle.jc_runs.specs.Runs.{AllAskValid, IsTeam}
+use Rattle.jc_runs.specs.Machines.{AllAskValid, IsTeam}
 use Rattle.jc_runs.specs.Teams.{registers_of, stride_at}
 use Rattle.jc_runs.proofs.CountedFacts.{justified}
 use Rattle.jc_runs.proofs.LegalRuns.{Machine, There, given, legal_run, team, there, within}

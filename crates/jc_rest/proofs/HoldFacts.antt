@@ -42,7 +42,7 @@ use Rattle.jc_sync.specs.Ask.TheVariants.{MakePod, MarkPod, LetPodGo, WriteFirst
 use Rattle.jc_sync.specs.Asks.{as_request}
 use Rattle.jc_sync.specs.Steps.{answered_to, make_gives, status_gives, stepped_at, written_gives}
 use Rattle.jc_sync.proofs.ApiFacts.{LetGoCases, LetGone, NotThere, Other, Refused, ReleaseCases, Took, let_go_cases, release_cases}
-use Rattle.jc_history.specs.Asks.{so_far}
+use Rattle.jc_history.specs.SoFar.{so_far}
 use Rattle.jc_history.specs.Diaries.{moment, notes}
 use Rattle.jc_history.specs.Fresh.{begin as begin_of}
 use Rattle.jc_history.specs.Nodes.{NodeAct, change_by, fate, finish_change, node_step}

@@ -28,6 +28,9 @@ last-pods k (e ∷ older) stored n low high = by (nat_lt (length older) n) refl 
   where
     by : (x : Bool) → nat_lt (length older) n ≡ x → (t : Bool) → tells Pods k e ≡ t → cond t (suc (length older)) (last_told Pods k older) ≤ n
         → (last_told Pods k older ≤ n → n ≤ length older → pods_under k (upto n older) ≡ pods_under k older) → pods_under k (upto n (e ∷ older)) ≡ pods_under k (e ∷ older)
-    by true s t i low ih = let lt = ltb-true (length older) n s in let same : n ≡ suc (length older) = omega (arith, lt, high) in ap (λ n. pods_under k (upto n (e ∷ older))) same ∙ ap (pods_under k) (upto-all (suc (length older)) (e ∷ older) (omega arith))
+    by true s t i low ih = let lt = ltb-true (length older) n s in
+        let same : n ≡ suc (length older) = omega (arith, lt, high) in
+        ap (λ n. pods_under k (upto n (e ∷ older))) same
+        ∙ ap (pods_under k) (upto-all (suc (length older)) (e ∷ older) (omega arith))
     by false s true i low ih = let le = ltb-false (length older) n s in absurd (omega (arith, le, low))
     by false s false i low ih = let le = ltb-false (length older) n s in ap (pods_under k) (upto-fixed n e older le) ∙ ih low le ∙ sym (pods-kept k e older stored i)

@@ -31,8 +31,8 @@ use Rattle.jc_plan.proofs.OrderFacts.{plan-released}
 use Rattle.jc_sync.specs.Ask.{Ask}
 use Rattle.jc_sync.specs.Flight.{Flight}
 use Rattle.jc_sync.specs.Flights.{Flies}
-use Rattle.jc_sync.specs.Places.{IsAt}
-use Rattle.jc_sync.specs.Registers.{WritesShow}
+use Rattle.jc_sync.specs.SyncPlaces.{IsAt}
+use Rattle.jc_sync.specs.AllRegisters.{WritesShow}
 use Rattle.jc_sync.specs.Steps.{stepped_at}
 use Rattle.jc_history.specs.Available.{is_quiescent}
 use Rattle.jc_history.specs.Diaries.{listed_keys, notes}
@@ -47,7 +47,7 @@ use Rattle.jc_order.proofs.RestFacts.{at-rest}
 use Rattle.jc_order.proofs.RestlessFacts.{not-busy}
 use Rattle.jc_order.proofs.RetryFacts.{all-well, none-retried}
 use Rattle.jc_history.specs.Registers.{register}
-use Rattle.jc_runs.specs.Runs.{AllAskValid}
+use Rattle.jc_runs.specs.Machines.{AllAskValid}
 use Rattle.jc_runs.proofs.LegalRuns.{legal_run}
 use Rattle.jc_rest.specs.Both.{FailsAfter}
 use Rattle.jc_rest.specs.Orphans.{is_about, is_sure_of, last_about}

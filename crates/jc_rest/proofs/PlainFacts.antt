@@ -46,5 +46,7 @@ true-plain k a b log tells (note ∷ older) h well = (one note h.0 well.0, true-
     one (Ended w basis end now) h well = well
     one other h well = tt
 
-pub plain : (k : Key) (a b : ℕ) (shape : Shape) (c : ℕ) (deeds : List Deed) → IsLegal shape deeds → TellsFrom k a b (log_given shape deeds) → EndWell k a b (notes shape c deeds (log_given shape deeds)) → ArePlain k a b (notes shape c deeds (log_given shape deeds))
+pub plain : (k : Key) (a b : ℕ) (shape : Shape) (c : ℕ) (deeds : List Deed) → IsLegal shape deeds
+    → TellsFrom k a b (log_given shape deeds) → EndWell k a b (notes shape c deeds (log_given shape deeds))
+    → ArePlain k a b (notes shape c deeds (log_given shape deeds))
 plain k a b shape c deeds legal tells well = true-plain k a b (log_given shape deeds) tells (notes shape c deeds (log_given shape deeds)) (all-true shape c deeds legal) well

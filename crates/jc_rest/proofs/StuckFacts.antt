@@ -45,7 +45,7 @@ use Rattle.jc_order.specs.Restless.{EndWell, HasCacheSeen, point}
 use Rattle.jc_order.proofs.ForgetFacts.{never-begins, notes-none}
 use Rattle.jc_order.proofs.RestFacts.{at-rest}
 use Rattle.jc_order.proofs.RestlessFacts.{not-busy}
-use Rattle.jc_runs.specs.Runs.{AllAskValid}
+use Rattle.jc_runs.specs.Machines.{AllAskValid}
 use Rattle.jc_rest.specs.Stuck.{IsWaiting, HasEnded, IsOpen, IsSuspended, MayRunNone, HasPods, IsHeldBack, is_sure}
 use Rattle.jc_rest.proofs.HistoryFacts.{Stay}
 use Rattle.jc_runs.proofs.LegalRuns.{Machine, legal_run}
@@ -157,7 +157,10 @@ module _ (stay : Stay) (shape : Shape) (deeds : List Deed) (legal : IsLegal shap
     told_at = told-at;
   }
     where
-      told-at : (kind : Kind) → 0 < point kind (last_told Jobs k (log_given shape deeds)) (last_told Pods k (log_given shape deeds)) → point kind (last_told Jobs k (log_given shape deeds)) (last_told Pods k (log_given shape deeds)) ≤ length (log_given shape deeds)
+      told-at : (kind : Kind) → 0 < point kind (last_told Jobs k (log_given shape deeds))
+          (last_told Pods k (log_given shape deeds))
+          → point kind (last_told Jobs k (log_given shape deeds)) (last_told Pods k (log_given shape deeds)) ≤ length
+          (log_given shape deeds)
           → option_and_then (told kind) (entry_at (point kind (last_told Jobs k (log_given shape deeds)) (last_told Pods k (log_given shape deeds))) (log_given shape deeds)) ≡ Some k
       told-at Jobs some within = last-told_at Jobs k (log_given shape deeds) some
       told-at Pods some within = last-told_at Pods k (log_given shape deeds) some
@@ -172,7 +175,14 @@ module _ (stay : Stay) (shape : Shape) (deeds : List Deed) (legal : IsLegal shap
   own-all : own_pods job (pods_under k (log_given shape deeds)) ≡ pods_of job.uid (log_given shape deeds)
   own-all =
       own-is (log_given shape deeds) whole job legal-log
-      (record { jobs_at = omega arith; pods_at = omega arith; job = sym (ap (job_in k) (upto-all (length (log_given shape deeds)) (log_given shape deeds) (omega arith)) ∙ there); pods = ap (pods_under k) (sym (upto-all (length (log_given shape deeds)) (log_given shape deeds) (omega arith))) }) refl
+      (record {
+        jobs_at = omega arith;
+        pods_at = omega arith;
+        job = sym
+            (ap (job_in k) (upto-all (length (log_given shape deeds)) (log_given shape deeds) (omega arith)) ∙ there);
+        pods =
+            ap (pods_under k) (sym (upto-all (length (log_given shape deeds)) (log_given shape deeds) (omega arith)));
+      }) refl
       ∙ ap (pods_of job.uid) (upto-all (length (log_given shape deeds)) (log_given shape deeds) (omega arith))
     where
       -- What a sync would see that began now.

@@ -180,7 +180,9 @@ module _ (k : Key) (log : List Entry) (now : ℕ) (basis : Basis) (job : Job) (n
   -- A pod that goes is tracked.
   let-gone : (row : Uid × Version) (rows : List (Uid × Version)) (target suspend : Bool)
       → map seen (cond target [] (cond suspend (tracked_active_pods (own_pods job basis.pods))
-      (filter (is_let_go job.spec.mode (is_needless (unwrap_or job.spec.completions 0) (accounted job basis)) (job_wants job (own_pods job basis.pods) (accounted job basis)) (tracked_active_pods (own_pods job basis.pods))) (tracked_active_pods (own_pods job basis.pods))))) ≡ row ∷ rows
+      (filter (is_let_go job.spec.mode (is_needless (unwrap_or job.spec.completions 0) (accounted job basis))
+      (job_wants job (own_pods job basis.pods) (accounted job basis)) (tracked_active_pods (own_pods job basis.pods)))
+      (tracked_active_pods (own_pods job basis.pods))))) ≡ row ∷ rows
       → (pod : Pod) × (seen pod ≡ row) × (is_tracked pod ≡ true) × LivesUnder k log pod
   let-gone row rows true suspend e = absurd (true≢false (ap (λ (l : List _). elim l [ [] ↦ true | y ∷ ys ↦ false ]) e))
   let-gone row rows false true e =

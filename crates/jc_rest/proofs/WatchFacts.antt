@@ -40,7 +40,7 @@ use Rattle.jc_sync.specs.Ask.TheVariants.{MakePod, MarkPod, LetPodGo, WriteFirst
 use Rattle.jc_sync.specs.Asks.{as_request, asks_of}
 use Rattle.jc_sync.specs.Sends.{sent_first}
 use Rattle.jc_sync.specs.Steps.{answered_to, as_answer, stepped_at, written_gives}
-use Rattle.jc_history.specs.Asks.{so_far}
+use Rattle.jc_history.specs.SoFar.{so_far}
 use Rattle.jc_history.specs.Bounds.{TellsWithin, IsTold}
 use Rattle.jc_history.specs.Diaries.{end_by, moment, notes, notes_taken, on_begin, on_clock, on_delivery, on_lag, on_list, on_step, restarts}
 use Rattle.jc_history.specs.Fresh.{basis as basis_at}
@@ -230,7 +230,9 @@ module _ (k : Key) (job : Job) (pods : List Pod) (a b : ℕ) where
         by fault [] is after = is
         by None (ask ∷ left) is after =
             absurd (shown-late log (answered_to log now (record { basis = basis; written = None; sends = sent_first basis.job; released = [] }) ask)
-            (first-shows k log now basis job saw.0 (last.job_is jobs) this (are ∙ sym (last.pods_are ends)) (record { basis = basis; written = None; sends = sent_first basis.job; released = [] }) refl (ap sent_first this) ask left is) after jobs ends)
+            (first-shows k log now basis job saw.0 (last.job_is jobs) this (are ∙ sym (last.pods_are ends))
+            (record { basis = basis; written = None; sends = sent_first basis.job; released = [] }) refl
+            (ap sent_first this) ask left is) after jobs ends)
         by (Some Drop) (ask ∷ left) is after = refl
         by (Some Lose) (ask ∷ left) is after = refl
 
@@ -435,7 +437,10 @@ module _ (k : Key) (job : Job) (pods : List Pod) (a b : ℕ) where
     either true some s = s
     either false some s = later
 
-    act-stands : (act : Act) → d.act ≡ act → Stance (notes_taken c act d.reply (moment shape past) (log_given shape (d ∷ past)) (notes shape c past (log_given shape past)) ++ notes shape c past (log_given shape past)) (length (log_given shape (d ∷ past)))
+    act-stands : (act : Act) → d.act ≡ act → Stance
+        (notes_taken c act d.reply (moment shape past) (log_given shape (d ∷ past))
+        (notes shape c past (log_given shape past)) ++ notes shape c past (log_given shape past))
+        (length (log_given shape (d ∷ past)))
     act-stands (does.List controller kind) e =
         either (controller == c) (on_list kind (log_given shape (d ∷ past)) d.reply) (on_list-stands kind (log_given shape (d ∷ past)) d.reply (notes shape c past (log_given shape past)) (length (log_given shape (d ∷ past))) later)
     act-stands (does.Deliver controller kind) e =
@@ -450,7 +455,9 @@ module _ (k : Key) (job : Job) (pods : List Pod) (a b : ℕ) where
             → Stance (cond t (on_step worker (moment shape past) (register worker (notes shape c past (log_given shape past))) d.reply) [] ++ notes shape c past (log_given shape past)) (length (log_given shape (d ∷ past)))
         of false s = later
         of true s =
-            grow (on_step worker (moment shape past) (register worker (notes shape c past (log_given shape past))) d.reply ++ notes shape c past (log_given shape past)) (length (log_given shape past)) (length (log_given shape (d ∷ past))) (longer-log shape d past)
+            grow (on_step worker (moment shape past) (register worker (notes shape c past (log_given shape past)))
+            d.reply ++ notes shape c past (log_given shape past)) (length (log_given shape past))
+            (length (log_given shape (d ∷ past))) (longer-log shape d past)
             (step-stands (log_given shape past) (moment shape past) (notes shape c past (log_given shape past)) worker (pending worker (notes shape c past (log_given shape past))) (last-before shape d past stored last)
             (register worker (notes shape c past (log_given shape past))) refl d.reply (step-reply shape d past c worker is legal.0.reply) (subst IsLastOf (step-log shape d past c worker is) last) before)
           where

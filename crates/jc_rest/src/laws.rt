@@ -11,7 +11,7 @@ ghost use Rattle.jc_history.specs.Available.{is_quiescent};
 ghost use Rattle.jc_history.specs.Registers.{backoff};
 ghost use Rattle.jc_history.specs.Legal.{IsLegal};
 ghost use Rattle.jc_history.specs.Replies.{diary, log_given};
-ghost use Rattle.jc_runs.specs.Runs.{AllAskValid};
+ghost use Rattle.jc_runs.specs.Machines.{AllAskValid};
 ghost use Rattle.jc_rest.specs.LetGo.{EndedAreLetGo};
 ghost use Rattle.jc_rest.specs.Lost.{AreLostWell};
 ghost use Rattle.jc_rest.specs.Orphans.{LeavesNone};

@@ -4,8 +4,8 @@ use Rattle.std.specs.Prelude.{unwrap_or}
 use Rattle.serde_json.specs.Data.{Data}
 use Rattle.jc_types.specs.declared.limits.TheConstants.{GREATEST_COMPLETIONS, GREATEST_PARALLELISM}
 use Rattle.jc_rows.specs.declared.counts.Numbers.{Numbers}
-use Rattle.jc_rows.specs.Counts.{completions_or, parallelism_in, completions_in, numbers_in}
-use Rattle.jc_rows.specs.Rows.{number_in}
+use Rattle.jc_rows.specs.PodCountRows.{completions_or, parallelism_in, completions_in, numbers_in}
+use Rattle.jc_rows.specs.ManifestRows.{number_in}
 
 -- both numbers, with their defaults
 pub numbers_said : (path : List ℕ) (spec : Data) (parallelism completions : Option ℕ) (running : ℕ) (wanted : Option ℕ)

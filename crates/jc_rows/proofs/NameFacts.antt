@@ -3,7 +3,7 @@ use Rattle.std.proofs.Common.{◌≡◌, subst, ℕ, List, [], None, codes}
 use Rattle.serde_json.specs.Data.{Data}
 use Rattle.jc_json.specs.Place.{path_to}
 use Rattle.jc_rows.specs.declared.refusals.ManifestFault.{ManifestFault}
-use Rattle.jc_rows.specs.Rows.{IsRefusal}
+use Rattle.jc_rows.specs.ManifestRows.{IsRefusal}
 use Rattle.jc_rows.specs.Templates.{names_row, names_in, all_names_refusal}
 use Rattle.jc_rows.proofs.RowFacts.{refuses_or, refuses_later}
 

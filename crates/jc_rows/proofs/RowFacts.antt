@@ -3,7 +3,7 @@ use Rattle.std.proofs.Common.{◌≡◌, ◌∙◌, sym, ap, subst, ℕ, List, N
 use Rattle.std.specs.Option.{option_or}
 use Rattle.jc_rows.specs.declared.refusals.ManifestFault.{ManifestFault}
 use Rattle.jc_rows.specs.declared.refusals.ManifestFault.TheVariants.{Missing, WrongType, OutOfRange, Invalid, Want}
-use Rattle.jc_rows.specs.Rows.{Row, Reads, IsRefusal}
+use Rattle.jc_rows.specs.ManifestRows.{Row, Reads, IsRefusal}
 
 -- the refusal of a row is that of the rows from it on
 pub refuses_or : (fault : ManifestFault) (row rest : Row) → IsRefusal fault row → IsRefusal fault (option_or row rest)

@@ -1,4 +1,4 @@
-pub mod Counts
-pub mod Rows
+pub mod PodCountRows
+pub mod ManifestRows
 pub mod Templates
-pub mod Words
+pub mod NameForms

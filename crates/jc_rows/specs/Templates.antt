@@ -13,8 +13,8 @@ use Rattle.jc_types.specs.declared.specifications.Restart.{Restart}
 use Rattle.jc_types.specs.declared.specifications.Restart.TheVariants.{Never, OnFailure}
 use Rattle.jc_types.specs.declared.specifications.Template.{Template}
 use Rattle.jc_rows.specs.declared.templates.ContainerNames.{ContainerNames}
-use Rattle.jc_rows.specs.Rows.{Row, first_refusal, each, rule_row, reads, passes, text_row, object_row, object_in}
-use Rattle.jc_rows.specs.Words.{is_label}
+use Rattle.jc_rows.specs.ManifestRows.{Row, first_refusal, each, rule_row, reads, passes, text_row, object_row, object_in}
+use Rattle.jc_rows.specs.NameForms.{is_label}
 
 -- ---- restart policies
 

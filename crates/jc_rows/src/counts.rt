@@ -2,8 +2,8 @@
 
 ghost use Rattle.std.specs.Prelude.{◌≡◌, codes};
 ghost use Rattle.jc_json.specs.View.{view};
-ghost use Rattle.jc_rows.specs.Rows.{Checks, Reads, given_text_row, number_row, number_in};
-ghost use Rattle.jc_rows.specs.Counts.{is_mode, mode_of, mode_in, completions_or, indexed_row, numbers_refusal, numbers_in, counts_refusal, counts_in};
+ghost use Rattle.jc_rows.specs.ManifestRows.{Checks, Reads, given_text_row, number_row, number_in};
+ghost use Rattle.jc_rows.specs.PodCountRows.{is_mode, mode_of, mode_in, completions_or, indexed_row, numbers_refusal, numbers_in, counts_refusal, counts_in};
 
 use crate::refusals::{ManifestFault, broken};
 use jc_json::{Path, Value, may_number, may_text};
@@ -19,7 +19,7 @@ pub struct Counts {
 }
 
 /// The whole number of a member from 0 on, where it is given.
-#[tactic(auto, unfolding(crate::specs::Rows::number_row, crate::specs::Rows::number_in))]
+#[tactic(auto, unfolding(crate::specs::ManifestRows::number_row, crate::specs::ManifestRows::number_in))]
 pub fn may_count(
     alloc: Global,
     object: &Value,
@@ -58,7 +58,7 @@ fn mode_of(text: &str) -> Option<Mode>
 }
 
 // How completions are counted.
-#[tactic(auto, unfolding(crate::specs::Rows::given_text_row, crate::specs::Counts::mode_in))]
+#[tactic(auto, unfolding(crate::specs::ManifestRows::given_text_row, crate::specs::PodCountRows::mode_in))]
 fn read_mode(alloc: Global, spec: &Value, path: &Path) -> Result<Mode, ManifestFault>
     ensures { Reads (λ mode. mode) result
         (given_text_row path.now (view spec.now) (codes "completionMode") 5 is_mode)
@@ -87,7 +87,7 @@ fn completions_or(parallelism: Option<u32>, completions: Option<u32>) -> Option<
 }
 
 // That an Indexed Job has completions.
-#[tactic(auto, unfolding(crate::specs::Counts::indexed_row))]
+#[tactic(auto, unfolding(crate::specs::PodCountRows::indexed_row))]
 fn check_indexed(path: &Path, mode: Mode, completions: Option<u32>) -> Result<(), ManifestFault>
     ensures { Checks result (indexed_row path.now mode completions) }
 {
@@ -111,7 +111,7 @@ fn read_numbers(alloc: Global, spec: &Value, path: &Path) -> Result<Numbers, Man
 }
 
 /// How many pods are wanted, and how they are counted.
-#[tactic(auto, unfolding(crate::specs::Counts::numbers_in, crate::specs::Counts::counts_refusal, crate::specs::Counts::counts_in))]
+#[tactic(auto, unfolding(crate::specs::PodCountRows::numbers_in, crate::specs::PodCountRows::counts_refusal, crate::specs::PodCountRows::counts_in))]
 pub fn read_counts(alloc: Global, spec: &Value, path: &Path) -> Result<Counts, ManifestFault>
     ensures { Reads (λ counts. counts) result (counts_refusal path.now (view spec.now))
         (counts_in path.now (view spec.now)) }

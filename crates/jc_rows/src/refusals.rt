@@ -2,7 +2,7 @@
 
 ghost use Rattle.std.specs.Prelude.{Some};
 ghost use Rattle.jc_json.specs.Place.{path_to};
-ghost use Rattle.jc_rows.specs.Rows.{IsRefusal, invalid};
+ghost use Rattle.jc_rows.specs.ManifestRows.{IsRefusal, invalid};
 
 use jc_json::{FieldFault, Path};
 use std::alloc::{AllocError, AllocFailed};
@@ -24,7 +24,7 @@ pub enum ManifestFault {
 
 impl From<FieldFault> for ManifestFault {
     ghost use Rattle.std.specs.Prelude.{◌≡◌};
-    ghost use Rattle.jc_rows.specs.Rows.{of_field};
+    ghost use Rattle.jc_rows.specs.ManifestRows.{of_field};
 
     ghost from_gives = { λ field fault. fault ≡ of_field field };
 

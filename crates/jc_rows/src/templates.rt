@@ -3,7 +3,7 @@
 ghost use Rattle.std.specs.Prelude.{◌≡◌, ◌+◌, [], ◌||◌, nat_le, codes, map, option_map, unwrap_or};
 ghost use Rattle.jc_json.specs.View.{view};
 ghost use Rattle.jc_json.specs.Place.{path_to};
-ghost use Rattle.jc_rows.specs.Rows.{Checks, Reads, text_row, object_row, object_in};
+ghost use Rattle.jc_rows.specs.ManifestRows.{Checks, Reads, text_row, object_row, object_in};
 ghost use Rattle.jc_rows.specs.Templates.{restart_of, is_restart, restart_in, never_restarts, restart_row, restart_refusal, objects_row, list_in, given_list_in, init_count, containers_refusal, inits_refusal, is_among, name_row, container_name, names_row, names_in, all_names_refusal, names_of_both, all_containers_refusal, all_names_in, pod_refusal, template_in_pod, template_refusal, template_in};
 
 use crate::refusals::{ManifestFault, broken};
@@ -36,7 +36,7 @@ fn restart_of(text: &str) -> Option<Restart>
 }
 
 // What becomes of a container that exits.
-#[tactic(auto, unfolding(crate::specs::Rows::text_row, crate::specs::Templates::restart_in))]
+#[tactic(auto, unfolding(crate::specs::ManifestRows::text_row, crate::specs::Templates::restart_in))]
 fn read_restart(alloc: Global, pod: &Value, path: &Path) -> Result<Restart, ManifestFault>
     ensures { Reads (λ restart. restart) result
         (text_row path.now (view pod.now) (codes "restartPolicy") 9 is_restart)
@@ -158,7 +158,7 @@ pub fn is_among(names: &[Name], text: &str) -> bool
 }
 
 // The name of a container, which no other has.
-#[tactic(auto, unfolding(crate::specs::Rows::text_row, crate::specs::Templates::name_row, crate::specs::Templates::container_name))]
+#[tactic(auto, unfolding(crate::specs::ManifestRows::text_row, crate::specs::Templates::name_row, crate::specs::Templates::container_name))]
 fn read_name(
     alloc: Global,
     container: &Value,
@@ -255,7 +255,7 @@ fn read_pod(
 }
 
 /// A member that must be an object.
-#[tactic(auto, unfolding(crate::specs::Rows::object_row, crate::specs::Rows::object_in))]
+#[tactic(auto, unfolding(crate::specs::ManifestRows::object_row, crate::specs::ManifestRows::object_in))]
 pub fn read_object<'v, 'a>(
     alloc: Global,
     object: &'v Value<'a>,

@@ -4,7 +4,7 @@ ghost use Rattle.std.specs.Prelude.{◌≡◌, ◌<◌, ◌≤◌, ◌||◌, ◌
 ghost use Rattle.std.specs.Bool.{OnTrue};
 ghost use Rattle.std.specs.List.{list_all, slice_split};
 ghost use Rattle.std.specs.Option.{option_map_or};
-ghost use Rattle.jc_rows.specs.Words.{is_plain, is_part, has_length_of_name, is_label, is_subdomain};
+ghost use Rattle.jc_rows.specs.NameForms.{is_plain, is_part, has_length_of_name, is_label, is_subdomain};
 
 // A name has at most this many bytes.
 const MOST_BYTES: usize = 63;
@@ -34,7 +34,7 @@ fn is_plain_end(end: Option<u8>) -> bool
 }
 
 // Whether a text is one part of a name.
-#[tactic(auto, unfolding(crate::specs::Words::is_part))]
+#[tactic(auto, unfolding(crate::specs::NameForms::is_part))]
 pub fn is_part(text: &[u8]) -> bool
     ensures { result ≡ is_part text.now }
 {
@@ -43,7 +43,7 @@ pub fn is_part(text: &[u8]) -> bool
 }
 
 // Whether a text has 1 to 63 bytes.
-#[tactic(auto, unfolding(crate::specs::Words::has_length_of_name))]
+#[tactic(auto, unfolding(crate::specs::NameForms::has_length_of_name))]
 fn has_length_of_name(text: &[u8]) -> bool
     ensures tested { result ≡ has_length_of_name text.now }
     ensures some { OnTrue result (0 < length text.now) }

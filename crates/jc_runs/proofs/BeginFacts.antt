@@ -34,12 +34,12 @@ use Rattle.jc_history.proofs.BeginSteps.{begun-answer_is}
 use Rattle.jc_history.proofs.DeedSteps as deed
 use Rattle.jc_ledger.specs.Syncs.{began_of}
 use Rattle.jc_asks.specs.Readings.{told_step}
-use Rattle.jc_sync.specs.Registers.{HasSyncs}
+use Rattle.jc_sync.specs.AllRegisters.{HasSyncs}
 use Rattle.jc_asks.specs.Sends.{new_sync}
 use Rattle.jc_asks.specs.Steps.{Sync}
 use Rattle.jc_sync.proofs.BeginFacts.{begun_syncs}
 use Rattle.jc_runs.specs.Fates.{Fates}
-use Rattle.jc_runs.specs.Runs.{AreWorkers, IsMachine, IsTeam}
+use Rattle.jc_runs.specs.Machines.{AreWorkers, IsMachine, IsTeam}
 use Rattle.jc_runs.specs.Teams.{Team, begin_held, begin_registers, begin_reply, registers_of, with_begun}
 use Rattle.jc_runs.proofs.CacheFacts.{done_still, run_quiet, still}
 use Rattle.jc_runs.proofs.ListFacts.{missing, register_there, registers_put}
@@ -207,7 +207,9 @@ module _ (shape : Shape) (past : List Deed) (log : List Entry) (teams : List Tea
           quiet = after_own shape i past d run.legal (does.Begin i w) reply.WorkerBusy act told_is refl ∙ own i _ before
 
       -- A free one.
-      free : (e : slice_get old.registers w ≡ Some None) (b : Begin) → answer ≡ b → d.reply ≡ reply_of_begin b → new.con.schedule ≡ (begun now old.con).schedule → new.registers ≡ with_begun old.registers w b → IsMachine shape (d ∷ past) log (set teams i new) fates now
+      free : (e : slice_get old.registers w ≡ Some None) (b : Begin) → answer ≡ b → d.reply ≡ reply_of_begin b
+          → new.con.schedule ≡ (begun now old.con).schedule → new.registers ≡ with_begun old.registers w b
+          → IsMachine shape (d ∷ past) log (set teams i new) fates now
       free e b is told_is schedule registers = by b is told_is registers
         where
           done_b : (b : Begin) → answer ≡ b → d.reply ≡ reply_of_begin b → IsDone shape past log log d
@@ -234,9 +236,14 @@ module _ (shape : Shape) (past : List Deed) (log : List Entry) (teams : List Tea
           after_is : (r : Reply) → d.reply ≡ r → after ≡ on_begin w (moment shape past) (log_given shape (d ∷ past)) before r ++ before
           after_is r e = after_own shape i past d run.legal (does.Begin i w) r act e refl ∙ own i _ before
 
-          calm : (r : Reply) → d.reply ≡ r → SameWorkers (on_begin w (moment shape past) (log_given shape (d ∷ past)) before r ++ before) before → began_of r ≡ None → told_step r ≡ None → new.registers ≡ old.registers → IsMachine shape (d ∷ past) log (set teams i new) fates now
+          calm : (r : Reply) → d.reply ≡ r → SameWorkers
+              (on_begin w (moment shape past) (log_given shape (d ∷ past)) before r ++ before) before → began_of r
+              ≡ None → told_step r ≡ None → new.registers ≡ old.registers
+              → IsMachine shape (d ∷ past) log (set teams i new) fates now
           calm r e same none untold registers =
-              run_quiet shape past log teams fates now run d i old new there done (subst (IsOf i) (sym act) refl) (ap began_of e ∙ none) (ap told_step e ∙ untold) is_held is_holds (subst (λ notes. SameWorkers notes before) (sym (after_is r e)) same) registers faults
+              run_quiet shape past log teams fates now run d i old new there done (subst (IsOf i) (sym act) refl)
+              (ap began_of e ∙ none) (ap told_step e ∙ untold) is_held is_holds
+              (subst (λ notes. SameWorkers notes before) (sym (after_is r e)) same) registers faults
 
           by : (b : Begin) → answer ≡ b → d.reply ≡ reply_of_begin b → new.registers ≡ with_begun old.registers w b → IsMachine shape (d ∷ past) log (set teams i new) fates now
           by NotSynced is t rs = calm reply.NotSynced t (nothing_new before) refl refl rs

@@ -27,7 +27,7 @@ use Rattle.jc_ledger.specs.Syncs.{began_of}
 use Rattle.jc_ledger.specs.Tied.{IsWithin}
 use Rattle.jc_asks.specs.Readings.{told_step}
 use Rattle.jc_sync.proofs.RegisterFacts.{quiet_syncs}
-use Rattle.jc_sync.specs.Registers.{HasSyncs}
+use Rattle.jc_sync.specs.AllRegisters.{HasSyncs}
 use Rattle.jc_history.specs.Agrees.{IsHeld}
 use Rattle.jc_history.specs.Available.{is_quiescent}
 use Rattle.jc_history.specs.Diaries.{notes, on_delivery}
@@ -36,7 +36,7 @@ use Rattle.jc_history.specs.Numbers.{number}
 use Rattle.jc_history.specs.Replies.{deliver_gives, gives, log_given}
 use Rattle.jc_history.proofs.DeedSteps as deed
 use Rattle.jc_runs.specs.Fates.{Fates}
-use Rattle.jc_runs.specs.Runs.{AreWorkers, IsMachine, IsTeam}
+use Rattle.jc_runs.specs.Machines.{AreWorkers, IsMachine, IsTeam}
 use Rattle.jc_runs.specs.Teams.{Team, delivered_at, listed, registers_of, told_of}
 use Rattle.jc_runs.proofs.ListFacts.{missing, registers_stay}
 use Rattle.jc_runs.proofs.NoteFacts.{IsOf, SameWorkers, after_own, silent-delivery, silent-list, workers_same}
@@ -67,8 +67,12 @@ pods_listed log old new pods at all a h j law holds = record {
 }
 
 pub told_holds : (log : List Entry) (old new : ControllerView) (kind : Kind) (entry : Entry) (version : Version)
-    → ((log : List Entry) (number : Option Version) (version : Version) (e : Entry) (jobs : List (Key × Job)) → MirrorsJobs log number jobs → IsNext number version → entry_at version.0 log ≡ Some e → MirrorsJobs log (Some version) (jobs_delivered Jobs e jobs))
-    → ((log : List Entry) (number : Option Version) (version : Version) (e : Entry) (rows new : List (Key × List Pod)) → Stored log → MirrorsPods log number rows → IsNext number version → entry_at version.0 log ≡ Some e → ((k : Key) → pods_at k new ≡ owned_after k e (pods_at k rows)) → MirrorsPods log (Some version) new)
+    → ((log : List Entry) (number : Option Version) (version : Version) (e : Entry) (jobs : List (Key × Job))
+    → MirrorsJobs log number jobs → IsNext number version → entry_at version.0 log ≡ Some e
+    → MirrorsJobs log (Some version) (jobs_delivered Jobs e jobs))
+    → ((log : List Entry) (number : Option Version) (version : Version) (e : Entry) (rows new : List (Key × List Pod))
+    → Stored log → MirrorsPods log number rows → IsNext number version → entry_at version.0 log ≡ Some e
+    → ((k : Key) → pods_at k new ≡ owned_after k e (pods_at k rows)) → MirrorsPods log (Some version) new)
     → Stored log → IsNext (number_of kind old.schedule) version → entry_at version.0 log ≡ Some entry → new.schedule ≡ delivered old.schedule kind entry version → new.jobs ≡ jobs_delivered kind entry old.jobs
     → ((k : Key) → pods_at k new.rows ≡ pods_delivered kind k entry (pods_at k old.rows)) → MirrorsLog log old → MirrorsLog log new
 told_holds log old new Jobs entry version jobs_law pods_law stored next there h j r holds = record {
@@ -133,7 +137,9 @@ module _ (shape : Shape) (past : List Deed) (log : List Entry) (teams : List Tea
       team = team_before shape past log teams fates now run log d done i old there
 
   -- What the code shows of such a deed.
-  pub done_still : (act : Act) (a : Answered) → d.act ≡ act → gives shape past log act ≡ a → a.entry ≡ None → d.reply ≡ a.reply → d.length.0 ≡ length log → IsInShape shape act → MaySettle d.act (is_quiescent shape past (log_given shape past)) → IsDone shape past log log d
+  pub done_still : (act : Act) (a : Answered) → d.act ≡ act → gives shape past log act ≡ a → a.entry ≡ None → d.reply
+      ≡ a.reply → d.length.0 ≡ length log → IsInShape shape act
+      → MaySettle d.act (is_quiescent shape past (log_given shape past)) → IsDone shape past log log d
   done_still act a e g none told_step long within settled = record {
     reply = told_step ∙ sym (ap (λ (a : Answered). a.reply) (ap (gives shape past log) e ∙ g));
     grown = sym (ap (λ (a : Answered). grown log a.entry) (ap (gives shape past log) e ∙ g) ∙ ap (grown log) none);
@@ -166,7 +172,9 @@ module _ (shape : Shape) (past : List Deed) (log : List Entry) (teams : List Tea
 
   -- A cache is told of the next entry, or has fallen out of the window.
   pub deliver_run : (kind : Kind) → i < shape.controllers → d.act ≡ does.Deliver i kind → d.reply ≡ (deliver_gives log shape.window (number_of kind old.con.schedule)).reply → d.length.0 ≡ length log
-      → new.con.schedule ≡ delivered_at log shape.window old.con.schedule kind (number_of kind old.con.schedule) → MirrorsLog log new.con → new.registers ≡ old.registers → new.faults ≡ old.faults → IsMachine shape (d ∷ past) log (set teams i new) fates now
+      → new.con.schedule ≡ delivered_at log shape.window old.con.schedule kind (number_of kind old.con.schedule)
+      → MirrorsLog log new.con → new.registers ≡ old.registers → new.faults ≡ old.faults
+      → IsMachine shape (d ∷ past) log (set teams i new) fates now
   deliver_run kind within act told_is long schedule holds r f =
       run_quiet done (subst (IsOf i) (sym act) refl) (ap began_of told_is ∙ none_began (number_of kind old.con.schedule)) (ap told_step told_is ∙ none_told (number_of kind old.con.schedule))
       (subst (IsHeld after) (sym schedule) (by (number_of kind old.con.schedule) refl told_is)) holds
@@ -192,7 +200,10 @@ module _ (shape : Shape) (past : List Deed) (log : List Entry) (teams : List Tea
 
       done : IsDone shape past log log d
       done =
-          done_still (does.Deliver i kind) (deliver_gives log shape.window (number_of kind old.con.schedule)) act (gives_deliver shape past log i kind ∙ ap (deliver_gives log shape.window) (sym ((run.each i old there).schedule.number_is kind))) (deliver_nothing log shape.window (number_of kind old.con.schedule)) told_is long within
+          done_still (does.Deliver i kind) (deliver_gives log shape.window (number_of kind old.con.schedule)) act
+          (gives_deliver shape past log i kind ∙ ap (deliver_gives log shape.window)
+          (sym ((run.each i old there).schedule.number_is kind)))
+          (deliver_nothing log shape.window (number_of kind old.con.schedule)) told_is long within
           (subst (λ act. MaySettle act (is_quiescent shape past (log_given shape past))) (sym act) tt)
 
       was : IsHeld before old.con.schedule
@@ -206,7 +217,9 @@ module _ (shape : Shape) (past : List Deed) (log : List Entry) (teams : List Tea
       within_log Jobs v e = (subst (λ o. MirrorsJobs log o old.con.jobs) e (run.each i old there).holds.jobs).0
       within_log Pods v e = (subst (λ o. MirrorsPods log o old.con.rows) e (run.each i old there).holds.pods).0
 
-      by_entry : (v : Version) → number_of kind old.con.schedule ≡ Some v → (v.0 ≡ length log → ⊥) → d.reply ≡ reply.Delivered (record { 0 = v.0 + 1 }) → (o : Option Entry) → entry_at (v.0 + 1) log ≡ o → IsHeld after (told_of old.con.schedule kind (record { 0 = v.0 + 1 }) o)
+      by_entry : (v : Version) → number_of kind old.con.schedule ≡ Some v → (v.0 ≡ length log → ⊥) → d.reply
+          ≡ reply.Delivered (record { 0 = v.0 + 1 }) → (o : Option Entry) → entry_at (v.0 + 1) log ≡ o
+          → IsHeld after (told_of old.con.schedule kind (record { 0 = v.0 + 1 }) o)
       by_entry v n apart e None gone = absurd (let place = within_log kind v n in entry_there log v.0 (omega (arith, place, apart)) gone)
       by_entry v n apart e (Some entry) found =
           deed.told-entry shape i past d run.legal old.con.schedule kind (record { 0 = v.0 + 1 }) entry act e (ap (entry_at (v.0 + 1)) (sym (next_is shape past log teams fates now run log d done)) ∙ found) was

@@ -22,10 +22,10 @@ use Rattle.jc_history.specs.Replies.{clock_gives, gives, log_given}
 use Rattle.jc_history.proofs.DeedSteps as deed
 use Rattle.jc_history.proofs.FollowFacts.{holds-after}
 use Rattle.jc_asks.specs.Readings.{told_step}
-use Rattle.jc_sync.specs.Registers.{HasSyncs}
+use Rattle.jc_sync.specs.AllRegisters.{HasSyncs}
 use Rattle.jc_sync.proofs.RegisterFacts.{quiet_syncs}
 use Rattle.jc_runs.specs.Fates.{AreFated, Fates}
-use Rattle.jc_runs.specs.Runs.{AreWorkers, IsMachine, IsTeam}
+use Rattle.jc_runs.specs.Machines.{AreWorkers, IsMachine, IsTeam}
 use Rattle.jc_runs.specs.Teams.{Team, clocked_team, registers_of}
 use Rattle.jc_runs.proofs.NoteFacts.{after_own, silent-clock, workers_same}
 use Rattle.jc_runs.proofs.FateFacts.{KeepsFates}

@@ -14,7 +14,7 @@ use Rattle.jc_history.specs.Available.{is_quiescent}
 use Rattle.jc_history.specs.Legal.{ComesNext, IsOfShape, MaySettle}
 use Rattle.jc_history.specs.Replies.{log_given}
 use Rattle.jc_runs.specs.Fates.{Fates}
-use Rattle.jc_runs.specs.Runs.{IsMachine}
+use Rattle.jc_runs.specs.Machines.{IsMachine}
 use Rattle.jc_runs.specs.Seen.{Admits, IsCluster, Seen, act_seen, deeds_in, deeds_seen, happened, log_seen, past_seen, reply_seen}
 use Rattle.jc_runs.specs.Teams.{Team}
 
@@ -23,7 +23,9 @@ newest_first : (items mid new : List Past) (past : Past) → new ≡ mid ++ past
 newest_first items mid new past e f = ap (λ (l : List Past). reverse l) (e ∙ ap (λ (l : List Past). l ++ past ∷ []) f) ∙ reverse-append items (past ∷ [])
 
 -- What stays where nothing happened.
-pub same_cluster : (script : Script) (shape : Shape) (items new : List Past) (log next : List Entry) (teams : List Team) (fates : Fates) (now : ℕ) → IsCluster script shape (reverse items) log teams fates now → new ≡ items → next ≡ log → IsCluster script shape (reverse new) next teams fates now
+pub same_cluster : (script : Script) (shape : Shape) (items new : List Past) (log next : List Entry) (teams : List Team)
+    (fates : Fates) (now : ℕ) → IsCluster script shape (reverse items) log teams fates now → new ≡ items → next ≡ log
+    → IsCluster script shape (reverse new) next teams fates now
 same_cluster script shape items new log next teams fates now c e l = subst (λ i. IsCluster script shape (reverse i) next teams fates now) (sym e) (subst (λ l. IsCluster script shape (reverse items) l teams fates now) (sym l) c)
 
 module _ (script : Script) (shape : Shape) (items mid new : List Past) (past : Past) (log next : List Entry) (teams news : List Team) (fates ends : Fates) (now later : ℕ) (old : IsCluster script shape (reverse items) log teams fates now)

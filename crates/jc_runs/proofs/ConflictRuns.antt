@@ -23,7 +23,7 @@ use Rattle.jc_asks.specs.Asks.{conflict_of, version_sent}
 use Rattle.jc_asks.specs.Readings.{next_ask, steps_of}
 use Rattle.jc_asks.specs.Sends.{sends_of}
 use Rattle.jc_asks.specs.Steps.{Sync, answered_to, as_answer, stepped_at}
-use Rattle.jc_sync.specs.Registers.{IsRegister}
+use Rattle.jc_sync.specs.AllRegisters.{IsRegister}
 use Rattle.jc_sync.proofs.ReadFacts.{reads_next}
 use Rattle.jc_history.specs.Diaries.{notes}
 use Rattle.jc_history.specs.Legal.{IsLegal, IsLegalNext}
@@ -31,7 +31,7 @@ use Rattle.jc_history.specs.Registers.{made, register}
 use Rattle.jc_history.specs.Replies.{diary, log_given}
 use Rattle.jc_history.proofs.RequestFacts.{made-steps}
 use Rattle.jc_runs.specs.Conflicts.{AreToldLater}
-use Rattle.jc_runs.specs.Runs.{AllAskValid, IsTeam}
+use Rattle.jc_runs.specs.Machines.{AllAskValid, IsTeam}
 use Rattle.jc_runs.specs.Teams.{stride_at}
 use Rattle.jc_runs.proofs.CountedFacts.{later_conflicts}
 use Rattle.jc_runs.proofs.LegalRuns.{Machine, There, given, legal_run, team, there, within}

@@ -15,13 +15,13 @@ use Rattle.jc_ledger.proofs.OnceFacts.{once_tied, tied_once}
 use Rattle.jc_asks.specs.Asks.{version_sent}
 use Rattle.jc_asks.specs.declared.asks.Ask.{Ask}
 use Rattle.jc_asks.specs.Steps.{Sync, answered_to}
-use Rattle.jc_sync.specs.Places.{IsAt}
-use Rattle.jc_sync.specs.Registers.{flights_of_all, register_at}
+use Rattle.jc_sync.specs.SyncPlaces.{IsAt}
+use Rattle.jc_sync.specs.AllRegisters.{flights_of_all, register_at}
 use Rattle.jc_sync.specs.StepEffects.{IsLaterThan}
 use Rattle.jc_sync.proofs.ConflictFacts.{conflict_later}
 use Rattle.jc_sync.proofs.RegisterFacts.{around}
 use Rattle.jc_runs.specs.Fates.{Fates}
-use Rattle.jc_runs.specs.Runs.{IsMachine}
+use Rattle.jc_runs.specs.Machines.{IsMachine}
 use Rattle.jc_runs.specs.Teams.{Team, registers_of}
 use Rattle.jc_runs.proofs.ListFacts.{register_there}
 

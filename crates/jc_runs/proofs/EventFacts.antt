@@ -27,11 +27,11 @@ use Rattle.jc_history.proofs.DeedSteps as deed
 use Rattle.jc_history.proofs.HeldSteps as schedule
 use Rattle.jc_history.proofs.LegalFacts.{notes-next}
 use Rattle.jc_asks.specs.Readings.{told_step}
-use Rattle.jc_sync.specs.Registers.{HasSyncs, freed}
+use Rattle.jc_sync.specs.AllRegisters.{HasSyncs, freed}
 use Rattle.jc_asks.specs.Steps.{Sync}
 use Rattle.jc_sync.proofs.RegisterFacts.{quiet_syncs, restart_syncs}
 use Rattle.jc_runs.specs.Fates.{Fates}
-use Rattle.jc_runs.specs.Runs.{AreWorkers, IsMachine, IsTeam}
+use Rattle.jc_runs.specs.Machines.{AreWorkers, IsMachine, IsTeam}
 use Rattle.jc_runs.specs.Teams.{Team, registers_of}
 use Rattle.jc_runs.proofs.CacheFacts.{done_still}
 use Rattle.jc_runs.proofs.ListFacts.{registers_restart, registers_stay}
@@ -83,7 +83,9 @@ holds_idle log con h j r = record {
   pods = subst (λ (h : Schedule). MirrorsPods log h.pods_at con.rows) (sym h) (λ k. ap (pods_at k) r);
 }
 
-module _ (shape : Shape) (past : List Deed) (log : List Entry) (teams : List Team) (fates : Fates) (now : ℕ) (run : IsMachine shape past log teams fates now) (d : Deed) (i : ℕ) (old new : Team) (there : slice_get teams i ≡ Some old) (within : i < shape.controllers) where
+module _ (shape : Shape) (past : List Deed) (log : List Entry) (teams : List Team) (fates : Fates) (now : ℕ)
+    (run : IsMachine shape past log teams fates now) (d : Deed) (i : ℕ) (old new : Team)
+    (there : slice_get teams i ≡ Some old) (within : i < shape.controllers) where
   abbrev older : List Note
   older = notes shape i past (log_given shape past)
 

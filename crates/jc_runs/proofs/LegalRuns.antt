@@ -31,9 +31,9 @@ use Rattle.jc_history.specs.Available.{is_quiescent}
 use Rattle.jc_history.specs.Legal.{IsLegal, IsLegalNext, IsOfShape, MaySettle}
 use Rattle.jc_history.specs.Nodes.{node_step}
 use Rattle.jc_history.specs.Replies.{clock_gives, deliver_gives, gives, log_given, node_gives}
-use Rattle.jc_sync.specs.Registers.{freed}
+use Rattle.jc_sync.specs.AllRegisters.{freed}
 use Rattle.jc_runs.specs.Fates.{Fates}
-use Rattle.jc_runs.specs.Runs.{AllAskValid, AsksValid, IsMachine}
+use Rattle.jc_runs.specs.Machines.{AllAskValid, AsksValid, IsMachine}
 use Rattle.jc_runs.specs.Teams.{KnowsNothing, Team, begin_held, begin_registers, begin_reply, clocked_team, delivered_at, listed, stride_at}
 use Rattle.jc_runs.proofs.BeginFacts.{begin_gives-at, begin_run}
 use Rattle.jc_runs.proofs.CacheFacts.{deliver_nothing, deliver_run, gives_deliver, gives_list, list_run}
@@ -137,7 +137,9 @@ module _ (shape : Shape) (past : List Deed) (d : Deed) (legal : IsLegalNext shap
       let g = given (does.Create key spec) a e (create_is shape past m.log m.teams m.fates m.now m.run m.log d key spec) in
       on_store a (created shape past m.log m.teams m.fates m.now m.run (grown m.log a.entry) d key spec valid e g.told refl g.long (create_job-stored m.log stored key spec m.now))
 
-  update : ((spec : JobSpec) (change : SpecChange) → IsValidSpec spec → update_refusal spec change ≡ None → IsValidSpec (changed_spec spec change)) → (key : Key) (version : Option Version) (change : SpecChange) → d.act ≡ does.Update key version change → Machine shape (d ∷ past)
+  update : ((spec : JobSpec) (change : SpecChange) → IsValidSpec spec → update_refusal spec change ≡ None
+      → IsValidSpec (changed_spec spec change)) → (key : Key) (version : Option Version) (change : SpecChange) → d.act
+      ≡ does.Update key version change → Machine shape (d ∷ past)
   update stay key version change e =
       let a = update_spec_gives m.log key version change in
       let g = given (does.Update key version change) a e (update_is shape past m.log m.teams m.fates m.now m.run m.log d key version change) in
@@ -321,6 +323,8 @@ module _ (shape : Shape) (past : List Deed) (d : Deed) (legal : IsLegalNext shap
   one_more stay does.Unknown e valid = unknown e
 
 -- A legal history in which each Job is created with a valid specification.
-pub legal_run : ((spec : JobSpec) (change : SpecChange) → IsValidSpec spec → update_refusal spec change ≡ None → IsValidSpec (changed_spec spec change)) → (shape : Shape) (deeds : List Deed) → IsLegal shape deeds → AllAskValid deeds → Machine shape deeds
+pub legal_run : ((spec : JobSpec) (change : SpecChange) → IsValidSpec spec → update_refusal spec change ≡ None
+    → IsValidSpec (changed_spec spec change)) → (shape : Shape) (deeds : List Deed) → IsLegal shape deeds
+    → AllAskValid deeds → Machine shape deeds
 legal_run stay shape [] legal valid = at_start shape
 legal_run stay shape (d ∷ past) legal valid = one_more shape past d legal.0 (legal_run stay shape past legal.1 valid.1) stay d.act refl valid.0

@@ -3,7 +3,7 @@ use Rattle.std.proofs.Common.{◌≡◌, ℕ, zero, suc, ◌<◌, List, [], ◌�
 use Rattle.std.specs.Option.{option_and_then, option_map, unwrap_or}
 use Rattle.std.proofs.lemmas.Option.{slice_get-map}
 use Rattle.std.proofs.lemmas.List.{map-set}
-use Rattle.jc_sync.specs.Registers.{Registers, freed, put_at, put_worker, register_at, restarted}
+use Rattle.jc_sync.specs.AllRegisters.{Registers, freed, put_at, put_worker, register_at, restarted}
 use Rattle.jc_asks.specs.Steps.{Sync}
 use Rattle.jc_runs.specs.Teams.{Team, registers_of}
 

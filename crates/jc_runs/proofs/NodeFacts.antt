@@ -28,13 +28,13 @@ use Rattle.jc_history.specs.Legal.{IsOfShape, MaySettle}
 use Rattle.jc_history.specs.Nodes.{NodeAct, change_by, fate, node_step}
 use Rattle.jc_history.specs.Replies.{gives, log_given, node_done, node_gives}
 use Rattle.jc_sync.specs.Plannable.{AppendsFit}
-use Rattle.jc_sync.specs.Registers.{HasSyncs, IsAnswered, Registers, flights_of_all}
+use Rattle.jc_sync.specs.AllRegisters.{HasSyncs, IsAnswered, Registers, flights_of_all}
 use Rattle.jc_sync.proofs.CommandFacts.{IsStoreReply}
 use Rattle.jc_sync.proofs.EntryFacts.{not_never, owned-live, pod_entry-pod, quiet-by}
 use Rattle.jc_sync.proofs.FitFacts.{report_fits}
 use Rattle.jc_sync.proofs.RegisterFacts.{other_syncs, quiet_syncs}
 use Rattle.jc_runs.specs.Fates.{Fates}
-use Rattle.jc_runs.specs.Runs.{IsMachine}
+use Rattle.jc_runs.specs.Machines.{IsMachine}
 use Rattle.jc_runs.specs.Teams.{Team, registers_of}
 use Rattle.jc_runs.proofs.NoteFacts.{IsStoreAct}
 use Rattle.jc_runs.proofs.StoreFacts.{store_event}

@@ -16,7 +16,7 @@ use Rattle.jc_history.specs.Notes.{Note, Faulted}
 use Rattle.jc_history.specs.Registers.{pending, register}
 use Rattle.jc_history.specs.Replies.{log_given}
 use Rattle.jc_history.proofs.LegalFacts.{notes-next}
-use Rattle.jc_runs.specs.Runs.{AreWorkers}
+use Rattle.jc_runs.specs.Machines.{AreWorkers}
 use Rattle.jc_asks.specs.Steps.{Sync}
 use Rattle.jc_types.specs.declared.actions.End.{End}
 use Rattle.jc_types.specs.declared.actions.Fault.{Fault}

@@ -18,12 +18,12 @@ use Rattle.jc_history.specs.Available.{is_quiescent}
 use Rattle.jc_history.specs.Legal.{IsOfShape, MaySettle}
 use Rattle.jc_history.specs.Nodes.{fate, fate_told}
 use Rattle.jc_history.specs.Replies.{gives, log_given}
-use Rattle.jc_sync.specs.Registers.{HasSyncs}
+use Rattle.jc_sync.specs.AllRegisters.{HasSyncs}
 use Rattle.jc_sync.proofs.CommandFacts.{IsStoreReply}
 use Rattle.jc_sync.proofs.EntryFacts.{quiet-by}
 use Rattle.jc_sync.proofs.RegisterFacts.{quiet_syncs}
 use Rattle.jc_runs.specs.Fates.{AreFated, Fates, WithFate}
-use Rattle.jc_runs.specs.Runs.{IsMachine}
+use Rattle.jc_runs.specs.Machines.{IsMachine}
 use Rattle.jc_runs.specs.Teams.{Team, registers_of}
 use Rattle.jc_runs.proofs.NoteFacts.{IsStoreAct, fate_quiet, still_fate}
 use Rattle.jc_runs.proofs.RunFacts.{IsDone, run_next, run_store, team_quiet}
@@ -44,7 +44,9 @@ module _ (shape : Shape) (past : List Deed) (log : List Entry) (teams : List Tea
       quiet_syncs d past log (registers_of teams) run.syncs (quiet-by d log (ap began_of told ∙ store.began) long) (ap began_of told ∙ store.began) (ap told_step told ∙ store.untold)
 
   -- NEITHER the store nor a controller.
-  pub run_nothing : (r : Reply) (act : Act) → d.act ≡ act → IsStoreAct act → IsOfShape shape act → MaySettle act (is_quiescent shape past (log_given shape past)) → gives shape past log act ≡ refused r → IsStoreReply r → d.reply ≡ r → d.length.0 ≡ length log
+  pub run_nothing : (r : Reply) (act : Act) → d.act ≡ act → IsStoreAct act → IsOfShape shape act
+      → MaySettle act (is_quiescent shape past (log_given shape past)) → gives shape past log act ≡ refused r
+      → IsStoreReply r → d.reply ≡ r → d.length.0 ≡ length log
       → IsMachine shape (d ∷ past) log teams fates now
   run_nothing r act e alone within settled is store told long =
       run_store shape past log teams fates now run log d (done_with r act e within settled is told long) (subst IsStoreAct (sym e) alone) (same_syncs r store told long) run.plannable

@@ -16,11 +16,11 @@ use Rattle.jc_history.specs.Legal.{IsOfShape, MaySettle}
 use Rattle.jc_history.specs.Nodes.{finish_change, start_change}
 use Rattle.jc_history.specs.Replies.{finish_gives, gives, log_given}
 use Rattle.jc_sync.specs.Plannable.{AppendsFit}
-use Rattle.jc_sync.specs.Registers.{HasSyncs, IsAnswered, Registers}
+use Rattle.jc_sync.specs.AllRegisters.{HasSyncs, IsAnswered, Registers}
 use Rattle.jc_sync.proofs.CommandFacts.{mark_keeps, report_keeps, strip_keeps}
 use Rattle.jc_sync.proofs.FitFacts.{mark_fits, release_fits, report_fits}
 use Rattle.jc_runs.specs.Fates.{Fates}
-use Rattle.jc_runs.specs.Runs.{IsMachine}
+use Rattle.jc_runs.specs.Machines.{IsMachine}
 use Rattle.jc_runs.specs.Teams.{Team, registers_of}
 use Rattle.jc_runs.proofs.NoteFacts.{IsStoreAct}
 use Rattle.jc_runs.proofs.StoreFacts.{store_event}

@@ -26,7 +26,7 @@ use Rattle.jc_ledger.specs.declared.flights.Flight.{Flight}
 use Rattle.jc_ledger.specs.Flights.{Flies}
 use Rattle.jc_ledger.specs.Syncs.{began_of, is_begin}
 use Rattle.jc_asks.specs.Readings.{step_told, steps_of, with_step}
-use Rattle.jc_sync.specs.Registers.{HasSyncs, Registers, flights_of_all, put_at, register_at}
+use Rattle.jc_sync.specs.AllRegisters.{HasSyncs, Registers, flights_of_all, put_at, register_at}
 use Rattle.jc_asks.specs.Sends.{new_sync, sent_first}
 use Rattle.jc_sync.proofs.QuietSync.{begun_current}
 use Rattle.jc_sync.proofs.ReachFacts.{ended_lost, reaches_next}

@@ -25,7 +25,7 @@ use Rattle.jc_log.proofs.WriteFacts.{Stored-from_legal}
 use Rattle.jc_plan.specs.Next.{next_status}
 use Rattle.jc_asks.specs.Sends.{new_sync}
 use Rattle.jc_asks.specs.Steps.{Sync}
-use Rattle.jc_sync.specs.Registers.{HasSyncs, Registers, put_at, register_at}
+use Rattle.jc_sync.specs.AllRegisters.{HasSyncs, Registers, put_at, register_at}
 use Rattle.jc_sync.proofs.BeginFacts.{begun_syncs}
 use Rattle.jc_history.specs.Diaries.{moment, notes}
 use Rattle.jc_history.specs.Fresh.{basis as basis_of}
@@ -33,7 +33,7 @@ use Rattle.jc_history.specs.Legal.{IsLegal}
 use Rattle.jc_history.specs.Registers.{backoff}
 use Rattle.jc_history.specs.Replies.{diary, log_given}
 use Rattle.jc_runs.specs.QuietRuns.{BeginsCurrent, IsAtNext, IsQuietSync, WritesNoStatus}
-use Rattle.jc_runs.specs.Runs.{AllAskValid, IsTeam}
+use Rattle.jc_runs.specs.Machines.{AllAskValid, IsTeam}
 use Rattle.jc_runs.specs.Teams.{begin_reply, registers_of}
 use Rattle.jc_runs.proofs.BeginFacts.{begin_gives-at, begun_basis}
 use Rattle.jc_runs.proofs.LegalRuns.{Given, Machine, There, given, legal_run, team, there, within}
@@ -84,7 +84,9 @@ module _ (shape : Shape) (c w : ℕ) (d : Deed) (past : List Deed) (k : Key) (jo
   end = log_end (log_given shape (d ∷ past))
 
   -- The sync began so.
-  began_with : slice_get one.one.registers w ≡ Some None → (basis : Basis) → answer ≡ Begun basis → d.reply ≡ reply.Begun basis.key basis.jobs_at basis.pods_at → d.length.0 ≡ length m.log → log_given shape (d ∷ past) ≡ m.log → Registered shape c w d past k job
+  began_with : slice_get one.one.registers w ≡ Some None → (basis : Basis) → answer ≡ Begun basis → d.reply
+      ≡ reply.Begun basis.key basis.jobs_at basis.pods_at → d.length.0 ≡ length m.log → log_given shape (d ∷ past)
+      ≡ m.log → Registered shape c w d past k job
   unfolding key_in jobs_in_reply pods_in_reply
   began_with free basis is told long grew = record {
     rs = put_at c w (Some (new_sync basis)) (registers_of m.teams);

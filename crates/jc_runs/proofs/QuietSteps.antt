@@ -24,12 +24,12 @@ use Rattle.jc_asks.specs.declared.asks.Ask.TheVariants.{MakePod, MarkPod, LetPod
 use Rattle.jc_asks.specs.Asks.{asks_after, as_request}
 use Rattle.jc_sync.specs.Quiet.{GoesOnTo, IsUndisturbed, Leaves}
 use Rattle.jc_asks.specs.Readings.{is_step, step_told, steps_of, told_step, with_step}
-use Rattle.jc_sync.specs.Registers.{HasSyncs, IsRegister, Registers, flights_of_all, put_at, put_worker, register_at, register_of}
+use Rattle.jc_sync.specs.AllRegisters.{HasSyncs, IsRegister, Registers, flights_of_all, put_at, put_worker, register_at, register_of}
 use Rattle.jc_asks.specs.Steps.{Sync, as_answer, answered_to, end_given, flight_after, next_unless, stepped, stepped_at}
 use Rattle.jc_sync.proofs.QuietSync.{quiet_ends, quiet_goes}
 use Rattle.jc_sync.proofs.ReadFacts.{reads_next}
 use Rattle.jc_sync.proofs.RegisterFacts.{Around, around, step_syncs}
-use Rattle.jc_history.specs.Asks.{so_far}
+use Rattle.jc_history.specs.SoFar.{so_far}
 use Rattle.jc_history.specs.Diaries.{moment, notes_taken, notes, on_step, restarts}
 use Rattle.jc_history.specs.Legal.{IsLegal, IsLegalNext}
 use Rattle.jc_history.specs.Notes.{Note, Asked, Ended, newest}

@@ -34,11 +34,11 @@ use Rattle.jc_asks.specs.declared.asks.Ask.{Ask}
 use Rattle.jc_asks.specs.declared.asks.Ask.TheVariants.{MakePod, MarkPod, LetPodGo, WriteFirst, ReleasePod, WriteSecond}
 use Rattle.jc_asks.specs.Asks.{asks_of, first_asks, let_go_ask, as_request, second_asks}
 use Rattle.jc_asks.specs.Readings.{gone_in, with_marks}
-use Rattle.jc_sync.specs.Registers.{Registers, flights_of_all, put_at}
+use Rattle.jc_sync.specs.AllRegisters.{Registers, flights_of_all, put_at}
 use Rattle.jc_asks.specs.Steps.{stepped_at}
 use Rattle.jc_sync.proofs.ReachFacts.{tidy}
 use Rattle.jc_sync.proofs.RegisterFacts.{Around, around}
-use Rattle.jc_history.specs.Asks.{so_far}
+use Rattle.jc_history.specs.SoFar.{so_far}
 use Rattle.jc_history.specs.Diaries.{moment, notes}
 use Rattle.jc_history.specs.Legal.{IsLegal, IsLegalNext}
 use Rattle.jc_history.specs.Registers.{backoff, asks_status, made, pending, register}
@@ -128,13 +128,23 @@ module _ (shape : Shape) (c w : ℕ) (d : Deed) (past : List Deed) (k : Key) (jo
     one-none x more next act its =
         subst WritesNoStatus
         (sym (next.reply ∙ ap (reply_given shape (more ++ d ∷ past) (log_given shape (more ++ d ∷ past))) act
-        ∙ ap (λ o. (step_gives (log_given shape (more ++ d ∷ past)) (moment shape (more ++ d ∷ past)) (made w (notes shape c (more ++ d ∷ past) (log_given shape (more ++ d ∷ past)))) (pending w (notes shape c (more ++ d ∷ past) (log_given shape (more ++ d ∷ past)))) o).reply) its))
-        (step-writes-none (log_given shape (more ++ d ∷ past)) (moment shape (more ++ d ∷ past)) (made w (notes shape c (more ++ d ∷ past) (log_given shape (more ++ d ∷ past)))) (pending w (notes shape c (more ++ d ∷ past) (log_given shape (more ++ d ∷ past)))) the-basis none.0 none.1)
+        ∙ ap (λ o. (step_gives (log_given shape (more ++ d ∷ past)) (moment shape (more ++ d ∷ past))
+        (made w (notes shape c (more ++ d ∷ past) (log_given shape (more ++ d ∷ past))))
+        (pending w (notes shape c (more ++ d ∷ past) (log_given shape (more ++ d ∷ past)))) o).reply) its))
+        (step-writes-none (log_given shape (more ++ d ∷ past)) (moment shape (more ++ d ∷ past))
+        (made w (notes shape c (more ++ d ∷ past) (log_given shape (more ++ d ∷ past))))
+        (pending w (notes shape c (more ++ d ∷ past) (log_given shape (more ++ d ∷ past)))) the-basis none.0 none.1)
 
     none-written : (run : List Deed) → IsLegal shape (run ++ d ∷ past) → AreSteps shape c w run (d ∷ past) → Stored (log_given shape (run ++ d ∷ past)) → Each (λ x. WritesNoStatus x.reply) run
     none-written [] legal steps stays = tt
-    none-written (x ∷ run) legal steps stays =
-        (by run legal.0 steps (all-steps shape c w the-basis job (saw-then shape c w d past k job rs b) key-named run (d ∷ past) legal.1 steps.2 (stored-before shape c w the-basis job (saw-then shape c w d past k job rs b) key-named x (run ++ d ∷ past) stays) (begins-under-way shape c w d past k job rs b)), none-written run legal.1 steps.2 (stored-before shape c w the-basis job (saw-then shape c w d past k job rs b) key-named x (run ++ d ∷ past) stays))
+    none-written (x ∷ run) legal steps stays = (
+      by run legal.0 steps (all-steps shape c w the-basis job (saw-then shape c w d past k job rs b) key-named run
+          (d ∷ past) legal.1 steps.2 (stored-before shape c w the-basis job (saw-then shape c w d past k job rs b)
+          key-named x (run ++ d ∷ past) stays) (begins-under-way shape c w d past k job rs b)),
+      none-written run legal.1
+          steps.2 (stored-before shape c w the-basis job (saw-then shape c w d past k job rs b) key-named x
+          (run ++ d ∷ past) stays),
+    )
       where
         by : (run : List Deed) → IsLegalNext shape (run ++ d ∷ past) x → AreSteps shape c w (x ∷ run) (d ∷ past) → Runs shape c w the-basis job (saw-then shape c w d past k job rs b) key-named run (d ∷ past) → WritesNoStatus x.reply
         by run next steps (inl u) = one-none x run next steps.0 u.register_is

@@ -18,12 +18,12 @@ use Rattle.jc_history.specs.Replies.{gives, log_after, log_given, reply_given}
 use Rattle.jc_history.proofs.DeedSteps.{untouched}
 use Rattle.jc_history.proofs.FollowFacts.{holds-after, set-cases}
 use Rattle.jc_sync.specs.Plannable.{FitsIn, IsPlannable}
-use Rattle.jc_sync.specs.Registers.{HasSyncs}
+use Rattle.jc_sync.specs.AllRegisters.{HasSyncs}
 use Rattle.jc_sync.proofs.PlanReady.{plannable_more}
 use Rattle.std.specs.Option.{option_or}
 use Rattle.jc_history.specs.Nodes.{fate}
 use Rattle.jc_runs.specs.Fates.{AreFated, Fates}
-use Rattle.jc_runs.specs.Runs.{AreWorkers, IsMachine, IsTeam}
+use Rattle.jc_runs.specs.Machines.{AreWorkers, IsMachine, IsTeam}
 use Rattle.jc_runs.specs.Teams.{Team, registers_of}
 use Rattle.jc_runs.proofs.FateFacts.{KeepsFates, fate_told-none, own_fates, store_fates}
 use Rattle.jc_runs.proofs.NoteFacts.{IsOf, IsStoreAct, after_quiet, others_quiet, still_of, still_store, store_quiet}

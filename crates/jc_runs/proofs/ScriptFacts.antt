@@ -11,7 +11,7 @@ use Rattle.jc_types.specs.declared.runs.Past.{Past}
 use Rattle.jc_types.specs.declared.runs.Sys.{Sys}
 use Rattle.jc_types.specs.declared.runs.Sys.TheVariants as sys
 use Rattle.jc_log.specs.Deeds.{act_of_action, act_of_command, act_of_event, act_of_system}
-use Rattle.jc_runs.specs.Runs.{AllAskValid, AsksValid}
+use Rattle.jc_runs.specs.Machines.{AllAskValid, AsksValid}
 use Rattle.jc_states.specs.ValidActions.{IsValidAction}
 use Rattle.jc_runs.specs.Seen.{deeds_in}
 

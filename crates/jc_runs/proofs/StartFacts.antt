@@ -7,10 +7,10 @@ use Rattle.jc_types.specs.declared.runs.Shape.{Shape}
 use Rattle.jc_history.specs.Agrees.{IsHeld}
 use Rattle.jc_history.specs.Replies.{log_given}
 use Rattle.jc_history.proofs.HeldSteps as schedule
-use Rattle.jc_sync.specs.Registers.{flights_in, flights_of_all, register_at}
+use Rattle.jc_sync.specs.AllRegisters.{flights_in, flights_of_all, register_at}
 use Rattle.jc_asks.specs.Steps.{Sync}
 use Rattle.jc_sync.proofs.RegisterFacts.{start_syncs}
-use Rattle.jc_runs.specs.Runs.{IsMachine, IsTeam}
+use Rattle.jc_runs.specs.Machines.{IsMachine, IsTeam}
 use Rattle.jc_runs.specs.Teams.{KnowsNothing, Team, registers_of}
 use Rattle.jc_runs.proofs.EventFacts.{holds_idle}
 

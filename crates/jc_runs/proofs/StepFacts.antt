@@ -37,7 +37,7 @@ use Rattle.jc_history.specs.Agrees.{IsHeld}
 use Rattle.jc_history.specs.Diaries.{end_by, moment, notes, on_step}
 use Rattle.jc_history.specs.Legal.{IsLegal}
 use Rattle.jc_history.specs.Notes.{Note, Asked, Ended, newest}
-use Rattle.jc_history.specs.Asks.{is_write_first}
+use Rattle.jc_history.specs.SoFar.{is_write_first}
 use Rattle.jc_types.specs.declared.replies.Request.TheVariants as request
 use Rattle.jc_history.specs.Registers.{fault_told, is_first, asks_status, tells_written, made, pending, register, register_told}
 use Rattle.jc_asks.specs.Steps.{floor_given, Sync, as_answer, answered_to, end_given, first_answered, flight_after, make_gives, status_gives, written_gives, next_unless, stepped_at}
@@ -50,8 +50,8 @@ use Rattle.jc_asks.specs.declared.asks.Ask.{Ask}
 use Rattle.jc_asks.specs.declared.asks.Ask.TheVariants.{MakePod, MarkPod, LetPodGo, WriteFirst, ReleasePod, WriteSecond}
 use Rattle.jc_asks.specs.Asks.{asks_after, as_request}
 use Rattle.jc_asks.specs.Readings.{next_ask}
-use Rattle.jc_sync.specs.Registers.{register_of}
-use Rattle.jc_runs.specs.Runs.{AreWorkers}
+use Rattle.jc_sync.specs.AllRegisters.{register_of}
+use Rattle.jc_runs.specs.Machines.{AreWorkers}
 use Rattle.jc_runs.specs.Teams.{answered_if, end_of_next, ended_if, fault_left, is_first_written, noted_answer, noted_told}
 use Rattle.jc_runs.proofs.NoteFacts.{after_own}
 use Rattle.jc_history.proofs.DeedSteps.{own}
@@ -242,7 +242,9 @@ pub record Shown (notes : List Note) (h : Schedule) (rs : List (Option Sync)) (f
   pub schedule : IsHeld notes h
   pub workers : AreWorkers notes rs fs
 
-module _ (shape : Shape) (i w : ℕ) (past : List Deed) (d : Deed) (legal : IsLegal shape past) (log : List Entry) (h : Schedule) (rs : List (Option Sync)) (fs : List (Option Fault)) (sync : Sync) (fault : Option Fault) (act : d.act ≡ does.Step i w) where
+module _ (shape : Shape) (i w : ℕ) (past : List Deed) (d : Deed) (legal : IsLegal shape past) (log : List Entry)
+    (h : Schedule) (rs : List (Option Sync)) (fs : List (Option Fault)) (sync : Sync) (fault : Option Fault)
+    (act : d.act ≡ does.Step i w) where
   abbrev older : List Note
   older = notes shape i past (log_given shape past)
 
@@ -304,7 +306,9 @@ module _ (shape : Shape) (i w : ℕ) (past : List Deed) (d : Deed) (legal : IsLe
 
     -- All steps.
     pub strides : (left : List Ask) → sync.left ≡ left → (pending : Option Fault) → fault ≡ pending → d.reply ≡ (stepped_at m pending log sync.flight left).reply
-        → Shown newer (ended_if (noted_told h sync.flight.basis.key (slice_get left 0) (stepped_at m pending log sync.flight left).reply (planned sync.flight.basis).backoff) sync.flight.basis.key (end_of_next (stepped_at m pending log sync.flight left).next) m)
+        → Shown newer (ended_if (noted_told h sync.flight.basis.key (slice_get left 0)
+        (stepped_at m pending log sync.flight left).reply (planned sync.flight.basis).backoff) sync.flight.basis.key
+        (end_of_next (stepped_at m pending log sync.flight left).next) m)
         (set rs w (register_of (stepped_at m pending log sync.flight left).next)) (set fs w (fault_left (end_of_next (stepped_at m pending log sync.flight left).next) fault))
     strides [] l pending f e = no_more e
     strides (ask ∷ left) l None f e = by (end_given ask given) refl

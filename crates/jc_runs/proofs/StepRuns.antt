@@ -28,9 +28,9 @@ use Rattle.jc_history.specs.Registers.{backoff, made, pending, register}
 use Rattle.jc_history.specs.Replies.{gives, log_given, step_done, step_gives}
 use Rattle.jc_asks.specs.declared.asks.Ask.{Ask}
 use Rattle.jc_sync.specs.Plannable.{FitsIn, IsPlannable}
-use Rattle.jc_sync.specs.Places.{IsAt}
+use Rattle.jc_sync.specs.SyncPlaces.{IsAt}
 use Rattle.jc_asks.specs.Readings.{next_ask, steps_of, told_step}
-use Rattle.jc_sync.specs.Registers.{HasSyncs, IsRegister, flights_of_all, put_at, register_of}
+use Rattle.jc_sync.specs.AllRegisters.{HasSyncs, IsRegister, flights_of_all, put_at, register_of}
 use Rattle.jc_asks.specs.Steps.{Stepped, Sync, stepped, stepped_at}
 use Rattle.jc_sync.proofs.FitFacts.{asked_fits}
 use Rattle.jc_sync.proofs.ReadFacts.{reads_next}
@@ -50,7 +50,7 @@ use Rattle.jc_history.proofs.RequestFacts.{made-steps, steps-same}
 use Rattle.jc_sync.proofs.BeginFacts.{basis_held, begun_by}
 use Rattle.jc_sync.proofs.PlanReady.{can_plan}
 use Rattle.jc_runs.specs.Fates.{Fates}
-use Rattle.jc_runs.specs.Runs.{AreWorkers, IsMachine, IsTeam}
+use Rattle.jc_runs.specs.Machines.{AreWorkers, IsMachine, IsTeam}
 use Rattle.jc_runs.specs.Teams.{Stride, Team, registers_of, stride_at, stride_by, stride_of}
 use Rattle.jc_runs.proofs.CacheFacts.{done_still, run_quiet}
 use Rattle.jc_runs.proofs.ListFacts.{missing, register_there, registers_put, set_itself}
@@ -63,7 +63,9 @@ use Rattle.jc_runs.proofs.StrideFacts.{stride_is}
 use Rattle.jc_history.proofs.DeedSteps.{own}
 
 -- The key of a sync under way is processing.
-pub busy_at : (shape : Shape) (past : List Deed) (log : List Entry) (teams : List Team) (fates : Fates) (now : ℕ) → IsMachine shape past log teams fates now → (i : ℕ) (old : Team) → slice_get teams i ≡ Some old → (w : ℕ) (sync : Sync) → slice_get old.registers w ≡ Some (Some sync)
+pub busy_at : (shape : Shape) (past : List Deed) (log : List Entry) (teams : List Team) (fates : Fates) (now : ℕ)
+    → IsMachine shape past log teams fates now → (i : ℕ) (old : Team) → slice_get teams i ≡ Some old
+    → (w : ℕ) (sync : Sync) → slice_get old.registers w ≡ Some (Some sync)
     → has_key sync.flight.basis.key old.con.schedule.queue.processing ≡ true
 busy_at shape past log teams fates now run i old there w sync mine =
     let team = subst (λ log. IsTeam shape past log i old) run.log_is (run.each i old there) in
@@ -94,7 +96,9 @@ plans_at shape past log teams fates now run i old there few basis is some = by b
     by (Some job) e some =
         can_plan past log (flights_of_all (registers_of teams)) basis job run.syncs.tied run.plannable (basis_held log now old.con basis (run.each i old there).holds (begun_by now old.con basis is)) e short failures dated
 
-gives_step : (shape : Shape) (past : List Deed) (log : List Entry) (i w : ℕ) → gives shape past log (does.Step i w) ≡ step_gives log (moment shape past) (made w (notes shape i past log)) (pending w (notes shape i past log)) (register w (notes shape i past log))
+gives_step : (shape : Shape) (past : List Deed) (log : List Entry) (i w : ℕ) → gives shape past log (does.Step i w)
+    ≡ step_gives log (moment shape past) (made w (notes shape i past log)) (pending w (notes shape i past log))
+    (register w (notes shape i past log))
 unfolding gives
 gives_step shape past log i w = refl
 
@@ -126,7 +130,9 @@ module _ (shape : Shape) (past : List Deed) (log : List Entry) (teams : List Tea
 
 -- ---- the step of the run
 
-module _ (shape : Shape) (past : List Deed) (log : List Entry) (teams : List Team) (fates : Fates) (now : ℕ) (run : IsMachine shape past log teams fates now) (next : List Entry) (d : Deed) (i : ℕ) (old new : Team) (there : slice_get teams i ≡ Some old) (w : ℕ)
+module _ (shape : Shape) (past : List Deed) (log : List Entry) (teams : List Team) (fates : Fates) (now : ℕ)
+    (run : IsMachine shape past log teams fates now) (next : List Entry) (d : Deed) (i : ℕ) (old new : Team)
+    (there : slice_get teams i ≡ Some old) (w : ℕ)
     (within : i < shape.controllers) (working : w < shape.workers) (act : d.act ≡ does.Step i w) (fault : Option Fault) (fault_there : slice_get old.faults w ≡ Some fault) where
   own_team : IsTeam shape past log i old
   own_team = run.each i old there
@@ -141,7 +147,9 @@ module _ (shape : Shape) (past : List Deed) (log : List Entry) (teams : List Tea
   newer = notes shape i (d ∷ past) (log_given shape (d ∷ past))
 
   -- The worker has no sync.
-  idle_run : slice_get old.registers w ≡ Some None → d.reply ≡ reply.Idle → next ≡ log → d.length.0 ≡ length next → new.con.schedule ≡ old.con.schedule → MirrorsLog next new.con → new.registers ≡ set old.registers w None → new.faults ≡ set old.faults w fault
+  idle_run : slice_get old.registers w ≡ Some None → d.reply ≡ reply.Idle → next ≡ log → d.length.0 ≡ length next
+      → new.con.schedule ≡ old.con.schedule → MirrorsLog next new.con → new.registers ≡ set old.registers w None
+      → new.faults ≡ set old.faults w fault
       → IsMachine shape (d ∷ past) next (set teams i new) fates now
   idle_run free told_is grew long schedule holds registers faults =
       subst (λ log. IsMachine shape (d ∷ past) log (set teams i new) fates now) (sym grew)
@@ -157,7 +165,9 @@ module _ (shape : Shape) (past : List Deed) (log : List Entry) (teams : List Tea
       done = done_still shape past log teams fates now run d i old new there (does.Step i w) (refused reply.Idle) act idle refl told_is (long ∙ ap (λ l. length l) grew) (within, working) settled
 
       same : newer ≡ older
-      same = after_own shape i past d run.legal (does.Step i w) reply.Idle act told_is refl ∙ own i _ older ∙ ap (λ o. on_step w (moment shape past) o reply.Idle ++ older) ((team_before shape past log teams fates now run log d done i old there).workers.syncs w None free)
+      same = after_own shape i past d run.legal (does.Step i w) reply.Idle act told_is refl ∙ own i _ older
+          ∙ ap (λ o. on_step w (moment shape past) o reply.Idle ++ older)
+          ((team_before shape past log teams fates now run log d done i old there).workers.syncs w None free)
 
   -- It has one.
   sync_run : (sync : Sync) → slice_get old.registers w ≡ Some (Some sync) → d.reply ≡ (stepped now fault log sync).reply → next ≡ grown log (stepped now fault log sync).entry → d.length.0 ≡ length next → Stored next
@@ -236,16 +246,22 @@ module _ (shape : Shape) (past : List Deed) (log : List Entry) (teams : List Tea
           sync.left refl fault refl (told_is ∙ ap (λ n. (stepped n fault log sync).reply) run.now_is)
 
   -- Either.
-  pub step_run : (register : Option Sync) → slice_get old.registers w ≡ Some register → d.reply ≡ (stride_at log now fault old.con.schedule register).reply → next ≡ grown log (stride_at log now fault old.con.schedule register).entry → d.length.0 ≡ length next → Stored next
+  pub step_run : (register : Option Sync) → slice_get old.registers w ≡ Some register → d.reply
+      ≡ (stride_at log now fault old.con.schedule register).reply → next
+      ≡ grown log (stride_at log now fault old.con.schedule register).entry → d.length.0 ≡ length next → Stored next
       → new.con.schedule ≡ (stride_at log now fault old.con.schedule register).schedule → MirrorsLog next new.con → new.registers ≡ set old.registers w (stride_at log now fault old.con.schedule register).register
       → new.faults ≡ set old.faults w (stride_at log now fault old.con.schedule register).fault → IsMachine shape (d ∷ past) next (set teams i new) fates now
   step_run None mine told_is grew long stored schedule holds registers faults = idle_run mine told_is grew long schedule holds registers faults
   step_run (Some sync) mine told_is grew long stored schedule holds registers faults = sync_run sync mine told_is grew long stored schedule holds registers faults
 
 -- In the words of the code.
-module _ (shape : Shape) (past : List Deed) (log : List Entry) (teams : List Team) (fates : Fates) (now : ℕ) (run : IsMachine shape past log teams fates now) (next : List Entry) (d : Deed) (i : ℕ) (old new : Team) (there : slice_get teams i ≡ Some old) (w : ℕ)
+module _ (shape : Shape) (past : List Deed) (log : List Entry) (teams : List Team) (fates : Fates) (now : ℕ)
+    (run : IsMachine shape past log teams fates now) (next : List Entry) (d : Deed) (i : ℕ) (old new : Team)
+    (there : slice_get teams i ≡ Some old) (w : ℕ)
     (within : i < shape.controllers) (working : w < shape.workers) (act : d.act ≡ does.Step i w) where
-  pub step_seen : d.reply ≡ (stride_of log now old w).reply → next ≡ grown log (stride_of log now old w).entry → d.length.0 ≡ length next → Stored next → new.con.schedule ≡ (stride_of log now old w).schedule → (MirrorsLog log old.con → MirrorsLog log new.con)
+  pub step_seen : d.reply ≡ (stride_of log now old w).reply → next ≡ grown log (stride_of log now old w).entry
+      → d.length.0 ≡ length next → Stored next → new.con.schedule ≡ (stride_of log now old w).schedule
+      → (MirrorsLog log old.con → MirrorsLog log new.con)
       → new.registers ≡ set old.registers w (stride_of log now old w).register → new.faults ≡ set old.faults w (stride_of log now old w).fault → IsMachine shape (d ∷ past) next (set teams i new) fates now
   step_seen told_is grew long stored schedule holds registers faults = by_fault (slice_get old.faults w) refl
     where

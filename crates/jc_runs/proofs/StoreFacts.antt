@@ -16,18 +16,20 @@ use Rattle.jc_history.specs.Available.{is_quiescent}
 use Rattle.jc_history.specs.Legal.{IsOfShape, MaySettle}
 use Rattle.jc_history.specs.Replies.{gives, log_given}
 use Rattle.jc_sync.specs.Plannable.{FitsIn, IsPlannable}
-use Rattle.jc_sync.specs.Registers.{HasSyncs, IsAnswered}
+use Rattle.jc_sync.specs.AllRegisters.{HasSyncs, IsAnswered}
 use Rattle.jc_sync.proofs.CommandFacts.{create_keeps, delete_keeps, update_keeps}
 use Rattle.jc_sync.proofs.FitFacts.{create_fits, delete_fits, update_fits}
 use Rattle.jc_runs.specs.Fates.{Fates}
-use Rattle.jc_runs.specs.Runs.{IsMachine}
+use Rattle.jc_runs.specs.Machines.{IsMachine}
 use Rattle.jc_runs.specs.Teams.{Team, registers_of}
 use Rattle.jc_runs.proofs.NoteFacts.{IsStoreAct}
 use Rattle.jc_runs.proofs.RunFacts.{plannable_grown, run_store}
 
 module _ (shape : Shape) (past : List Deed) (log : List Entry) (teams : List Team) (fates : Fates) (now : ℕ) (run : IsMachine shape past log teams fates now) (next : List Entry) (d : Deed) where
   -- The store gave this answer, as the table says; it keeps the syncs, and fits.
-  pub store_event : (a : Answered) → IsStoreAct d.act → IsOfShape shape d.act → MaySettle d.act (is_quiescent shape past (log_given shape past)) → gives shape past log d.act ≡ a → d.reply ≡ a.reply → next ≡ grown log a.entry → d.length.0 ≡ length next
+  pub store_event : (a : Answered) → IsStoreAct d.act → IsOfShape shape d.act
+      → MaySettle d.act (is_quiescent shape past (log_given shape past)) → gives shape past log d.act ≡ a → d.reply
+      ≡ a.reply → next ≡ grown log a.entry → d.length.0 ≡ length next
       → Stored next → IsAnswered d past log (registers_of teams) a → IfSome a.entry FitsIn → IsMachine shape (d ∷ past) next teams fates now
   store_event a s within settled is told grew long stored answered fits =
       let syncs = answered told (long ∙ ap (λ l. length l) grew) (subst Stored grew stored) in

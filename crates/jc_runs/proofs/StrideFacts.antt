@@ -4,7 +4,7 @@ use Rattle.std.specs.Option.{unwrap_or}
 use Rattle.std.proofs.lemmas.Option.{slice_get_read}
 use Rattle.jc_types.specs.declared.actions.Fault.{Fault}
 use Rattle.jc_types.specs.declared.objects.Entry.{Entry}
-use Rattle.jc_sync.specs.Registers.{register_of}
+use Rattle.jc_sync.specs.AllRegisters.{register_of}
 use Rattle.jc_asks.specs.Steps.{Next, GoesOn, Ends, Sync}
 use Rattle.jc_runs.specs.Teams.{Team, end_of_next, stride_at, stride_of}
 

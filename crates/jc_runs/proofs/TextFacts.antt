@@ -27,7 +27,7 @@ use Rattle.jc_ledger.specs.declared.flights.Flight.{Flight}
 use Rattle.jc_asks.specs.declared.asks.Ask.{Ask}
 use Rattle.jc_asks.specs.declared.asks.Ask.TheVariants.{MakePod, MarkPod, LetPodGo, WriteFirst, ReleasePod, WriteSecond}
 use Rattle.jc_asks.specs.Steps.{Sync, answered_to, as_answer, make_gives, status_gives, stepped, stepped_at, written_gives}
-use Rattle.jc_runs.specs.Texts.{AnswersNoText, HasNoText}
+use Rattle.jc_runs.specs.TextlessReplies.{AnswersNoText, HasNoText}
 
 -- A choice of two such answers.
 either : (b : Bool) (x y : Answered) → HasNoText x.reply → HasNoText y.reply → HasNoText (cond b x y).reply

@@ -1,10 +1,10 @@
 pub mod Teams
 pub mod Fates
-pub mod Runs
+pub mod Machines
 pub mod QuietRuns
 pub mod Conflicts
 pub mod Seen
-pub mod Texts
+pub mod TextlessReplies
 -- Words of the crates below, handed on to those above.
 pub use Rattle.jc_asks.specs.declared.asks.Ask
 pub use Rattle.jc_states.specs.Bases

@@ -25,7 +25,7 @@ use Rattle.jc_log.specs.Log.{is_lost, job_in, life, pods_under}
 use Rattle.jc_history.specs.Legal.{IsLegal}
 use Rattle.jc_history.specs.Registers.{asks_status, pending, register}
 use Rattle.jc_history.specs.Replies.{diary, log_given}
-use Rattle.jc_runs.specs.Runs.{AllAskValid}
+use Rattle.jc_runs.specs.Machines.{AllAskValid}
 use Rattle.jc_control.specs.Schedules.{log_end}
 
 -- Each deed of the run, the newest first, is a step of the worker, whose register is in use before

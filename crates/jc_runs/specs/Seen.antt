@@ -22,7 +22,7 @@ use Rattle.jc_log.specs.Acts.{Act}
 use Rattle.jc_log.specs.Deeds.{Deed, act_of_event, deed}
 use Rattle.jc_states.specs.ValidActions.{IsValidAction}
 use Rattle.jc_runs.specs.Fates.{Fates}
-use Rattle.jc_runs.specs.Runs.{IsMachine}
+use Rattle.jc_runs.specs.Machines.{IsMachine}
 use Rattle.jc_runs.specs.Teams.{Team}
 
 -- The script, the shape, and what happened, newest first.

@@ -18,7 +18,7 @@ use Rattle.jc_history.specs.Registers.{tells_written}
 use Rattle.jc_history.specs.Replies.{reply_of_begin}
 use Rattle.jc_plan.specs.Plans.{planned}
 use Rattle.jc_asks.specs.declared.asks.Ask.{Ask}
-use Rattle.jc_sync.specs.Registers.{Registers, register_of}
+use Rattle.jc_sync.specs.AllRegisters.{Registers, register_of}
 use Rattle.jc_asks.specs.Sends.{new_sync}
 use Rattle.jc_asks.specs.Steps.{Next, GoesOn, Ends, Stepped, Sync, floor_given, stepped}
 use Rattle.jc_types.specs.declared.actions.Fault.{Fault}

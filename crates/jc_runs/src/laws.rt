@@ -32,7 +32,7 @@ ghost use Rattle.jc_sync.specs.StepEffects.{IsLaterThan};
 ghost use Rattle.jc_runs.specs.Conflicts.{AreToldLater};
 ghost use Rattle.jc_runs.specs.Fates.{Fates};
 ghost use Rattle.jc_runs.specs.QuietRuns.{IsAtNext, IsQuietSync, WritesNoStatus};
-ghost use Rattle.jc_runs.specs.Runs.{AllAskValid, IsMachine};
+ghost use Rattle.jc_runs.specs.Machines.{AllAskValid, IsMachine};
 ghost use Rattle.jc_states.specs.ValidActions.{IsValidAction};
 ghost use Rattle.jc_runs.specs.Seen.{deeds_in};
 ghost use Rattle.jc_runs.specs.Teams.{KnowsNothing, Team};

@@ -12,7 +12,7 @@ use Rattle.jc_json.specs.Line.{data_of}
 use Rattle.jc_json.specs.Place.{path_to}
 use Rattle.jc_manifest.proofs.AcceptedFacts.{accepted_is_valid}
 use Rattle.jc_manifest.specs.Manifests.{manifest_refusal, spec_of, key_of}
-use Rattle.jc_rows.specs.Rows.{Row, unread, invalid}
+use Rattle.jc_rows.specs.ManifestRows.{Row, unread, invalid}
 use Rattle.jc_states.specs.ValidActions.{IsValidAction}
 use Rattle.jc_types.specs.ValidSpecs.{IsValidSpec}
 use Rattle.jc_types.specs.declared.actions.Action1.{Action1}
@@ -27,12 +27,12 @@ use Rattle.jc_script.specs.declared.commands.Said.{Said}
 use Rattle.jc_members.specs.declared.names.Seat.{Seat}
 use Rattle.jc_script.specs.declared.verbs.Verb.{Verb}
 use Rattle.jc_script.specs.declared.verbs.Verb.TheVariants as verb
-use Rattle.jc_members.specs.Causes.{read_as}
+use Rattle.jc_members.specs.LineCauses.{read_as}
 use Rattle.jc_script.specs.Commands.{said_unless, job_said, create_in, update_in, delete_in, fate_in, mark_in, strip_in, finish_in, phase_in, clock_in, list_command_in, deliver_in, begin_in, sync_in, step_in, restart_command_in, fault_in, kind_in, fault_kind_in, action_said, lane_in, command_in, object_says, value_says}
-use Rattle.jc_members.specs.Ends.{rightly_many, end_said_at, ends_said}
+use Rattle.jc_members.specs.EndMembers.{rightly_many, end_said_at, ends_said}
 use Rattle.jc_script.specs.Fits.{NamesShape}
 use Rattle.jc_members.specs.Items.{with_front, then_each, each_said}
-use Rattle.jc_script.specs.Lines.{lines_of}
+use Rattle.jc_script.specs.TextLines.{lines_of}
 use Rattle.jc_members.specs.Members.{given_number_in, whole_number_in}
 use Rattle.jc_members.specs.Named.{job_key_in, pod_named, controller_in, worker_in, seat_in, times_in}
 use Rattle.jc_members.specs.Phases.{report_in}

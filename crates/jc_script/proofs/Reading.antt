@@ -11,7 +11,7 @@ use Rattle.jc_script.specs.declared.scripts.ScriptFault.{ScriptFault}
 use Rattle.jc_script.specs.declared.scripts.ScriptFault.TheVariants as fault
 use Rattle.jc_script.specs.Commands.{commands_of}
 use Rattle.jc_members.specs.Items.{with_front}
-use Rattle.jc_script.specs.Lines.{lines_of, lines_left}
+use Rattle.jc_script.specs.TextLines.{lines_of, lines_left}
 use Rattle.jc_script.specs.Scripts.{BadLine, line_before, line_says, lines_say, script_of, most_commands}
 
 -- how much is left to read

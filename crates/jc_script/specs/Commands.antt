@@ -6,7 +6,7 @@ use Rattle.serde_json.specs.Data.{Data}
 use Rattle.jc_json.specs.Field.{◌>>=◌, needed_number, needed_object, object_of}
 use Rattle.jc_json.specs.Place.{path_to}
 use Rattle.jc_manifest.specs.Manifests.{manifest_refusal, key_of, spec_of}
-use Rattle.jc_rows.specs.Rows.{Row, unread, invalid}
+use Rattle.jc_rows.specs.ManifestRows.{Row, unread, invalid}
 use Rattle.jc_types.specs.declared.actions.Action1.{Action1}
 use Rattle.jc_types.specs.declared.actions.Action1.TheVariants as act
 use Rattle.jc_types.specs.declared.actions.Command.{Command}
@@ -22,8 +22,8 @@ use Rattle.jc_members.specs.declared.causes.Cause.TheVariants.{Invalid}
 use Rattle.jc_script.specs.declared.commands.Said.{Said}
 use Rattle.jc_script.specs.declared.verbs.Verb.{Verb}
 use Rattle.jc_script.specs.declared.verbs.Verb.TheVariants as verb
-use Rattle.jc_members.specs.Causes.{read_as, cause_of}
-use Rattle.jc_members.specs.Ends.{ends_said}
+use Rattle.jc_members.specs.LineCauses.{read_as, cause_of}
+use Rattle.jc_members.specs.EndMembers.{ends_said}
 use Rattle.jc_members.specs.Members.{whole_number_in, given_number_in, word_in}
 use Rattle.jc_members.specs.Named.{job_key_in, pod_named, controller_in, seat_in, times_in}
 use Rattle.jc_members.specs.Phases.{report_in}

@@ -13,7 +13,7 @@ use Rattle.jc_members.specs.declared.causes.Cause.TheVariants.{NotJson, LineTooL
 use Rattle.jc_script.specs.declared.commands.Said.{Said}
 use Rattle.jc_script.specs.Commands.{commands_of, value_says}
 use Rattle.jc_members.specs.Items.{with_front}
-use Rattle.jc_script.specs.Lines.{lines_of}
+use Rattle.jc_script.specs.TextLines.{lines_of}
 
 -- a line has at most this many bytes
 abbrev pub most_line_bytes : ℕ

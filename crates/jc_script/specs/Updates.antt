@@ -11,7 +11,7 @@ use Rattle.jc_types.specs.declared.numbers.Version.{Version}
 use Rattle.jc_members.specs.declared.causes.Cause.{Cause}
 use Rattle.jc_script.specs.declared.updates.NewCounts.{NewCounts}
 use Rattle.jc_script.specs.declared.updates.NewLimits.{NewLimits}
-use Rattle.jc_members.specs.Causes.{read_as}
+use Rattle.jc_members.specs.LineCauses.{read_as}
 use Rattle.jc_members.specs.Members.{only_known, given_number_in}
 
 abbrev pub as_version : ℕ → Version

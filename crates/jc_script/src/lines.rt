@@ -1,7 +1,7 @@
 //! The lines of a text.
 ghost use Rattle.std.specs.Prelude.{◌≡◌, ◌<◌, ◌+◌, ◌∷◌, ◌==◌, IfSome, length, option_copied, position};
 ghost use Rattle.std.specs.Str.Lines.{strip_carriage_return};
-ghost use Rattle.jc_script.specs.Lines.{lines_of, lines_left};
+ghost use Rattle.jc_script.specs.TextLines.{lines_of, lines_left};
 
 use memchr::memchr;
 

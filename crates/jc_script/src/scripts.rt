@@ -2,7 +2,7 @@
 
 ghost use Rattle.std.specs.Prelude.{◌≡◌, ◌≤◌, ◌+◌, ◌++◌, [], ◌∷◌, ℕ, List, IfOk, OnOk, IsErrOf, Ok, Err, length, nat_le};
 ghost use Rattle.std.specs.Option.{option_map_or};
-ghost use Rattle.jc_members.specs.Causes.{Says};
+ghost use Rattle.jc_members.specs.LineCauses.{Says};
 ghost use Rattle.jc_script.specs.Commands.{commands_of};
 ghost use Rattle.jc_members.specs.Items.{with_front};
 ghost use Rattle.jc_script.specs.Scripts.{most_bytes, most_commands, text_says, line_says, lines_say, script_of};

@@ -1,7 +1,7 @@
 //! What an update says.
 
 ghost use Rattle.jc_json.specs.View.{view};
-ghost use Rattle.jc_members.specs.Causes.{Says};
+ghost use Rattle.jc_members.specs.LineCauses.{Says};
 ghost use Rattle.jc_script.specs.Updates.{version_said, change_members, counts_of, limits_of, change_at, change_in};
 ghost use Rattle.jc_members.specs.Members.{only_known};
 

@@ -2,7 +2,7 @@
 
 ghost use Rattle.std.specs.Prelude.{◌≡◌, codes, map};
 ghost use Rattle.jc_json.specs.View.{view};
-ghost use Rattle.jc_members.specs.Causes.{Says};
+ghost use Rattle.jc_members.specs.LineCauses.{Says};
 ghost use Rattle.jc_members.specs.Members.{word_in};
 ghost use Rattle.jc_script.specs.Verbs.{verb_of, line_members, verb_in};
 

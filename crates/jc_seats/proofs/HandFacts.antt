@@ -11,7 +11,7 @@ use Rattle.jc_runs.specs.Basis.{Basis}
 use Rattle.jc_history.specs.Registers.{register}
 use Rattle.jc_runs.specs.Seen.{Seen}
 use Rattle.jc_core.specs.ApplyFault.{ApplyFault}
-use Rattle.jc_core.specs.Diaries.{diary_seen}
+use Rattle.jc_core.specs.DiariesSeen.{diary_seen}
 use Rattle.jc_core.specs.Shared.{Shared}
 use Rattle.jc_core.specs.Since.{seen_at}
 use Rattle.jc_core.specs.declared.holding.Work.{Work}

@@ -11,7 +11,7 @@ use Rattle.jc_types.specs.declared.actions.Script.{Script}
 use Rattle.jc_types.specs.declared.runs.Past.{Past}
 use Rattle.jc_types.specs.declared.runs.Shape.{Shape}
 use Rattle.jc_history.specs.Registers.{register}
-use Rattle.jc_core.specs.Diaries.{diary_seen}
+use Rattle.jc_core.specs.DiariesSeen.{diary_seen}
 use Rattle.jc_core.specs.Shared.{Shared, holds_slot, submitted_by}
 use Rattle.jc_core.specs.declared.holding.Work.{Work}
 use Rattle.jc_seats.specs.Names.{named_seen}

@@ -2,7 +2,7 @@
 
 ghost use Rattle.std.specs.Prelude.{◌≡◌, IfOk, Some, is_ok};
 ghost use Rattle.jc_history.specs.Registers.{register};
-ghost use Rattle.jc_core.specs.Diaries.{diary_seen};
+ghost use Rattle.jc_core.specs.DiariesSeen.{diary_seen};
 ghost use Rattle.jc_core.specs.Since.{seen_at};
 ghost use Rattle.jc_seats.specs.Hands.{IsHandedIn, offered};
 

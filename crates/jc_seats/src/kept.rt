@@ -7,7 +7,7 @@ ghost use Rattle.jc_runs.specs.Seen.{act_seen, deeds_seen, happened, reply_seen}
 ghost use Rattle.jc_core.specs.Actors.{CanCome};
 ghost use Rattle.jc_core.specs.ApplyFault.TheVariants.{HistoryFull};
 ghost use Rattle.jc_history.specs.Registers.{register};
-ghost use Rattle.jc_core.specs.Diaries.{diary_seen};
+ghost use Rattle.jc_core.specs.DiariesSeen.{diary_seen};
 ghost use Rattle.jc_core.specs.Shared.{put_back_by, slots_after, submitted_by};
 ghost use Rattle.jc_core.specs.Since.{seen_at};
 ghost use Rattle.jc_seats.specs.Hands.{IsAwaited};

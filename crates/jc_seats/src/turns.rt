@@ -5,7 +5,7 @@ ghost use Rattle.jc_types.specs.declared.runs.Event.{Event};
 ghost use Rattle.jc_runs.specs.Bases.{CanPlan};
 ghost use Rattle.jc_history.specs.Play.{first_event};
 ghost use Rattle.jc_history.specs.Registers.{register};
-ghost use Rattle.jc_core.specs.Diaries.{diary_seen};
+ghost use Rattle.jc_core.specs.DiariesSeen.{diary_seen};
 ghost use Rattle.jc_core.specs.ApplyFault.TheVariants.{HistoryFull};
 ghost use Rattle.jc_core.specs.Actors.{CanCome};
 ghost use Rattle.jc_core.specs.Slots.{unheld_seen};

@@ -42,7 +42,9 @@ same-left shape past now h =
     total-most (left-by shape past) (left-by shape now) shape.controllers
     (λ c lt. total-most (left-at shape past c) (left-at shape now c) shape.workers (λ w less. let same = left-same w (diary shape c past) (diary shape c now) (h c w) in omega (arith, same)))
 
-module _ (shape : Shape) (past : List Deed) (legal : IsLegal shape past) (d : Deed) (next : IsLegalNext shape past d) (c w : ℕ) (basis : Basis) (lt : c < shape.controllers) (less : w < shape.workers) (a : d.act ≡ does.Step c w) (r : register w (diary shape c past) ≡ Some basis) where
+module _ (shape : Shape) (past : List Deed) (legal : IsLegal shape past) (d : Deed) (next : IsLegalNext shape past d)
+    (c w : ℕ) (basis : Basis) (lt : c < shape.controllers) (less : w < shape.workers) (a : d.act ≡ does.Step c w)
+    (r : register w (diary shape c past) ≡ Some basis) where
   here : diary shape c (d ∷ past) ≡ on_step w (moment shape past) (Some basis) d.reply ++ diary shape c past
   here = step-notes shape past legal d next c w basis a r c ∙ ap (λ b. cond b (on_step w (moment shape past) (Some basis) d.reply) [] ++ diary shape c past) (eq-eqb c c refl)
 

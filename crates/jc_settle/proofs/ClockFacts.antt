@@ -24,7 +24,9 @@ module _ (shape : Shape) (past : List Deed) (d : Deed) (next : IsLegalNext shape
   clock-within : (add : ℕ) → d.act ≡ does.Clock add → IsMoment (moment shape past) → IsMoment (moment shape past + cond (is_now d.reply) add 0)
   clock-within add a m = by (nat_lt (moment shape past + add) end_of_moments) refl (clock-reply add a)
     where
-      by : (b : Bool) → nat_lt (moment shape past + add) end_of_moments ≡ b → d.reply ≡ (cond {A = Answered} b (refused (reply.Now (moment shape past + add))) (refused reply.ClockEnd)).reply → IsMoment (moment shape past + cond (is_now d.reply) add 0)
+      by : (b : Bool) → nat_lt (moment shape past + add) end_of_moments ≡ b → d.reply
+          ≡ (cond {A = Answered} b (refused (reply.Now (moment shape past + add))) (refused reply.ClockEnd)).reply
+          → IsMoment (moment shape past + cond (is_now d.reply) add 0)
       by true s e = subst (λ r. IsMoment (moment shape past + cond (is_now r) add 0)) (sym e) (ltb-true (moment shape past + add) end_of_moments s)
       by false s e = subst (λ r. IsMoment (moment shape past + cond (is_now r) add 0)) (sym e) (let lt = m in omega (arith, lt))
 
@@ -48,7 +50,9 @@ moments-are shape [] start legal = start
 moments-are shape (d ∷ past) start legal = moment-within shape past d legal.0 (moments-are shape past start legal.1)
 
 -- The clock moves to the least delay.
-module _ (shape : Shape) (past : List Deed) (legal : IsLegal shape past) (start : IsMoment shape.start) (d : Deed) (next : IsLegalNext shape past d) (due : ℕ) (a : d.act ≡ does.Clock (due - moment shape past)) (least : least_of_all shape past (log_given shape past) ≡ Some due) where
+module _ (shape : Shape) (past : List Deed) (legal : IsLegal shape past) (start : IsMoment shape.start) (d : Deed)
+    (next : IsLegalNext shape past d) (due : ℕ) (a : d.act ≡ does.Clock (due - moment shape past))
+    (least : least_of_all shape past (log_given shape past) ≡ Some due) where
   abbrev later : ℕ
   later = moment shape past + (due - moment shape past)
 

@@ -21,7 +21,7 @@ use Rattle.jc_asks.specs.declared.asks.Ask.TheVariants.{MakePod, MarkPod, LetPod
 use Rattle.jc_asks.specs.Asks.{as_request, asks_of}
 use Rattle.jc_asks.specs.Readings.{gone_in, requests, with_marks, with_step}
 use Rattle.jc_asks.specs.Steps.{stepped_at}
-use Rattle.jc_history.specs.Asks.{so_far}
+use Rattle.jc_history.specs.SoFar.{so_far}
 use Rattle.jc_history.specs.Diaries.{end_by, on_step}
 use Rattle.jc_history.specs.Notes.{Note, Asked, Ended, newest}
 use Rattle.jc_history.specs.Registers.{asks_status, fault_told, made, register, register_told}

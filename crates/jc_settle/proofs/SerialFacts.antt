@@ -207,7 +207,9 @@ module _ (shape : Shape) (some : 0 < shape.workers) (past : List Deed) where
       still : (e v : ℕ) → (b : Basis) × (register v (diary shape e (d ∷ run ++ past)) ≡ Some b) → is_some (register v (diary shape e (run ++ past))) ≡ true
       still e v x = ap is_some (register-kept shape e v d (run ++ past) x.0 legal n x.1)
 
-  pub serial : (run : List Deed) → IsLegal shape (run ++ past) → IsSettling shape run past → (c w : ℕ) (basis : Basis) → c < shape.controllers → w < shape.workers → register w (diary shape c (run ++ past)) ≡ Some basis → IsOldOrAlone shape run past c w basis
+  pub serial : (run : List Deed) → IsLegal shape (run ++ past) → IsSettling shape run past → (c w : ℕ) (basis : Basis)
+      → c < shape.controllers → w < shape.workers → register w (diary shape c (run ++ past)) ≡ Some basis
+      → IsOldOrAlone shape run past c w basis
   serial [] legal h c w basis lt less r = inl (tt, r)
   serial (d ∷ run) legal h c w basis lt less r =
       by (λ n. serial run legal.1 h.1 c w basis lt less (register-kept shape c w d (run ++ past) basis legal.1 n r)) (first-of-act d.act _ h.0)
@@ -239,7 +241,9 @@ module _ (shape : Shape) (some : 0 < shape.workers) (past : List Deed) where
         act = act ∙ (λ i. does.Begin (it.0 i) (it.1 i));
         reply = reply-is shape (run ++ past) legal.1 d legal.0 up free e v k rest lt' less' act first ∙ ap (λ (b : Basis). reply.Begun b.key b.jobs_at b.pods_at) it.2;
         none = free;
-        saw = sym it.2 ∙ ap (λ k. basis_of (diary shape c (run ++ past)) (log_given shape (run ++ past)) (moment shape (run ++ past)) k (log_end (log_given shape (run ++ past))) (log_end (log_given shape (run ++ past)))) (ap (λ (b : Basis). b.key) it.2);
+        saw = sym it.2 ∙ ap (λ k. basis_of (diary shape c (run ++ past)) (log_given shape (run ++ past))
+            (moment shape (run ++ past)) k (log_end (log_given shape (run ++ past)))
+            (log_end (log_given shape (run ++ past)))) (ap (λ (b : Basis). b.key) it.2);
         own = tt;
         alone = begun-alone shape (run ++ past) legal.1 d legal.0 up free e v k rest lt' less' act first c w basis lt less r;
       })
@@ -255,11 +259,15 @@ module _ (shape : Shape) (some : 0 < shape.workers) (past : List Deed) where
       case before x a (Acts up free none step is s) = absurd (never (no-begin x sys.Node a is refl) free)
       case before x a (Ticks up free none idle due is s) = absurd (never (no-begin x (sys.Clock (due - moment shape (run ++ past))) a is refl) free)
 
-      by : (is_begin_of_any d.act ≡ false → IsOldOrAlone shape run past c w basis) → (x : Sys) × (first_event (available shape (run ++ past) (log_given shape (run ++ past))) ≡ Some (event.System x)) × (act_of_system x ≡ d.act) → IsOldOrAlone shape (d ∷ run) past c w basis
+      by : (is_begin_of_any d.act ≡ false → IsOldOrAlone shape run past c w basis) → (x : Sys)
+          × (first_event (available shape (run ++ past) (log_given shape (run ++ past))) ≡ Some (event.System x))
+          × (act_of_system x ≡ d.act) → IsOldOrAlone shape (d ∷ run) past c w basis
       by before y = case before y.0 y.2 (first-comes shape (run ++ past) y.0 legal.1 some y.1)
 
   -- So of the registers that were free before it one at most is in use, and then no other is.
-  pub one-at-most : (run : List Deed) → IsLegal shape (run ++ past) → IsSettling shape run past → (c w : ℕ) → c < shape.controllers → w < shape.workers → register w (diary shape c past) ≡ None → is_some (register w (diary shape c (run ++ past))) ≡ true → IsAlone shape (run ++ past) c w
+  pub one-at-most : (run : List Deed) → IsLegal shape (run ++ past) → IsSettling shape run past → (c w : ℕ)
+      → c < shape.controllers → w < shape.workers → register w (diary shape c past) ≡ None
+      → is_some (register w (diary shape c (run ++ past))) ≡ true → IsAlone shape (run ++ past) c w
   one-at-most run legal h c w lt less free u = by (used (register w (diary shape c (run ++ past))) u)
     where
       of : (basis : Basis) → IsOldOrAlone shape run past c w basis → IsAlone shape (run ++ past) c w

@@ -9,7 +9,7 @@ ghost use Rattle.jc_runs.specs.Seen.{deeds_seen};
 ghost use Rattle.jc_seats.specs.Plays.{IsProper};
 ghost use Rattle.jc_seats.specs.Shared.{Shared};
 ghost use Rattle.jc_seats.specs.Names.{IsOfName};
-ghost use Rattle.jc_shared.specs.Runs.{EndsRun};
+ghost use Rattle.jc_shared.specs.SharedEnds.{EndsRun};
 ghost use Rattle.jc_seats.specs.declared.players.Player.{Player};
 
 use crate::clusters::{freed, new_kept};

@@ -14,7 +14,7 @@ ghost use Rattle.jc_turn.specs.LockSeats.{NoSeatHolds, BelongTo, IsSameSeat, fre
 ghost use mathlib.Core.List.{IsPrefix};
 ghost use Rattle.jc_seats.specs.Hands.{WasTaken};
 ghost use Rattle.jc_seats.specs.Names.{IsOfName};
-ghost use Rattle.jc_shared.specs.Runs.{EndsRun};
+ghost use Rattle.jc_shared.specs.SharedEnds.{EndsRun};
 
 use crate::clusters::{freed, new_kept};
 use crate::faults::ThreadsFault;

@@ -9,9 +9,9 @@ use Rattle.jc_script.specs.Scripts.{BadLine, most_bytes}
 use Rattle.jc_words.specs.declared.words.Order.{Order}
 use Rattle.jc_words.specs.declared.words.Order.TheVariants.{Audit, Generate, Reap, Run}
 use Rattle.jc_single.proofs.RunFacts.{bad_ends, ends_unread, full_is, generated_is_good, long_input, of_each, of_input, of_short}
-use Rattle.jc_single.specs.Ends.{AtLength, AtLine, AtMemory, AtRead, Change, Front, RunHasEnded, HasStopped, InputIsRead, IsUnread, Stopped, Whole, Wrote}
-use Rattle.jc_single.specs.Runs.{EndsUnread, OfInput, Printed, answer_of}
-use Rattle.jc_single.specs.Told.{ends_full}
+use Rattle.jc_single.specs.RunEnds.{AtLength, AtLine, AtMemory, AtRead, Change, Front, RunHasEnded, HasStopped, InputIsRead, IsUnread, Stopped, Whole, Wrote}
+use Rattle.jc_single.specs.RunAnswers.{EndsUnread, OfInput, Printed, answer_of}
+use Rattle.jc_single.specs.Headlines.{ends_full}
 use Rattle.jc_single.specs.declared.status.Status.{Status}
 use Rattle.jc_single.specs.declared.status.Status.TheVariants as status
 

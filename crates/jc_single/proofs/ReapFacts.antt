@@ -23,7 +23,7 @@ use Rattle.jc_promise.specs.Seen.{Seen, deeds_in, deeds_seen, log_seen}
 use Rattle.jc_script.specs.Scripts.{BadLine}
 use Rattle.jc_report.specs.Turns.{playing_of}
 use Rattle.jc_single.specs.Played.{at_rest, reaped_of, then_reaped}
-use Rattle.jc_single.specs.Runs.{Printed, printed_by, report_printed, reported}
+use Rattle.jc_single.specs.RunAnswers.{Printed, printed_by, report_printed, reported}
 use Rattle.jc_single.specs.declared.orders.Output.{Output}
 
 -- What holds where the answer is Ok gives more of it.

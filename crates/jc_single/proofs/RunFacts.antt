@@ -13,10 +13,10 @@ use Rattle.jc_words.specs.declared.words.Order.{Order}
 use Rattle.jc_words.specs.declared.words.Order.TheVariants.{Audit, Generate, Reap, Run}
 use Rattle.jc_single.specs.declared.status.Status.{Status}
 use Rattle.jc_single.specs.declared.status.Status.TheVariants as status
-use Rattle.jc_single.specs.Ends.{IsUnread}
+use Rattle.jc_single.specs.RunEnds.{IsUnread}
 use Rattle.jc_single.specs.Played.{as_script, script_played, staging_of}
-use Rattle.jc_single.specs.Runs.{EndsUnread, IsSingle, OfInput, Printed, answer_of}
-use Rattle.jc_single.specs.Told.{IsReport, TellsFront, TellsHistory, ends_full}
+use Rattle.jc_single.specs.RunAnswers.{EndsUnread, IsSingle, OfInput, Printed, answer_of}
+use Rattle.jc_single.specs.Headlines.{IsReport, TellsFront, TellsHistory, ends_full}
 
 -- The order that the words ask for is the one.
 pub order_same : (asked given : Order) (o : Option Order) → o ≡ Some given → o ≡ Some asked → given ≡ asked

@@ -8,9 +8,9 @@ use Rattle.jc_report.specs.Reports.{report_text, summary_of}
 use Rattle.jc_promise.specs.Seen.{Seen, log_seen}
 use Rattle.jc_script.specs.Scripts.{script_of}
 use Rattle.jc_report.specs.Turns.{playing_of}
-use Rattle.jc_words.specs.Fits.{IsFitShape}
+use Rattle.jc_words.specs.FitOrders.{IsFitShape}
 use Rattle.jc_single.specs.Played.{as_script}
-use Rattle.jc_single.specs.Runs.{Printed, printed_by, report_printed, reported, summary_printed}
+use Rattle.jc_single.specs.RunAnswers.{Printed, printed_by, report_printed, reported, summary_printed}
 use Rattle.jc_single.specs.declared.orders.Output.{Output}
 use Rattle.jc_single.specs.declared.plays.Played.{Played}
 

@@ -1,11 +1,11 @@
-pub mod Ends
+pub mod RunEnds
 pub mod Played
-pub mod Runs
-pub mod Told
+pub mod RunAnswers
+pub mod Headlines
 -- Words of the crates below, handed on to those above.
 pub use Rattle.jc_reap.specs.TtlLines
 pub use Rattle.jc_reap.specs.Finds
-pub use Rattle.jc_reap.specs.Said
+pub use Rattle.jc_reap.specs.ReapedCommands
 pub use Rattle.jc_reap.specs.Reaping
 pub use Rattle.jc_promise.specs.ValidActions
 pub use Rattle.jc_promise.specs.Available

@@ -18,11 +18,11 @@ ghost use Rattle.jc_script.specs.Scripts.{BadLine, most_bytes, script_of};
 ghost use Rattle.jc_words.specs.Words.{order_of};
 ghost use Rattle.jc_words.specs.declared.words.Order.{Order};
 ghost use Rattle.jc_words.specs.declared.words.Order.TheVariants.{Generate, Reap};
-ghost use Rattle.jc_words.specs.Fits.{IsFitOrder};
+ghost use Rattle.jc_words.specs.FitOrders.{IsFitOrder};
 ghost use Rattle.jc_single.specs.Played.{CollectsDue, at_rest, script_played, staging_of};
-ghost use Rattle.jc_single.specs.Ends.{Change, HasRun};
-ghost use Rattle.jc_single.specs.Runs.{EndsUnread, IsSingle, OfInput, Printed, answer_of, report_printed, status_of};
-ghost use Rattle.jc_single.specs.Told.{IsReport, IsReportOf, TellsFront};
+ghost use Rattle.jc_single.specs.RunEnds.{Change, HasRun};
+ghost use Rattle.jc_single.specs.RunAnswers.{EndsUnread, IsSingle, OfInput, Printed, answer_of, report_printed, status_of};
+ghost use Rattle.jc_single.specs.Headlines.{IsReport, IsReportOf, TellsFront};
 
 use crate::status::Status;
 use jc_promise::{

@@ -10,10 +10,10 @@ ghost use Rattle.jc_report.specs.Reports.{report_text, summary_of};
 ghost use Rattle.jc_gen.specs.Generated.{generated};
 ghost use Rattle.jc_script.specs.Scripts.{most_bytes, script_of};
 ghost use Rattle.jc_script.specs.Cause.{Cause};
-ghost use Rattle.jc_words.specs.Fits.{IsFitOrder, IsFitShape};
+ghost use Rattle.jc_words.specs.FitOrders.{IsFitOrder, IsFitShape};
 ghost use Rattle.jc_words.specs.Words.{default_shape};
 ghost use Rattle.jc_single.specs.Played.{as_script};
-ghost use Rattle.jc_single.specs.Runs.{IsSingle, answer_of, printed_by, report_printed, reported, summary_printed};
+ghost use Rattle.jc_single.specs.RunAnswers.{IsSingle, answer_of, printed_by, report_printed, reported, summary_printed};
 
 use crate::plays::{Played, play_whole};
 use crate::reaps::reap_answer;
@@ -111,7 +111,7 @@ fn generate_answer(alloc: Global, number: u32, jobs: u32, pods: u32) -> Result<O
 }
 
 /// What the order asks for, of what was read.
-#[tactic(auto, unfolding(crate::specs::Runs::answer_of))]
+#[tactic(auto, unfolding(crate::specs::RunAnswers::answer_of))]
 pub(crate) fn answer(alloc: Global, order: &Order, input: &[u8]) -> Result<Output, ScriptFault>
     requires few { length input.now ≤ most_bytes }
     requires fits { IsFitOrder order.now }

@@ -12,9 +12,9 @@ ghost use Rattle.jc_reap.specs.Reaping.{reap_list};
 ghost use Rattle.jc_reap.specs.TtlLines.{ttls_of};
 ghost use Rattle.jc_script.specs.Scripts.{most_bytes, most_commands, script_of};
 ghost use Rattle.jc_script.specs.Cause.{Cause};
-ghost use Rattle.jc_words.specs.Fits.{IsFitShape};
+ghost use Rattle.jc_words.specs.FitOrders.{IsFitShape};
 ghost use Rattle.jc_single.specs.Played.{at_rest, reaped_of, then_reaped};
-ghost use Rattle.jc_single.specs.Runs.{printed_by, report_printed, reported};
+ghost use Rattle.jc_single.specs.RunAnswers.{printed_by, report_printed, reported};
 
 use crate::orders::{Output, script_answer};
 use crate::plays::{Played, play_whole};

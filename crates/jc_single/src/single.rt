@@ -7,11 +7,11 @@ ghost use Rattle.jc_io.specs.Moved.{TakesAtMost, TakesCount};
 ghost use Rattle.jc_script.specs.Scripts.{most_bytes};
 ghost use Rattle.jc_words.specs.Words.{order_of};
 ghost use Rattle.jc_words.specs.declared.words.Order.{Order};
-ghost use Rattle.jc_words.specs.Fits.{IsFitOrder};
-ghost use Rattle.jc_single.specs.Ends.{Answers, HasMade, HasRun, HasWritten, IsUnread, RunHasEnded, change};
+ghost use Rattle.jc_words.specs.FitOrders.{IsFitOrder};
+ghost use Rattle.jc_single.specs.RunEnds.{Answers, HasMade, HasRun, HasWritten, IsUnread, RunHasEnded, change};
 ghost use Rattle.jc_single.specs.Played.{script_played, staging_of};
-ghost use Rattle.jc_single.specs.Runs.{IsSingle, OfInput, printed_by};
-ghost use Rattle.jc_single.specs.Told.{TellsHistory, ends_full};
+ghost use Rattle.jc_single.specs.RunAnswers.{IsSingle, OfInput, printed_by};
+ghost use Rattle.jc_single.specs.Headlines.{TellsHistory, ends_full};
 
 use crate::laws::runs_tell_their_history;
 use crate::orders::{Output, answer};

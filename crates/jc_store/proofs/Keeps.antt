@@ -67,7 +67,9 @@ appended : (items more log : List Entry) (e : Entry) → reverse items ≡ log �
 appended items more log e is to = ap reverse to ∙ newest_first items e ∙ ap (λ l. e ∷ l) is
 
 -- Counts that are the same are kept.
-pub counts-keep : (born : ℕ) (jobs : List (Key × Job)) (pods : List Pod) (made counts : List (Uid × ℕ)) (items more : List Entry) → IsKept born jobs pods made (reverse items) → more ≡ items → ((owner : Uid) → count_of counts owner ≡ count_of made owner) → IsKept born jobs pods counts (reverse more)
+pub counts-keep : (born : ℕ) (jobs : List (Key × Job)) (pods : List Pod) (made counts : List (Uid × ℕ))
+    (items more : List Entry) → IsKept born jobs pods made (reverse items) → more ≡ items
+    → ((owner : Uid) → count_of counts owner ≡ count_of made owner) → IsKept born jobs pods counts (reverse more)
 counts-keep born jobs pods made counts items more k to same =
     subst (λ l. IsKept born jobs pods counts (reverse l)) (sym to) (record {
       counted = k.counted;
@@ -78,7 +80,9 @@ counts-keep born jobs pods made counts items more k to same =
       few = k.few;
     })
 
-job_put : (born next : ℕ) (jobs rows : List (Key × Job)) (pods : List Pod) (made : List (Uid × ℕ)) (log : List Entry) (job : Job) → IsKept born jobs pods made log → rows ≡ puts same_key jobs job.key job → next ≡ births (JobPut job ∷ log) → Writes log (JobPut job) → IsKept next rows pods made (JobPut job ∷ log)
+job_put : (born next : ℕ) (jobs rows : List (Key × Job)) (pods : List Pod) (made : List (Uid × ℕ)) (log : List Entry)
+    (job : Job) → IsKept born jobs pods made log → rows ≡ puts same_key jobs job.key job → next
+    ≡ births (JobPut job ∷ log) → Writes log (JobPut job) → IsKept next rows pods made (JobPut job ∷ log)
 job_put born next jobs rows pods made log job k put count writes = record {
   counted = count;
   jobs_there = put ∙ ap (λ t. puts same_key t job.key job) k.jobs_there;
@@ -88,19 +92,28 @@ job_put born next jobs rows pods made log job k put count writes = record {
   few = k.few;
 }
 
-pub make_job-keeps : (born next : ℕ) (jobs rows : List (Key × Job)) (pods : List Pod) (made : List (Uid × ℕ)) (items more log : List Entry) (job : Job) → IsKept born jobs pods made (reverse items) → reverse items ≡ log → more ≡ items ++ JobPut job ∷ [] → rows ≡ puts same_key jobs job.key job → next ≡ births log + 1 → job.version ≡ next_version log → IsNewJob log job → job_in job.key log ≡ None → IsKept next rows pods made (reverse more)
+pub make_job-keeps : (born next : ℕ) (jobs rows : List (Key × Job)) (pods : List Pod) (made : List (Uid × ℕ))
+    (items more log : List Entry) (job : Job) → IsKept born jobs pods made (reverse items) → reverse items ≡ log → more
+    ≡ items ++ JobPut job ∷ [] → rows ≡ puts same_key jobs job.key job → next ≡ births log + 1 → job.version
+    ≡ next_version log → IsNewJob log job → job_in job.key log ≡ None → IsKept next rows pods made (reverse more)
 make_job-keeps born next jobs rows pods made items more log job kept is to put count version new absent =
     let k = subst (IsKept born jobs pods made) is kept in
     subst (IsKept next rows pods made) (sym (appended items more log (JobPut job) is to))
     (job_put born next jobs rows pods made log job k put (count ∙ sym (made_job-births log job k.stored new)) (made_job-writes log job version new absent))
 
-pub put_job-keeps : (born : ℕ) (jobs rows : List (Key × Job)) (pods : List Pod) (made : List (Uid × ℕ)) (items more log : List Entry) (job : Job) → IsKept born jobs pods made (reverse items) → reverse items ≡ log → more ≡ items ++ JobPut job ∷ [] → rows ≡ puts same_key jobs job.key job → job.version ≡ next_version log → StepsFrom (job_in job.key log) job → IsKept born rows pods made (reverse more)
+pub put_job-keeps : (born : ℕ) (jobs rows : List (Key × Job)) (pods : List Pod) (made : List (Uid × ℕ))
+    (items more log : List Entry) (job : Job) → IsKept born jobs pods made (reverse items) → reverse items ≡ log → more
+    ≡ items ++ JobPut job ∷ [] → rows ≡ puts same_key jobs job.key job → job.version ≡ next_version log
+    → StepsFrom (job_in job.key log) job → IsKept born rows pods made (reverse more)
 put_job-keeps born jobs rows pods made items more log job kept is to put version step =
     let k = subst (IsKept born jobs pods made) is kept in
     subst (IsKept born rows pods made) (sym (appended items more log (JobPut job) is to))
     (job_put born born jobs rows pods made log job k put (k.counted ∙ sym (put_job-births log job step)) (put_job-writes log job version step))
 
-pub end_job-keeps : (born : ℕ) (jobs rows : List (Key × Job)) (pods : List Pod) (made : List (Uid × ℕ)) (items more log : List Entry) (job : Job) → IsKept born jobs pods made (reverse items) → reverse items ≡ log → more ≡ items ++ JobGone job ∷ [] → rows ≡ takes same_key jobs job.key → job.version ≡ next_version log → CanEnd (job_in job.key log) job → IsKept born rows pods made (reverse more)
+pub end_job-keeps : (born : ℕ) (jobs rows : List (Key × Job)) (pods : List Pod) (made : List (Uid × ℕ))
+    (items more log : List Entry) (job : Job) → IsKept born jobs pods made (reverse items) → reverse items ≡ log → more
+    ≡ items ++ JobGone job ∷ [] → rows ≡ takes same_key jobs job.key → job.version ≡ next_version log
+    → CanEnd (job_in job.key log) job → IsKept born rows pods made (reverse more)
 end_job-keeps born jobs rows pods made items more log job kept is to take version end =
     let k = subst (IsKept born jobs pods made) is kept in
     subst (IsKept born rows pods made) (sym (appended items more log (JobGone job) is to)) (record {
@@ -130,7 +143,10 @@ written_few log pod few step = by (life pod.uid log) refl step
         omega (arith, same, few)
     by Gone is step = absurd step
 
-pub write_pod-keeps : (born : ℕ) (jobs : List (Key × Job)) (pods rows : List Pod) (made : List (Uid × ℕ)) (items more log : List Entry) (pod : Pod) → IsKept born jobs pods made (reverse items) → reverse items ≡ log → more ≡ items ++ PodPut pod ∷ [] → rows ≡ put_pod pod pods → pod.version ≡ next_version log → CanGo (life pod.uid log) pod → goes pod ≡ false → IsKept born jobs rows made (reverse more)
+pub write_pod-keeps : (born : ℕ) (jobs : List (Key × Job)) (pods rows : List Pod) (made : List (Uid × ℕ))
+    (items more log : List Entry) (pod : Pod) → IsKept born jobs pods made (reverse items) → reverse items ≡ log → more
+    ≡ items ++ PodPut pod ∷ [] → rows ≡ put_pod pod pods → pod.version ≡ next_version log → CanGo (life pod.uid log) pod
+    → goes pod ≡ false → IsKept born jobs rows made (reverse more)
 write_pod-keeps born jobs pods rows made items more log pod kept is to put version step stays =
     let k = subst (IsKept born jobs pods made) is kept in
     subst (IsKept born jobs rows made) (sym (appended items more log (PodPut pod) is to)) (record {
@@ -144,7 +160,10 @@ write_pod-keeps born jobs pods rows made items more log pod kept is to put versi
       few = written_few log pod k.few step;
     })
 
-pub end_pod-keeps : (born : ℕ) (jobs : List (Key × Job)) (pods rows : List Pod) (made : List (Uid × ℕ)) (items more log : List Entry) (pod : Pod) → IsKept born jobs pods made (reverse items) → reverse items ≡ log → more ≡ items ++ PodGone pod ∷ [] → rows ≡ drop_pod pod.uid pods → pod.version ≡ next_version log → CanGo (life pod.uid log) pod → goes pod ≡ true → IsKept born jobs rows made (reverse more)
+pub end_pod-keeps : (born : ℕ) (jobs : List (Key × Job)) (pods rows : List Pod) (made : List (Uid × ℕ))
+    (items more log : List Entry) (pod : Pod) → IsKept born jobs pods made (reverse items) → reverse items ≡ log → more
+    ≡ items ++ PodGone pod ∷ [] → rows ≡ drop_pod pod.uid pods → pod.version ≡ next_version log
+    → CanGo (life pod.uid log) pod → goes pod ≡ true → IsKept born jobs rows made (reverse more)
 end_pod-keeps born jobs pods rows made items more log pod kept is to drop version step going =
     let k = subst (IsKept born jobs pods made) is kept in
     subst (IsKept born jobs rows made) (sym (appended items more log (PodGone pod) is to)) (record {
@@ -157,7 +176,11 @@ end_pod-keeps born jobs pods rows made items more log pod kept is to drop versio
     })
 
 -- The counts after one more pod of an owner.
-counts_more : (made counts more : List (Uid × ℕ)) (log : List Entry) (pod : Pod) (count : ℕ) → ((owner : Uid) → count_of made owner ≡ made_for owner log) → ((owner : Uid) → count_of counts owner ≡ count_of made owner) → count ≡ made_for pod.owner_uid log → Sets same_uid counts more pod.owner_uid (Some (count + 1)) → life pod.uid log ≡ Never → (owner : Uid) → count_of more owner ≡ made_for owner (PodPut pod ∷ log)
+counts_more : (made counts more : List (Uid × ℕ)) (log : List Entry) (pod : Pod) (count : ℕ)
+    → ((owner : Uid) → count_of made owner ≡ made_for owner log)
+    → ((owner : Uid) → count_of counts owner ≡ count_of made owner) → count ≡ made_for pod.owner_uid log
+    → Sets same_uid counts more pod.owner_uid (Some (count + 1)) → life pod.uid log ≡ Never → (owner : Uid)
+    → count_of more owner ≡ made_for owner (PodPut pod ∷ log)
 counts_more made counts more log pod count held same is sets never owner =
     ap (λ o. unwrap_or o 0) (sets owner) ∙ by (same_uid pod.owner_uid owner) refl
     ∙ ap (λ b. cond (same_uid pod.owner_uid owner && b) (made_for owner log + 1) (made_for owner log)) (sym (ap is_never never))
@@ -166,7 +189,13 @@ counts_more made counts more log pod count held same is sets never owner =
     by true s = ap (λ n. n + 1) (is ∙ ap (λ u. made_for u log) (same_uid-eq pod.owner_uid owner s))
     by false s = same owner ∙ held owner
 
-pub make_pod-keeps : (born next : ℕ) (jobs : List (Key × Job)) (pods rows : List Pod) (made counts counted : List (Uid × ℕ)) (items more log : List Entry) (pod : Pod) (count : ℕ) → IsKept born jobs pods made (reverse items) → reverse items ≡ log → more ≡ items ++ PodPut pod ∷ [] → rows ≡ put_pod pod pods → ((owner : Uid) → count_of counts owner ≡ count_of made owner) → count ≡ made_for pod.owner_uid log → Sets same_uid counts counted pod.owner_uid (Some (count + 1)) → next ≡ births log + 1 → length log < 2 ^ 32 - 1 → pod.version ≡ next_version log → IsNewPod log pod → IsKept next jobs rows counted (reverse more)
+pub make_pod-keeps : (born next : ℕ) (jobs : List (Key × Job)) (pods rows : List Pod)
+    (made counts counted : List (Uid × ℕ)) (items more log : List Entry) (pod : Pod) (count : ℕ)
+    → IsKept born jobs pods made (reverse items) → reverse items ≡ log → more ≡ items ++ PodPut pod ∷ [] → rows
+    ≡ put_pod pod pods → ((owner : Uid) → count_of counts owner ≡ count_of made owner) → count
+    ≡ made_for pod.owner_uid log → Sets same_uid counts counted pod.owner_uid (Some (count + 1)) → next ≡ births log + 1
+    → length log < 2 ^ 32 - 1 → pod.version ≡ next_version log → IsNewPod log pod
+    → IsKept next jobs rows counted (reverse more)
 make_pod-keeps born next jobs pods rows made counts counted items more log pod count kept is to put same found sets birth room version new =
     let k = subst (IsKept born jobs pods made) is kept in
     subst (IsKept next jobs rows counted) (sym (appended items more log (PodPut pod) is to)) (record {

@@ -4,7 +4,7 @@
 ghost use Rattle.std.specs.Prelude.{◌≡◌, ℕ, All, List, None, Some, false};
 ghost use Rattle.jc_types.specs.declared.policies.SuccessPolicy.{SuccessPolicy};
 ghost use Rattle.jc_types.specs.FirstPlaces.{IsLeast};
-ghost use Rattle.jc_succpol.specs.Rules.{is_met, met_place};
+ghost use Rattle.jc_succpol.specs.SuccessRules.{is_met, met_place};
 
 /// The place of the first rule that is met is the least at which a rule is met, and where there is none
 /// no rule is met.

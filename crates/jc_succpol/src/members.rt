@@ -3,7 +3,7 @@
 ghost use Rattle.std.specs.Prelude.{◌≡◌, false, slice_get};
 ghost use Rattle.std.specs.Option.{option_map_or};
 ghost use Rattle.jc_ranges.specs.Sets.{has};
-ghost use Rattle.jc_succpol.specs.Rules.{count_within, includes};
+ghost use Rattle.jc_succpol.specs.SuccessRules.{count_within, includes};
 
 use jc_ranges::Ranges;
 

@@ -1,7 +1,7 @@
 //! The rules of a success policy and the first that is met.
 
 ghost use Rattle.std.specs.Prelude.{◌≡◌, ◌<◌, ◌^◌, is_some, length};
-ghost use Rattle.jc_succpol.specs.Rules.{is_met, met_place};
+ghost use Rattle.jc_succpol.specs.SuccessRules.{is_met, met_place};
 
 use crate::members::{are_all_completed, completed_within};
 use jc_ranges::Ranges;

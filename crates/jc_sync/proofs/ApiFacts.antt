@@ -95,12 +95,17 @@ status_cases log k j v status = by (job_in k log) refl
     by_status current there own at false s = Accepted current there own at s refl
 
     by_version : (current : Job) → job_in k log ≡ Some current → current.uid ≡ j → (b : Bool) → (current.version.0 == v.0) ≡ b
-        → StatusCases log k j v status (cond (not b) (refused (Conflict current.version)) (cond (same_status current.status status) (refused (Unchanged current.version)) (accepted (Written (next_version log)) (JobPut (with_status log current status)))))
+        → StatusCases log k j v status (cond (not b) (refused (Conflict current.version))
+        (cond (same_status current.status status) (refused (Unchanged current.version))
+        (accepted (Written (next_version log)) (JobPut (with_status log current status)))))
     by_version current there own true s = by_status current there own (ap (λ (n : ℕ). record { 0 = n }) (eqb-true current.version.0 v.0 s)) (same_status current.status status) refl
     by_version current there own false s = Conflicts current there own (λ e. true≢false (sym (eq-eqb current.version.0 v.0 e) ∙ s)) refl
 
     by_uid : (current : Job) → job_in k log ≡ Some current → (b : Bool) → same_uid current.uid j ≡ b
-        → StatusCases log k j v status (cond (not b) (refused NotFound) (cond (not (current.version.0 == v.0)) (refused (Conflict current.version)) (cond (same_status current.status status) (refused (Unchanged current.version)) (accepted (Written (next_version log)) (JobPut (with_status log current status))))))
+        → StatusCases log k j v status (cond (not b) (refused NotFound)
+        (cond (not (current.version.0 == v.0)) (refused (Conflict current.version))
+        (cond (same_status current.status status) (refused (Unchanged current.version))
+        (accepted (Written (next_version log)) (JobPut (with_status log current status))))))
     by_uid current there true s = by_version current there (same_uid-eq current.uid j s) (current.version.0 == v.0) refl
     by_uid current there false s = Absent (λ c is own. true≢false (sym (ap (λ u. same_uid u j) (ap (λ (o : Option Job). (unwrap_or o c).uid) (sym there ∙ is) ∙ own) ∙ same_uid-itself j) ∙ s)) refl
 

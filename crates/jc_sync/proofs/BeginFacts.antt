@@ -25,7 +25,7 @@ use Rattle.jc_ledger.specs.Syncs.{began_of}
 use Rattle.jc_ledger.specs.Tied.{IsWithin}
 use Rattle.jc_ledger.proofs.OwnFacts.{basis-rises}
 use Rattle.jc_ledger.proofs.QuietFacts.{IfSome-of}
-use Rattle.jc_sync.specs.Registers.{HasSyncs, Registers, put_at, register_at}
+use Rattle.jc_sync.specs.AllRegisters.{HasSyncs, Registers, put_at, register_at}
 use Rattle.jc_asks.specs.Sends.{new_sync, sent_first}
 use Rattle.jc_sync.proofs.RegisterFacts.{begin_syncs}
 use Rattle.jc_sync.proofs.SeenFacts.{lets-rise}

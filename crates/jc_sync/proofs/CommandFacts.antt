@@ -33,7 +33,7 @@ use Rattle.jc_ledger.specs.Syncs.{began_of, request_of}
 use Rattle.jc_ledger.specs.Tied.{Tied}
 use Rattle.jc_ledger.proofs.JobLaws.{tied_created, tied_deleted, tied_pod, tied_updated}
 use Rattle.jc_asks.specs.Readings.{told_step}
-use Rattle.jc_sync.specs.Registers.{HasSyncs, Registers, flights_of_all}
+use Rattle.jc_sync.specs.AllRegisters.{HasSyncs, Registers, flights_of_all}
 use Rattle.jc_sync.proofs.EntryFacts.{not_never, owned-live, pod_entry-pod, quiet-by}
 use Rattle.jc_sync.proofs.RegisterFacts.{other_syncs, quiet_syncs}
 

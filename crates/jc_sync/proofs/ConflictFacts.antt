@@ -29,7 +29,7 @@ use Rattle.jc_ledger.proofs.SeenFacts.{saw}
 use Rattle.jc_asks.specs.declared.asks.Ask.{Ask}
 use Rattle.jc_asks.specs.declared.asks.Ask.TheVariants.{MakePod, MarkPod, LetPodGo, WriteFirst, ReleasePod, WriteSecond}
 use Rattle.jc_asks.specs.Asks.{unchanged_of, version_sent, writes_status}
-use Rattle.jc_sync.specs.Places.{IsAt, SeenActive}
+use Rattle.jc_sync.specs.SyncPlaces.{IsAt, SeenActive}
 use Rattle.jc_sync.specs.StepEffects.{IsLaterThan}
 use Rattle.jc_asks.specs.Steps.{as_answer, answered_to, status_gives, written_gives}
 use Rattle.jc_sync.proofs.ApiFacts.{LetGoCases, LetGone, Other, Refused, let_go_cases, StatusCases, Accepted, Same, Conflicts, Absent, status_cases}

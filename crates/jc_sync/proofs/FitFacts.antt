@@ -33,7 +33,7 @@ use Rattle.jc_ledger.proofs.QuietFacts.{IfSome-at, seen_job-entry}
 use Rattle.jc_asks.specs.declared.asks.Ask.{Ask}
 use Rattle.jc_asks.specs.declared.asks.Ask.TheVariants.{MakePod, MarkPod, LetPodGo, WriteFirst, ReleasePod, WriteSecond}
 use Rattle.jc_plan.specs.Creations.{IsIndexFor}
-use Rattle.jc_sync.specs.Places.{IsAt}
+use Rattle.jc_sync.specs.SyncPlaces.{IsAt}
 use Rattle.jc_sync.specs.Plannable.{AppendsFit, FitsIn, IsPlannable}
 use Rattle.jc_asks.specs.Steps.{answered_to, make_gives, status_gives, written_gives}
 use Rattle.jc_sync.proofs.ApiFacts.{LetGoCases, LetGone, Other, Refused, let_go_cases, MarkCases, Marked, Unmarked, mark_cases, ReleaseCases, Took, NotThere, release_cases, StatusCases, Accepted, Same, Conflicts, Absent, status_cases}
@@ -60,10 +60,14 @@ module _ (log : List Entry) (legal : Legal log) (p : IsPlannable log) where
       by None = valid
       by (Some job) = tt
 
-  pub update_fits : ((spec : JobSpec) (change : SpecChange) → IsValidSpec spec → update_refusal spec change ≡ None → IsValidSpec (changed_spec spec change)) → (key : Key) (version : Option Version) (change : SpecChange) → AppendsFit (update_spec_gives log key version change)
+  pub update_fits : ((spec : JobSpec) (change : SpecChange) → IsValidSpec spec → update_refusal spec change ≡ None
+      → IsValidSpec (changed_spec spec change)) → (key : Key) (version : Option Version) (change : SpecChange)
+      → AppendsFit (update_spec_gives log key version change)
   update_fits allowed key version change = by (job_in key log) refl
     where
-      changed : (job : Job) → job_in key log ≡ Some job → update_refusal job.spec change ≡ None → (b : Bool) → AppendsFit (cond b (refused (Unchanged job.version)) (accepted (Written (next_version log)) (JobPut (with_spec log job (changed_spec job.spec change)))))
+      changed : (job : Job) → job_in key log ≡ Some job → update_refusal job.spec change ≡ None → (b : Bool)
+          → AppendsFit (cond b (refused (Unchanged job.version))
+          (accepted (Written (next_version log)) (JobPut (with_spec log job (changed_spec job.spec change)))))
       changed job is may true = tt
       changed job is may false = allowed job.spec change (p.valid job.version.0 job (job_in-entry key log job stored is)) may
 

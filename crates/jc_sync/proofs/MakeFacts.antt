@@ -27,7 +27,7 @@ use Rattle.jc_ledger.proofs.MadeFacts.{WasMade, job_in-was_made, made_as-upto}
 use Rattle.jc_ledger.proofs.QuietFacts.{IfSome-at, tied_quiet}
 use Rattle.jc_asks.specs.declared.asks.Ask.TheVariants.{MakePod}
 use Rattle.jc_plan.specs.Creations.{IsIndexFor}
-use Rattle.jc_sync.specs.Places.{IsEarly}
+use Rattle.jc_sync.specs.SyncPlaces.{IsEarly}
 use Rattle.jc_asks.specs.Steps.{make_gives}
 use Rattle.jc_sync.proofs.ApiFacts.{MarkCases, Marked, Unmarked, mark_cases}
 use Rattle.jc_sync.proofs.EntryFacts.{not_never, owned-live, pod_entry-pod, quiet-by, written-by}

@@ -14,7 +14,7 @@ use Rattle.jc_ledger.proofs.QuietFacts.{IfSome-of}
 use Rattle.jc_asks.specs.declared.asks.Ask.{Ask}
 use Rattle.jc_asks.specs.declared.asks.Ask.TheVariants.{MakePod, MarkPod, LetPodGo, WriteFirst, ReleasePod, WriteSecond}
 use Rattle.jc_asks.specs.Asks.{first_asks, second_asks, last_asks, late_asks}
-use Rattle.jc_sync.specs.Places.{After, AreReleased, Before, IsAt, IsEarly, IsUnder, KnowsFirst, Over, Under}
+use Rattle.jc_sync.specs.SyncPlaces.{After, AreReleased, Before, IsAt, IsEarly, IsUnder, KnowsFirst, Over, Under}
 use Rattle.jc_plan.proofs.NextFacts.{changed-same}
 use Rattle.jc_plan.proofs.PlanFacts.{plan-first}
 

@@ -30,7 +30,7 @@ use Rattle.jc_ledger.proofs.QuietFacts.{IfSome-at}
 use Rattle.jc_asks.specs.declared.asks.Ask.{Ask}
 use Rattle.jc_asks.specs.declared.asks.Ask.TheVariants.{MakePod, MarkPod, LetPodGo, WriteFirst, ReleasePod, WriteSecond}
 use Rattle.jc_asks.specs.Asks.{writes_status, asks_of, is_gone, asks_after, second_asks}
-use Rattle.jc_sync.specs.Places.{IsUnder, Under}
+use Rattle.jc_sync.specs.SyncPlaces.{IsUnder, Under}
 use Rattle.jc_sync.specs.Quiet.{GoesOnTo, IsUndisturbed, Going, Wrote, Leaves, steps_left}
 use Rattle.jc_asks.specs.Steps.{as_answer, answered_to, flight_after, make_gives, next_after, status_gives, stepped_at, written_gives}
 use Rattle.jc_sync.proofs.ApiFacts.{LetGoCases, LetGone, Other, Refused, let_go_cases, MarkCases, Marked, Unmarked, mark_cases, ReleaseCases, Took, NotThere, release_cases, StatusCases, Accepted, Same, Conflicts, Absent, status_cases}

@@ -56,7 +56,9 @@ same_marks u gone (MakePod index ∷ asks) h = ap (λ l. MakePod index ∷ l) (s
 same_marks u gone (MarkPod w ∷ asks) h = ap (λ l. MarkPod w ∷ l) (same_marks u gone asks h)
 same_marks u gone (LetPodGo w v ∷ asks) h = by (same_uid w u) refl (same_marks u gone asks) h
   where
-    by : (b : Bool) → same_uid w u ≡ b → (is_in u (lets_of asks) ≡ false → with_marks (u ∷ gone) asks ≡ with_marks gone asks) → (b || is_in u (lets_of asks)) ≡ false → with_marks (u ∷ gone) (LetPodGo w v ∷ asks) ≡ with_marks gone (LetPodGo w v ∷ asks)
+    by : (b : Bool) → same_uid w u ≡ b → (is_in u (lets_of asks) ≡ false → with_marks (u ∷ gone) asks
+        ≡ with_marks gone asks) → (b || is_in u (lets_of asks)) ≡ false → with_marks (u ∷ gone) (LetPodGo w v ∷ asks)
+        ≡ with_marks gone (LetPodGo w v ∷ asks)
     by true s ih g = absurd (true≢false g)
     by false s ih g =
         ap (λ b. LetPodGo w v ∷ cond (b || is_in w gone) (MarkPod w ∷ with_marks (u ∷ gone) asks) (with_marks (u ∷ gone) asks)) (same_uid-either_way u w ∙ s)

@@ -32,8 +32,8 @@ use Rattle.jc_ledger.specs.Tied.{Tied}
 use Rattle.jc_ledger.proofs.FrameFacts.{AllFly-one}
 use Rattle.jc_ledger.proofs.SyncFacts.{sync_of-other}
 use Rattle.jc_ledger.proofs.QuietFacts.{tied_begun, tied_dropped, tied_quiet, tied_start}
-use Rattle.jc_sync.specs.Places.{IsAt, IfGoesOn, IsUnder, Under}
-use Rattle.jc_sync.specs.Registers.{AreFree, HasSyncs, IsRegister, NoneWritten, Registers, WritesShow, flight_in, flights_in, flights_of_all, freed, put_at, put_worker, register_at, register_of, restarted}
+use Rattle.jc_sync.specs.SyncPlaces.{IsAt, IfGoesOn, IsUnder, Under}
+use Rattle.jc_sync.specs.AllRegisters.{AreFree, HasSyncs, IsRegister, NoneWritten, Registers, WritesShow, flight_in, flights_in, flights_of_all, freed, put_at, put_worker, register_at, register_of, restarted}
 use Rattle.jc_asks.specs.Sends.{sends_of, sent_first}
 use Rattle.jc_asks.specs.Steps.{SyncEnd, Next, GoesOn, Ends, Stepped, Sync, as_answer, answered_to, end_given, first_answered, flight_after, flights_of, next_unless, stepped, stepped_at}
 use Rattle.jc_sync.proofs.ShownFacts.{shown_stays, stepped_shown}
@@ -237,7 +237,9 @@ quiet_syncs d past log rs h quiet none untold = record {
 }
 
 -- One that appends an entry, begins no sync and is no step of one, once what ties is shown of it.
-pub other_syncs : (d : Deed) (past : List Deed) (log : List Entry) (e : Entry) (rs : Registers) → HasSyncs past log rs → Tied (d ∷ past) (e ∷ log) (flights_of_all rs) → began_of d.reply ≡ None → told_step d.reply ≡ None → HasSyncs (d ∷ past) (e ∷ log) rs
+pub other_syncs : (d : Deed) (past : List Deed) (log : List Entry) (e : Entry) (rs : Registers) → HasSyncs past log rs
+    → Tied (d ∷ past) (e ∷ log) (flights_of_all rs) → began_of d.reply ≡ None → told_step d.reply ≡ None
+    → HasSyncs (d ∷ past) (e ∷ log) rs
 other_syncs d past log e rs h tied none untold = record {
   tied = tied;
   each = λ c w sync is. kept c w d past sync (began_by-none c w d none) (step_told-none c w d untold) (h.each c w sync is);
@@ -314,7 +316,10 @@ step_syncs d past log rs c w now pending sync h is act told_is grew stays = reco
     by e v other (Same c_is w_is mine_is) =
         subst (λ x. IsRegister x v (d ∷ past) other) (sym c_is) (subst (λ x. IsRegister c x (d ∷ past) other) (sym w_is)
         (goes step.next (stepped_next log now sync.flight (Stored-from_legal log h.tied.legal) flies pending sync.left mine.at)
-        (step_basis now pending log sync.flight sync.left) (step_reads now pending log sync.flight sync.left before mine.once mine.reads) (step_sends now pending log sync.flight sync.left before (reads_next (planned sync.flight.basis) before sync.left mine.reads) mine.sends) other mine_is))
+        (step_basis now pending log sync.flight sync.left)
+        (step_reads now pending log sync.flight sync.left before mine.once mine.reads)
+        (step_sends now pending log sync.flight sync.left before
+        (reads_next (planned sync.flight.basis) before sync.left mine.reads) mine.sends) other mine_is))
     by e v other (Other apart was) =
         kept e v d past other (began_by-none e v d none)
         (cond-false (is_step e v d.act) (told_step d.reply) None (ap (is_step e v) act ∙ not_its e v apart)) (h.each e v other was)
@@ -330,7 +335,9 @@ step_syncs d past log rs c w now pending sync h is act told_is grew stays = reco
 
 -- A sync begins in a free register.
 pub begin_syncs : (d : Deed) (past : List Deed) (log : List Entry) (rs : Registers) (c w : ℕ) (sync : Sync) → HasSyncs past log rs → register_at c w rs ≡ Some None
-    → d.act ≡ does.Begin c w → began_of d.reply ≡ Some (began sync.flight.basis) → Begins d log sync.flight → IsUnder sync.flight sync.left → sync.left ≡ asks_of (planned sync.flight.basis) → AscendsFrom 0 (lets_of (asks_of (planned sync.flight.basis)))
+    → d.act ≡ does.Begin c w → began_of d.reply ≡ Some (began sync.flight.basis) → Begins d log sync.flight
+    → IsUnder sync.flight sync.left → sync.left ≡ asks_of (planned sync.flight.basis)
+    → AscendsFrom 0 (lets_of (asks_of (planned sync.flight.basis)))
     → sync.flight.sends ≡ sent_first sync.flight.basis.job → HasSyncs (d ∷ past) log (put_at c w (Some sync) rs)
 begin_syncs d past log rs c w sync h is act told_is begins under all once sent = record {
   tied =

@@ -34,7 +34,7 @@ use Rattle.jc_asks.specs.declared.asks.Ask.{Ask}
 use Rattle.jc_asks.specs.declared.asks.Ask.TheVariants.{MakePod, MarkPod, ReleasePod, WriteSecond}
 use Rattle.jc_asks.specs.Asks.{asks_of, early_asks, first_asks, last_asks, late_asks, let_go_ask}
 use Rattle.jc_sync.specs.Leftovers.{let_of, lets_of}
-use Rattle.jc_sync.specs.Places.{SeenActive, IsEarly}
+use Rattle.jc_sync.specs.SyncPlaces.{SeenActive, IsEarly}
 
 -- ---- lists
 

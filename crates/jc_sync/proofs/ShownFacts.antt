@@ -20,8 +20,8 @@ use Rattle.jc_asks.specs.declared.asks.Ask.{Ask}
 use Rattle.jc_asks.specs.declared.asks.Ask.TheVariants.{MakePod, MarkPod, LetPodGo, WriteFirst, ReleasePod, WriteSecond}
 use Rattle.jc_asks.specs.Asks.{asks_after, unchanged_of, writes_status}
 use Rattle.jc_asks.specs.Steps.{SyncEnd, answered_to, as_answer, end_given, flight_after, next_unless, refusal, status_gives, stepped_at, written_gives}
-use Rattle.jc_sync.specs.Places.{IfGoesOn, IsAt, Under}
-use Rattle.jc_sync.specs.Registers.{HasLater, WritesShow, NoneWritten, PutLater}
+use Rattle.jc_sync.specs.SyncPlaces.{IfGoesOn, IsAt, Under}
+use Rattle.jc_sync.specs.AllRegisters.{HasLater, WritesShow, NoneWritten, PutLater}
 use Rattle.jc_sync.proofs.ApiFacts.{StatusCases, Accepted, Same, Conflicts, Absent, status_cases}
 use Rattle.jc_sync.proofs.ConflictFacts.{status_changes}
 use Rattle.jc_sync.proofs.StepFacts.{after_basis, pod_next}

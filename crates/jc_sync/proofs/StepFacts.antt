@@ -33,7 +33,7 @@ use Rattle.jc_ledger.proofs.QuietFacts.{IfSome-of, tied_dropped, tied_quiet}
 use Rattle.jc_asks.specs.declared.asks.Ask.{Ask}
 use Rattle.jc_asks.specs.declared.asks.Ask.TheVariants.{MakePod, MarkPod, LetPodGo, WriteFirst, ReleasePod, WriteSecond}
 use Rattle.jc_asks.specs.Asks.{writes_status, asks_of, early_asks, is_gone, asks_after, as_request}
-use Rattle.jc_sync.specs.Places.{IsUnder, Before, After, IsAt, Under, Over, IfGoesOn}
+use Rattle.jc_sync.specs.SyncPlaces.{IsUnder, Before, After, IsAt, Under, Over, IfGoesOn}
 use Rattle.jc_asks.specs.Steps.{SyncEnd, Stepped, as_answer, answered_to, end_given, first_answered, flight_after, flights_of, IsStepOf, next_unless, status_gives, written_gives, stepped_at}
 use Rattle.jc_sync.proofs.ApiFacts.{StatusCases, Accepted, Same, Conflicts, Absent, status_cases}
 use Rattle.jc_sync.proofs.EntryFacts.{quiet-by}

@@ -39,7 +39,7 @@ use Rattle.jc_ledger.proofs.QuietFacts.{IfSome-at, tied_quiet, tied_not_tracked}
 use Rattle.jc_ledger.proofs.ReleaseFacts.{tied_released, tied_orphan, tied_let_go}
 use Rattle.jc_ledger.proofs.SeenFacts.{known_since, saw}
 use Rattle.jc_asks.specs.declared.asks.Ask.{Ask}
-use Rattle.jc_sync.specs.Places.{KnowsFirst, SeenActive}
+use Rattle.jc_sync.specs.SyncPlaces.{KnowsFirst, SeenActive}
 use Rattle.jc_sync.proofs.ApiFacts.{ReleaseCases, Took, NotThere, release_cases, LetGoCases, LetGone, Other, Refused, let_go_cases}
 use Rattle.jc_sync.proofs.EntryFacts.{owned-live, pod_entry-pod, quiet-by, written-by}
 use Rattle.jc_sync.proofs.PlaceFacts.{IsReleaseAsk}

@@ -1,7 +1,7 @@
-pub mod Places
+pub mod SyncPlaces
 pub mod StepEffects
 pub mod Leftovers
-pub mod Registers
+pub mod AllRegisters
 pub mod Quiet
 pub mod Plannable
 -- Words of the crates below, handed on to those above.

@@ -25,7 +25,7 @@ use Rattle.jc_plan.specs.Statuses.{second_value}
 use Rattle.jc_ledger.specs.declared.flights.Flight.{Flight}
 use Rattle.jc_asks.specs.declared.asks.Ask.{Ask}
 use Rattle.jc_asks.specs.declared.asks.Ask.TheVariants.{LetPodGo}
-use Rattle.jc_sync.specs.Places.{AreReleased, IsUnder}
+use Rattle.jc_sync.specs.SyncPlaces.{AreReleased, IsUnder}
 use Rattle.jc_asks.specs.Steps.{Ends, GoesOn, Next, Stepped, Sync}
 
 -- The Job that is there is as the sync last wrote it: at the version that it sends; or the second status is

@@ -32,10 +32,10 @@ ghost use Rattle.jc_asks.specs.Asks.{asks_after, asks_of, unchanged_of, version_
 ghost use Rattle.jc_asks.specs.Readings.{next_ask, steps_of};
 ghost use Rattle.jc_asks.specs.Steps.{Sync, answered_to, as_answer, stepped, stepped_at};
 ghost use Rattle.jc_asks.specs.declared.asks.Ask.{Ask};
-ghost use Rattle.jc_sync.specs.Places.{IfGoesOn, IsAt};
+ghost use Rattle.jc_sync.specs.SyncPlaces.{IfGoesOn, IsAt};
 ghost use Rattle.jc_sync.specs.Plannable.{AppendsFit, FitsIn, IsPlannable};
 ghost use Rattle.jc_sync.specs.Quiet.{EndedAreLost, HasNext, IsUndisturbed, Leaves, StaysUndisturbed, steps_left};
-ghost use Rattle.jc_sync.specs.Registers.{AreFree, HasBegun, HasStepped, HasSyncs, IsAnswered, Registers, TellsOfNoSync, register_at, restarted};
+ghost use Rattle.jc_sync.specs.AllRegisters.{AreFree, HasBegun, HasStepped, HasSyncs, IsAnswered, Registers, TellsOfNoSync, register_at, restarted};
 ghost use Rattle.jc_sync.specs.StepEffects.{IsLaterThan, StaysTied};
 
 use jc_manifest::allowed_updates_stay_valid;

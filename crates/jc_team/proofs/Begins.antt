@@ -15,7 +15,9 @@ module _ (team seen : Team) (view : team ≡ seen) (w now : ℕ) (free : slice_g
   begin_left left is =
       is ∙ ap (λ o. begin_held o team.con.schedule (begun now team.con).schedule) (sym free) ∙ ap (λ (t : Team). begin_held (slice_get t.registers w) t.con.schedule (begun now t.con).schedule) view
 
-  pub begin_put : (sync : Option Sync) (registers : List (Option Sync)) → sync ≡ begun_sync (begun now team.con).answer → registers ≡ with_sync team.registers w sync → registers ≡ begin_registers (slice_get seen.registers w) seen.registers w (begun now seen.con).answer
+  pub begin_put : (sync : Option Sync) (registers : List (Option Sync)) → sync ≡ begun_sync (begun now team.con).answer
+      → registers ≡ with_sync team.registers w sync → registers
+      ≡ begin_registers (slice_get seen.registers w) seen.registers w (begun now seen.con).answer
   begin_put sync registers begins put =
       put ∙ ap (with_sync team.registers w) begins ∙ ap (λ o. begin_registers o team.registers w (begun now team.con).answer) (sym free)
       ∙ ap (λ (t : Team). begin_registers (slice_get t.registers w) t.registers w (begun now t.con).answer) view

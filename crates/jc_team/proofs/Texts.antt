@@ -7,7 +7,7 @@ use Rattle.jc_types.specs.declared.replies.Reply.{Reply}
 use Rattle.jc_control.specs.Schedules.{Schedule}
 use Rattle.jc_sync.specs.Steps.{Sync}
 use Rattle.jc_runs.specs.Teams.{Team, stride_at, stride_of}
-use Rattle.jc_runs.specs.Texts.{HasNoText}
+use Rattle.jc_runs.specs.TextlessReplies.{HasNoText}
 use Rattle.jc_runs.proofs.TextFacts.{no_text_of, step_texts}
 
 stride_texts_at : (log : List Entry) (now : ℕ) (fault : Option Fault) (schedule : Schedule) (register : Option Sync) → HasNoText (stride_at log now fault schedule register).reply

@@ -17,7 +17,7 @@ ghost use Rattle.jc_sync.specs.Steps.{Sync};
 ghost use Rattle.jc_types.specs.declared.replies.Reply.TheVariants as reply;
 ghost use Rattle.jc_runs.specs.Replies.{deliver_gives};
 ghost use Rattle.jc_runs.specs.Teams.{KnowsNothing, begin_held, begin_registers, begin_reply, clocked_team, delivered_at, listed, stride_of};
-ghost use Rattle.jc_runs.specs.Texts.{HasNoText};
+ghost use Rattle.jc_runs.specs.TextlessReplies.{HasNoText};
 
 use crate::places::put;
 use crate::registers::{begin, close, start};

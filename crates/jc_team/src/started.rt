@@ -8,7 +8,7 @@ ghost use Rattle.jc_queue.specs.Queued.{has_key};
 ghost use Rattle.jc_control.specs.Schedules.{MirrorsLog};
 ghost use Rattle.jc_sync.specs.Sends.{new_sync};
 ghost use Rattle.jc_sync.specs.Steps.{stepped};
-ghost use Rattle.jc_sync.specs.Registers.{register_of};
+ghost use Rattle.jc_sync.specs.AllRegisters.{register_of};
 ghost use Rattle.jc_runs.specs.Teams.{end_of_next, fault_left, stride_by};
 ghost use Rattle.jc_team.specs.Started.{IsOfBasis, is_going, staged};
 ghost use Rattle.jc_team.specs.declared.started.Stage.TheVariants.{Going};

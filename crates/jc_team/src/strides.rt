@@ -6,7 +6,7 @@ ghost use Rattle.jc_log.specs.Requests.{grown};
 ghost use Rattle.jc_queue.specs.Queued.{has_key};
 ghost use Rattle.jc_control.specs.Schedules.{MirrorsLog};
 ghost use Rattle.jc_sync.specs.Steps.{floor_given, stepped};
-ghost use Rattle.jc_sync.specs.Registers.{register_of};
+ghost use Rattle.jc_sync.specs.AllRegisters.{register_of};
 ghost use Rattle.jc_runs.specs.Teams.{end_of_next, fault_left, is_first_written, noted_told, stride_by};
 
 use jc_control::{Controller, SyncEnd};

@@ -1,7 +1,7 @@
 //! A reply twice, and replies once more.
 
 ghost use Rattle.std.specs.Prelude.{◌≡◌};
-ghost use Rattle.jc_runs.specs.Texts.{AnswersNoText, HasNoText};
+ghost use Rattle.jc_runs.specs.TextlessReplies.{AnswersNoText, HasNoText};
 
 use jc_types::{Answer, Reply};
 use std::marker::Model;

@@ -15,7 +15,7 @@ use Rattle.jc_types.specs.declared.runs.Past.{Past}
 use Rattle.jc_turn.specs.declared.board.LockStage.{LockStage}
 use Rattle.jc_turn.specs.declared.board.LockStage.TheVariants.{Rests, Moves, Holds}
 use Rattle.jc_turn.specs.declared.board.LockPlaceView.{LockPlaceView}
-use Rattle.jc_turn.specs.Rules.{holds_value, spent_view}
+use Rattle.jc_turn.specs.LockRules.{holds_value, spent_view}
 
 -- Which lock it is, and how many seats it has.
 pub record TurnLockView : Type 0 where

@@ -1,7 +1,7 @@
 //! How a lock is made.
 
 ghost use Rattle.std.specs.Prelude.{◌≡◌, ◌<◌, ◌≤◌, ◌+◌, ◌∷◌, [], IfOk, IfErr, Some, vec_capacity};
-ghost use Rattle.jc_turn.specs.Rules.{first_view};
+ghost use Rattle.jc_turn.specs.LockRules.{first_view};
 ghost use Rattle.jc_turn.specs.LockSeats.{IsLock, fresh_seats};
 
 use crate::answers::OpenWant;

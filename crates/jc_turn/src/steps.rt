@@ -3,7 +3,7 @@
 ghost use Rattle.std.specs.Prelude.{◌≡◌, ◌≢◌, [], ◌∷◌, ◌<◌, Some, None, MatchOption};
 ghost use mathlib.Core.List.{IsPrefix};
 ghost use Rattle.jc_turn.specs.declared.board.LockStage.TheVariants.{Rests, Moves, Holds};
-ghost use Rattle.jc_turn.specs.Rules.{at_stage, but_one, joined_views, lost_again, now_seen, one_of, without_old};
+ghost use Rattle.jc_turn.specs.LockRules.{at_stage, but_one, joined_views, lost_again, now_seen, one_of, without_old};
 ghost use Rattle.jc_turn.specs.LockSeats.{IsSeat, IsLock, view_of};
 
 use crate::board::{LockPlace, LockPlaceView, LockRule};

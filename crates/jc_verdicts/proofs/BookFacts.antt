@@ -25,7 +25,7 @@ use Rattle.jc_ledger.specs.declared.counts.Verdicts.{Verdicts}
 use Rattle.jc_account.specs.declared.judgements.Judgement.{Judgement as Row}
 use Rattle.jc_verdicts.specs.Books.{AreCounts, AreFew, AreSound, IsSoundBook, Knows, done_at, rows_at, totals_of, verdicts_at}
 use Rattle.jc_ledger.specs.Ledger.{kept, Judging, Ledger, Record, entered, judged_by, ledger_of}
-use Rattle.jc_verdicts.specs.Places.{touching_places}
+use Rattle.jc_verdicts.specs.LogPlaces.{touching_places}
 use Rattle.jc_verdicts.specs.Verdicts.{HasSeen, IsCount, before_place, done_once_seen, done_by, fresh_rows, new_rows, outcome_in, rows_for, success_indexes}
 use Rattle.jc_ledger.specs.Ledger.{verdicts_of}
 use Rattle.jc_verdicts.proofs.StayFacts.{judged-stay, rows-kept_pods}
@@ -110,7 +110,9 @@ books-counted job log seen version ledgers old mid new book others sets more joi
         (more ∙ ap (λ pods. rows_at job.uid old ++ new_rows job.spec (rows_at job.uid old) pods) pods_are)
         (joins ∙ ap (λ pods. done_by job (outcome_in (rows_at job.uid old)) (done_at job.uid old) pods) pods_are)
 
-    by : (b : Bool) → same_uid job.uid j ≡ b → IsCount (items (cond b (Some book) (at same_uid mid j))) (indexes (cond b (Some book) (at same_uid mid j))) (cond b (entered job (pods_of j (upto seen (reverse log))) seen version (ledgers j)) (ledgers j))
+    by : (b : Bool) → same_uid job.uid j ≡ b
+        → IsCount (items (cond b (Some book) (at same_uid mid j))) (indexes (cond b (Some book) (at same_uid mid j)))
+        (cond b (entered job (pods_of j (upto seen (reverse log))) seen version (ledgers j)) (ledgers j))
     by true s =
         subst (λ x. IsCount book.rows.items book.done.items (entered job (pods_of x (upto seen (reverse log))) seen version (ledgers x))) (same_uid-eq job.uid j s) own
     by false s = subst (λ o. IsCount (items o) (indexes o) (ledgers j)) (sym (others j s)) (counts j)

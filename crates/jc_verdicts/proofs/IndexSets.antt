@@ -48,7 +48,10 @@ module _ (a b : ℕ) (lt : a < b) (xs : List ℕ) where
       rest : filter (λ x. nat_lt a x) (with_member b xs) ≡ between ++ b ∷ greater
       rest =
           kept-among (λ x. nat_lt a x) b below greater (lt-ltb a b lt)
-          ∙ ap (λ end. between ++ b ∷ end) (filter_all (λ x. nat_lt a x) greater (Each-weaker (λ x. nat_lt b x ≡ true) (λ x. nat_lt a x ≡ true) (λ x h. lt-ltb a x (let more = ltb-true b x h in omega (arith, lt, more))) greater (Each-passes (λ x. nat_lt b x) xs)))
+          ∙ ap (λ end. between ++ b ∷ end) (filter_all (λ x. nat_lt a x) greater
+          (Each-weaker (λ x. nat_lt b x ≡ true) (λ x. nat_lt a x ≡ true)
+          (λ x h. lt-ltb a x (let more = ltb-true b x h in omega (arith, lt, more))) greater
+          (Each-passes (λ x. nat_lt b x) xs)))
 
   -- The greater one is put in after the lower one.
   high-last : with_member b (with_member a xs) ≡ lower ++ a ∷ between ++ b ∷ greater
@@ -57,7 +60,10 @@ module _ (a b : ℕ) (lt : a < b) (xs : List ℕ) where
       front : filter (λ x. nat_lt x b) (with_member a xs) ≡ lower ++ a ∷ between
       front =
           kept-among (λ x. nat_lt x b) a lower above (lt-ltb a b lt)
-          ∙ ap (λ low. low ++ a ∷ filter (λ x. nat_lt x b) above) (filter_all (λ x. nat_lt x b) lower (Each-weaker (λ x. nat_lt x a ≡ true) (λ x. nat_lt x b ≡ true) (λ x h. lt-ltb x b (let less = ltb-true x a h in omega (arith, lt, less))) lower (Each-passes (λ x. nat_lt x a) xs)))
+          ∙ ap (λ low. low ++ a ∷ filter (λ x. nat_lt x b) above)
+          (filter_all (λ x. nat_lt x b) lower (Each-weaker (λ x. nat_lt x a ≡ true) (λ x. nat_lt x b ≡ true)
+          (λ x h. lt-ltb x b (let less = ltb-true x a h in omega (arith, lt, less))) lower
+          (Each-passes (λ x. nat_lt x a) xs)))
           ∙ ap (λ high. lower ++ a ∷ high) (filter_swap (λ x. nat_lt x b) (λ x. nat_lt a x) xs)
 
       rest : filter (λ x. nat_lt b x) (with_member a xs) ≡ greater

@@ -3,7 +3,7 @@
 use Rattle.std.proofs.Common.{◌≡◌, ℕ, zero, suc, ◌+◌, ◌<◌, ◌≤◌, Bool, true, false, cond, List, [], ◌∷◌, ◌++◌, length, get_or, inl, inr, refl, sym, ap, ◌∙◌, arith}
 use Rattle.std.specs.List.Sorted.{IsNonDecreasingBy}
 use Rattle.std.proofs.lemmas.Bool.{cases_lt}
-use Rattle.jc_verdicts.specs.Places.{IsCut}
+use Rattle.jc_verdicts.specs.LogPlaces.{IsCut}
 
 module _ {X : Type 0} (g : ℕ → X) (P : ℕ → Type 0) where
   -- It is the same from one number on to another.

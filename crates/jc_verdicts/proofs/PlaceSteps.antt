@@ -15,7 +15,7 @@ use Rattle.jc_log.specs.Log.{Live, Gone, life, living, pod_in}
 use Rattle.jc_log.specs.PlainReadings.{is_about_job}
 use Rattle.jc_log.specs.Tables.{at, Sets}
 use Rattle.jc_verdicts.specs.declared.places.Places.{Places}
-use Rattle.jc_verdicts.specs.Places.{Adds, ArePlaces, was_owned, owns, places_at, places_where, touches}
+use Rattle.jc_verdicts.specs.LogPlaces.{Adds, ArePlaces, was_owned, owns, places_at, places_where, touches}
 
 -- The owner of a pod.
 abbrev owner_of : Pod → Uid

@@ -18,7 +18,7 @@ use Rattle.jc_states.proofs.PodListFacts.{rises_filter}
 use Rattle.jc_log.specs.Log.{Live, job_in, life, living, pods_in, pods_of}
 use Rattle.jc_log.specs.PlainReadings.{is_about_job, job_put}
 use Rattle.jc_log.proofs.PodFacts.{pods_in-rises, pods_of-live, pods_of-owned}
-use Rattle.jc_verdicts.specs.Places.{IsCut, owns, places_where, job_places, touching_places, touches}
+use Rattle.jc_verdicts.specs.LogPlaces.{IsCut, owns, places_where, job_places, touching_places, touches}
 use Rattle.jc_failpol.specs.declared.outcomes.Outcome.{Outcome}
 use Rattle.jc_verdicts.specs.Verdicts.{HasSeen, before_place, kept_pods, stays}
 use Rattle.jc_verdicts.proofs.PlaceLists.{Changes, changes-cut, changes-first, changes-more, changes-next, changes-place, changes-rise}

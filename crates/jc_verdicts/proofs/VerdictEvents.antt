@@ -8,7 +8,7 @@ use Rattle.jc_log.specs.Log.{job_in}
 use Rattle.jc_log.proofs.LogFacts.{upto-reverse}
 use Rattle.jc_verdicts.specs.declared.starts.Start.{Start}
 use Rattle.jc_ledger.specs.Ledger.{Judging, is_status, judging_at, judging_of}
-use Rattle.jc_verdicts.specs.Starts.{began_with}
+use Rattle.jc_verdicts.specs.SyncStarts.{began_with}
 use Rattle.jc_ledger.specs.Syncs.{Began, appends, request_of, step_sync}
 use Rattle.jc_verdicts.specs.Verdicts.{sync_at}
 

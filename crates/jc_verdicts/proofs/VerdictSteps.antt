@@ -10,7 +10,7 @@ use Rattle.jc_log.specs.Tables.{at}
 use Rattle.jc_verdicts.specs.declared.starts.Start.{Start}
 use Rattle.jc_verdicts.specs.declared.starts.Worker.{Worker}
 use Rattle.jc_ledger.specs.Ledger.{is_status}
-use Rattle.jc_verdicts.specs.Starts.{HasStarts, began_with, same_worker}
+use Rattle.jc_verdicts.specs.SyncStarts.{HasStarts, began_with, same_worker}
 use Rattle.jc_ledger.specs.Syncs.{sync_of, step_sync, stepper, request_of, appends, reach}
 use Rattle.jc_verdicts.specs.Verdicts.{deeds_of, sync_at}
 
@@ -27,7 +27,9 @@ sync_at-found script past before worker rows found status long steps has is =
     ap (option_map began_with) is
     ∙ has worker
     ∙ ap (option_and_then (λ (x : ℕ × ℕ). sync_of x.0 x.1 (deeds_of script before))) (sym steps)
-    ∙ sym (cond-true (is_status (request_of past.reply) && appends (deed script past) (deeds_of script before)) (step_sync (deed script past) (deeds_of script before)) None (both (is_status (request_of past.reply)) (nat_lt (reach (deeds_of script before)) past.length.0) status long))
+    ∙ sym (cond-true (is_status (request_of past.reply) && appends (deed script past) (deeds_of script before))
+    (step_sync (deed script past) (deeds_of script before)) None
+    (both (is_status (request_of past.reply)) (nat_lt (reach (deeds_of script before)) past.length.0) status long))
   where
     both : (a b : Bool) → a ≡ true → b ≡ true → (a && b) ≡ true
     both true b h k = k

@@ -1,4 +1,4 @@
-pub mod Places
+pub mod LogPlaces
 pub mod Verdicts
-pub mod Starts
+pub mod SyncStarts
 pub mod Books

@@ -46,7 +46,7 @@ use Rattle.jc_failpol.specs.declared.outcomes.Outcome.{Outcome}
 use Rattle.jc_states.specs.UidLists.{join}
 use Rattle.jc_failpol.specs.declared.outcomes.Outcome.TheVariants.{Failed, Succeeded}
 use Rattle.jc_failpol.specs.Outcomes.{outcome_of, same_outcome}
-use Rattle.jc_verdicts.specs.Places.{touching_places}
+use Rattle.jc_verdicts.specs.LogPlaces.{touching_places}
 use Rattle.jc_account.specs.declared.judgements.Judgement.{Judgement as Row}
 use Rattle.jc_ledger.specs.Syncs.{Began, request_of, step_sync, appends}
 use Rattle.jc_account.specs.Judged.{has_come_to, is_fresh}

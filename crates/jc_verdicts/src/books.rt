@@ -4,7 +4,7 @@ ghost use Rattle.std.specs.Prelude.{◌≡◌, ◌++◌, ℕ, [], OnOk, Some, re
 ghost use Rattle.jc_types.specs.declared.numbers.Uid.{Uid};
 ghost use Rattle.jc_verdicts.specs.Books.{AreCounts, AreSound, IsSoundBook};
 ghost use Rattle.jc_ledger.specs.Ledger.{Ledger, judged_by};
-ghost use Rattle.jc_verdicts.specs.Places.{ArePlaces};
+ghost use Rattle.jc_verdicts.specs.LogPlaces.{ArePlaces};
 ghost use Rattle.jc_verdicts.specs.Verdicts.{done_once_seen, fresh_rows};
 
 use crate::places::{Places, places_at};

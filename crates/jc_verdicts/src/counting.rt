@@ -9,8 +9,8 @@ ghost use Rattle.jc_log.specs.Deeds.{deed, deeds};
 ghost use Rattle.jc_log.specs.Tables.{at};
 ghost use Rattle.jc_verdicts.specs.Books.{AreCounts, AreFew, AreSound, totals_of, verdicts_at};
 ghost use Rattle.jc_ledger.specs.Ledger.{Ledger, judging_of, ledger_of};
-ghost use Rattle.jc_verdicts.specs.Places.{ArePlaces};
-ghost use Rattle.jc_verdicts.specs.Starts.{HasStarts};
+ghost use Rattle.jc_verdicts.specs.LogPlaces.{ArePlaces};
+ghost use Rattle.jc_verdicts.specs.SyncStarts.{HasStarts};
 ghost use Rattle.jc_verdicts.specs.Verdicts.{IsNumbered, IsPlace, deeds_of, judging_as, ledger_after};
 ghost use Rattle.jc_ledger.specs.Ledger.{verdicts_of};
 

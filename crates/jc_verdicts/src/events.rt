@@ -4,7 +4,7 @@ ghost use Rattle.std.specs.Prelude.{◌≡◌, option_map};
 ghost use Rattle.std.specs.Option.{option_copied};
 ghost use Rattle.jc_log.specs.Deeds.{act_of_action, act_of_event, deed};
 ghost use Rattle.jc_ledger.specs.Ledger.{is_status};
-ghost use Rattle.jc_verdicts.specs.Starts.{HasStarts, began_with};
+ghost use Rattle.jc_verdicts.specs.SyncStarts.{HasStarts, began_with};
 ghost use Rattle.jc_ledger.specs.Syncs.{reach, request_of, stepper};
 ghost use Rattle.jc_verdicts.specs.Verdicts.{IsPlace, deeds_of, sync_at};
 

@@ -7,7 +7,7 @@ ghost use Rattle.jc_types.specs.declared.objects.Entry.{Entry};
 ghost use Rattle.jc_types.specs.declared.objects.Entry.TheVariants.{PodPut, PodGone};
 ghost use Rattle.jc_types.specs.Keys.{same_uid};
 ghost use Rattle.jc_log.specs.Tables.{at};
-ghost use Rattle.jc_verdicts.specs.Places.{Adds, ArePlaces, IsCut, was_owned, places_at};
+ghost use Rattle.jc_verdicts.specs.LogPlaces.{Adds, ArePlaces, IsCut, was_owned, places_at};
 
 use indexmap::IndexMap;
 use jc_types::{Copied, Entry, Key, Pod, Uid, Want};

@@ -9,7 +9,7 @@ ghost use Rattle.jc_log.specs.Log.{job_in};
 ghost use Rattle.jc_log.specs.PlainReadings.{job_put};
 ghost use Rattle.jc_states.specs.PodLists.{IsRising, drop_pod, place_from, put_pod};
 ghost use Rattle.jc_failpol.specs.declared.outcomes.Outcome.{Outcome};
-ghost use Rattle.jc_verdicts.specs.Places.{ArePlaces, touching_places};
+ghost use Rattle.jc_verdicts.specs.LogPlaces.{ArePlaces, touching_places};
 ghost use Rattle.jc_verdicts.specs.Verdicts.{HasSeen, kept_pods, stays};
 
 use crate::places::{Places, count_below, places_at};

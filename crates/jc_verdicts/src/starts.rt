@@ -3,7 +3,7 @@
 ghost use Rattle.std.specs.Prelude.{◌≡◌, ◌∷◌, ℕ, List, OnOk};
 ghost use Rattle.jc_log.specs.Deeds.{Deed, act_of_action, act_of_event, deed};
 ghost use Rattle.jc_ledger.specs.Syncs.{is_begin};
-ghost use Rattle.jc_verdicts.specs.Starts.{HasStarts, is_of};
+ghost use Rattle.jc_verdicts.specs.SyncStarts.{HasStarts, is_of};
 ghost use Rattle.jc_verdicts.specs.Verdicts.{IsPlace};
 
 use jc_table::Table;

@@ -3,7 +3,7 @@ use Rattle.std.proofs.Common.{◌≡◌, ℕ, ◌≤◌, Bool, true, false, List
 use Rattle.std.proofs.lemmas.Option.{none-some, same_Some}
 use Rattle.std.specs.Str.Parse.{digits_value}
 use Rattle.jc_types.specs.declared.runs.Shape.{Shape}
-use Rattle.jc_words.specs.Fits.{IsFitOrder, IsFitShape}
+use Rattle.jc_words.specs.FitOrders.{IsFitOrder, IsFitShape}
 use Rattle.jc_words.specs.Options.{options_of, values_of}
 use Rattle.jc_words.specs.Values.{lock_said, number_if, number_said, moment_said}
 use Rattle.jc_words.specs.Words.{default_shape, generate_order, in_shape, most_threads, order_of, run_order, run_said, setting, shape_alone, shape_asked, shape_said, three_numbers, unless_given}

@@ -3,7 +3,7 @@ use Rattle.std.proofs.Common.{◌≡◌, ℕ, zero, suc, rules, tests, ◌==◌,
 use Rattle.std.specs.Borrow.{Bor}
 use Rattle.std.specs.List.{list_all}
 use Rattle.jc_words.specs.Options.{are_once, option_place, options_of, pairs_of, same_name, values_of, with_pair}
-use Rattle.jc_words.specs.Said.{IsSaidBy, given, values_in}
+use Rattle.jc_words.specs.SaidOptions.{IsSaidBy, given, values_in}
 use Rattle.jc_words.specs.Words.{run_order, run_said, shape_alone, shape_asked}
 use Rattle.jc_words.specs.declared.options.OptionName.{OptionName}
 use Rattle.jc_words.specs.declared.options.OptionName.TheVariants.{Threads, Lock, Controllers, Workers, Window, Events, Start}

@@ -1,5 +1,5 @@
 pub mod Values
 pub mod Options
-pub mod Said
+pub mod SaidOptions
 pub mod Words
-pub mod Fits
+pub mod FitOrders

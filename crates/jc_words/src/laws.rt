@@ -2,7 +2,7 @@
 
 ghost use Rattle.std.specs.Prelude.{◌≡◌, ℕ, List, [], ◌∷◌, Some, None, codes};
 ghost use Rattle.jc_types.specs.declared.runs.Shape.{Shape};
-ghost use Rattle.jc_words.specs.Fits.{IsFitOrder, IsFitShape};
+ghost use Rattle.jc_words.specs.FitOrders.{IsFitOrder, IsFitShape};
 ghost use Rattle.jc_words.specs.Words.{default_shape, order_of};
 ghost use Rattle.jc_words.specs.declared.words.LockKind.TheVariants.{Mutex, Turn};
 ghost use Rattle.jc_words.specs.declared.words.Order.{Order};

@@ -5,7 +5,7 @@ ghost use Rattle.jc_words.specs.Options.{cut_of, option_named, options_of, pairs
 ghost use Rattle.jc_words.specs.Values.{lock_said, moment_said, number_said};
 ghost use Rattle.jc_words.specs.declared.words.LockKind.TheVariants.{Mutex};
 ghost use Rattle.jc_words.specs.Words.{setting};
-ghost use Rattle.jc_words.specs.Said.{IsSaidBy, given};
+ghost use Rattle.jc_words.specs.SaidOptions.{IsSaidBy, given};
 
 use crate::numbers::{read_moment, read_number};
 use crate::words::LockKind;
@@ -143,7 +143,7 @@ fn lock_or(value: Option<&str>) -> Option<LockKind>
 impl<'w> Said<'w> {
     ghost use Rattle.std.specs.Prelude.{◌≡◌, [], ◌∷◌, if◌then◌else◌};
     ghost use Rattle.jc_words.specs.Options.{same_name};
-    ghost use Rattle.jc_words.specs.Said.{given, values_in};
+    ghost use Rattle.jc_words.specs.SaidOptions.{given, values_in};
     ghost use Rattle.jc_words.specs.Words.{setting, shape_alone, shape_said, default_shape, most_threads};
     ghost use Rattle.jc_words.specs.Values.{lock_said, number_said};
     ghost use Rattle.jc_words.specs.declared.words.LockKind.TheVariants.{Mutex};

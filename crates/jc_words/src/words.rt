@@ -2,7 +2,7 @@
 
 ghost use Rattle.std.specs.Prelude.{◌≡◌, List, [], ◌∷◌, map, string_bytes};
 ghost use Rattle.jc_words.specs.Words.{default_shape, generate_order, order_of, run_order, run_said, shape_asked};
-ghost use Rattle.jc_words.specs.Said.{values_in};
+ghost use Rattle.jc_words.specs.SaidOptions.{values_in};
 
 use crate::numbers::read_number;
 use crate::options::{Said, read_options};

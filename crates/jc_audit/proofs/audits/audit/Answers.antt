@@ -1,6 +1,6 @@
 use Rattle.std.proofs.Common.{◌∙◌, ap, subst, sym, IfOk}
 use Rattle.jc_audit.specs.Audits.{VerdictHolds}
-use Rattle.jc_audit.specs.Limits.{IsSmallShape}
+use Rattle.jc_audit.specs.AuditLimits.{IsSmallShape}
 use Rattle.jc_audit.specs.Walks.{at_first}
 use Rattle.jc_runs.specs.Seen.{Seen}
 use Rattle.jc_audit.proofs.audits.audit.Goals as goal

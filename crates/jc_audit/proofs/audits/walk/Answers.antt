@@ -1,5 +1,5 @@
 use Rattle.std.proofs.Common.{◌∙◌, IfSome, subst, sym}
-use Rattle.jc_audit.specs.Limits.{IsSmallShape}
+use Rattle.jc_audit.specs.AuditLimits.{IsSmallShape}
 use Rattle.jc_audit.specs.Walks.{HasTaken}
 use Rattle.jc_audit.proofs.AuditFacts.{at_begin, goes_on, less_left, line_number, not_taken, said_at_last}
 use Rattle.jc_audit.proofs.audits.walk.Goals as goal

@@ -1,5 +1,5 @@
 use Rattle.std.proofs.Common.{ap, arith, set, ◌∙◌}
-use Rattle.jc_core.specs.Changes.{changed_slot}
+use Rattle.jc_core.specs.RegisterChanges.{changed_slot}
 use Rattle.jc_core.proofs.PlaceFacts.{changed-nowhere, changed-there}
 use Rattle.jc_core.proofs.changes.change_at.Goals as goal
 

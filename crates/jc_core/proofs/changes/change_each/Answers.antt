@@ -1,7 +1,7 @@
 use Rattle.std.proofs.Common.{◌<◌, length, set, ap, ◌∙◌, arith}
 use Rattle.std.proofs.lemmas.List.{length-set}
 use Rattle.jc_play.proofs.Clocks.{put_next}
-use Rattle.jc_core.specs.Changes.{changed_slot}
+use Rattle.jc_core.specs.RegisterChanges.{changed_slot}
 use Rattle.jc_core.proofs.changes.change_each.Goals as goal
 
 pub loop-i-preserved : goal.loop-i-preserved

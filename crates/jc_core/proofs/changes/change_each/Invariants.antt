@@ -1,5 +1,5 @@
 use Rattle.std.proofs.Common.{◌≡◌, ◌++◌, length, map, take, drop}
-use Rattle.jc_core.specs.Changes.{changed_slot}
+use Rattle.jc_core.specs.RegisterChanges.{changed_slot}
 use Rattle.jc_core.proofs.changes.change_each.Given as goal
 
 -- The registers before this one are changed.

@@ -9,7 +9,7 @@ use Rattle.jc_audit.specs.Proper.{IsProperCommand}
 use Rattle.jc_audit.specs.declared.verdicts.Verdict.TheVariants.{Yes}
 use Rattle.jc_script.specs.Scripts.{BadLine}
 use Rattle.jc_single.specs.Played.{Staging, script_played, staging_of}
-use Rattle.jc_single.specs.Told.{TellsHistory}
+use Rattle.jc_single.specs.Headlines.{TellsHistory}
 use Rattle.jc_ctl.specs.Audited.{PassesAudit}
 use Rattle.jc_ctl.proofs.laws.written_reports_pass_audits.Goals as goal
 

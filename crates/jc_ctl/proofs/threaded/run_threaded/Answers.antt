@@ -1,7 +1,7 @@
 -- There was a text to write, or none.
 use Rattle.std.proofs.KnownBytes.{Keeps-refl}
-use Rattle.jc_single.specs.Ends.{Stopped, Wrote}
-use Rattle.jc_single.specs.Runs.{printed_by}
+use Rattle.jc_single.specs.RunEnds.{Stopped, Wrote}
+use Rattle.jc_single.specs.RunAnswers.{printed_by}
 use Rattle.jc_ctl.proofs.threaded.run_threaded.Goals as goal
 
 pub returns-in-Ok : goal.returns-in-Ok

@@ -3,7 +3,7 @@ use Rattle.std.proofs.Common.{◌≡◌, List, ℕ, Err, ap, refl, rules, subst}
 use Rattle.jc_script.specs.Scripts.{BadLine, script_of}
 use Rattle.jc_script.specs.declared.scripts.ScriptFault.{ScriptFault}
 use Rattle.jc_ctl.proofs.AskedFacts.{bad-same}
-use Rattle.jc_single.specs.Ends.{AtLine}
+use Rattle.jc_single.specs.RunEnds.{AtLine}
 use Rattle.jc_ctl.proofs.threaded.threaded_made.Goals as goal
 
 pub returns-in-Err-BadLine : goal.returns-in-Err-BadLine

@@ -1,6 +1,6 @@
 use Rattle.std.proofs.Common.{Some, ap, refl}
 use Rattle.serde_json.specs.Data.{string}
-use Rattle.jc_lines.specs.Changes.{pod_condition_data}
+use Rattle.jc_lines.specs.ChangeTexts.{pod_condition_data}
 use Rattle.jc_lines.proofs.ChangeMembers.{in_condition}
 use Rattle.jc_print.proofs.Writing.{more, no_more, object_of}
 use Rattle.jc_lines.proofs.changes.write_condition.Goals as goal

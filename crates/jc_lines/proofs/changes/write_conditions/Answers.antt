@@ -1,4 +1,4 @@
-use Rattle.jc_lines.specs.Changes.{pod_condition_data}
+use Rattle.jc_lines.specs.ChangeTexts.{pod_condition_data}
 use Rattle.jc_print.proofs.Writing.{list_of, no_item, one_item}
 use Rattle.jc_lines.proofs.changes.write_conditions.Goals as goal
 

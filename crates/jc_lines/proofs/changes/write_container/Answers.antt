@@ -1,6 +1,6 @@
 use Rattle.std.proofs.Common.{Some, ap, refl}
 use Rattle.serde_json.specs.Data.{string}
-use Rattle.jc_lines.specs.Changes.{container_data, with_container, with_exit_member}
+use Rattle.jc_lines.specs.ChangeTexts.{container_data, with_container, with_exit_member}
 use Rattle.jc_lines.proofs.ChangeMembers.{in_container}
 use Rattle.jc_print.proofs.Writing.{more, no_more, object_of}
 use Rattle.jc_lines.proofs.changes.write_container.Goals as goal

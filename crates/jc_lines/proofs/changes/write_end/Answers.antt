@@ -2,7 +2,7 @@ use Rattle.std.proofs.Common.{Some, ap, refl, rules}
 use Rattle.std.proofs.lemmas.Int.{to_z-of_z}
 use mir.Syntax.{w32}
 use mir.Val.{SFits}
-use Rattle.jc_lines.specs.Changes.{end_data, exit_data}
+use Rattle.jc_lines.specs.ChangeTexts.{end_data, exit_data}
 use Rattle.jc_lines.proofs.ChangeMembers.{in_end}
 use Rattle.jc_print.proofs.Writing.{more, no_more, object_of}
 use Rattle.jc_lines.proofs.changes.write_end.Goals as goal

@@ -1,6 +1,6 @@
 -- So far the tokens of those before.
 use Rattle.std.proofs.Common.{take}
-use Rattle.jc_lines.specs.Changes.{end_data}
+use Rattle.jc_lines.specs.ChangeTexts.{end_data}
 use Rattle.jc_print.specs.Tokens.{AddsTokens}
 use Rattle.jc_print.proofs.Writing.{each_tokens}
 use Rattle.jc_lines.proofs.changes.write_ends.Given as goal

@@ -1,4 +1,4 @@
-use Rattle.jc_lines.specs.Changes.{exit_data}
+use Rattle.jc_lines.specs.ChangeTexts.{exit_data}
 use Rattle.jc_print.proofs.Writing.{not_given}
 use Rattle.jc_lines.proofs.changes.write_given_exit.Goals as goal
 

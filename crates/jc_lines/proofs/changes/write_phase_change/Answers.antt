@@ -1,7 +1,7 @@
 use Rattle.std.proofs.Common.{Some, ap, map, refl}
 use Rattle.serde_json.specs.Data.{string}
-use Rattle.jc_lines.specs.Changes.{container_data, phase_change_data, pod_condition_data}
-use Rattle.jc_print.specs.Members.{list_data}
+use Rattle.jc_lines.specs.ChangeTexts.{container_data, phase_change_data, pod_condition_data}
+use Rattle.jc_print.specs.PrintedMembers.{list_data}
 use Rattle.jc_lines.proofs.ChangeMembers.{in_phase_change}
 use Rattle.jc_print.proofs.Writing.{keyed, more, no_more, object_of}
 use Rattle.jc_lines.proofs.changes.write_phase_change.Goals as goal

@@ -20,5 +20,7 @@ loop-index-preserved c =
 
 pub returns-then-len-most : goal.returns-then-len-most
 returns-then-len-most c =
-    free-enough (λ n. not (is_settled_index c.args.counted.now n) && not (list_any (has_index_in n n) (tracked_active_pods (pods_for c.args.owner c.args.pods.now)))) c.args.most c.loop-index.index c.args.completions _ c.loop-index.invariant.0 c.loop-index.invariant.1
+    free-enough (λ n. not (is_settled_index c.args.counted.now n) && not
+    (list_any (has_index_in n n) (tracked_active_pods (pods_for c.args.owner c.args.pods.now)))) c.args.most
+    c.loop-index.index c.args.completions _ c.loop-index.invariant.0 c.loop-index.invariant.1
     (omega (arith, c.len.ensures, c.if-len-most.true))

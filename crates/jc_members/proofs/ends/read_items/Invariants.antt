@@ -1,6 +1,6 @@
 use Rattle.std.proofs.Common.{◌≡◌, map, drop}
 use Rattle.jc_json.specs.View.{view}
-use Rattle.jc_members.specs.Ends.{end_said_at}
+use Rattle.jc_members.specs.EndMembers.{end_said_at}
 use Rattle.jc_members.specs.Items.{each_said, with_front}
 use Rattle.jc_members.proofs.ends.read_items.Given as goal
 

@@ -4,7 +4,7 @@ use Rattle.jc_history.specs.Nodes.{act_on}
 use Rattle.jc_log.specs.Log.{pods_in}
 use Rattle.jc_log.proofs.PodFacts.{pods_in-rises}
 use Rattle.jc_node.specs.Fated.{ends_at_key}
-use Rattle.jc_node.specs.Steps.{act_kind, step_of}
+use Rattle.jc_node.specs.NodeSteps.{act_kind, step_of}
 use Rattle.jc_node.proofs.NextFacts.{first-none, first-step, found-from, found-within, nothing_up_to, untold}
 use Rattle.jc_node.proofs.steps.node_step.Goals as goal
 

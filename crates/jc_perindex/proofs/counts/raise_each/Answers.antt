@@ -7,7 +7,7 @@ use Rattle.jc_types.specs.declared.statuses.IndexCount.{IndexCount}
 use Rattle.jc_types.proofs.ListFacts.{filter_filter}
 use Rattle.jc_states.specs.Bases.{is_own}
 use Rattle.jc_states.specs.UidLists.{is_in}
-use Rattle.jc_perindex.specs.Steps.{raise_each, raise_for}
+use Rattle.jc_perindex.specs.FillingSteps.{raise_each, raise_for}
 use Rattle.jc_perindex.proofs.Raised.{each-raised, fewer-behind, one-fits, raised-ascends, raised-next}
 use Rattle.jc_perindex.proofs.counts.raise_each.Goals as goal
 

@@ -1,7 +1,7 @@
 use Rattle.std.proofs.Common.{◌≡◌, ◌&&◌, drop, filter}
 use Rattle.jc_states.specs.Bases.{is_own}
 use Rattle.jc_states.specs.UidLists.{is_in}
-use Rattle.jc_perindex.specs.Steps.{raise_each}
+use Rattle.jc_perindex.specs.FillingSteps.{raise_each}
 use Rattle.jc_perindex.proofs.counts.raise_each.Given as goal
 
 -- The counts so far have the failures of the pods from the place on.

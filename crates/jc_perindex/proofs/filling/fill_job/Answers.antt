@@ -6,7 +6,7 @@ use Rattle.jc_types.specs.declared.specifications.JobSpec.{JobSpec}
 use Rattle.jc_types.specs.declared.statuses.IndexCount.{IndexCount}
 use Rattle.jc_states.specs.Bases.{own_pods}
 use Rattle.jc_perindex.specs.Failures.{failed_set, newly_failed}
-use Rattle.jc_perindex.specs.Steps.{raise_each}
+use Rattle.jc_perindex.specs.FillingSteps.{raise_each}
 use Rattle.jc_perindex.proofs.Filled.{filled-none, filled-some}
 use Rattle.jc_perindex.proofs.Raised.{each-raised, raised-ascends}
 use Rattle.jc_perindex.proofs.filling.fill_job.Goals as goal

@@ -1,6 +1,6 @@
 -- Of the noted pods the same have failed as of all.
 use Rattle.std.proofs.Common.{◌≡◌, [], IfOk, ◌∙◌, subst, arith}
-use Rattle.jc_perindex.specs.Steps.{raise_each}
+use Rattle.jc_perindex.specs.FillingSteps.{raise_each}
 use Rattle.jc_perindex.proofs.NotedFacts.{some-failed, some-few, some-fit}
 use Rattle.jc_perindex.proofs.filling.raised.Goals as goal
 

@@ -4,7 +4,7 @@ use Rattle.std.proofs.lemmas.Iterator.{YieldsList-from_slice}
 use Rattle.std.proofs.lemmas.Iterator.Consumers.{count_from_yields_List, YieldsList-from_filter, YieldsList-at}
 use Rattle.jc_states.specs.Bases.{is_own}
 use Rattle.jc_states.specs.Pods.{is_ready}
-use Rattle.jc_plan.specs.Numbers.{keeps_on}
+use Rattle.jc_plan.specs.PodNumbers.{keeps_on}
 use Rattle.jc_plan.proofs.numbers.count_kept_on.Goals as goal
 
 pub returns : goal.returns

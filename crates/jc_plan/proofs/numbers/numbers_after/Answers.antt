@@ -3,7 +3,7 @@ use Rattle.std.proofs.Common.{◌≡◌, ◌&&◌, ap, arith}
 use Rattle.jc_states.specs.Bases.{is_own, own_pods}
 use Rattle.jc_states.specs.declared.tallies.Tally.{Tally}
 use Rattle.jc_states.specs.Pods.{is_ready}
-use Rattle.jc_plan.specs.Numbers.{keeps_on}
+use Rattle.jc_plan.specs.PodNumbers.{keeps_on}
 use Rattle.jc_plan.proofs.Going.{open-few}
 use Rattle.jc_account.proofs.Owned.{filter-least as filter-few}
 use Rattle.jc_plan.proofs.numbers.numbers_after.Goals as goal

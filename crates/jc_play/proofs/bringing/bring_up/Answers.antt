@@ -22,7 +22,9 @@ pub happen-requires : goal.happen-requires
 happen-requires c = coming-admits c.bringing.machine c.in-Some.event c.in-Some.ensures.coming
 
 pub bringing-preserved : goal.bringing-preserved
-bringing-preserved c = goes-on (next_to_bring c.args.controller c.args.kind) c.args.machine.now c.bringing.machine c.bringing.invariant c.happen.new.machine c.in-Some.event (sym c.bring_event.ensures.first ∙ c.in-Some.is) (c.in-Some.ensures.coming) (had-room c) c.in_ok-happen.ensures.ok
+bringing-preserved c = goes-on (next_to_bring c.args.controller c.args.kind) c.args.machine.now c.bringing.machine
+    c.bringing.invariant c.happen.new.machine c.in-Some.event (sym c.bring_event.ensures.first ∙ c.in-Some.is)
+    (c.in-Some.ensures.coming) (had-room c) c.in_ok-happen.ensures.ok
 
 pub bringing-smaller : goal.bringing-smaller
 bringing-smaller c = less-room c.bringing.machine c.happen.new.machine c.in-Some.event c.in_ok-happen.ensures.ok (had-room c)
@@ -32,8 +34,12 @@ unfolding brought_up
 returns-in_err-happen-clause-reaches c =
     let p = err_from_is_err_and c.from_residual.result c.from_residual.ensures.1 in
     subst (Reaches c.from_residual.result (brought_up c.args.machine.now.script c.args.machine.now.shape c.args.controller c.args.kind (playing_of false c.args.machine.now))) (sym c.in_err-happen.ensures.kept)
-    (stop-reaches c.from_residual.result c.in_err-happen.field-0.0 _ c.bringing.machine (cc (p.1, p.2)) (λ h.
-    (has-no-room (next_to_bring c.args.controller c.args.kind) c.args.machine.now c.bringing.machine c.bringing.invariant c.in-Some.event (sym c.bring_event.ensures.first ∙ c.in-Some.is) (c.in_err-happen.ensures.room h), c.in_err-happen.ensures.room h)))
+    (stop-reaches c.from_residual.result c.in_err-happen.field-0.0 _ c.bringing.machine (cc (p.1, p.2)) (λ h. (
+      has-no-room (next_to_bring c.args.controller c.args.kind) c.args.machine.now c.bringing.machine
+          c.bringing.invariant c.in-Some.event (sym c.bring_event.ensures.first ∙ c.in-Some.is)
+          (c.in_err-happen.ensures.room h),
+      c.in_err-happen.ensures.room h,
+    )))
 
 pub returns-clause-reaches : goal.returns-clause-reaches
 unfolding brought_up

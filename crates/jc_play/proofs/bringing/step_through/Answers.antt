@@ -25,7 +25,9 @@ pub happen-requires : goal.happen-requires
 happen-requires c = coming-admits c.stepping.machine c.in-Some.event c.in-Some.ensures.coming
 
 pub stepping-preserved : goal.stepping-preserved
-stepping-preserved c = goes-on (next_to_step c.args.controller c.args.worker) c.args.machine.now c.stepping.machine c.stepping.invariant c.happen.new.machine c.in-Some.event (sym c.step_event.ensures.first ∙ c.in-Some.is) (c.in-Some.ensures.coming) (had-room c) c.in_ok-happen.ensures.ok
+stepping-preserved c = goes-on (next_to_step c.args.controller c.args.worker) c.args.machine.now c.stepping.machine
+    c.stepping.invariant c.happen.new.machine c.in-Some.event (sym c.step_event.ensures.first ∙ c.in-Some.is)
+    (c.in-Some.ensures.coming) (had-room c) c.in_ok-happen.ensures.ok
 
 pub stepping-smaller : goal.stepping-smaller
 stepping-smaller c = less-room c.stepping.machine c.happen.new.machine c.in-Some.event c.in_ok-happen.ensures.ok (had-room c)
@@ -35,8 +37,12 @@ unfolding stepped_through
 returns-in_err-happen-clause-reaches c =
     let p = err_from_is_err_and c.from_residual.result c.from_residual.ensures.1 in
     subst (Reaches c.from_residual.result (stepped_through c.args.machine.now.script c.args.machine.now.shape c.args.controller c.args.worker (playing_of false c.args.machine.now))) (sym c.in_err-happen.ensures.kept)
-    (stop-reaches c.from_residual.result c.in_err-happen.field-0.0 _ c.stepping.machine (cc (p.1, p.2)) (λ h.
-    (has-no-room (next_to_step c.args.controller c.args.worker) c.args.machine.now c.stepping.machine c.stepping.invariant c.in-Some.event (sym c.step_event.ensures.first ∙ c.in-Some.is) (c.in_err-happen.ensures.room h), c.in_err-happen.ensures.room h)))
+    (stop-reaches c.from_residual.result c.in_err-happen.field-0.0 _ c.stepping.machine (cc (p.1, p.2)) (λ h. (
+      has-no-room (next_to_step c.args.controller c.args.worker) c.args.machine.now c.stepping.machine
+          c.stepping.invariant c.in-Some.event (sym c.step_event.ensures.first ∙ c.in-Some.is)
+          (c.in_err-happen.ensures.room h),
+      c.in_err-happen.ensures.room h,
+    )))
 
 pub returns-clause-reaches : goal.returns-clause-reaches
 unfolding stepped_through

@@ -1,6 +1,6 @@
 use Rattle.std.proofs.Common.{ap, sym, ◌∙◌, arith, below_more}
 use Rattle.jc_types.specs.declared.runs.Shape.{Shape}
-use Rattle.jc_machine.specs.Diaries.{diary_seen}
+use Rattle.jc_machine.specs.DiariesSeen.{diary_seen}
 use Rattle.jc_runs.specs.Seen.{log_seen}
 use Rattle.jc_history.specs.Available.{begin_events}
 use Rattle.jc_play.proofs.FirstFacts.{first-found, first-none}
@@ -10,7 +10,10 @@ pub returns-in-Some : goal.returns-in-Some
 returns-in-Some c =
     let same = ap (λ (s : Shape). s.controllers) c.shape.ensures in
     let test = c.loop-controller-test.true in
-    sym (first-found (λ k. begin_events (diary_seen c.args.machine.now k) (log_seen c.args.machine.now) c.args.machine.now.shape.workers k) c.args.machine.now.shape.controllers c.loop-controller.controller c.in-Some.event (omega (arith, same, test)) c.loop-controller.invariant (sym c.controller_begins.ensures ∙ c.in-Some.is))
+    sym (first-found (λ k. begin_events (diary_seen c.args.machine.now k) (log_seen c.args.machine.now)
+    c.args.machine.now.shape.workers k) c.args.machine.now.shape.controllers c.loop-controller.controller
+    c.in-Some.event (omega (arith, same, test)) c.loop-controller.invariant
+    (sym c.controller_begins.ensures ∙ c.in-Some.is))
 
 pub loop-controller-preserved : goal.loop-controller-preserved
 loop-controller-preserved c = below_more _ _ c.loop-controller.invariant (sym c.controller_begins.ensures ∙ c.in_default.is)

@@ -1,5 +1,5 @@
 use Rattle.std.proofs.Common.{◌≡◌, ℕ, ◌<◌, None}
-use Rattle.jc_machine.specs.Diaries.{diary_seen}
+use Rattle.jc_machine.specs.DiariesSeen.{diary_seen}
 use Rattle.jc_history.specs.Available.{delivery_events}
 use Rattle.jc_history.specs.Play.{first_event}
 use Rattle.jc_runs.specs.Seen.{log_seen}

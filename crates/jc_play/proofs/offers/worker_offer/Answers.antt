@@ -26,4 +26,6 @@ returns-else-is_to_begin c =
     let workers = ap (λ (s : Shape). s.workers) c.shape-shape.ensures in
     let controller = c.if-controller-shape.false in
     let worker = c.if-worker-shape.false in
-    worker-waits c.args.machine.now c.args.controller c.args.worker (omega (arith, controllers, controller)) (omega (arith, workers, worker)) (sym c.is_free.ensures ∙ c.if-not-is_free.false) (λ begins. true≢false (sym (c.is_to_begin.ensures.1 begins) ∙ c.if-is_to_begin.false))
+    worker-waits c.args.machine.now c.args.controller c.args.worker (omega (arith, controllers, controller))
+    (omega (arith, workers, worker)) (sym c.is_free.ensures ∙ c.if-not-is_free.false)
+    (λ begins. true≢false (sym (c.is_to_begin.ensures.1 begins) ∙ c.if-is_to_begin.false))

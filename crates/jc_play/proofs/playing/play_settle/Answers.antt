@@ -18,7 +18,10 @@ play_plain-requires c =
 pub returns-in_err-settle-clause-reaches : goal.returns-in_err-settle-clause-reaches
 returns-in_err-settle-clause-reaches c =
     let p = err_from_is_err_and c.from_residual.result c.from_residual.ensures.1 in
-    stopped c.from_residual.result c.in_err-settle.field-0.0 (settled_down c.args.machine.now.script c.args.machine.now.shape (playing_of false c.args.machine.now)) c.settle.new.machine (event_played c.args.machine.now.script c.args.machine.now.shape c.args.event) (cc (p.1, p.2)) c.in_err-settle.ensures.reaches
+    stopped c.from_residual.result c.in_err-settle.field-0.0
+    (settled_down c.args.machine.now.script c.args.machine.now.shape (playing_of false c.args.machine.now))
+    c.settle.new.machine (event_played c.args.machine.now.script c.args.machine.now.shape c.args.event) (cc (p.1, p.2))
+    c.in_err-settle.ensures.reaches
     (λ le. event-full c.args.machine.now c.settle.new.machine c.settle.ensures.grown.shape c.args.event le)
 
 pub returns-clause-grown : goal.returns-clause-grown

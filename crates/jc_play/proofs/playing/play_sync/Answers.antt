@@ -11,7 +11,10 @@ use Rattle.jc_play.proofs.playing.play_sync.Goals as goal
 pub returns-in_err-bring_both-clause-reaches : goal.returns-in_err-bring_both-clause-reaches
 returns-in_err-bring_both-clause-reaches c =
     let p = err_from_is_err_and c.from_residual.result c.from_residual.ensures.1 in
-    stopped c.from_residual.result c.in_err-bring_both.field-0.0 (brought_up c.args.machine.now.script c.args.machine.now.shape c.args.controller Pods (brought_up c.args.machine.now.script c.args.machine.now.shape c.args.controller Jobs (playing_of false c.args.machine.now))) c.bring_both.new.machine
+    stopped c.from_residual.result c.in_err-bring_both.field-0.0
+    (brought_up c.args.machine.now.script c.args.machine.now.shape c.args.controller Pods
+    (brought_up c.args.machine.now.script c.args.machine.now.shape c.args.controller Jobs
+    (playing_of false c.args.machine.now))) c.bring_both.new.machine
     (λ q. after_begin c.args.machine.now.script c.args.machine.now.shape c.args.controller c.args.worker (event_played c.args.machine.now.script c.args.machine.now.shape c.args.event q)) (cc (p.1, p.2)) c.in_err-bring_both.ensures.reaches
     (λ le. ap (after_begin c.args.machine.now.script c.args.machine.now.shape c.args.controller c.args.worker) (event-full c.args.machine.now c.bring_both.new.machine c.bring_both.ensures.grown.shape c.args.event le))
 

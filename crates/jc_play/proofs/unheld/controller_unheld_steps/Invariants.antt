@@ -1,5 +1,5 @@
 use Rattle.std.proofs.Common.{◌≡◌, ℕ, ◌<◌, None, filter}
-use Rattle.jc_machine.specs.Diaries.{diary_seen}
+use Rattle.jc_machine.specs.DiariesSeen.{diary_seen}
 use Rattle.jc_history.specs.Available.{step_event}
 use Rattle.jc_history.specs.Play.{first_event}
 use Rattle.jc_play.specs.Slots.{is_unheld}

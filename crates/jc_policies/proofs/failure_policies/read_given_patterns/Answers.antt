@@ -4,7 +4,7 @@ use Rattle.std.proofs.lemmas.Result.{err_from_is_err_and}
 use Rattle.jc_json.specs.View.{view}
 use Rattle.jc_rows.proofs.RowFacts.{refuses_or, refuses_later, reads_err, none_or, refuses_at, none_at, said_at}
 use Rattle.jc_policies.specs.FailurePolicies.{patterns_refusal, patterns_from, given_patterns_refusal}
-use Rattle.jc_rows.specs.Rows.{reads}
+use Rattle.jc_rows.specs.ManifestRows.{reads}
 use Rattle.jc_rows.specs.Templates.{list_in}
 use Rattle.jc_policies.proofs.failure_policies.read_given_patterns.Goals as goal
 

@@ -1,6 +1,6 @@
 use Rattle.std.proofs.Common.{◌≡◌, ◌++◌, map, drop}
 use Rattle.jc_json.specs.View.{view}
-use Rattle.jc_rows.specs.Rows.{each}
+use Rattle.jc_rows.specs.ManifestRows.{each}
 use Rattle.jc_policies.specs.FailurePolicies.{pattern_row, patterns_from}
 use Rattle.jc_policies.proofs.failure_policies.read_patterns.Given as goal
 

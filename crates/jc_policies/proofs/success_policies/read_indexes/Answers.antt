@@ -1,5 +1,5 @@
 use Rattle.std.proofs.Common.{◌∙◌, sym, ap, subst, Ok, option_map}
-use Rattle.jc_rows.specs.Rows.{IsRefusal}
+use Rattle.jc_rows.specs.ManifestRows.{IsRefusal}
 use Rattle.jc_policies.specs.SuccessPolicies.{indexes_read}
 use Rattle.jc_policies.proofs.IndexFacts.{indexes_kept, indexes_said, indexes_broken}
 use Rattle.jc_policies.proofs.success_policies.read_indexes.Goals as goal

@@ -1,6 +1,6 @@
 use Rattle.std.proofs.lemmas.Result.{err_from_is_err_and}
 use Rattle.jc_rows.proofs.RowFacts.{reads_err}
-use Rattle.jc_rows.specs.Counts.{completions_of}
+use Rattle.jc_rows.specs.PodCountRows.{completions_of}
 use Rattle.jc_policies.specs.SuccessPolicies.{given_success_refusal, success_rules_in, success_refusal, success_in}
 use Rattle.jc_policies.proofs.PolicyFacts.{given_refused, given_none, given_said}
 use Rattle.jc_policies.proofs.success_policies.read_success.Goals as goal

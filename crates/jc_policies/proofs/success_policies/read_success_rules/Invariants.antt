@@ -1,6 +1,6 @@
 use Rattle.std.proofs.Common.{◌≡◌, ◌++◌, map, drop}
 use Rattle.jc_json.specs.View.{view}
-use Rattle.jc_rows.specs.Rows.{each}
+use Rattle.jc_rows.specs.ManifestRows.{each}
 use Rattle.jc_policies.specs.SuccessPolicies.{success_rule_row, success_rules_from}
 use Rattle.jc_policies.proofs.success_policies.read_success_rules.Given as goal
 

@@ -1,7 +1,7 @@
 use Rattle.std.proofs.Common.{Some, ap, map, refl}
 use Rattle.serde_json.specs.Data.{number, string}
 use Rattle.serde_json.specs.Find.{of_integer}
-use Rattle.jc_print.specs.Members.{list_data}
+use Rattle.jc_print.specs.PrintedMembers.{list_data}
 use Rattle.jc_print.specs.PrintedSpecs.{exit_codes_data}
 use Rattle.jc_print.proofs.SpecMembers.{in_exit_codes}
 use Rattle.jc_print.proofs.Writing.{keyed, more, no_more, object_of}

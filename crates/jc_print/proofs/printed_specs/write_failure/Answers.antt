@@ -1,5 +1,5 @@
 use Rattle.std.proofs.Common.{Some, ap, map, refl}
-use Rattle.jc_print.specs.Members.{list_data}
+use Rattle.jc_print.specs.PrintedMembers.{list_data}
 use Rattle.jc_print.specs.PrintedSpecs.{failure_rule_data, rules_data}
 use Rattle.jc_print.proofs.SpecMembers.{in_rules}
 use Rattle.jc_print.proofs.Writing.{keyed, more, no_more, object_of}

@@ -1,6 +1,6 @@
 use Rattle.std.proofs.Common.{ap}
 use Rattle.serde_json.specs.Data.{string}
-use Rattle.jc_print.specs.Members.{texts_data}
+use Rattle.jc_print.specs.PrintedMembers.{texts_data}
 use Rattle.jc_print.specs.Tokens.{data_tokens}
 use Rattle.jc_print.proofs.Writing.{adds_same, adds_text, list_of, no_item, one_item}
 use Rattle.jc_print.proofs.printed_specs.write_names.Goals as goal

@@ -1,5 +1,5 @@
 use Rattle.std.proofs.Common.{Some, ap, codes, map}
-use Rattle.jc_print.specs.Members.{list_data}
+use Rattle.jc_print.specs.PrintedMembers.{list_data}
 use Rattle.jc_print.specs.PrintedSpecs.{pattern_data}
 use Rattle.jc_print.specs.Tokens.{given_tokens}
 use Rattle.jc_print.proofs.Requirements.{conditions_written, exits_written}

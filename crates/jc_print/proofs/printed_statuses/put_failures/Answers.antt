@@ -1,5 +1,5 @@
 use Rattle.std.proofs.Common.{refl, ◌∙◌, ap}
-use Rattle.jc_print.specs.Members.{unless_empty}
+use Rattle.jc_print.specs.PrintedMembers.{unless_empty}
 use Rattle.jc_print.specs.PrintedStatuses.{with_failures}
 use Rattle.jc_print.proofs.Puts.{put_over}
 use Rattle.jc_print.proofs.printed_statuses.put_failures.Goals as goal

@@ -1,4 +1,4 @@
-use Rattle.jc_print.specs.Members.{number_data}
+use Rattle.jc_print.specs.PrintedMembers.{number_data}
 use Rattle.jc_print.proofs.Writing.{not_given}
 use Rattle.jc_print.proofs.writes.write_given_number.Goals as goal
 

@@ -1,7 +1,7 @@
 -- What holds of each legal history, from the laws below.
 use Rattle.std.proofs.Common.{arith, ◌+◌, ◌<◌, ◌^◌, subst, length, reverse}
 use Rattle.jc_log.specs.Deeds.{deeds}
-use Rattle.jc_runs.specs.Runs.{AllAskValid}
+use Rattle.jc_runs.specs.Machines.{AllAskValid}
 use Rattle.jc_promise.proofs.DeedFacts.{deeds-are}
 use Rattle.jc_promise.proofs.QuietFacts.{syncs-well}
 use Rattle.jc_promise.proofs.laws.legal_histories_keep_the_promises.Goals as goal

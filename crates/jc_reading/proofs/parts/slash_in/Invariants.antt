@@ -1,5 +1,5 @@
 use Rattle.std.proofs.Common.{◌≡◌, ◌+◌, drop}
-use Rattle.jc_reading.specs.Readings.{slash_in}
+use Rattle.jc_reading.specs.LineReadings.{slash_in}
 use Rattle.jc_reading.proofs.parts.slash_in.Given as goal
 
 -- So far there was no slash.

@@ -1,5 +1,5 @@
 use Rattle.std.proofs.Common.{◌≡◌, drop}
-use Rattle.jc_reading.specs.Readings.{digits_from}
+use Rattle.jc_reading.specs.LineReadings.{digits_from}
 use Rattle.jc_reading.proofs.reading.read_number.Given as goal
 
 -- So far there were digits alone.

@@ -1,6 +1,6 @@
 use Rattle.std.proofs.Common.{refl}
 use Rattle.std.proofs.lemmas.Result.{err_from_is_err_and}
-use Rattle.jc_rows.specs.Counts.{numbers_refusal}
+use Rattle.jc_rows.specs.PodCountRows.{numbers_refusal}
 use Rattle.jc_rows.proofs.CountFacts.{numbers_said}
 use Rattle.jc_rows.proofs.RowFacts.{refuses_or, refuses_later, reads_err, none_or}
 use Rattle.jc_rows.proofs.counts.read_numbers.Goals as goal

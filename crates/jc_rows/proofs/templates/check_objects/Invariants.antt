@@ -1,7 +1,7 @@
 use Rattle.std.proofs.Common.{◌≡◌, map, drop}
 use Rattle.jc_json.specs.View.{view}
 use Rattle.jc_json.specs.Field.{item_object}
-use Rattle.jc_rows.specs.Rows.{each, reads}
+use Rattle.jc_rows.specs.ManifestRows.{each, reads}
 use Rattle.jc_rows.proofs.templates.check_objects.Given as goal
 
 -- what the items so far leave open

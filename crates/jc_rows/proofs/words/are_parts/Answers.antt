@@ -1,7 +1,7 @@
 use Rattle.std.proofs.Common.{eqb, rules, tests}
 use Rattle.std.proofs.lemmas.Iterator.Search.{all_from_yields_List}
 use Rattle.std.proofs.lemmas.Iterator.Splits.{YieldsList-from_slice_split}
-use Rattle.jc_rows.specs.Words.{is_part}
+use Rattle.jc_rows.specs.NameForms.{is_part}
 use Rattle.jc_rows.proofs.words.are_parts.Goals as goal
 
 pub returns : goal.returns

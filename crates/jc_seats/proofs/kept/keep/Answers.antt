@@ -9,7 +9,9 @@ pub invariant_of-result : goal.invariant_of-result
 invariant_of-result g c = (
   record {
     orderly = c.requires.orderly;
-    used = used-above c.lanes_of-lanes.result c.args.cluster.seen.script.commands c.args.cluster.seen.pasts (subst (AreLanesBelow c.lanes_of-lanes.result) (c.as_slice.ensures ∙ ap (λ (s : Script). s.commands) c.script.ensures.script) c.lanes_of-lanes.ensures.below);
+    used = used-above c.lanes_of-lanes.result c.args.cluster.seen.script.commands c.args.cluster.seen.pasts
+        (subst (AreLanesBelow c.lanes_of-lanes.result)
+        (c.as_slice.ensures ∙ ap (λ (s : Script). s.commands) c.script.ensures.script) c.lanes_of-lanes.ensures.below);
     few = c.lanes_of-lanes.ensures.few;
   },
   c.requires.named,

@@ -12,8 +12,8 @@ use Rattle.jc_promise.specs.Plays.{ends_in_settle}
 use Rattle.jc_promise.specs.Promises.{KeepsPromises}
 use Rattle.jc_promise.specs.Replies.{log_given}
 use Rattle.jc_report.specs.Reports.{report_text}
-use Rattle.jc_single.specs.Runs.{report_printed}
-use Rattle.jc_single.specs.Told.{EndsAtRest, IsReportOf}
+use Rattle.jc_single.specs.RunAnswers.{report_printed}
+use Rattle.jc_single.specs.Headlines.{EndsAtRest, IsReportOf}
 use Rattle.jc_single.proofs.laws.plays_tell_their_history.Goals as goal
 
 -- On one thread a script is played until nothing is left to do where it ends in a settle.

@@ -15,13 +15,13 @@ use Rattle.jc_reap.specs.Reaping.{reap_list}
 use Rattle.jc_reap.specs.TtlLines.{ttls_of}
 use Rattle.jc_promise.specs.Seen.{Seen}
 use Rattle.jc_script.specs.Scripts.{BadLine, script_of}
-use Rattle.jc_words.specs.Fits.{IsFitShape}
+use Rattle.jc_words.specs.FitOrders.{IsFitShape}
 use Rattle.jc_words.specs.declared.words.Order.TheVariants as order
 use Rattle.jc_single.proofs.ReapFacts.{AreByteLanes, AreValid, both, last-holds, settled_lanes, settled_valid, settled_within}
 use Rattle.jc_single.proofs.ShapeFacts.{first_lane, read_lanes, read_within}
 use Rattle.jc_single.specs.Played.{as_script, at_rest, reaped_of}
-use Rattle.jc_single.specs.Runs.{Printed, answer_of, report_printed, reported}
-use Rattle.jc_single.specs.Told.{IsReport}
+use Rattle.jc_single.specs.RunAnswers.{Printed, answer_of, report_printed, reported}
+use Rattle.jc_single.specs.Headlines.{IsReport}
 use Rattle.jc_single.proofs.laws.runs_tell_their_history.Goals as goal
 
 printed-in : Result Printed BadLine → Printed → Printed

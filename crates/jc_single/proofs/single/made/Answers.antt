@@ -2,8 +2,8 @@
 use Rattle.std.proofs.Common.{◌≡◌, List, ℕ, Err, ap, refl, rules, subst}
 use Rattle.jc_script.specs.Scripts.{BadLine}
 use Rattle.jc_script.specs.declared.scripts.ScriptFault.{ScriptFault}
-use Rattle.jc_single.specs.Ends.{AtLine}
-use Rattle.jc_single.specs.Runs.{answer_of}
+use Rattle.jc_single.specs.RunEnds.{AtLine}
+use Rattle.jc_single.specs.RunAnswers.{answer_of}
 use Rattle.jc_single.proofs.single.made.Goals as goal
 
 pub returns-in-Err-BadLine : goal.returns-in-Err-BadLine

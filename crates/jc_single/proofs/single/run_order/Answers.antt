@@ -1,6 +1,6 @@
 -- There was a text to write, or none.
-use Rattle.jc_single.specs.Ends.{Stopped, Wrote}
-use Rattle.jc_single.specs.Runs.{printed_by}
+use Rattle.jc_single.specs.RunEnds.{Stopped, Wrote}
+use Rattle.jc_single.specs.RunAnswers.{printed_by}
 use Rattle.std.proofs.KnownBytes.{Keeps-refl}
 use Rattle.jc_single.proofs.single.run_order.Goals as goal
 

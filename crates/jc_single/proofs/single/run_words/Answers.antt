@@ -1,6 +1,6 @@
 -- The order is that of the words.
 use Rattle.std.proofs.Common.{sym, ◌∙◌}
-use Rattle.jc_single.specs.Ends.{Ran}
+use Rattle.jc_single.specs.RunEnds.{Ran}
 use Rattle.jc_single.proofs.single.run_words.Goals as goal
 
 pub returns-in-Some : goal.returns-in-Some

@@ -1,5 +1,5 @@
 -- The lemmas on places, at the rules of a policy.
-use Rattle.jc_succpol.specs.Rules.{is_met}
+use Rattle.jc_succpol.specs.SuccessRules.{is_met}
 use Rattle.jc_types.proofs.FirstPlaceFacts.{first_is_least, none_passes}
 use Rattle.jc_succpol.proofs.laws.first_met_decides.Goals as goal
 

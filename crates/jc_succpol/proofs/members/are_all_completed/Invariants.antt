@@ -1,5 +1,5 @@
 use Rattle.std.proofs.Common.{◌≡◌, drop}
-use Rattle.jc_succpol.specs.Rules.{includes}
+use Rattle.jc_succpol.specs.SuccessRules.{includes}
 use Rattle.jc_succpol.proofs.members.are_all_completed.Given as goal
 
 -- The indexes are all completed where those from this place on are.

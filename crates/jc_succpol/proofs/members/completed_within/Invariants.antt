@@ -1,5 +1,5 @@
 use Rattle.std.proofs.Common.{◌≡◌, ◌+◌, ◌≤◌, drop}
-use Rattle.jc_succpol.specs.Rules.{count_within}
+use Rattle.jc_succpol.specs.SuccessRules.{count_within}
 use Rattle.jc_succpol.proofs.members.completed_within.Given as goal
 
 -- The count so far, with the completed indexes from this place on that are among the indexes.

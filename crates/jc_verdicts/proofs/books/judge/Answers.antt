@@ -35,7 +35,9 @@ pub returns-clause-rows : goal.returns-clause-rows
 returns-clause-rows c =
     c.in_ok-extend_from_slice.ensures.items
     ∙ ap (λ new. c.args.book.now.rows.items ++ new)
-    (new-is c.args.job.now c.deref.result.now c.args.log.now c.args.seen c.args.book.now.known.entries c.args.book.now.rows.items c.as_slice-fresh.result.now (pods_of c.args.job.now.uid (reverse (take c.args.seen c.args.log.now))) c.deref.ensures refl
+    (new-is c.args.job.now c.deref.result.now c.args.log.now c.args.seen c.args.book.now.known.entries
+    c.args.book.now.rows.items c.as_slice-fresh.result.now
+    (pods_of c.args.job.now.uid (reverse (take c.args.seen c.args.log.now))) c.deref.ensures refl
     c.requires.sound.known
     (c.as_slice-fresh.ensures.value ∙ c.in_ok-new.ensures ∙ ap (rows_for c.deref.result.now (at same_uid c.args.book.now.known.entries)) (c.as_slice-pods.ensures.value ∙ c.in_ok-book.ensures.pods)
     ∙ rows-kept_pods c.args.book.now.known.entries c.deref.result.now (pods_of c.args.job.now.uid (reverse (take c.args.seen c.args.log.now)))))

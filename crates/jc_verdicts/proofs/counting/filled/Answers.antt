@@ -3,7 +3,7 @@ use Rattle.std.proofs.lemmas.List.{take_more}
 use Rattle.jc_log.specs.Deeds.{deed}
 use Rattle.jc_verdicts.specs.Books.{done_at, rows_at}
 use Rattle.jc_ledger.specs.Ledger.{ledger_of}
-use Rattle.jc_verdicts.specs.Starts.{HasStarts}
+use Rattle.jc_verdicts.specs.SyncStarts.{HasStarts}
 use Rattle.jc_verdicts.specs.Verdicts.{IsCount, deeds_of}
 use Rattle.jc_verdicts.proofs.VerdictSteps.{deeds-more}
 use Rattle.jc_verdicts.proofs.counting.filled.Goals as goal

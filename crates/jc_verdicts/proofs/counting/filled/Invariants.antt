@@ -1,7 +1,7 @@
 use Rattle.std.proofs.Common.{reverse, take}
 use Rattle.jc_verdicts.specs.Books.{AreCounts, AreSound}
 use Rattle.jc_ledger.specs.Ledger.{ledger_of}
-use Rattle.jc_verdicts.specs.Starts.{HasStarts}
+use Rattle.jc_verdicts.specs.SyncStarts.{HasStarts}
 use Rattle.jc_verdicts.specs.Verdicts.{deeds_of}
 use Rattle.jc_verdicts.proofs.counting.filled.Given as goal
 

@@ -11,6 +11,8 @@ pub returns-in-Some-clause-counts : goal.returns-in-Some-clause-counts
 returns-in-Some-clause-counts c =
     on_ok_weaker c.judge_in.result
     (λ counts ledgers old.
-    counts-after (reverse c.args.log.now) (Some (judging_as c.args.past.now c.in-Some.job.now c.in-Some.seen)) (judging_of (deed c.args.script.now c.args.past.now) (deeds_of c.args.script.now c.args.before.now) (reverse c.args.log.now)) c.in-Some.ensures ledgers
+    counts-after (reverse c.args.log.now) (Some (judging_as c.args.past.now c.in-Some.job.now c.in-Some.seen))
+    (judging_of (deed c.args.script.now c.args.past.now) (deeds_of c.args.script.now c.args.before.now)
+    (reverse c.args.log.now)) c.in-Some.ensures ledgers
     c.judge_in.new.books.entries (counts ledgers c.args.past.now.length.0 old))
     c.judge_in.ensures.counts

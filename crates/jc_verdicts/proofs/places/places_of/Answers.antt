@@ -1,6 +1,6 @@
 use Rattle.std.proofs.Common.{reverse, take, sym, ◌∙◌, subst, arith}
 use Rattle.std.proofs.lemmas.List.{length-reverse, length-take-le}
-use Rattle.jc_verdicts.specs.Places.{ArePlaces}
+use Rattle.jc_verdicts.specs.LogPlaces.{ArePlaces}
 use Rattle.jc_verdicts.proofs.TouchFacts.{first-more}
 use Rattle.jc_verdicts.proofs.places.places_of.Goals as goal
 

@@ -1,5 +1,5 @@
 use Rattle.std.proofs.Common.{reverse, take}
-use Rattle.jc_verdicts.specs.Places.{ArePlaces}
+use Rattle.jc_verdicts.specs.LogPlaces.{ArePlaces}
 use Rattle.jc_verdicts.proofs.places.places_of.Given as goal
 
 -- The lists so far are those of the entries before the place.

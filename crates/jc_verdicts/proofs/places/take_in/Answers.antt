@@ -11,4 +11,6 @@ returns-in_ok-note-in-JobPut c =
 -- A Job goes.
 pub returns-in_ok-note-in-JobGone : goal.returns-in_ok-note-in-JobGone
 returns-in_ok-note-in-JobGone c =
-    λ older long are. job-gone older c.args.place c.args.places.now _ c.args.entry.now c.in-JobGone.job c.deref-in-JobGone.result.now.key (ap (λ (job : Job). job.key) c.deref-in-JobGone.ensures) long c.in_ok-note-in-JobGone.ensures refl refl are c.in-JobGone.is
+    λ older long are. job-gone older c.args.place c.args.places.now _ c.args.entry.now c.in-JobGone.job
+    c.deref-in-JobGone.result.now.key (ap (λ (job : Job). job.key) c.deref-in-JobGone.ensures) long
+    c.in_ok-note-in-JobGone.ensures refl refl are c.in-JobGone.is

@@ -9,4 +9,7 @@ use Rattle.jc_verdicts.proofs.rows.note_outcomes.Goals as goal
 pub loop-row-preserved : goal.loop-row-preserved
 loop-row-preserved c =
     λ u.
-    noted_more u (at same_uid c.args.known.now.entries u) (at same_uid c.loop-row.known.entries u) (at same_uid c.note_row.new.known.entries u) c.args.rows.now c.loop-row.row-index (record { uid = record { 0 = 0 }; outcome = Alive; index = None }) c.loop-row-test.true (c.loop-row.invariant u) (c.in_ok-note_row.ensures u)
+    noted_more u (at same_uid c.args.known.now.entries u) (at same_uid c.loop-row.known.entries u)
+    (at same_uid c.note_row.new.known.entries u) c.args.rows.now c.loop-row.row-index
+    (record { uid = record { 0 = 0 }; outcome = Alive; index = None }) c.loop-row-test.true (c.loop-row.invariant u)
+    (c.in_ok-note_row.ensures u)

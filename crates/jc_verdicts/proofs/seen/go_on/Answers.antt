@@ -1,6 +1,6 @@
 use Rattle.std.proofs.Common.{arith, filter}
 use Rattle.jc_log.specs.Log.{pods_of}
-use Rattle.jc_verdicts.specs.Places.{touches}
+use Rattle.jc_verdicts.specs.LogPlaces.{touches}
 use Rattle.jc_verdicts.specs.Verdicts.{stays}
 use Rattle.jc_verdicts.proofs.TouchFacts.{places-within, seen-next, seen-rise, seen-stay, untouched}
 use Rattle.jc_verdicts.proofs.seen.go_on.Goals as goal

@@ -1,7 +1,7 @@
 use Rattle.std.proofs.Common.{◌-◌, ◌+◌, ◌≡◌, subst, ◌∙◌, arith}
 use Rattle.jc_log.specs.Log.{job_in}
 use Rattle.jc_log.specs.PlainReadings.{is_about_job}
-use Rattle.jc_verdicts.specs.Places.{IsCut}
+use Rattle.jc_verdicts.specs.LogPlaces.{IsCut}
 use Rattle.jc_verdicts.proofs.TouchFacts.{job-last, job-none, not_about, places-rise}
 use Rattle.jc_verdicts.proofs.seen.job_among.Goals as goal
 

@@ -1,6 +1,6 @@
 use Rattle.std.proofs.Common.{filter, sym, subst, ◌∙◌}
 use Rattle.jc_log.specs.Log.{pods_of}
-use Rattle.jc_verdicts.specs.Places.{touches}
+use Rattle.jc_verdicts.specs.LogPlaces.{touches}
 use Rattle.jc_verdicts.specs.Verdicts.{HasSeen, stays}
 use Rattle.jc_verdicts.proofs.TouchFacts.{places-rise, seen-cut, untouched}
 use Rattle.jc_verdicts.proofs.seen.look.Goals as goal
@@ -13,7 +13,9 @@ count_below-count-requires c = places-rise (pods_of c.args.owner) (touches c.arg
 pub returns-clause-pods : goal.returns-clause-pods
 returns-clause-pods c =
     c.keep_staying.ensures
-    ∙ seen-cut c.args.known.now.entries c.args.owner c.args.log.now c.args.places.now c.requires.places (filter (stays c.args.known.now.entries) c.go_on.new.pods.items) c.count_below-count.result c.end_of.result c.args.seen c.in_ok-go_on.ensures c.count_below-count.ensures c.end_of.ensures.within c.end_of.ensures.same
+    ∙ seen-cut c.args.known.now.entries c.args.owner c.args.log.now c.args.places.now c.requires.places
+    (filter (stays c.args.known.now.entries) c.go_on.new.pods.items) c.count_below-count.result c.end_of.result
+    c.args.seen c.in_ok-go_on.ensures c.count_below-count.ensures c.end_of.ensures.within c.end_of.ensures.same
 
 -- They begin where they are, or at the first place.
 pub go_on-requires-clause-seen : goal.go_on-requires-clause-seen

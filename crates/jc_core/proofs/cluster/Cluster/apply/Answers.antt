@@ -2,7 +2,7 @@ use Rattle.std.proofs.Common.{ap, ◌∙◌}
 use Rattle.jc_types.specs.declared.actions.Script.{Script}
 use Rattle.jc_log.specs.Deeds.{act_of_event}
 use Rattle.jc_runs.specs.Seen.{reply_seen}
-use Rattle.jc_core.specs.Changes.{touch_of}
+use Rattle.jc_core.specs.RegisterChanges.{touch_of}
 use Rattle.jc_core.specs.Shared.{Shared}
 use Rattle.jc_core.proofs.TouchFacts.{touched-seen}
 use Rattle.jc_core.proofs.cluster.Cluster.apply.Goals as goal

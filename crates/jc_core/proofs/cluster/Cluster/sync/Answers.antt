@@ -3,7 +3,7 @@ use Rattle.jc_types.specs.declared.objects.Job.{Job}
 use Rattle.jc_types.specs.declared.objects.Key.{Key}
 use Rattle.jc_types.specs.declared.replies.Reply.TheVariants.{Ended}
 use Rattle.jc_runs.specs.Seen.{Seen, happened}
-use Rattle.jc_play.specs.Syncs.{StartsCurrent, StepsQuietly, begin_event, next_seen}
+use Rattle.jc_play.specs.SyncsSeen.{StartsCurrent, StepsQuietly, begin_event, next_seen}
 use Rattle.jc_core.specs.Shared.{Shared}
 use Rattle.jc_core.proofs.ToldFacts.{synced-up}
 use Rattle.jc_core.proofs.cluster.Cluster.sync.Goals as goal
@@ -13,9 +13,21 @@ returns-clause-ended c = subst (λ (s : Shared). IfOk c.sync-ended.result (λ r.
 
 pub returns-clause-silent : goal.returns-clause-silent
 returns-clause-silent c =
-    subst (λ (s : Shared). OnOk c.sync-ended.result ((k : Key) (job : Job) → StartsCurrent s.seen c.args.controller c.args.worker k job → next_seen s.seen c.args.controller k job ≡ job.status → StepsQuietly c.args.controller c.args.worker (happened s.seen (begin_event c.args.controller c.args.worker)) c.keep_up.new.self.seen)) c.self.view_is
-    (subst (λ (s : Seen). OnOk c.sync-ended.result ((k : Key) (job : Job) → StartsCurrent c.self.inside.machine c.args.controller c.args.worker k job → next_seen c.self.inside.machine c.args.controller k job ≡ job.status → StepsQuietly c.args.controller c.args.worker (happened c.self.inside.machine (begin_event c.args.controller c.args.worker)) s)) (sym c.keep_up.ensures.seen) c.sync-ended.ensures.silent)
+    subst (λ (s : Shared). OnOk c.sync-ended.result
+    ((k : Key) (job : Job) → StartsCurrent s.seen c.args.controller c.args.worker k job
+    → next_seen s.seen c.args.controller k job ≡ job.status
+    → StepsQuietly c.args.controller c.args.worker (happened s.seen (begin_event c.args.controller c.args.worker))
+    c.keep_up.new.self.seen)) c.self.view_is
+    (subst (λ (s : Seen). OnOk c.sync-ended.result
+    ((k : Key) (job : Job) → StartsCurrent c.self.inside.machine c.args.controller c.args.worker k job
+    → next_seen c.self.inside.machine c.args.controller k job ≡ job.status
+    → StepsQuietly c.args.controller c.args.worker
+    (happened c.self.inside.machine (begin_event c.args.controller c.args.worker)) s)) (sym c.keep_up.ensures.seen)
+    c.sync-ended.ensures.silent)
 
 pub returns-clause-slots : goal.returns-clause-slots
 returns-clause-slots c =
-    synced-up c.self.inside.machine c.sync-ended.new.self c.self.inside.slots.items c.args.self.now c.keep_up.new.self c.args.controller c.args.worker c.len-from.result c.history.result.now.events.items c.self.view_is c.sync-ended.ensures.appended c.history.ensures.events c.len-from.ensures c.keep_up.ensures.seen c.keep_up.ensures.slots
+    synced-up c.self.inside.machine c.sync-ended.new.self c.self.inside.slots.items c.args.self.now c.keep_up.new.self
+    c.args.controller c.args.worker c.len-from.result c.history.result.now.events.items c.self.view_is
+    c.sync-ended.ensures.appended c.history.ensures.events c.len-from.ensures c.keep_up.ensures.seen
+    c.keep_up.ensures.slots

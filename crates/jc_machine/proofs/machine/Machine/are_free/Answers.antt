@@ -1,7 +1,7 @@
 use Rattle.std.proofs.Common.{◌≡◌, ◌<◌, true, is_none, refl, sym, ap, ◌∙◌, subst, arith, true≢false}
 use Rattle.jc_types.specs.declared.runs.Shape.{Shape}
 use Rattle.jc_history.specs.Registers.{register}
-use Rattle.jc_machine.specs.Diaries.{diary_seen}
+use Rattle.jc_machine.specs.DiariesSeen.{diary_seen}
 use Rattle.jc_machine.proofs.IdleFacts.{up_to}
 use Rattle.jc_machine.proofs.machine.Machine.are_free.Goals as goal
 

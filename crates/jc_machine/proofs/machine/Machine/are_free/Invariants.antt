@@ -1,6 +1,6 @@
 use Rattle.std.proofs.Common.{◌≡◌, ◌<◌, ℕ, true, is_none}
 use Rattle.jc_history.specs.Registers.{register}
-use Rattle.jc_machine.specs.Diaries.{diary_seen}
+use Rattle.jc_machine.specs.DiariesSeen.{diary_seen}
 use Rattle.jc_machine.proofs.machine.Machine.are_free.Given as goal
 
 -- The workers before this one have no syncs.

@@ -1,5 +1,5 @@
 use Rattle.jc_runs.specs.Seen.{log_seen}
-use Rattle.jc_machine.specs.Diaries.{diary_seen}
+use Rattle.jc_machine.specs.DiariesSeen.{diary_seen}
 use Rattle.jc_machine.specs.Idle.{IsTeamIdle}
 use Rattle.jc_machine.proofs.IdleFacts.{up_to}
 use Rattle.jc_machine.proofs.machine.Machine.are_idle.Goals as goal

@@ -1,6 +1,6 @@
 use Rattle.std.proofs.Common.{◌<◌, ℕ}
 use Rattle.jc_runs.specs.Seen.{log_seen}
-use Rattle.jc_machine.specs.Diaries.{diary_seen}
+use Rattle.jc_machine.specs.DiariesSeen.{diary_seen}
 use Rattle.jc_machine.specs.Idle.{IsTeamIdle}
 use Rattle.jc_machine.proofs.machine.Machine.are_idle.Given as goal
 

@@ -2,7 +2,7 @@ use Rattle.std.proofs.Common.{◌≡◌, ◌<◌, List, length, set, slice_get, 
 use Rattle.jc_log.specs.Acts as does
 use Rattle.jc_runs.proofs.BeginFacts.{begin_run}
 use Rattle.jc_runs.proofs.StepRuns.{plans_at}
-use Rattle.jc_machine.specs.Kept.{fates_in}
+use Rattle.jc_machine.specs.MachineKept.{fates_in}
 use Rattle.jc_machine.proofs.Closing.{After, Before, acts, before, closes, member, past, short, within, worker}
 use Rattle.jc_machine.proofs.machine.Machine.begin.Goals as goal
 use Rattle.jc_machine.proofs.machine.Machine.begin.Goals.{After-keep_twice-reply}
@@ -18,12 +18,12 @@ begin-requires-clause-worker c = let b = before c.self.inside.script c.self.insi
 pub begin-requires-clause-plans : goal.begin-requires-clause-plans
 begin-requires-clause-plans c =
     let b = before c.self.inside.script c.self.inside.shape c.self.inside.history.events.items c.self.inside.lanes
-        c.self.inside.store c.self.inside.members.items c.self.inside.fates c.self.inside.clock c.args.self.now
-        c.args.event (does.Begin c.args.controller c.args.worker) c.self.invariant c.self.view_is c.requires.admits
-        c.requires.act c.requires.room in let there = member b c.args.controller c.index_mut-member.result.now
-        (within b).0 c.index_mut-member.ensures.value in plans_at c.self.inside.shape (past b) c.self.inside.store
-        c.self.inside.members.items (fates_in c.self.inside.fates) c.self.inside.clock c.self.invariant.machine.run
-        c.args.controller c.index_mut-member.result.now there (short b)
+    c.self.inside.store c.self.inside.members.items c.self.inside.fates c.self.inside.clock c.args.self.now
+    c.args.event (does.Begin c.args.controller c.args.worker) c.self.invariant c.self.view_is c.requires.admits
+    c.requires.act c.requires.room in let there = member b c.args.controller c.index_mut-member.result.now
+    (within b).0 c.index_mut-member.ensures.value in plans_at c.self.inside.shape (past b) c.self.inside.store
+    c.self.inside.members.items (fates_in c.self.inside.fates) c.self.inside.clock c.self.invariant.machine.run
+    c.args.controller c.index_mut-member.result.now there (short b)
 
 -- How it is before.
 old : (c : After-keep_twice-reply) → Before c.self.inside.script c.self.inside.shape c.self.inside.history.events.items

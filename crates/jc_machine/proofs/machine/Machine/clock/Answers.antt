@@ -2,7 +2,7 @@ use Rattle.std.proofs.Common.{◌≡◌, ◌<◌, ◌+◌, List, length, map, sl
 use Rattle.jc_types.specs.declared.replies.Reply.TheVariants as reply
 use Rattle.jc_log.specs.Acts as does
 use Rattle.jc_runs.proofs.ClockFacts.{clock_ends, clock_goes, end_run, tick_at}
-use Rattle.jc_machine.specs.Kept.{fates_in}
+use Rattle.jc_machine.specs.MachineKept.{fates_in}
 use Rattle.jc_machine.proofs.Closing.{After, Before, acts, before, closes, past}
 use Rattle.jc_machine.proofs.machine.Machine.clock.Goals as goal
 use Rattle.jc_machine.proofs.machine.Machine.clock.Goals.{After-keep-reply, After-keep-reply-in-Some}

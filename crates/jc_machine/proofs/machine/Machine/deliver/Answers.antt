@@ -2,7 +2,7 @@ use Rattle.std.proofs.Common.{◌≡◌, ◌<◌, arith, List, length, set, slic
 use Rattle.jc_log.specs.Acts as does
 use Rattle.jc_runs.proofs.CacheFacts.{deliver_run}
 use Rattle.jc_team.proofs.LawFacts.{few-pods}
-use Rattle.jc_machine.specs.Kept.{fates_in}
+use Rattle.jc_machine.specs.MachineKept.{fates_in}
 use Rattle.jc_machine.proofs.Closing.{After, Before, acts, before, closes, member, past, room_left, within}
 use Rattle.jc_machine.proofs.machine.Machine.deliver.Goals as goal
 use Rattle.jc_machine.proofs.machine.Machine.deliver.Goals.{After-keep-reply}
@@ -13,9 +13,10 @@ deliver-requires c = let b = before c.self.inside.script c.self.inside.shape c.s
     c.self.inside.lanes c.self.inside.store c.self.inside.members.items c.self.inside.fates c.self.inside.clock
     c.args.self.now c.args.event (does.Deliver c.args.controller c.args.kind) c.self.invariant c.self.view_is
     c.requires.admits c.requires.act c.requires.room in let there = member b c.args.controller
-    c.index_mut-member.result.now (within b) c.index_mut-member.ensures.value in record
-    { few = few-pods c.self.inside.store c.index_mut-member.result.now.con
-    (c.self.invariant.machine.run.each c.args.controller c.index_mut-member.result.now there).holds (room_left b) }
+    c.index_mut-member.result.now (within b) c.index_mut-member.ensures.value in record {
+      few = few-pods c.self.inside.store c.index_mut-member.result.now.con
+          (c.self.invariant.machine.run.each c.args.controller c.index_mut-member.result.now there).holds (room_left b);
+    }
 
 -- How it is before.
 old : (c : After-keep-reply) → Before c.self.inside.script c.self.inside.shape c.self.inside.history.events.items

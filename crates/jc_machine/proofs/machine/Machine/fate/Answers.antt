@@ -3,7 +3,7 @@ use Rattle.jc_log.specs.Acts as does
 use Rattle.jc_runs.proofs.PlainEvents.{fated_run}
 use Rattle.jc_types.specs.declared.replies.Reply.TheVariants as reply
 use Rattle.jc_machine.proofs.Starts.{fate_put}
-use Rattle.jc_machine.specs.Kept.{fates_in}
+use Rattle.jc_machine.specs.MachineKept.{fates_in}
 use Rattle.jc_machine.proofs.Closing.{After, Before, acts, before, closes, past}
 use Rattle.jc_machine.proofs.machine.Machine.fate.Goals as goal
 use Rattle.jc_machine.proofs.machine.Machine.fate.Goals.{After-keep-reply}

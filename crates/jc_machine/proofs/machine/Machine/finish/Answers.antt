@@ -1,10 +1,10 @@
 use Rattle.std.proofs.Common.{◌≡◌, ◌<◌, List, length, reverse, refl, ap, sym, ◌∙◌, subst, w32}
 use Rattle.std.proofs.lemmas.Int.{to_z-of_z}
 use Rattle.jc_log.specs.Requests.{grown}
-use Rattle.jc_machine.specs.Finishes.{finished_gives}
+use Rattle.jc_machine.specs.FinishedPods.{finished_gives}
 use Rattle.jc_log.specs.Acts as does
 use Rattle.jc_runs.proofs.PodEvents.{finished}
-use Rattle.jc_machine.specs.Kept.{fates_in}
+use Rattle.jc_machine.specs.MachineKept.{fates_in}
 use Rattle.jc_machine.proofs.Closing.{After, Before, acts, before, closes, past}
 use Rattle.jc_machine.proofs.machine.Machine.finish.Goals as goal
 use Rattle.jc_machine.proofs.machine.Machine.finish.Goals.{After-keep_twice-reply}

@@ -1,6 +1,6 @@
 use Rattle.std.proofs.Common.{reverse}
 use Rattle.jc_runs.specs.Seen.{deeds_in, deeds_seen}
-use Rattle.jc_machine.specs.Kept.{fates_in}
+use Rattle.jc_machine.specs.MachineKept.{fates_in}
 use Rattle.jc_machine.proofs.Starts.{history_is, justified_seen, legal_seen, once_seen}
 use Rattle.jc_machine.proofs.machine.Machine.history.Goals as goal
 

@@ -2,7 +2,7 @@ use Rattle.std.proofs.Common.{◌≡◌, ◌<◌, List, length, set, slice_get, 
 use Rattle.jc_log.specs.Acts as does
 use Rattle.jc_runs.proofs.EventFacts.{fault_run}
 use Rattle.jc_types.specs.declared.replies.Reply.TheVariants as reply
-use Rattle.jc_machine.specs.Kept.{fates_in}
+use Rattle.jc_machine.specs.MachineKept.{fates_in}
 use Rattle.jc_machine.proofs.Closing.{After, Before, acts, before, closes, faulty, member, past, within}
 use Rattle.jc_machine.proofs.machine.Machine.put_fault.Goals as goal
 use Rattle.jc_machine.proofs.machine.Machine.put_fault.Goals.{After-keep-reply}

@@ -1,7 +1,7 @@
 use Rattle.std.proofs.Common.{◌≡◌, ◌<◌, List, length, reverse, refl, ap, sym, ◌∙◌}
 use Rattle.jc_log.specs.Acts as does
 use Rattle.jc_runs.proofs.PodEvents.{reported}
-use Rattle.jc_machine.specs.Kept.{fates_in}
+use Rattle.jc_machine.specs.MachineKept.{fates_in}
 use Rattle.jc_machine.proofs.Closing.{After, Before, acts, before, closes, past}
 use Rattle.jc_machine.proofs.machine.Machine.report.Goals as goal
 use Rattle.jc_machine.proofs.machine.Machine.report.Goals.{After-keep_twice-reply}

@@ -1,7 +1,7 @@
 use Rattle.std.proofs.Common.{◌≡◌, ◌<◌, List, length, set, slice_get, Some, reverse, refl, ap, sym, ◌∙◌, subst}
 use Rattle.jc_log.specs.Acts as does
 use Rattle.jc_runs.proofs.StepRuns.{busy_at, step_seen}
-use Rattle.jc_machine.specs.Kept.{fates_in}
+use Rattle.jc_machine.specs.MachineKept.{fates_in}
 use Rattle.jc_machine.proofs.Closing.{After, Before, acts, before, closes, faulty, member, past, room_left, within, worker}
 use Rattle.jc_machine.proofs.machine.Machine.step.Goals as goal
 use Rattle.jc_machine.proofs.machine.Machine.step.Goals.{After-keep-reply}
@@ -25,12 +25,12 @@ step-requires-clause-faulty c = let b = before c.self.inside.script c.self.insid
 pub step-requires-clause-busy : goal.step-requires-clause-busy
 step-requires-clause-busy c =
     let b = before c.self.inside.script c.self.inside.shape c.self.inside.history.events.items c.self.inside.lanes
-        c.self.inside.store c.self.inside.members.items c.self.inside.fates c.self.inside.clock c.args.self.now
-        c.args.event (does.Step c.args.controller c.args.worker) c.self.invariant c.self.view_is c.requires.admits
-        c.requires.act c.requires.room in let there = member b c.args.controller c.index_mut-member.result.now
-        (within b).0 c.index_mut-member.ensures.value in λ sync mine. busy_at c.self.inside.shape (past b)
-        c.self.inside.store c.self.inside.members.items (fates_in c.self.inside.fates) c.self.inside.clock
-        c.self.invariant.machine.run c.args.controller c.index_mut-member.result.now there c.args.worker sync mine
+    c.self.inside.store c.self.inside.members.items c.self.inside.fates c.self.inside.clock c.args.self.now
+    c.args.event (does.Step c.args.controller c.args.worker) c.self.invariant c.self.view_is c.requires.admits
+    c.requires.act c.requires.room in let there = member b c.args.controller c.index_mut-member.result.now
+    (within b).0 c.index_mut-member.ensures.value in λ sync mine. busy_at c.self.inside.shape (past b)
+    c.self.inside.store c.self.inside.members.items (fates_in c.self.inside.fates) c.self.inside.clock
+    c.self.invariant.machine.run c.args.controller c.index_mut-member.result.now there c.args.worker sync mine
 
 pub step-requires-clause-room : goal.step-requires-clause-room
 step-requires-clause-room c = room_left

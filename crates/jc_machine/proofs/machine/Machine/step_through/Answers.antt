@@ -1,5 +1,5 @@
 use Rattle.std.proofs.Common.{sym, ◌∙◌}
-use Rattle.jc_machine.specs.Syncs.{stepping_event}
+use Rattle.jc_machine.specs.SyncsSeen.{stepping_event}
 use Rattle.jc_machine.proofs.SyncFacts.{last-one, steps-one}
 use Rattle.jc_machine.proofs.machine.Machine.step_through.Goals as goal
 

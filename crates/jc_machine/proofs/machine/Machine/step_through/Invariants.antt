@@ -1,5 +1,5 @@
 use Rattle.std.proofs.Common.{◌-◌, ◌+◌, length}
-use Rattle.jc_machine.specs.Syncs.{IsLast, StepsOn}
+use Rattle.jc_machine.specs.SyncsSeen.{IsLast, StepsOn}
 use Rattle.jc_machine.proofs.machine.Machine.step_through.Given as goal
 
 -- So far the worker made steps alone, and the last reply is the newest one.

@@ -1,5 +1,5 @@
 use Rattle.std.proofs.Common.{subst}
-use Rattle.jc_machine.specs.Syncs.{StepsOn}
+use Rattle.jc_machine.specs.SyncsSeen.{StepsOn}
 use Rattle.jc_machine.proofs.QuietSyncs.{begins-told, reached}
 use Rattle.jc_machine.proofs.machine.Machine.sync.Goals as goal
 
@@ -35,11 +35,13 @@ returns-clause-next c = λ k job cur. (reached c.args.self.now c.args.controller
     c.facts-2.ensures.valid).next
 
 pub returns-clause-silent : goal.returns-clause-silent
-returns-clause-silent c = λ k job cur same. record
-    { on = (subst (λ s. StepsOn c.args.controller c.args.worker s c.step_through.new.self) c.in_ok-begun.ensures.ok
-    c.in_ok-last.ensures.steps); silent = (reached c.args.self.now c.args.controller c.args.worker k job cur
-    c.facts.ensures.legal c.quiet_syncs_reach_the_next_status.ensures.ended
-    c.quiet_syncs_reach_the_next_status.ensures.next c.quiet_syncs_reach_the_next_status.ensures.nothing
-    c.step_through.new.self (subst (λ s. StepsOn c.args.controller c.args.worker s c.step_through.new.self)
-    c.in_ok-begun.ensures.ok c.in_ok-last.ensures.steps) c.in_ok-last.ensures.free c.facts-2.ensures.legal
-    c.facts-2.ensures.valid).silent same }
+returns-clause-silent c = λ k job cur same. record {
+  on = (subst (λ s. StepsOn c.args.controller c.args.worker s c.step_through.new.self) c.in_ok-begun.ensures.ok
+      c.in_ok-last.ensures.steps);
+  silent = (reached c.args.self.now c.args.controller c.args.worker k job cur
+      c.facts.ensures.legal c.quiet_syncs_reach_the_next_status.ensures.ended
+      c.quiet_syncs_reach_the_next_status.ensures.next c.quiet_syncs_reach_the_next_status.ensures.nothing
+      c.step_through.new.self (subst (λ s. StepsOn c.args.controller c.args.worker s c.step_through.new.self)
+      c.in_ok-begun.ensures.ok c.in_ok-last.ensures.steps) c.in_ok-last.ensures.free c.facts-2.ensures.legal
+      c.facts-2.ensures.valid).silent same;
+}

@@ -2,7 +2,7 @@ use Rattle.std.proofs.Common.{◌≡◌, ◌<◌, List, length, set, slice_get, 
 use Rattle.jc_log.specs.Acts as does
 use Rattle.jc_runs.proofs.StoreFacts.{updated}
 use Rattle.jc_runs.proofs.TextFacts.{update_texts}
-use Rattle.jc_machine.specs.Kept.{fates_in}
+use Rattle.jc_machine.specs.MachineKept.{fates_in}
 use Rattle.jc_machine.proofs.Closing.{After, Before, acts, before, closes, past}
 use Rattle.jc_machine.proofs.machine.Machine.update.Goals as goal
 use Rattle.jc_machine.proofs.machine.Machine.update.Goals.{After-keep-reply}

@@ -1,5 +1,5 @@
 use Rattle.std.proofs.Common.{rules, ◌≡◌, ap, sym, ◌∙◌, true}
-use Rattle.jc_marks.specs.Rules.{met_views}
+use Rattle.jc_marks.specs.MarkRules.{met_views}
 use Rattle.jc_marks.proofs.Keeps.{meets, compares_at}
 use Rattle.jc_marks.proofs.log.Log.recall.Goals as goal
 

@@ -15,7 +15,14 @@ returns-in_default-clause-faults c =
     sym (set_itself c.self.inside.faults.items c.args.worker c.index-pending.result.now f)
     ∙ ap (λ (t : Team). set t.faults c.args.worker c.index-pending.result.now) c.self.view_is
     ∙ ap (λ (s : Stride). set c.args.self.now.faults c.args.worker s.fault)
-    (sym (stride_is c.args.store.now c.args.now (record { con = c.self.inside.controller; registers = c.self.inside.registers.items; faults = c.self.inside.faults.items }) c.args.self.now c.args.worker None c.index-pending.result.now c.self.view_is (e ∙ ap (λ o. Some o) c.in_default.is) f))
+    (sym (stride_is c.args.store.now c.args.now
+    (record {
+      con = c.self.inside.controller;
+      registers = c.self.inside.registers.items;
+      faults =
+          c.self.inside.faults.items;
+    }) c.args.self.now c.args.worker None c.index-pending.result.now c.self.view_is
+    (e ∙ ap (λ o. Some o) c.in_default.is) f))
 
 pub step-requires-clause-busy : goal.step-requires-clause-busy
 step-requires-clause-busy c =
@@ -25,8 +32,14 @@ step-requires-clause-busy c =
 
 stride : (c : After-self-3-1) → stride_of c.args.store.now c.args.now c.args.self.now c.args.worker ≡ stride_at c.args.store.now c.args.now c.index-pending.result.now c.self.inside.controller.schedule (Some c.in-Some.started)
 stride c =
-    stride_is c.args.store.now c.args.now (record { con = c.self.inside.controller; registers = c.self.inside.registers.items; faults = c.self.inside.faults.items }) c.args.self.now c.args.worker (Some c.in-Some.started) c.index-pending.result.now c.self.view_is
-    (read_at c.self.inside.registers.items c.args.worker c.index_mut.result.now (length c.args.self.now.registers) c.requires.worker (ap (λ (t : Team). length t.registers) (sym c.self.view_is)) c.index_mut.ensures.value ∙ ap (λ o. Some o) c.in-Some.is)
+    stride_is c.args.store.now c.args.now (record {
+      con = c.self.inside.controller;
+      registers = c.self.inside.registers.items;
+      faults = c.self.inside.faults.items;
+    }) c.args.self.now c.args.worker (Some c.in-Some.started) c.index-pending.result.now c.self.view_is
+    (read_at c.self.inside.registers.items c.args.worker c.index_mut.result.now (length c.args.self.now.registers)
+    c.requires.worker (ap (λ (t : Team). length t.registers) (sym c.self.view_is)) c.index_mut.ensures.value
+    ∙ ap (λ o. Some o) c.in-Some.is)
     (read_at c.self.inside.faults.items c.args.worker c.index-pending.result.now (length c.args.self.now.faults) c.requires.faulty (ap (λ (t : Team). length t.faults) (sym c.self.view_is)) c.index-pending.ensures)
 
 pub returns-clause-reply : goal.returns-clause-reply
@@ -41,7 +54,9 @@ returns-clause-schedule c = c.in_ok-taken.ensures.schedule ∙ ap (λ (s : Strid
 pub returns-clause-registers : goal.returns-clause-registers
 returns-clause-registers c =
     c.close.ensures
-    ∙ closed_register c.self.inside.registers.items c.args.worker c.in_ok-taken.taken.is_over (stepped c.args.now c.index-pending.result.now c.args.store.now c.in-Some.started).next c.step.new.self c.in_ok-taken.ensures.over c.in_ok-taken.ensures.goes
+    ∙ closed_register c.self.inside.registers.items c.args.worker c.in_ok-taken.taken.is_over
+    (stepped c.args.now c.index-pending.result.now c.args.store.now c.in-Some.started).next c.step.new.self
+    c.in_ok-taken.ensures.over c.in_ok-taken.ensures.goes
     ∙ ap (λ (s : Stride). set c.self.inside.registers.items c.args.worker s.register) (sym (stride c))
     ∙ ap (λ (t : Team). set t.registers c.args.worker (stride_of c.args.store.now c.args.now c.args.self.now c.args.worker).register) c.self.view_is
 

@@ -7,8 +7,8 @@ use Rattle.jc_log.specs.Acts.{Act}
 use Rattle.jc_log.specs.Acts as does
 use Rattle.jc_print.specs.PrintedSpecs.{change_data, spec_data}
 use Rattle.jc_types.specs.declared.numbers.Version.{Version}
-use Rattle.jc_lines.specs.Changes.{ends_data, phase_change_data}
-use Rattle.jc_lines.specs.Words.{fault_word, key_text, objects_word, version_text}
+use Rattle.jc_lines.specs.ChangeTexts.{ends_data, phase_change_data}
+use Rattle.jc_lines.specs.ReportWords.{fault_word, key_text, objects_word, version_text}
 
 -- The version that an update needs, or `any`.
 abbrev pub wanted_text : Option Version → List ℕ

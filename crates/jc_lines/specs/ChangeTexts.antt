@@ -4,13 +4,13 @@
 use Rattle.std.specs.Prelude.{ℤ, List, map, option_map, Some, codes}
 use Rattle.serde_json.specs.Data.{Data, Members, number, object, no_members, string}
 use Rattle.serde_json.specs.Find.{of_integer}
-use Rattle.jc_print.specs.Members.{list_data, number_data, with_json_member}
+use Rattle.jc_print.specs.PrintedMembers.{list_data, number_data, with_json_member}
 use Rattle.jc_print.specs.PrintedSpecs.{truth_word}
 use Rattle.jc_types.specs.declared.actions.ContainerChange.{ContainerChange}
 use Rattle.jc_types.specs.declared.actions.End.{End}
 use Rattle.jc_types.specs.declared.actions.PhaseChange.{PhaseChange}
 use Rattle.jc_types.specs.declared.policies.Pattern.{Pattern}
-use Rattle.jc_lines.specs.Words.{phase_word}
+use Rattle.jc_lines.specs.ReportWords.{phase_word}
 
 abbrev pub exit_data : ℤ → Data
 exit_data exit = number (of_integer exit)

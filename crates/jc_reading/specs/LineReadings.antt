@@ -11,8 +11,8 @@ use Rattle.std.specs.Str.{is_utf8}
 use Rattle.serde_json.specs.Data.{Data}
 use Rattle.jc_json.specs.Line.{data_of}
 use Rattle.jc_manifest.specs.Manifests.{key_of, manifest_refusal, spec_of}
-use Rattle.jc_rows.specs.Words.{is_label, is_subdomain}
-use Rattle.jc_script.specs.Ends.{ends_said}
+use Rattle.jc_rows.specs.NameForms.{is_label, is_subdomain}
+use Rattle.jc_script.specs.EndMembers.{ends_said}
 use Rattle.jc_script.specs.Phases.{report_in}
 use Rattle.jc_script.specs.Updates.{change_in}
 use Rattle.jc_types.specs.declared.actions.Action1.{Action1}

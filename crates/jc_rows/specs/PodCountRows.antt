@@ -10,7 +10,7 @@ use Rattle.jc_types.specs.declared.specifications.Mode.{Mode}
 use Rattle.jc_types.specs.declared.specifications.Mode.TheVariants.{NonIndexed, Indexed}
 use Rattle.jc_rows.specs.declared.counts.Counts.{Counts}
 use Rattle.jc_rows.specs.declared.counts.Numbers.{Numbers}
-use Rattle.jc_rows.specs.Rows.{Row, first_refusal, rule_row, given_text_row, number_row, number_in}
+use Rattle.jc_rows.specs.ManifestRows.{Row, first_refusal, rule_row, given_text_row, number_row, number_in}
 
 -- ---- modes
 

@@ -11,7 +11,7 @@ use Rattle.jc_types.specs.declared.replies.Reply.{Reply}
 use Rattle.jc_types.specs.declared.replies.Reply.TheVariants as reply
 use Rattle.jc_types.specs.declared.replies.Request.{Request}
 use Rattle.jc_types.specs.declared.replies.Request.TheVariants.{CreatePod, MarkPod, LetGo, Status, Release}
-use Rattle.jc_lines.specs.Words.{field_word, key_text, objects_word, phase_word, version_text}
+use Rattle.jc_lines.specs.ReportWords.{field_word, key_text, objects_word, phase_word, version_text}
 
 -- The index of a pod, or `-` where it has none.
 abbrev pub index_text : Option ℕ → List ℕ

@@ -9,7 +9,7 @@ use Rattle.jc_types.specs.declared.limits.TheConstants.{GREATEST_LIMIT}
 use Rattle.jc_policies.specs.FailurePolicies.{is_type}
 use Rattle.jc_members.specs.declared.causes.Cause.{Cause}
 use Rattle.jc_members.specs.declared.causes.Cause.TheVariants.{Invalid}
-use Rattle.jc_members.specs.Causes.{read_as}
+use Rattle.jc_members.specs.LineCauses.{read_as}
 use Rattle.jc_members.specs.Items.{each_said}
 use Rattle.jc_members.specs.Members.{only_known, given_number_in, given_text_in}
 

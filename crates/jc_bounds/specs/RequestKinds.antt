@@ -23,7 +23,7 @@ use Rattle.jc_asks.specs.declared.asks.Ask.{Ask}
 use Rattle.jc_asks.specs.declared.asks.Ask.TheVariants.{MakePod, MarkPod, LetPodGo, WriteFirst, ReleasePod, WriteSecond}
 use Rattle.jc_asks.specs.Readings.{gone_in}
 use Rattle.jc_asks.specs.Steps.{answered_to}
-use Rattle.jc_history.specs.Asks.{so_far}
+use Rattle.jc_history.specs.SoFar.{so_far}
 
 -- The request lets the pod of the UID go.
 abbrev pub lets_go_of : Uid → Request → Bool

@@ -34,7 +34,7 @@ use Rattle.jc_ledger.specs.Tied.{Tied}
 use Rattle.jc_asks.specs.declared.asks.Ask.{Ask}
 use Rattle.jc_asks.specs.Asks.{asks_of}
 use Rattle.jc_asks.specs.Sends.{new_sync, sends_of}
-use Rattle.jc_sync.specs.Places.{IsAt, IsUnder}
+use Rattle.jc_sync.specs.SyncPlaces.{IsAt, IsUnder}
 use Rattle.jc_asks.specs.Readings.{steps_of, told_step}
 use Rattle.jc_sync.specs.Leftovers.{IsLeftBy, lets_of}
 use Rattle.jc_asks.specs.Steps.{Ends, GoesOn, Next, Stepped, Sync}

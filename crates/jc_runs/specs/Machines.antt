@@ -14,7 +14,7 @@ use Rattle.jc_history.specs.Notes.{Note}
 use Rattle.jc_history.specs.Registers.{pending, register}
 use Rattle.jc_history.specs.Replies.{log_given}
 use Rattle.jc_sync.specs.Plannable.{IsPlannable}
-use Rattle.jc_sync.specs.Registers.{HasSyncs}
+use Rattle.jc_sync.specs.AllRegisters.{HasSyncs}
 use Rattle.jc_asks.specs.Steps.{Sync}
 use Rattle.jc_types.specs.declared.actions.Fault.{Fault}
 use Rattle.jc_types.specs.declared.objects.Entry.{Entry}

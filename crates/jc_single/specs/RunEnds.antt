@@ -16,7 +16,7 @@ use Rattle.jc_io.specs.Moved.{AppendsFront, TakesAtMost, TakesCount}
 use Rattle.jc_script.specs.Scripts.{BadLine, most_bytes}
 use Rattle.jc_words.specs.declared.words.Order.{Order}
 use Rattle.jc_words.specs.declared.words.Order.TheVariants as order
-use Rattle.jc_single.specs.Runs.{OfInput, Printed, answer_of, printed_by}
+use Rattle.jc_single.specs.RunAnswers.{OfInput, Printed, answer_of, printed_by}
 use Rattle.jc_single.specs.declared.orders.Output.{Output}
 use Rattle.jc_single.specs.declared.status.Status.{Status}
 use Rattle.jc_single.specs.declared.status.Status.TheVariants as status

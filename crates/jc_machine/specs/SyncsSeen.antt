@@ -29,7 +29,7 @@ use Rattle.jc_history.specs.Numbers.{number}
 use Rattle.jc_history.specs.Registers.{backoff, pending, register}
 use Rattle.jc_runs.specs.QuietRuns.{AreSteps, WritesNoStatus}
 use Rattle.jc_runs.specs.Seen.{Seen, deeds_in, deeds_seen, happened, log_seen}
-use Rattle.jc_machine.specs.Diaries.{diary_seen}
+use Rattle.jc_machine.specs.DiariesSeen.{diary_seen}
 
 -- The worker begins a sync, or steps.
 abbrev pub begin_event : ℕ → ℕ → Event
