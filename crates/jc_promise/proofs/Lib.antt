@@ -6,5 +6,6 @@ mod WrongFacts
 mod WrongSyncFacts
 mod WrongCauseFacts
 mod WrongRestFacts
+mod WrongRoomFacts
 -- Lemmas of the crates below, handed on to those above.
 pub use Rattle.jc_runs.proofs.BackoffFacts

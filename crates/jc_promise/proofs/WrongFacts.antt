@@ -19,6 +19,7 @@ use Rattle.jc_log.specs.Deeds.{Deed}
 use Rattle.jc_log.specs.Log.{Life, Live, Gone, Never, entry_at}
 use Rattle.jc_plan.specs.Outcome.TheVariants as outcome
 use Rattle.jc_plan.specs.Outcomes.{outcome_of, same_outcome}
+use Rattle.jc_runs.specs.Ledger.{Record, record_of}
 use Rattle.jc_runs.specs.Once.{Cause, IsIgnored, NeedsNone, OnceAtEach, PutBefore, WasActive, WasJudged, taking_of}
 use Rattle.jc_runs.specs.Syncs.{request_of}
 use Rattle.jc_rest.specs.Lost.{AreLostWell, ByCommand, BySync, HowLost, WasLost}
@@ -30,12 +31,13 @@ use Rattle.jc_promise.specs.WrongOutcomes.{early_fail_job, failing_pod, finalize
 
 -- ---- no cause
 
--- Before any write nothing was judged; and a pod that has succeeded is not ignored, and was not active.
-no-cause : (job : Job) (w : ℕ) (log : List Entry) (pod : Pod) → same_outcome (outcome_of job.spec pod) outcome.Ignored ≡ false → job.spec.mode ≡ NonIndexed → Cause job [] w log false pod → ⊥
-no-cause job w log pod counts plain (WasJudged r is lt) = true≢false (sym (ap is_some is))
-no-cause job w log pod counts plain (IsIgnored e) = true≢false (sym (ap (λ o. same_outcome o outcome.Ignored) e) ∙ counts)
-no-cause job w log pod counts plain (WasActive e f) = true≢false (sym e)
-no-cause job w log pod counts plain (NeedsNone e f put) = no-mode (sym plain ∙ e)
+-- A pod that was not judged, is not ignored and was not let go has none, where its Job is no Indexed one.
+pub no-cause : (job : Job) (records : List Record) (w : ℕ) (log : List Entry) (pod : Pod) → ((r : Record) → record_of pod.uid records ≡ Some r → ⊥)
+    → same_outcome (outcome_of job.spec pod) outcome.Ignored ≡ false → job.spec.mode ≡ NonIndexed → Cause job records w log false pod → ⊥
+no-cause job records w log pod unjudged counts plain (WasJudged r is lt) = unjudged r is
+no-cause job records w log pod unjudged counts plain (IsIgnored e) = true≢false (sym (ap (λ o. same_outcome o outcome.Ignored) e) ∙ counts)
+no-cause job records w log pod unjudged counts plain (WasActive e f) = true≢false (sym e)
+no-cause job records w log pod unjudged counts plain (NeedsNone e f put) = no-mode (sym plain ∙ e)
   where
     no-mode : NonIndexed ≡ Indexed → ⊥
     no-mode e = cc
@@ -70,21 +72,21 @@ no-target job w log none put = true≢false (sym (put-there (λ p. has_target p.
 
 -- ---- no deed took it
 
-abbrev strips : Act → Uid → Bool
+abbrev pub strips : Act → Uid → Bool
 strips (does.Strip v) u = true
 strips other u = false
 
 -- The deed is a strip, a release or a let-go.
-abbrev may_take : Deed → Bool
+abbrev pub may_take : Deed → Bool
 may_take d = strips d.act (uid_of 0) || is_some (taking_of (request_of d.reply))
 
-not-taken : (job : Job) (u : Uid) (log : List Entry) (d : Deed) (past : List Deed) → may_take d ≡ false → HowLost job u log d past → ⊥
+pub not-taken : (job : Job) (u : Uid) (log : List Entry) (d : Deed) (past : List Deed) → may_take d ≡ false → HowLost job u log d past → ⊥
 not-taken job u log d past none (ByCommand takes strip) =
     true≢false (sym (or_left (strips d.act (uid_of 0)) (is_some (taking_of (request_of d.reply))) (ap (λ (act : Act). strips act (uid_of 0)) strip)) ∙ none)
 not-taken job u log d past none (BySync takes lets_go asked just) =
     true≢false (sym (or_right (strips d.act (uid_of 0)) (is_some (taking_of (request_of d.reply))) (ap is_some asked)) ∙ none)
 
-none-took : (job : Job) (u : Uid) (log : List Entry) (deeds : List Deed) → Each (λ d. may_take d ≡ false) deeds → WasLost job u log deeds → ⊥
+pub none-took : (job : Job) (u : Uid) (log : List Entry) (deeds : List Deed) → Each (λ d. may_take d ≡ false) deeds → WasLost job u log deeds → ⊥
 none-took job u log [] none lost = absurd lost
 none-took job u log (d ∷ past) none (inl took) = not-taken job u log d past none.0 took
 none-took job u log (d ∷ past) none (inr lost) = none-took job u log past none.1 lost
@@ -93,7 +95,7 @@ none-took job u log (d ∷ past) none (inr lost) = none-took job u log past none
 
 pub early_release-refused : OnceAtEach early_release.deeds early_release.log → ⊥
 early_release-refused h =
-    no-cause (pi_job sample_spec) 4 early_release.log (in_phase phase.Succeeded 3 (pi_pod 2 None 2)) refl refl
+    no-cause (pi_job sample_spec) [] 4 early_release.log (in_phase phase.Succeeded 3 (pi_pod 2 None 2)) (λ r is. true≢false (sym (ap is_some is))) refl refl
     ((h.0 pi_key (pi_job sample_spec) refl).taken.0 refl (in_phase phase.Succeeded 3 (pi_pod 2 None 2)) refl refl).cause
 
 -- Nor does it tell how the finalizer was lost.
@@ -111,7 +113,7 @@ early_release-unlost h = by (h (uid_of 2) 3 (in_phase phase.Succeeded 3 (pi_pod 
     by : WasLost (pi_job sample_spec) (uid_of 2) early_release.log early_release.deeds → ⊥
     by (inl (ByCommand takes strip)) = true≢false (sym (ap (λ (act : Act). strips act (uid_of 0)) strip))
     by (inl (BySync takes false asked just)) =
-        no-cause (pi_job sample_spec) 4 early_release.log takes.pod (ap (λ l. same_outcome (outcome_of sample_spec (live l)) outcome.Ignored) (sym takes.stood)) refl just.cause
+        no-cause (pi_job sample_spec) [] 4 early_release.log takes.pod (λ r is. true≢false (sym (ap is_some is))) (ap (λ l. same_outcome (outcome_of sample_spec (live l)) outcome.Ignored) (sym takes.stood)) refl just.cause
     by (inl (BySync takes true asked just)) = true≢false (sym (ap (λ o. elim o [ None ↦ true | Some t ↦ t.lets_go ]) asked))
     by (inr lost) = none-took (pi_job sample_spec) (uid_of 2) early_release.log before_release (refl, (refl, (refl, (refl, (refl, tt))))) lost
 
@@ -169,7 +171,7 @@ index_past-refused h = let e : 1 ≡ 0 = ap (λ (l : List ℕ). length l) ((h.0 
 
 pub unseen_release-refused : OnceAtEach unseen_release.deeds unseen_release.log → ⊥
 unseen_release-refused h =
-    no-cause (pi_job sample_spec) 3 unseen_release.log (pi_pod 2 None 2) refl refl
+    no-cause (pi_job sample_spec) [] 3 unseen_release.log (pi_pod 2 None 2) (λ r is. true≢false (sym (ap is_some is))) refl refl
     ((h.0 pi_key (pi_job sample_spec) refl).taken.0 refl (pi_pod 2 None 2) refl refl).cause
 
 pub crowded_list-refused : OnceAtEach crowded_list.deeds crowded_list.log → ⊥

@@ -9,6 +9,7 @@ pub mod WrongSyncs
 pub mod WrongEnds
 pub mod WrongCauses
 pub mod WrongRests
+pub mod WrongRooms
 -- Words of the crates below, handed on to those above.
 pub use Rattle.jc_history.specs.Available
 pub use Rattle.jc_log.specs.Deeds

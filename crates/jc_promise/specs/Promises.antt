@@ -62,7 +62,7 @@ ReleasesWell shape past log = is_quiescent shape past log ≡ true → LeavesNon
 -- was taken justly. Each pod that ever was there and is without its finalizer lost it by one of the
 -- deeds: to a command that stripped it, or to a sync that had a cause. A conflict that a sync is told
 -- is later than what it sent. A quiet sync comes to the Job's next status. Its lines tell the history.
--- Where one controller runs, no more pods run at once than a Job allows, and a Job that has ended stays so.
+-- Where one controller runs, each pod that is made fits what its Job allows, and a Job that has ended stays so.
 -- At rest no ended pod is forgotten, no Job is stuck, and no orphan is left. Each request of a sync has a
 -- cause in what the sync saw.
 pub record KeepsPromises (script : Script) (shape : Shape) (history : History) : Type 0 where

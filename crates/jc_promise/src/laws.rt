@@ -39,6 +39,7 @@ ghost use Rattle.jc_promise.specs.WrongEnds.{early_end, failed_job, skipped_comm
 ghost use Rattle.jc_promise.specs.WrongIndexes.{crowded_list, failures_anew, index_past, index_unfailed, unseen_release};
 ghost use Rattle.jc_promise.specs.WrongOutcomes.{early_fail_job, finalizer_vanishes, ignored_counted, index_twice, suspended_counted};
 ghost use Rattle.jc_promise.specs.WrongRests.{kept_orphan, unmarked_pod, unwritten_end, wrong_status};
+ghost use Rattle.jc_promise.specs.WrongRooms.{left_over_released, many_listed};
 ghost use Rattle.jc_promise.specs.WrongSyncs.{false_conflict, forgotten_pod, old_caches, stuck_job, two_syncs, two_workers};
 
 use jc_bounds::one_controller_holds_the_bounds;
@@ -136,8 +137,8 @@ pub fn a_sync_is_quiet()
 ///   Job that counts, a pod that fails its Job and goes before the Job has a target; failures of an index that
 ///   start anew, an index that does not fail at its limit, an index past the completions that is completed, a pod
 ///   that runs and is released as its Job was not seen yet, 501 UIDs in a list.
-/// - That each finalizer was lost to a command or with a cause: the first of these, and a finalizer
-///   that goes by a mark.
+/// - That each finalizer was lost to a command or with a cause: the first of these, a finalizer that goes by a
+///   mark, and that of a pod for which the status had no room.
 /// - The bounds of one controller: a controller that goes on with its caches after a request without
 ///   an answer, a queue that hands out a key whose sync goes on, a Job that ends while a pod is open.
 /// - That conflicts are later: one that tells the version that was sent.
@@ -170,6 +171,8 @@ pub fn wrong_histories_are_refused()
     ensures crowded_list { OnceAtEach crowded_list.deeds crowded_list.log → ⊥ }
     ensures finalizer_vanishes { AreLostWell (pi_job sample_spec) finalizer_vanishes.deeds
         finalizer_vanishes.log → ⊥ }
+    ensures left_over_released { AreLostWell many_listed left_over_released.deeds
+        left_over_released.log → ⊥ }
     ensures old_caches { HoldsBounds usual_shape old_caches → ⊥ }
     ensures two_syncs { HoldsBounds two_workers two_syncs → ⊥ }
     ensures early_end { IsShut early_end.log failed_job → ⊥ }

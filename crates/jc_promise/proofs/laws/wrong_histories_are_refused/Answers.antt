@@ -3,6 +3,7 @@ use Rattle.jc_promise.proofs.WrongFacts.{crowded_list-refused, early_fail_job-re
 use Rattle.jc_promise.proofs.WrongSyncFacts.{early_end-refused, false_conflict-refused, forgotten_pod-refused, old_caches-refused, skipped_command-refused, stuck_job-refused, two_syncs-refused}
 use Rattle.jc_promise.proofs.WrongCauseFacts.{active_released-refused, failed_makes-refused, index_made_twice-refused, one_too_many-refused, overdue_makes-refused, same_status_written-refused, suspended_makes-refused, wanted_let_go-refused, wanted_marked-refused}
 use Rattle.jc_promise.proofs.WrongRestFacts.{kept_orphan-refused, unmarked_pod-refused, unwritten_end-refused, wrong_status-refused}
+use Rattle.jc_promise.proofs.WrongRoomFacts.{left_over_released-refused}
 use Rattle.jc_promise.proofs.laws.wrong_histories_are_refused.Goals as goal
 
 pub returns : goal.returns
@@ -23,6 +24,7 @@ returns c = record {
   unseen_release = unseen_release-refused;
   crowded_list = crowded_list-refused;
   finalizer_vanishes = finalizer_vanishes-refused;
+  left_over_released = left_over_released-refused;
   old_caches = old_caches-refused;
   two_syncs = two_syncs-refused;
   early_end = early_end-refused;
