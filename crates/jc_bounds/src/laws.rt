@@ -59,7 +59,7 @@ pub fn histories_are_bounded()
         → IsBounded (log_given shape deeds) (diary shape 0 deeds) }
 {}
 
-/// No more pods run at once than the Job's parallelism says (batch/v1): each pod that comes into
+/// No pod is made beyond the Job's parallelism (batch/v1): each pod that comes into
 /// the log is made by the step of a worker whose sync's Job has fewer active pods with a finalizer than
 /// may run at once;
 /// where pods are replaced only once they have ended (KEP-3939), fewer that are open. So it is also

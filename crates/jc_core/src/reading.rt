@@ -39,8 +39,8 @@ impl Cluster {
     /// its index was complete or not below the completions: so no ended pod that needs a count lost it
     /// uncounted, but by a command.
     ///
-    /// Where the shape has a single controller: no more pods of a Job run at once than its parallelism
-    /// says (batch/v1), since each pod fitted when it was made, also one whose reply was lost. And a Job
+    /// Where the shape has a single controller: no pod was made beyond a Job's parallelism (batch/v1), since
+    /// each pod fitted when it was made, also one whose reply was lost. And a Job
     /// that has finished stayed finished: from the write that set Complete or Failed on, while the Job
     /// was there, its status did not change, none of its pods was open or had its finalizer, and none
     /// was made.

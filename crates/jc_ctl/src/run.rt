@@ -80,7 +80,7 @@ fn run_words<R: Threads + Wait + Sync, S: Source, K: Sink, G: Gate + Sync>(
 /// `HistoryFull` what `run` or `reap` has written is the report of a history of the script that was played
 /// last, and this history is legal and orderly. After each of its events each pod of each Job was counted
 /// once, and each finalizer that a sync took had its cause. Its lines tell it, and the statuses that are
-/// printed are those of its log. With one controller no more pods run at once than a Job allows, and a Job
+/// printed are those of its log. With one controller each pod that is made fits what its Job allows, and a Job
 /// that has ended stays as it is. Where the script is played on threads or ends in a settle, and the history
 /// is not full, nothing is left to do and no ended pod is forgotten. With `WriteFault` what went out is the
 /// front of such a report. What `run` or `reap` has written whole is what `audit` with the same options
