@@ -227,7 +227,7 @@ module _ (statuses : ℕ → List Entry → ℕ) (moments keys : ℕ → List En
         by (NodeActs d e a) = absurd (true≢false (sym (ap (λ t. t || asks_for_a_pod d.reply) (ap is_node a)) ∙ g.leaves 0 d e))
         by (ClockMoves d due h) = inr (clock d due h)
         by (Finds c w basis begin end b h) = inr (finds c w basis begin b end h)
-        by (Asks c w basis begin b none h) = absurd (no-pod h)
+        by (Asks c w basis begin b none h at) = absurd (no-pod h)
         by (WritesAndAsks c w basis job status begin write b h asks) = absurd (no-pod asks)
         by (Writes c w basis job status begin write b h m) = inr (writes c w basis begin b job status write h m)
         by (Fails c w basis begin failed b h) = inr (fails c w basis begin b failed h)
