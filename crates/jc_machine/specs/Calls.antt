@@ -11,7 +11,7 @@ use Rattle.jc_runs.specs.Seen.{Admits, Seen, act_seen, happened, reply_seen}
 -- The event may come next, does this act, and the history has room for it.
 pub record MayCome (old : Seen) (event : Event) (act : Act) : Type 0 where
   pub admits : Admits old event
-  pub act : act_seen old event ≡ act
+  pub acts : act_seen old event ≡ act
   pub room : length old.pasts < old.shape.events
 
 -- The event has happened, and this is its reply; or there was no memory for it, and nothing has changed.

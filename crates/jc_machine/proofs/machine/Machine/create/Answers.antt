@@ -13,7 +13,7 @@ old : (c : After-keep-reply) → Before c.self.inside.script c.self.inside.shape
     c.args.self.now c.args.event (does.Create c.args.key.now c.args.spec)
 old c = before c.self.inside.script c.self.inside.shape c.self.inside.history.events.items c.self.inside.lanes
     c.self.inside.store c.self.inside.members.items c.self.inside.fates c.self.inside.clock c.args.self.now c.args.event
-    (does.Create c.args.key.now c.args.spec) c.self.invariant c.self.view_is c.requires.may.admits c.requires.may.act
+    (does.Create c.args.key.now c.args.spec) c.self.invariant c.self.view_is c.requires.may.admits c.requires.may.acts
     c.requires.may.room
 
 -- How it is afterwards.
