@@ -2,3 +2,4 @@ pub mod Fronts
 pub mod Known
 pub mod Named
 pub mod Within
+mod Both

@@ -277,13 +277,25 @@ fn read_both(alloc: Global, exits: &Value, restarts: &Value) -> Result<Container
     read_changes(alloc, exits, restarts, names.as_slice())
 }
 
-/// What the members `exitCodes` and `restartCounts` say together, a change for each container.
+// What both members say, where this stands for one that is not given.
 #[tactic(auto, unfolding(crate::specs::Phases::containers_in))]
+fn read_given<'v, 'a>(
+    alloc: Global,
+    value: &'v Value<'a>,
+    nothing: &'v Value<'a>,
+) -> Result<ContainerChanges, LineFault>
+    requires { view nothing.now ≡ null }
+    ensures { Says (λ changes. changes) result (containers_in (view value.now)) }
+{
+    let exits = read_numbers(alloc, value, nothing, "exitCodes", LEAST_EXIT, GREATEST)?;
+    let restarts = read_numbers(alloc, value, nothing, "restartCounts", 0, GREATEST)?;
+    read_both(alloc, exits, restarts)
+}
+
+/// What the members `exitCodes` and `restartCounts` say together, a change for each container.
 pub fn read_containers(alloc: Global, value: &Value) -> Result<ContainerChanges, LineFault>
     ensures { Says (λ changes. changes) result (containers_in (view value.now)) }
 {
     let nothing = Value::Null;
-    let exits = read_numbers(alloc, value, &nothing, "exitCodes", LEAST_EXIT, GREATEST)?;
-    let restarts = read_numbers(alloc, value, &nothing, "restartCounts", 0, GREATEST)?;
-    read_both(alloc, exits, restarts)
+    read_given(alloc, value, &nothing)
 }
