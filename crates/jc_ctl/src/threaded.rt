@@ -71,6 +71,8 @@ fn run_locked<R: Threads + Wait + Sync, G: Gate + Sync>(
     lock: LockKind,
     play: Play<'_>,
 ) -> Result<Cluster, ThreadsFault>
+    requires fine { Each (λ (command : Command). IsValidAction command.action) play.script.now.commands }
+    requires proper { IsProper play.script.now play.shape.now }
     ensures { EndsRun play.script.now play.shape.now result }
 {
     match lock {
@@ -99,6 +101,8 @@ fn run_by<R: Threads + Wait + Sync, G: Gate + Sync>(
     lock: LockKind,
     play: Play<'_>,
 ) -> Result<Ended, Want>
+    requires fine { Each (λ (command : Command). IsValidAction command.action) play.script.now.commands }
+    requires proper { IsProper play.script.now play.shape.now }
     ensures { IfOk result (λ ended.
         IsEndOfRun play.script.now play.shape.now ended.cluster.seen ended.full) }
 {
@@ -121,6 +125,8 @@ fn threaded_report<R: Threads + Wait + Sync, G: Gate + Sync>(
     lock: LockKind,
     play: Play<'_>,
 ) -> Result<Output, Want>
+    requires fine { Each (λ (command : Command). IsValidAction command.action) play.script.now.commands }
+    requires proper { IsProper play.script.now play.shape.now }
     requires lanes { Each (λ (command : Command). command.lane < 2 ^ 8) play.script.now.commands }
     requires fit_shape { IsFitShape play.shape.now }
     ensures { IfOk result (λ output.

@@ -85,6 +85,8 @@ fn run_named<J: Naming + Send + Sync, R: Threads + Wait + Sync, G: Gate + Sync>(
 ) -> Result<Cluster, ThreadsFault>
     requires script { play.script.now ≡ J.script }
     requires shape { play.shape.now ≡ J.shape }
+    requires fine { Each (λ (command : Command). IsValidAction command.action) play.script.now.commands }
+    requires proper { IsProper play.script.now play.shape.now }
     ensures { EndsRun play.script.now play.shape.now result }
 {
     let Ok(kept) = new_kept::<J>(host.alloc, play) else {

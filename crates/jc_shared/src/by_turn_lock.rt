@@ -203,6 +203,8 @@ fn run_seats<J: Naming + Send + Sync, R: Threads + Wait + Sync, G: Gate + Sync>(
 fn open<J: Naming>(alloc: Global, play: Play<'_>) -> Option<(TurnLock<Kept<J>>, LockSeats)>
     requires script { play.script.now ≡ J.script }
     requires shape { play.shape.now ≡ J.shape }
+    requires fine { Each (λ (command : Command). IsValidAction command.action) play.script.now.commands }
+    requires proper { IsProper play.script.now play.shape.now }
     ensures count { IfSome result (λ made. made.0.seats ≡ play.threads) }
     ensures fresh { IfSome result (λ made. made.1 ≡ fresh_seats made.0.name 0 play.threads) }
 {
@@ -265,6 +267,8 @@ fn played<J: Naming + Send + Sync, R: Threads + Wait + Sync, G: Gate + Sync>(
 ) -> Option<Cluster>
     requires script { play.script.now ≡ J.script }
     requires shape { play.shape.now ≡ J.shape }
+    requires fine { Each (λ (command : Command). IsValidAction command.action) play.script.now.commands }
+    requires proper { IsProper play.script.now play.shape.now }
     ensures named { IfSome result (λ cluster. IsOfName J.script J.shape cluster.seen) }
     ensures orderly { IfSome result
         (λ cluster. IsOrderly cluster.seen.shape (deeds_seen cluster.seen)) }
@@ -282,6 +286,8 @@ fn run_named<J: Naming + Send + Sync, R: Threads + Wait + Sync, G: Gate + Sync>(
 ) -> Result<Cluster, ThreadsFault>
     requires script { play.script.now ≡ J.script }
     requires shape { play.shape.now ≡ J.shape }
+    requires fine { Each (λ (command : Command). IsValidAction command.action) play.script.now.commands }
+    requires proper { IsProper play.script.now play.shape.now }
     ensures { EndsRun play.script.now play.shape.now result }
 {
     match played::<J, R, G>(host, play) {

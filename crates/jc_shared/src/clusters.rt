@@ -1,6 +1,10 @@
 //! Clusters that are shared: a new one, and one of which nobody holds anything any more.
 
 ghost use Rattle.std.specs.Prelude.{◌≡◌};
+ghost use Rattle.std.specs.List.{AllByRecursion as Each};
+ghost use Rattle.jc_types.specs.declared.actions.Command.{Command};
+ghost use Rattle.jc_runs.specs.ValidActions.{IsValidAction};
+ghost use Rattle.jc_seats.specs.Plays.{IsProper};
 ghost use Rattle.jc_history.specs.Available.{IsOrderly};
 ghost use Rattle.jc_runs.specs.Seen.{deeds_seen};
 ghost use Rattle.jc_seats.specs.Names.{IsOfName};
@@ -16,6 +20,8 @@ use std::alloc::Global;
 pub(crate) fn new_kept<J: Naming>(alloc: Global, play: Play<'_>) -> Result<Kept<J>, Want>
     requires script { play.script.now ≡ J.script }
     requires shape { play.shape.now ≡ J.shape }
+    requires fine { Each (λ (command : Command). IsValidAction command.action) play.script.now.commands }
+    requires proper { IsProper play.script.now play.shape.now }
 {
     let cluster = Cluster::new(alloc, play.script.copy()?, *play.shape)?;
     Ok(keep(cluster))

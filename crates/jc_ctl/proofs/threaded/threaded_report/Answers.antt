@@ -28,7 +28,7 @@ pub told-requires-clause-lanes : goal.told-requires-clause-lanes
 told-requires-clause-lanes g c = subst (λ (s : Script). Each (λ (command : Command). command.lane < 2 ^ 8) s.commands) (sym c.in_ok-ended.ensures.left.script_is) c.requires.lanes
 
 pub told-requires-clause-fine : goal.told-requires-clause-fine
-told-requires-clause-fine g c = subst (λ (s : Script). Each (λ (command : Command). IsValidAction command.action) s.commands) (sym c.in_ok-ended.ensures.left.script_is) c.args.play.fine
+told-requires-clause-fine g c = subst (λ (s : Script). Each (λ (command : Command). IsValidAction command.action) s.commands) (sym c.in_ok-ended.ensures.left.script_is) c.requires.fine
 
 pub told-requires-clause-ended : goal.told-requires-clause-ended
 told-requires-clause-ended g c =
