@@ -4,3 +4,6 @@ pub mod ClosedFacts
 pub mod Values
 pub mod PodFacts
 pub mod PlanFacts
+pub mod NodeFacts
+pub mod StatusFacts
+pub mod OrderFacts

@@ -85,6 +85,29 @@ active-alive spec pod h = by pod.phase (is_marked pod) (counts_marked spec.repla
     by phase.Succeeded false c e = absurd (true≢false (sym e))
     by phase.Failed false c e = absurd (true≢false (sym e))
 
+-- ---- what becomes of pods that pass
+
+-- What is known of a pod: its successor passes the second test where it passes the first, and then is the pod itself; and it
+-- does not pass where it loses its finalizer.
+abbrev pub Known : Planned → (Pod → Bool) → (Pod → Bool) → Pod → Type 0
+Known plan test then p =
+    ((q : Pod) → Becomes plan p q → (then q ≡ test p) × (test p ≡ true → q ≡ p)) × (frees plan p.uid ≡ true → test p ≡ false)
+
+-- So those that pass then are those that pass now.
+pub follow-filter : (plan : Planned) (test then : Pod → Bool) (pods after : List Pod) → Each (Known plan test then) pods → Follows plan pods after → filter then after ≡ filter test pods
+follow-filter plan test then [] [] h Nothing = refl
+follow-filter plan test then [] (q ∷ after) h follow = elim follow [ ]
+follow-filter plan test then (p ∷ pods) (q ∷ after) h (Stays _ _ _ _ is rest) = by (test p) refl (follow-filter plan test then pods after h.1 rest)
+  where
+    known : (then q ≡ test p) × (test p ≡ true → q ≡ p)
+    known = h.0.0 q is
+
+    by : (b : Bool) → test p ≡ b → filter then after ≡ filter test pods → filter then (q ∷ after) ≡ cond b (p ∷ filter test pods) (filter test pods)
+    by true e ih = ap (λ b. cond b (q ∷ filter then after) (filter then after)) (known.0 ∙ e) ∙ (λ i. known.1 e i ∷ ih i)
+    by false e ih = ap (λ b. cond b (q ∷ filter then after) (filter then after)) (known.0 ∙ e) ∙ ih
+follow-filter plan test then (p ∷ pods) after h (Goes _ _ _ freed rest) =
+    follow-filter plan test then pods after h.1 rest ∙ ap (λ b. cond b (p ∷ filter test pods) (filter test pods)) (sym (h.0.1 freed))
+
 -- ---- what the plan does to each
 
 module _ (job : Job) (basis : Basis) (this : basis.job ≡ Some job) (rises : IsRising basis.pods) where
@@ -173,14 +196,11 @@ module _ (job : Job) (basis : Basis) (this : basis.job ≡ Some job) (rises : Is
     unlisted u = (λ i. is_in u (none_s i) || is_in u (none_f i))
 
     -- A success that is left over.
-    abbrev stays_new : Pod → Bool
+    abbrev pub stays_new : Pod → Bool
     stays_new p = is_left_over job own p && same_outcome (outcome_of job.spec p) outcome.Succeeded
 
-    -- What is known of a pod's successor.
-    abbrev pub News : Pod → Type 0
-    News p =
-        ((q : Pod) → Becomes (planned basis) p q → (is_new later q ≡ stays_new p) × (stays_new p ≡ true → q ≡ p))
-        × (frees (planned basis) p.uid ≡ true → stays_new p ≡ false)
+    abbrev News : Pod → Type 0
+    News p = Known (planned basis) stays_new (is_new later) p
 
     abbrev succeeds : Pod → Bool
     succeeds p = same_outcome (outcome_of job.spec p) outcome.Succeeded
@@ -275,19 +295,72 @@ module _ (job : Job) (basis : Basis) (this : basis.job ≡ Some job) (rises : Is
         (Each-both (λ p. is_in p.uid (planned basis).releases ≡ is_to_release job own p) (λ p. (is_in p.uid (planned basis).marks ≡ is_to_mark settled p) × (is_let_go_of p.uid (planned basis).let_goes ≡ goes_now p)) own releases-are
         (Each-both (λ p. is_in p.uid (planned basis).marks ≡ is_to_mark settled p) (λ p. is_let_go_of p.uid (planned basis).let_goes ≡ goes_now p) own marks-are lets-are))
 
-    follow-news : (pods after : List Pod) → Each News pods → Follows (planned basis) pods after → filter (is_new later) after ≡ filter stays_new pods
-    follow-news [] [] h Nothing = refl
-    follow-news [] (q ∷ after) h follow = elim follow [ ]
-    follow-news (p ∷ pods) (q ∷ after) h (Stays _ _ _ _ is rest) = by (stays_new p) refl (follow-news pods after h.1 rest)
-      where
-        known : (is_new later q ≡ stays_new p) × (stays_new p ≡ true → q ≡ p)
-        known = h.0.0 q is
-
-        by : (b : Bool) → stays_new p ≡ b → filter (is_new later) after ≡ filter stays_new pods → filter (is_new later) (q ∷ after) ≡ cond b (p ∷ filter stays_new pods) (filter stays_new pods)
-        by true e ih = ap (λ b. cond b (q ∷ filter (is_new later) after) (filter (is_new later) after)) (known.0 ∙ e) ∙ (λ i. known.1 e i ∷ ih i)
-        by false e ih = ap (λ b. cond b (q ∷ filter (is_new later) after) (filter (is_new later) after)) (known.0 ∙ e) ∙ ih
-    follow-news (p ∷ pods) after h (Goes _ _ _ freed rest) =
-        follow-news pods after h.1 rest ∙ ap (λ b. cond b (p ∷ filter stays_new pods) (filter stays_new pods)) (sym (h.0.1 freed))
-
     pub news-left : (after : List Pod) → Follows (planned basis) own after → filter (is_new later) after ≡ filter stays_new own
-    news-left after follow = follow-news own after news-each follow
+    news-left after follow = follow-filter (planned basis) stays_new (is_new later) own after news-each follow
+
+  -- ---- what stays active
+
+  module _ (undecided : settled ≡ false) (ended : Each (λ p. is_listed job.status p.uid ≡ true → is_active p ≡ false) own) where
+    -- The pod stays active, with its finalizer.
+    abbrev pub stays_active : Pod → Bool
+    stays_active p = is_tracked_active p && not (goes_now p)
+
+    activity-of : (p : Pod) → is_in p.uid (planned basis).releases ≡ is_to_release job own p → is_in p.uid (planned basis).marks ≡ is_to_mark settled p → is_let_go_of p.uid (planned basis).let_goes ≡ goes_now p
+        → (is_listed job.status p.uid ≡ true → is_active p ≡ false) → Known (planned basis) stays_active is_tracked_active p
+    activity-of p r m l listed = (successor, lost)
+      where
+        freed-old : (tr ac al li lo go : Bool) → (ac ≡ true → al ≡ true) → (li ≡ true → ac ≡ false) → ((tr && ((not al && lo) || li)) || go) ≡ true → ((ac && tr) && not go) ≡ false
+        freed-old tr false al li lo go a b h = refl
+        freed-old false true al li lo go a b h = refl
+        freed-old true true al li lo true a b h = refl
+        freed-old true true al true lo false a b h = absurd (true≢false (b refl))
+        freed-old true true true false lo false a b h = absurd (true≢false (sym h))
+        freed-old true true false false lo false a b h = absurd (true≢false (sym (a refl)))
+
+        lost : frees (planned basis) p.uid ≡ true → stays_active p ≡ false
+        lost h =
+            freed-old (is_tracked p) (is_active p) (same_outcome (outcome_of job.spec p) outcome.Alive) (is_listed job.status p.uid) (not (is_left_over job own p)) (goes_now p)
+            (active-alive job.spec p) listed ((λ i. sym r i || sym l i) ∙ h)
+
+        both-false : (a b : Bool) → (a || b) ≡ false → (a ≡ false) × (b ≡ false)
+        both-false true b e = absurd (true≢false e)
+        both-false false b e = (refl, e)
+
+        and-false : (b : Bool) → (b && false) ≡ false
+        and-false true = refl
+        and-false false = refl
+
+        successor : (q : Pod) → Becomes (planned basis) p q → (is_tracked_active q ≡ stays_active p) × (stays_active p ≡ true → q ≡ p)
+        successor q is = by (frees (planned basis) p.uid) refl (is_in p.uid (planned basis).marks) refl
+          where
+            never : is_tracked_active q ≡ false → stays_active p ≡ false → (is_tracked_active q ≡ stays_active p) × (stays_active p ≡ true → q ≡ p)
+            never a b = (a ∙ sym b, λ h. absurd (true≢false (sym h ∙ b)))
+
+            by : (f : Bool) → frees (planned basis) p.uid ≡ f → (k : Bool) → is_in p.uid (planned basis).marks ≡ k → (is_tracked_active q ≡ stays_active p) × (stays_active p ≡ true → q ≡ p)
+            by true f k h = never (ap (λ b. is_active q && b) (is.freed f) ∙ and-false (is_active q)) (lost f)
+            by false f true h =
+                never (ap (λ b. (is_open q && not b) && is_tracked q) (is.marked h) ∙ ap (λ b. b && is_tracked q) (and-false (is_open q)))
+                (unmarkable (is_active p) (is_tracked p) (goes_now p) (sym (ap (λ s. is_active p && (s || not (is_tracked p))) undecided) ∙ sym m ∙ h))
+              where
+                unmarkable : (ac tr go : Bool) → (ac && (false || not tr)) ≡ true → ((ac && tr) && not go) ≡ false
+                unmarkable false tr go e = refl
+                unmarkable true false go e = refl
+                unmarkable true true go e = absurd (true≢false (sym e))
+            by false f false h =
+                let e = is.same (λ i. f i || h i) in
+                (ap is_tracked_active e ∙ sym (ap (λ b. is_tracked_active p && not b) (sym l ∙ (both-false (is_in p.uid (planned basis).releases) (is_let_go_of p.uid (planned basis).let_goes) f).1) ∙ and-true (is_tracked_active p)), λ k. e)
+              where
+                and-true : (b : Bool) → (b && true) ≡ b
+                and-true true = refl
+                and-true false = refl
+
+    pub active-left : (after : List Pod) → Follows (planned basis) own after → tracked_active_pods after ≡ filter stays_active own
+    active-left after follow = follow-filter (planned basis) stays_active is_tracked_active own after each follow
+      where
+        each : Each (Known (planned basis) stays_active is_tracked_active) own
+        each =
+            Each-weaker (λ p. (is_in p.uid (planned basis).releases ≡ is_to_release job own p) × ((is_in p.uid (planned basis).marks ≡ is_to_mark settled p) × ((is_let_go_of p.uid (planned basis).let_goes ≡ goes_now p) × (is_listed job.status p.uid ≡ true → is_active p ≡ false))))
+            (Known (planned basis) stays_active is_tracked_active) (λ p h. activity-of p h.0 h.1.0 h.1.1.0 h.1.1.1) own
+            (Each-both (λ p. is_in p.uid (planned basis).releases ≡ is_to_release job own p) (λ p. (is_in p.uid (planned basis).marks ≡ is_to_mark settled p) × ((is_let_go_of p.uid (planned basis).let_goes ≡ goes_now p) × (is_listed job.status p.uid ≡ true → is_active p ≡ false))) own releases-are
+            (Each-both (λ p. is_in p.uid (planned basis).marks ≡ is_to_mark settled p) (λ p. (is_let_go_of p.uid (planned basis).let_goes ≡ goes_now p) × (is_listed job.status p.uid ≡ true → is_active p ≡ false)) own marks-are
+            (Each-both (λ p. is_let_go_of p.uid (planned basis).let_goes ≡ goes_now p) (λ p. is_listed job.status p.uid ≡ true → is_active p ≡ false) own lets-are ended)))

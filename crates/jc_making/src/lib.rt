@@ -2,3 +2,5 @@
 #![tactic(auto)]
 
 mod laws;
+
+pub use laws::{plans_keep_what_counts, the_node_needs_no_more_pods};
