@@ -7,3 +7,5 @@ pub mod PlanFacts
 pub mod NodeFacts
 pub mod StatusFacts
 pub mod OrderFacts
+pub mod MissFacts
+pub mod CreationFacts

@@ -131,17 +131,17 @@ module _ (job : Job) (basis : Basis) (this : basis.job ≡ Some job) (rises : Is
   abbrev pub then : Job
   then = job_after (planned basis) job
 
-  left-is : left ≡ second_value job basis
+  pub left-is : left ≡ second_value job basis
   left-is = last-second job basis this
 
-  lists-success : left.uncounted_succeeded ≡ []
+  pub lists-success : left.uncounted_succeeded ≡ []
   lists-success = ap (λ (s : JobStatus). s.uncounted_succeeded) left-is ∙ (second-lists_none job basis).1
 
   lists-failure : left.uncounted_failed ≡ []
   lists-failure = ap (λ (s : JobStatus). s.uncounted_failed) left-is ∙ (second-lists_none job basis).0
 
   -- What is counted anew then is what is left over now.
-  news-then : (made : ℕ) (now : List Pod) → IsAfter (planned basis) made own_now now → new_successes then now ≡ left_with job own_now outcome.Succeeded
+  pub news-then : (made : ℕ) (now : List Pod) → IsAfter (planned basis) made own_now now → new_successes then now ≡ left_with job own_now outcome.Succeeded
   news-then made now is =
       filter_filter (λ pod. same_outcome (outcome_of job.spec pod) outcome.Succeeded) (is_candidate then) now
       ∙ ap (filter (is_new then)) is.parts
@@ -152,7 +152,7 @@ module _ (job : Job) (basis : Basis) (this : basis.job ≡ Some job) (rises : Is
       ∙ ap (filter (λ pod. same_outcome (outcome_of job.spec pod) outcome.Succeeded)) (sym (filter_filter (λ p. not (fits job own_now p)) (is_candidate job) own_now))
 
   -- Those that are to be judged are judged now or left over.
-  judged-or-left : length (newly job own_now outcome.Succeeded) + length (left_with job own_now outcome.Succeeded) ≡ length (new_successes job own_now)
+  pub judged-or-left : length (newly job own_now outcome.Succeeded) + length (left_with job own_now outcome.Succeeded) ≡ length (new_successes job own_now)
   judged-or-left =
       let first = ap length (filter_swap (λ pod. same_outcome (outcome_of job.spec pod) outcome.Succeeded) (fits job own_now) (candidates job own_now)) in
       let second = ap length (filter_swap (λ pod. same_outcome (outcome_of job.spec pod) outcome.Succeeded) (λ p. not (fits job own_now p)) (candidates job own_now)) in
@@ -176,7 +176,7 @@ module _ (job : Job) (basis : Basis) (this : basis.job ≡ Some job) (rises : Is
       )
 
   module _ (indexed : job.spec.mode ≡ Indexed) where
-    none-left : left_with job own_now outcome.Succeeded ≡ []
+    pub none-left : left_with job own_now outcome.Succeeded ≡ []
     none-left = nil_from_length (left_with job own_now outcome.Succeeded) (omega (arith, left-indexed job basis.pods indexed, left-succeeded job basis.pods))
 
     all-judged : newly job own_now outcome.Succeeded ≡ new_successes job own_now
@@ -189,17 +189,17 @@ module _ (job : Job) (basis : Basis) (this : basis.job ≡ Some job) (rises : Is
       abbrev wanted_now : ℕ
       wanted_now = unwrap_or job.spec.completions 0
 
-      counted-is : completed_in job own_now ≡ completed_now job own_now
+      pub counted-is : completed_in job own_now ≡ completed_now job own_now
       counted-is = λ i. completed_after job.spec.mode (unended i) wanted_now job.status.completed (all-judged i)
 
-      in-is : (counted_in job basis.pods).completed ≡ completed_in job own_now
+      pub in-is : (counted_in job basis.pods).completed ≡ completed_in job own_now
       unfolding counted_in
       in-is = refl
 
       pub left-completed : left.completed ≡ completed_now job own_now
       left-completed = ap (λ (s : JobStatus). s.completed) left-is ∙ second-completed job basis ∙ in-is ∙ counted-is
 
-      below : Each (λ n. n < wanted_now) (completed_now job own_now)
+      pub below : Each (λ n. n < wanted_now) (completed_now job own_now)
       below = subst (Each (λ n. n < wanted_now)) (in-is ∙ counted-is) (recursion_from_All (λ n. n < wanted_now) (counted_in job basis.pods).completed (indexes-below job basis.pods indexed unended))
 
       kept : kept_indexes false wanted_now (completed_now job own_now) ≡ completed_now job own_now
