@@ -48,26 +48,26 @@ module _ (ends : List End) (made : ℕ) (job : Job) (basis : Basis) (this : basi
     (counted : IsCounted job (own_pods job basis.pods)) (last : IfSome (last_end ends) (λ end. fails end ≡ false))
     (now : List Pod) (is : IsAfter (planned basis) made (own_pods job basis.pods) now)
     (undecided : is_settled job (decided_in job basis) ≡ false) (running : job.spec.suspend ≡ false) where
-  abbrev own : List Pod
+  abbrev pub own : List Pod
   own = own_pods job basis.pods
 
-  abbrev tracked : List Pod
+  abbrev pub tracked : List Pod
   tracked = tracked_active_pods own
 
-  abbrev made_now : ℕ
+  abbrev pub made_now : ℕ
   made_now = length (planned basis).creates
 
-  abbrev needless : ℕ → Bool
+  abbrev pub needless : ℕ → Bool
   needless = is_needless (unwrap_or job.spec.completions 0) (accounted job basis)
 
-  abbrev wants : ℕ
+  abbrev pub wants : ℕ
   wants = job_wants job own (accounted job basis)
 
-  abbrev rest : List Pod
+  abbrev pub rest : List Pod
   rest = remaining job.spec.mode needless tracked
 
   -- Those that are not let go.
-  abbrev kept : List Pod
+  abbrev pub kept : List Pod
   kept = filter (λ p. not (is_one_of (length rest - wants) job.spec.mode rest p)) rest
 
   staying-is : filter (stays_active job basis this rises undecided counted.listed) own ≡ kept
@@ -91,16 +91,16 @@ module _ (ends : List End) (made : ℕ) (job : Job) (basis : Basis) (this : basi
       nor true b = refl
       nor false b = refl
 
-  tracked-now : tracked_active_pods now ≡ kept ++ is.fresh
+  pub tracked-now : tracked_active_pods now ≡ kept ++ is.fresh
   tracked-now =
       ap tracked_active_pods is.parts ∙ filter-append is_tracked_active is.after is.fresh
       ∙ (λ i. (active-left job basis this rises undecided counted.listed is.after is.follow ∙ staying-is) i ++ filter_all is_tracked_active is.fresh (all-active made (planned basis).creates is.fresh is.new) i)
 
-  fresh-length : length is.fresh ≡ made_now
+  pub fresh-length : length is.fresh ≡ made_now
   fresh-length = new-length made (planned basis).creates is.fresh is.new
 
   -- No more are made than are lacking.
-  made-few : made_now ≤ wants - length tracked
+  pub made-few : made_now ≤ wants - length tracked
   made-few =
       let counts_in = accounted job basis in
       let same = ap length (plan-creates basis job this) in
@@ -110,11 +110,11 @@ module _ (ends : List End) (made : ℕ) (job : Job) (basis : Basis) (this : basi
       omega (arith, same, less, few, fewest)
 
   -- As many are kept as are of use, or as are wanted.
-  kept-many : length (filter (is_one_of (length rest - wants) job.spec.mode rest) rest) ≤ length rest - wants → min (length rest) wants ≤ length kept
+  pub kept-many : length (filter (is_one_of (length rest - wants) job.spec.mode rest) rest) ≤ length rest - wants → min (length rest) wants ≤ length kept
   kept-many few = let parts = halves (is_one_of (length rest - wants) job.spec.mode rest) rest in omega (arith, parts, few)
 
   -- The misses are no more.
-  misses-few : length (filter (will_fail ends) (kept ++ is.fresh)) + length (filter fails (drop (made + made_now) ends)) ≤ length (filter (will_fail ends) tracked) + length (filter fails (drop made ends))
+  pub misses-few : length (filter (will_fail ends) (kept ++ is.fresh)) + length (filter fails (drop (made + made_now) ends)) ≤ length (filter (will_fail ends) tracked) + length (filter fails (drop made ends))
   misses-few =
       let both = ap length (filter-append (will_fail ends) kept is.fresh) in
       let parts = length-append (filter (will_fail ends) kept) (filter (will_fail ends) is.fresh) in

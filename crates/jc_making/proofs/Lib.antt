@@ -9,3 +9,5 @@ pub mod StatusFacts
 pub mod OrderFacts
 pub mod MissFacts
 pub mod CreationFacts
+pub mod FreshFacts
+pub mod IndexedFacts
