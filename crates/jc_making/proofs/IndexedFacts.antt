@@ -41,11 +41,11 @@ use Rattle.jc_plan.specs.Statuses.{accounted, decided_in, is_settled}
 use Rattle.jc_plan.proofs.PlanFacts.{plan-creates}
 use Rattle.jc_plan.proofs.ValueFacts.{second-index_failures}
 use Rattle.jc_making.specs.After.{AreNew, IsAfter}
-use Rattle.jc_making.specs.Making.{IsCounted, completed_now, failed_by, failed_now, fails, is_closed, may_be_made, misses, open_indexes, places, places_of, successes, will_fail}
+use Rattle.jc_making.specs.Making.{IsCounted, completed_now, failed_by, failed_now, fails, is_closed, may_be_made, misses, new_successes, open_indexes, places, places_of, successes, will_fail}
 use Rattle.jc_making.proofs.ClosedFacts.{closed-stays, closed_by, is_over, past-closed}
 use Rattle.jc_making.proofs.CreationFacts.{fresh-length, kept, kept-many, made-few, made_now, misses-few, needless, rest, tracked, tracked-now, wants}
 use Rattle.jc_making.proofs.FreshFacts.{all-of-use, increasing-take, open-size}
-use Rattle.jc_making.proofs.Lists.{each-not, none-any}
+use Rattle.jc_making.proofs.Lists.{each-not, fewer, none-any}
 use Rattle.jc_making.proofs.OrderFacts.{few-go_indexed}
 use Rattle.jc_making.proofs.PlanFacts.{own-rises}
 use Rattle.jc_making.proofs.StatusFacts.{below, counted-is, in-is, indexes-stay, left-is, over-raised, then}
@@ -114,3 +114,148 @@ numbers-of job own counted settled k held = by held (settled || job.spec.suspend
               (recursion_from_All (λ n. Rattle.jc_manage.specs.Creations.is_settled_index counted n ≡ false) all (free-new (unwrap_or job.spec.completions 0) counted (keepers job.spec.replacement own)))
               (recursion_from_All (λ n. holds (keepers job.spec.replacement own) n ≡ false) all (free-unkept (unwrap_or job.spec.completions 0) counted (keepers job.spec.replacement own))))));
         }
+
+-- ---- the failed indexes
+
+module _ (completions : ℕ) (completed : List ℕ) (job : Job) (pods : List Pod) (up : IsIncreasing (map (λ (count : IndexCount). count.index) job.status.index_failures)) where
+  up-failed : (limit : Option ℕ) → IsIncreasing (failed_by limit completions completed (failures_by limit job pods))
+  up-failed None = tt
+  up-failed (Some most) =
+      subst IsIncreasing (append-nil (map (λ (count : IndexCount). count.index) (filter (has_failed most completions completed) raised_now)))
+      (up-kept (has_failed most completions completed) raised_now [] (subst (λ cs. IsIncreasing (map (λ (count : IndexCount). count.index) cs)) (sym (append-nil raised_now)) (raised-ascends job.spec.failure job.status.index_failures up pods)))
+    where
+      raised_now : List IndexCount
+      raised_now = raised job.spec.failure job.status.index_failures pods
+
+  each-failed : (limit : Option ℕ) → Each (λ n. (n < completions) × (has n completed ≡ false)) (failed_by limit completions completed (failures_by limit job pods))
+  each-failed None = tt
+  each-failed (Some most) =
+      Each-map (λ (count : IndexCount). count.index) (λ n. (n < completions) × (has n completed ≡ false)) (filter (has_failed most completions completed) (raised job.spec.failure job.status.index_failures pods))
+      (Each-weaker (λ (count : IndexCount). has_failed most completions completed count ≡ true) (λ (count : IndexCount). (count.index < completions) × (has count.index completed ≡ false)) (λ (count : IndexCount) h. by count h)
+      (filter (has_failed most completions completed) (raised job.spec.failure job.status.index_failures pods)) (Each-passes (has_failed most completions completed) (raised job.spec.failure job.status.index_failures pods)))
+    where
+      un-not : (b : Bool) → not b ≡ true → b ≡ false
+      un-not true e = absurd (true≢false (sym e))
+      un-not false e = refl
+
+      by : (count : IndexCount) → has_failed most completions completed count ≡ true → (count.index < completions) × (has count.index completed ≡ false)
+      by count h =
+          let parts = and_parts (nat_lt count.index completions) (not (has count.index completed) && (nat_lt most count.failures || count.fail)) h in
+          (ltb-true count.index completions parts.0, un-not (has count.index completed) (and_parts (not (has count.index completed)) (nat_lt most count.failures || count.fail) parts.1).0)
+
+-- ---- before and after
+
+module _ (ends : List End) (made : ℕ) (job : Job) (basis : Basis) (this : basis.job ≡ Some job) (rises : IsRising basis.pods)
+    (counted : IsCounted job (own_pods job basis.pods)) (last : IfSome (last_end ends) (λ end. fails end ≡ false))
+    (now : List Pod) (is : IsAfter (planned basis) made (own_pods job basis.pods) now)
+    (undecided : is_settled job (decided_in job basis) ≡ false) (running : job.spec.suspend ≡ false)
+    (indexed : job.spec.mode ≡ Indexed) where
+  abbrev own : List Pod
+  own = own_pods job basis.pods
+
+  abbrev later : Job
+  later = then job basis this rises counted.none
+
+  abbrev limit : Option ℕ
+  limit = job.spec.per_index
+
+  abbrev completions : ℕ
+  completions = unwrap_or job.spec.completions 0
+
+  abbrev active : List Pod
+  active = tracked_active_pods own
+
+  abbrev failing : List Pod
+  failing = newly_failed own (counted_in job basis.pods).judged_failed
+
+  abbrev useless : ℕ → Bool
+  useless = is_needless completions (accounted job basis)
+
+  abbrev stay : List Pod
+  stay = kept ends made job basis this rises counted last now is undecided running
+
+  unended : has_end job.status.conditions ≡ false
+  unended = by (has_end job.status.conditions) refl
+    where
+      first : (a b : Bool) → (a || b) ≡ false → a ≡ false
+      first true b e = absurd (true≢false e)
+      first false b e = refl
+
+      by : (b : Bool) → has_end job.status.conditions ≡ b → b ≡ false
+      by true e = absurd (true≢false (sym (counted.ended e) ∙ first (has_target job.status.conditions) (is_some (decided_in job basis)) undecided))
+      by false e = refl
+
+  completed-is : (counted_in job basis.pods).completed ≡ completed_now job own
+  completed-is = in-is job basis this rises counted.none indexed unended ∙ counted-is job basis this rises counted.none indexed unended
+
+  completed-then : (counted_in job basis.pods).completed ≡ completed_now later now
+  completed-then = completed-is ∙ sym (indexes-stay job basis this rises counted.none indexed unended made now is)
+
+  failed-is : (accounted job basis).failed_indexes ≡ failed_by limit completions (counted_in job basis.pods).completed (failures_by limit job failing)
+  unfolding failing_in
+  failed-is = by limit
+    where
+      by : (o : Option ℕ) → failing_by o job (counted_in job basis.pods).completed failing ≡ failed_by o completions (counted_in job basis.pods).completed (failures_by o job failing)
+      by None = refl
+      by (Some most) = ap (λ b. cond b job.status.failed_indexes (map (λ (count : IndexCount). count.index) (filter (has_failed most completions (counted_in job basis.pods).completed) (raised job.spec.failure job.status.index_failures failing)))) unended
+
+  counts-then : later.status.index_failures ≡ failures_by limit job failing
+  unfolding failures_in
+  counts-then = ap (λ (s : JobStatus). s.index_failures) (left-is job basis this rises counted.none) ∙ second-index_failures job basis
+
+  useless-is : useless ≡ is_closed later now
+  useless-is =
+      λ i n. (has n (completed-then i) || has n ((failed-is ∙ (λ j. failed_by limit completions (completed-then j) (sym counts-then j))) i)) || nat_le completions n
+
+  -- ---- how many are wanted
+
+  size : length (open_in useless completions) + length (counted_in job basis.pods).completed + length (accounted job basis).failed_indexes ≡ completions
+  size =
+      open-size completions (counted_in job basis.pods).completed (accounted job basis).failed_indexes
+      (subst IsIncreasing (sym completed-is) rising)
+      (subst (Each (λ n. n < completions)) (sym completed-is) (below job basis this rises counted.none indexed unended))
+      (subst IsIncreasing (sym failed-is) (up-failed completions (counted_in job basis.pods).completed job failing counted.failures limit))
+      (subst (Each (λ n. (n < completions) × (has n (counted_in job basis.pods).completed ≡ false))) (sym failed-is) (each-failed completions (counted_in job basis.pods).completed job failing counted.failures limit))
+    where
+      rising : IsIncreasing (completed_now job own)
+      rising =
+          subst (λ m. IsIncreasing (completed_after m false completions job.status.completed (new_successes job own))) (sym indexed)
+          (increasing-join (filter (λ n. nat_lt n completions) job.status.completed) (indexes_below completions (new_successes job own)) (increasing-filter (λ n. nat_lt n completions) job.status.completed counted.completed))
+
+  wants-are : wants ends made job basis this rises counted last now is undecided running ≡ min job.spec.parallelism (length (open_in useless completions))
+  wants-are =
+      let some = wanted-some job.spec.completions (counted.valid.indexed indexed) job.spec.parallelism (counts (accounted job basis)).1 (length (accounted job basis).failed_indexes) (length active) in
+      let total = indexed-total job basis.pods indexed in
+      let none = ap length (empty-in job basis.pods indexed (counted.none indexed)) in
+      let left = left-indexed job basis.pods indexed in
+      omega (arith, some, total, none, left, size)
+
+  -- ---- what is of use
+
+  up : RisesFrom 0 active
+  up = rises_filter 0 is_tracked_active own (own-rises job basis this rises)
+
+  numbered : Each (λ p. IsSome p.index) active
+  numbered = Each-filter (λ p. IsSome p.index) is_tracked_active own (counted.numbered indexed)
+
+  closes : (n : ℕ) → is_closed job own n ≡ true → useless n ≡ true
+  closes n h =
+      (λ i. useless-is i n)
+      ∙ closed-stays limit completions n (completed_now job own) (completed_now later now) job.status.index_failures later.status.index_failures
+      (λ e. (λ i. has n (sym (sym completed-is ∙ completed-then) i)) ∙ e)
+      (λ most at over. ap (is_over most n) (counts-then ∙ ap (λ o. failures_by o job failing) at) ∙ over-raised most n job.spec.failure job.status.index_failures failing counted.failures over) h
+
+  before-after : length (remaining Indexed (is_closed job own) active) + length (open_in useless completions) ≤ length (remaining Indexed useless active) + length (open_in (is_closed job own) completions)
+  before-after =
+      let used = use-kept (is_closed job own) useless active active completions 0 closes
+      (λ n l. past-closed limit completions n (completed_now job own) job.status.index_failures l) up numbered (λ n u h. h) (omega arith) in
+      omega (arith, used)
+
+  fewer-open : length (open_in useless completions) ≤ length (open_in (is_closed job own) completions)
+  fewer-open =
+      fewer (λ n. not (useless n)) (λ n. not (is_closed job own n)) (range_with_len 0 completions)
+      (every (λ n. not (useless n) ≡ true → not (is_closed job own n) ≡ true) (λ n. other (is_closed job own n) (useless n) (closes n)) (range_with_len 0 completions))
+    where
+      other : (a b : Bool) → (a ≡ true → b ≡ true) → not b ≡ true → not a ≡ true
+      other true b h g = absurd (true≢false (sym g ∙ ap not (h refl)))
+      other false b h g = refl
