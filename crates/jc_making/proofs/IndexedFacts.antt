@@ -28,6 +28,7 @@ use Rattle.jc_states.proofs.PodListFacts.{rises_filter}
 use Rattle.jc_account.specs.Accounts.{completed_in, counted_in}
 use Rattle.jc_account.specs.Modes.{completed_after, indexes_below}
 use Rattle.jc_account.proofs.AccountFacts.{empty-in, indexed-total, left-indexed}
+use Rattle.jc_account.proofs.Owned.{filter-least}
 use Rattle.jc_perindex.specs.Failures.{failed_set, failing_by, failing_in, failures_by, failures_in, has_failed, newly_failed, raised}
 use Rattle.jc_perindex.proofs.Raised.{raised-ascends}
 use Rattle.jc_perindex.proofs.Sets.{increasing-filter, increasing-join, up-kept}
@@ -259,3 +260,74 @@ module _ (ends : List End) (made : ℕ) (job : Job) (basis : Basis) (this : basi
       other : (a b : Bool) → (a ≡ true → b ≡ true) → not b ≡ true → not a ≡ true
       other true b h g = absurd (true≢false (sym g ∙ ap not (h refl)))
       other false b h g = refl
+
+  -- ---- what is of use then
+
+  abbrev Few : Mode → Type 0
+  Few m =
+      length (filter (is_one_of (length (remaining m useless active) - wants ends made job basis this rises counted last now is undecided running) m (remaining m useless active)) (remaining m useless active))
+      ≤ length (remaining m useless active) - wants ends made job basis this rises counted last now is undecided running
+
+  few-go : Few job.spec.mode
+  few-go =
+      subst Few (sym indexed)
+      (few-go_indexed (remaining Indexed useless active) (length (remaining Indexed useless active) - wants ends made job basis this rises counted last now is undecided running)
+      (Each-filter (λ p. IsSome p.index) (is_of_use useless active) active numbered) (one-of-use useless active up))
+
+  made-as : (planned basis).creates
+      ≡ cond (is_held_back (opening (backoff_after basis.backoff (accounted job basis) basis.now)) basis.now) []
+      (cond (is_settled job (decided_in job basis) || job.spec.suspend) [] (new_pods Indexed (job_lacks job own (accounted job basis)) (free completions (accounted job basis) (keepers job.spec.replacement own))))
+  made-as =
+      plan-creates basis job this
+      ∙ ap (λ m. cond (is_held_back (opening (backoff_after basis.backoff (accounted job basis) basis.now)) basis.now) []
+      (cond (is_settled job (decided_in job basis) || job.spec.suspend) [] (new_pods m (job_lacks job own (accounted job basis)) (free completions (accounted job basis) (keepers job.spec.replacement own))))) indexed
+
+  of-use-then : length (remaining Indexed useless (stay ++ is.fresh)) ≡ length stay + length is.fresh
+  of-use-then = with-numbers (numbers-of job own (accounted job basis) (is_settled job (decided_in job basis)) (job_lacks job own (accounted job basis)) (is_held_back (opening (backoff_after basis.backoff (accounted job basis) basis.now)) basis.now))
+    where
+      in-stay : (P : Pod → Type 0) → Each P active → Each P stay
+      in-stay P h =
+          Each-filter P (λ p. not (is_one_of (length (remaining job.spec.mode useless active) - wants ends made job basis this rises counted last now is undecided running) job.spec.mode (remaining job.spec.mode useless active) p)) (remaining job.spec.mode useless active)
+          (Each-filter P (λ p. not (is_spare job.spec.mode useless active p)) active h)
+
+      used : Each (λ p. is_of_use useless active p ≡ true) stay
+      used =
+          Each-filter (λ p. is_of_use useless active p ≡ true) (λ p. not (is_one_of (length (remaining job.spec.mode useless active) - wants ends made job basis this rises counted last now is undecided running) job.spec.mode (remaining job.spec.mode useless active) p)) (remaining job.spec.mode useless active)
+          (Each-weaker (λ p. not (is_spare job.spec.mode useless active p) ≡ true) (λ p. is_of_use useless active p ≡ true) (λ p h. ap (λ m. not (is_spare m useless active p)) (sym indexed) ∙ h) (remaining job.spec.mode useless active)
+          (Each-passes (λ p. not (is_spare job.spec.mode useless active p)) active))
+
+      with-numbers : Numbers useless active
+          (cond (is_held_back (opening (backoff_after basis.backoff (accounted job basis) basis.now)) basis.now) []
+          (cond (is_settled job (decided_in job basis) || job.spec.suspend) [] (new_pods Indexed (job_lacks job own (accounted job basis)) (free completions (accounted job basis) (keepers job.spec.replacement own)))))
+          → length (remaining Indexed useless (stay ++ is.fresh)) ≡ length stay + length is.fresh
+      with-numbers numbers =
+          all-of-use useless active stay is.fresh made numbers.set (subst (λ cs. AreNew made cs is.fresh) (made-as ∙ numbers.are) is.new) numbers.up
+          (subst (RisesFrom 0) (tracked-now ends made job basis this rises counted last now is undecided running) (rises_filter 0 is_tracked_active now is.rising))
+          (Each-weaker (λ n. (useless n ≡ false) × Each (λ p. has_index n p ≡ false) active) (λ n. (useless n ≡ false) × Each (λ p. has_index n p ≡ false) stay) (λ n h. (h.0, in-stay (λ p. has_index n p ≡ false) h.1)) numbers.set numbers.opened)
+          (Each-both (λ p. IsSome p.index) (λ p. is_of_use useless active p ≡ true) stay (in-stay (λ p. IsSome p.index) numbered) used)
+          (λ n u h. none-any (is_earlier n u) stay (in-stay (λ p. is_earlier n u p ≡ false) (each-not (is_earlier n u) active h)))
+
+  pub indexed-lowers : may_be_made ends (made + made_now ends made job basis this rises counted last now is undecided running) later now + made_now ends made job basis this rises counted last now is undecided running ≤ may_be_made ends made job own
+  indexed-lowers =
+      let new = made_now ends made job basis this rises counted last now is undecided running in
+      let misses_then = length (filter (will_fail ends) (stay ++ is.fresh)) + length (filter fails (drop (made + new) ends)) in
+      let left_is : length (remaining job.spec.mode useless active) ≡ length (remaining Indexed useless active) = ap (λ m. length (remaining m useless active)) indexed in
+      let many = kept-many ends made job basis this rises counted last now is undecided running few-go in
+      let lower = indexed-falls job.spec.parallelism (length (open_in (is_closed job own) completions)) (length (open_in useless completions))
+      (length (remaining Indexed (is_closed job own) active)) (length (remaining Indexed useless active)) (length (stay ++ is.fresh)) (length stay) (length active)
+      (wants ends made job basis this rises counted last now is undecided running) new (misses ends made own) misses_then
+      before-after fewer-open wants-are (filter-least (is_of_use useless active) active)
+      (omega (arith, left_is, many))
+      (let sum = length-append stay is.fresh in let same = fresh-length ends made job basis this rises counted last now is undecided running in omega (arith, sum, same))
+      (made-few ends made job basis this rises counted last now is undecided running)
+      (misses-few ends made job basis this rises counted last now is undecided running) in
+      let places_then : places later now ≡ length (open_in useless completions) =
+      (λ i. places_of (indexed i) job.spec.completions job.spec.parallelism (successes later now) (filter (λ n. not (sym useless-is i n)) (range_with_len 0 completions))) in
+      let places_now = ap (λ m. places_of m job.spec.completions job.spec.parallelism (successes job own) (open_indexes job own)) indexed in
+      let used_then : length (remaining job.spec.mode (is_closed later now) (tracked_active_pods now)) ≡ length (remaining Indexed useless (stay ++ is.fresh)) =
+      (λ i. length (remaining (indexed i) (sym useless-is i) (tracked-now ends made job basis this rises counted last now is undecided running i))) in
+      let all = of-use-then in
+      let joined = length-append stay is.fresh in
+      let used_now = ap (λ m. length (remaining m (is_closed job own) active)) indexed in
+      let missed = ap (λ pods. length (filter (will_fail ends) pods) + length (filter fails (drop (made + new) ends))) (tracked-now ends made job basis this rises counted last now is undecided running) in
+      omega (arith, lower, places_then, places_now, used_then, all, joined, used_now, missed)
