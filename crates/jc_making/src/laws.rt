@@ -1,7 +1,7 @@
 //! Laws on how many pods a Job may still make. Each function is empty: what it ensures holds of every Job and its own
 //! pods, and its callers may cite it.
 
-ghost use Rattle.std.specs.Prelude.{◌≡◌, ◌++◌, ◌≤◌, ◌∷◌, List, Option, Some, false, ℕ};
+ghost use Rattle.std.specs.Prelude.{◌≡◌, ◌++◌, ◌+◌, ◌≤◌, ◌∷◌, IfSome, List, Option, Some, false, length, ℕ};
 ghost use Rattle.jc_types.specs.declared.actions.End.{End};
 ghost use Rattle.jc_types.specs.declared.objects.Entry.{Entry};
 ghost use Rattle.jc_types.specs.declared.objects.Job.{Job};
@@ -16,9 +16,9 @@ ghost use Rattle.jc_states.specs.PodLists.{IsRising};
 ghost use Rattle.jc_states.specs.Pods.{is_tracked};
 ghost use Rattle.jc_plan.specs.Next.{ListsNoSuccess};
 ghost use Rattle.jc_plan.specs.Plans.{planned};
-ghost use Rattle.jc_history.specs.Nodes.{NodeAct, act_on, change_by, end_at, pod_end};
+ghost use Rattle.jc_history.specs.Nodes.{NodeAct, act_on, change_by, end_at, last_end, pod_end};
 ghost use Rattle.jc_making.specs.After.{IsAfter, job_after};
-ghost use Rattle.jc_making.specs.Making.{IsCounted, completed_now, creations_left, successes};
+ghost use Rattle.jc_making.specs.Making.{IsCounted, completed_now, creations_left, fails, successes};
 
 /// What counts of a Job is the same before a sync and after it, once all its requests are granted, whatever these are: what
 /// moves from pods to lists and from lists to totals counts before and after. Of a Job that is not Indexed these are its
@@ -34,6 +34,20 @@ pub fn plans_keep_what_counts()
         → IsAfter (planned basis) made (own_pods job basis.pods) now
         → completed_now (job_after (planned basis) job) now
         ≡ completed_now job (own_pods job basis.pods) }
+{}
+
+/// **How many pods a Job may still make is bounded, and falls with each pod that is made.** Where the last of the ends is a
+/// success, a plan leaves, once all its requests are granted, as many fewer to be made as it makes pods; and one that makes
+/// none, but lets pods go, marks or releases them, leaves no more. So from then on no more pods are made for the Job than may
+/// be made now, if nobody interferes.
+pub fn plans_use_up_what_may_be_made()
+    ensures { (ends : List End) (made : ℕ) (job : Job) (basis : Basis) (now : List Pod)
+        → basis.job ≡ Some job → IsRising basis.pods → IsCounted job (own_pods job basis.pods)
+        → IfSome (last_end ends) (λ end. fails end ≡ false)
+        → IsAfter (planned basis) made (own_pods job basis.pods) now
+        → creations_left ends (made + length (planned basis).creates) (job_after (planned basis) job) now
+        + length (planned basis).creates
+        ≤ creations_left ends made job (own_pods job basis.pods) }
 {}
 
 /// Whatever the node does to one of the Job's pods, that starts, restarts, succeeds, fails, or is stopped as it was marked,

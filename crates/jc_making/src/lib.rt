@@ -3,4 +3,6 @@
 
 mod laws;
 
-pub use laws::{plans_keep_what_counts, the_node_needs_no_more_pods};
+pub use laws::{
+    plans_keep_what_counts, plans_use_up_what_may_be_made, the_node_needs_no_more_pods,
+};
