@@ -1,39 +1,36 @@
 -- A plan that makes pods leaves as many fewer to be made, and no plan leaves more.
-use Rattle.std.proofs.Common.{◌≡◌, ℕ, suc, ◌+◌, ◌-◌, ◌<◌, ◌≤◌, ◌==◌, min, nat_lt, nat_le, Bool, true, false, cond, not, ◌&&◌, ◌||◌, List, [], ◌∷◌, ◌++◌, filter, length, drop, Option, Some, None, IsSome, IfSome, is_some, unwrap_or, refl, sym, ap, ◌∙◌, subst, arith, true≢false}
-use Rattle.std.specs.List.{AllByRecursion as Each, list_any, range_with_len}
+use Rattle.std.proofs.Common.{◌≡◌, ℕ, suc, ◌+◌, ◌-◌, ◌≤◌, ◌==◌, min, Bool, true, false, cond, not, ◌&&◌, ◌||◌, List, [], ◌∷◌, ◌++◌, filter, length, drop, Option, Some, None, IfSome, is_some, unwrap_or, refl, sym, ap, ◌∙◌, subst, arith}
+use Rattle.std.specs.List.{AllByRecursion as Each}
 use Rattle.std.proofs.lemmas.List.{length-append}
 use Rattle.std.proofs.lemmas.List.Elements.{filter-append, filter_agree}
 use Rattle.jc_types.specs.declared.actions.End.{End}
 use Rattle.jc_types.specs.declared.objects.Job.{Job}
 use Rattle.jc_types.specs.declared.objects.Pod.{Pod}
-use Rattle.jc_types.specs.declared.specifications.Mode.{Mode}
 use Rattle.jc_types.specs.declared.specifications.Mode.TheVariants.{NonIndexed, Indexed}
-use Rattle.jc_types.specs.declared.syncs.CountIn.{CountIn}
 use Rattle.jc_types.specs.Counts.{counts}
 use Rattle.jc_types.proofs.ListFacts.{filter_all, filter_filter}
 use Rattle.jc_states.specs.declared.bases.Basis.{Basis}
 use Rattle.jc_states.specs.Bases.{own_pods}
-use Rattle.jc_states.specs.PodLists.{IsRising, RisesFrom}
-use Rattle.jc_states.specs.Pods.{is_active, is_tracked_active, tracked_active_pods}
+use Rattle.jc_states.specs.PodLists.{IsRising}
+use Rattle.jc_states.specs.Pods.{is_tracked_active, tracked_active_pods}
 use Rattle.jc_states.proofs.PodListFacts.{rises_filter}
-use Rattle.jc_failpol.specs.declared.outcomes.Outcome.TheVariants as outcome
 use Rattle.jc_account.specs.Accounts.{counted_in}
 use Rattle.jc_account.proofs.AccountFacts.{left-succeeded, succeeded-sum}
 use Rattle.jc_account.proofs.Owned.{filter-least}
 use Rattle.jc_perindex.specs.Failures.{failing_by, failing_in, newly_failed}
-use Rattle.jc_manage.specs.Creations.{creatable, creates, job_lacks, job_wants, wanted}
+use Rattle.jc_manage.specs.Creations.{creatable, job_wants, wanted}
 use Rattle.jc_manage.specs.LetGoes.{is_let_go, is_needless, is_one_of, is_spare, remaining}
 use Rattle.jc_manage.proofs.Bounds.{creatable-few, creates-few, lacks-few}
 use Rattle.jc_history.specs.Nodes.{last_end}
 use Rattle.jc_plan.specs.Plans.{planned}
-use Rattle.jc_plan.specs.Statuses.{accounted, decided_in, is_settled, wants_in}
+use Rattle.jc_plan.specs.Statuses.{accounted, decided_in, is_settled}
 use Rattle.jc_plan.proofs.PlanFacts.{plan-creates}
 use Rattle.jc_making.specs.After.{AreNew, IsAfter}
-use Rattle.jc_making.specs.Making.{IsCounted, fails, is_closed, may_be_made, misses, new_successes, open_indexes, places, places_of, successes, will_fail}
-use Rattle.jc_making.proofs.Lists.{fewer, halves}
+use Rattle.jc_making.specs.Making.{IsCounted, fails, is_closed, may_be_made, misses, open_indexes, places, places_of, successes, will_fail}
+use Rattle.jc_making.proofs.Lists.{halves}
 use Rattle.jc_making.proofs.MissFacts.{new-length, new-misses}
 use Rattle.jc_making.proofs.OrderFacts.{few-go_plain}
-use Rattle.jc_making.proofs.PlanFacts.{active-left, goes_now, own-rises, stays_active}
+use Rattle.jc_making.proofs.PlanFacts.{active-left, own-rises, stays_active}
 use Rattle.jc_making.proofs.StatusFacts.{judged-or-left, successes-stay, then}
 use Rattle.jc_making.proofs.Values.{all-used}
 

@@ -1,8 +1,8 @@
 -- The new pods of an Indexed Job are all of use, beside those that were; and how many indexes are open.
-use Rattle.std.proofs.Common.{◌≡◌, ℕ, zero, suc, ◌+◌, ◌-◌, ◌<◌, ◌≤◌, ◌==◌, nat_lt, nat_le, Bool, true, false, cond, not, ◌&&◌, ◌||◌, List, [], ◌∷◌, ◌++◌, map, filter, length, take, Option, Some, None, IsSome, refl, sym, ap, ◌∙◌, subst, arith, true≢false}
+use Rattle.std.proofs.Common.{◌≡◌, ℕ, zero, suc, ◌+◌, ◌<◌, ◌≤◌, ◌==◌, nat_lt, nat_le, Bool, true, false, not, ◌&&◌, ◌||◌, List, [], ◌∷◌, ◌++◌, map, filter, length, take, Option, Some, None, IsSome, refl, sym, ap, ◌∙◌, subst, arith, true≢false}
 use Rattle.std.specs.List.{AllByRecursion as Each, count_by, list_any, range_with_len}
 use Rattle.std.specs.Option.{option_map_or}
-use Rattle.std.proofs.lemmas.Bool.{and_from, and_parts, eqb-true, le-ltb, lt-leb, ltb-true, ne_eqb}
+use Rattle.std.proofs.lemmas.Bool.{and_from, le-ltb, lt-leb, ne_eqb}
 use Rattle.std.proofs.lemmas.List.{length-append}
 use Rattle.std.proofs.lemmas.List.Folds.{list_any-append}
 use Rattle.std.proofs.lemmas.List.FromFn.{length-range_with_len}
@@ -10,17 +10,16 @@ use Rattle.std.proofs.lemmas.List.Sums.{length-filter}
 use Rattle.jc_ranges.specs.Sets.{IsIncreasing, has}
 use Rattle.jc_ranges.proofs.Back.{range_set}
 use Rattle.jc_types.specs.declared.objects.Pod.{Pod}
-use Rattle.jc_types.specs.declared.specifications.Mode.TheVariants.{NonIndexed, Indexed}
-use Rattle.jc_types.proofs.ListFacts.{Each-append, Each-both, Each-filter, Each-take, Each-weaker, filter_all, filter_filter, filter_same}
+use Rattle.jc_types.specs.declared.specifications.Mode.TheVariants.{Indexed}
+use Rattle.jc_types.proofs.ListFacts.{Each-append, Each-both, Each-take, Each-weaker, filter_all, filter_filter, filter_same}
 use Rattle.jc_states.specs.Indexes.{has_index}
 use Rattle.jc_states.specs.PodLists.{RisesFrom}
 use Rattle.jc_states.proofs.PodListFacts.{rises-each}
-use Rattle.jc_account.specs.Modes.{gained}
 use Rattle.jc_account.proofs.GainFacts.{gained-length}
 use Rattle.jc_perindex.proofs.Sets.{increasing-filter}
-use Rattle.jc_manage.specs.LetGoes.{is_earlier, is_spare, remaining}
+use Rattle.jc_manage.specs.LetGoes.{is_earlier, remaining}
 use Rattle.jc_making.specs.After.{AreNew}
-use Rattle.jc_making.proofs.Lists.{each-not, has-filter, has-range, none-any}
+use Rattle.jc_making.proofs.Lists.{has-filter, has-range, none-any}
 use Rattle.jc_making.proofs.UseFacts.{is_of_use, open_in, use-from, use-parts}
 
 -- ---- how many indexes are open
@@ -97,14 +96,15 @@ pub first-new : (made : ℕ) (set : List ℕ) (pods : List Pod) → AreNew made 
 first-new made [] [] new up low rises = tt
 first-new made [] (p ∷ pods) new up low rises = absurd new
 first-new made (m ∷ set) [] new up low rises = absurd new
-first-new made (m ∷ set) (p ∷ pods) new up low rises =
-    (λ n e. (λ i. (has_index n p && itself i) || younger n p.uid.0 pods later i) ∙ ap (λ b. b || false) (and-false (has_index n p)),
-    Each-weaker (λ q. ((IsSome q.index) × ((n : ℕ) → q.index ≡ Some n → m < n)) × ((n : ℕ) → q.index ≡ Some n → list_any (is_earlier n q.uid.0) pods ≡ false))
-    (λ q. (n : ℕ) → q.index ≡ Some n → list_any (is_earlier n q.uid.0) (p ∷ pods) ≡ false)
-    (λ q h n e. ap (λ b. (b && nat_lt p.uid.0 q.uid.0) || list_any (is_earlier n q.uid.0) pods) (other n (h.0.1 n e)) ∙ h.1 n e) pods
-    (Each-both (λ q. (IsSome q.index) × ((n : ℕ) → q.index ≡ Some n → m < n)) (λ q. (n : ℕ) → q.index ≡ Some n → list_any (is_earlier n q.uid.0) pods ≡ false) pods
-    (index-each (λ n. m < n) (suc made) set pods new.1 up.0)
-    (first-new (suc made) set pods new.1 up.1 (p.uid.0 + 1) rises.1)))
+first-new made (m ∷ set) (p ∷ pods) new up low rises = (
+  λ n e. (λ i. (has_index n p && itself i) || younger n p.uid.0 pods later i) ∙ ap (λ b. b || false) (and-false (has_index n p)),
+  Each-weaker (λ q. ((IsSome q.index) × ((n : ℕ) → q.index ≡ Some n → m < n)) × ((n : ℕ) → q.index ≡ Some n → list_any (is_earlier n q.uid.0) pods ≡ false))
+      (λ q. (n : ℕ) → q.index ≡ Some n → list_any (is_earlier n q.uid.0) (p ∷ pods) ≡ false)
+      (λ q h n e. ap (λ b. (b && nat_lt p.uid.0 q.uid.0) || list_any (is_earlier n q.uid.0) pods) (other n (h.0.1 n e)) ∙ h.1 n e) pods
+      (Each-both (λ q. (IsSome q.index) × ((n : ℕ) → q.index ≡ Some n → m < n)) (λ q. (n : ℕ) → q.index ≡ Some n → list_any (is_earlier n q.uid.0) pods ≡ false) pods
+      (index-each (λ n. m < n) (suc made) set pods new.1 up.0)
+      (first-new (suc made) set pods new.1 up.1 (p.uid.0 + 1) rises.1)),
+)
   where
     itself : nat_lt p.uid.0 p.uid.0 ≡ false
     itself = le-ltb p.uid.0 p.uid.0 (omega arith)

@@ -1,6 +1,6 @@
 -- A plan of an Indexed Job uses up what may be made.
-use Rattle.std.proofs.Common.{◌≡◌, ℕ, suc, ◌+◌, ◌-◌, ◌<◌, ◌≤◌, ◌==◌, min, nat_lt, nat_le, Bool, true, false, cond, not, ◌&&◌, ◌||◌, List, [], ◌∷◌, ◌++◌, map, filter, length, take, drop, Option, Some, None, IsSome, IfSome, is_some, unwrap_or, refl, sym, ap, ◌∙◌, subst, arith, true≢false}
-use Rattle.std.specs.List.{AllByRecursion as Each, list_any, range_with_len}
+use Rattle.std.proofs.Common.{◌≡◌, ℕ, ◌+◌, ◌-◌, ◌<◌, ◌≤◌, min, nat_lt, nat_le, Bool, true, false, cond, not, ◌&&◌, ◌||◌, List, [], ◌++◌, map, filter, length, take, drop, Option, Some, None, IsSome, IfSome, is_some, unwrap_or, refl, sym, ap, ◌∙◌, subst, arith, true≢false}
+use Rattle.std.specs.List.{AllByRecursion as Each, range_with_len}
 use Rattle.std.proofs.lemmas.Bool.{and_parts, lt-leb, ltb-true}
 use Rattle.std.proofs.lemmas.List.{append-nil, length-append}
 use Rattle.std.proofs.lemmas.List.Elements.{recursion_from_All}
@@ -10,7 +10,7 @@ use Rattle.jc_types.specs.declared.actions.End.{End}
 use Rattle.jc_types.specs.declared.objects.Job.{Job}
 use Rattle.jc_types.specs.declared.objects.Pod.{Pod}
 use Rattle.jc_types.specs.declared.specifications.Mode.{Mode}
-use Rattle.jc_types.specs.declared.specifications.Mode.TheVariants.{NonIndexed, Indexed}
+use Rattle.jc_types.specs.declared.specifications.Mode.TheVariants.{Indexed}
 use Rattle.jc_types.specs.declared.specifications.Replacement.{Replacement}
 use Rattle.jc_types.specs.declared.specifications.Replacement.TheVariants.{TerminatingOrFailed, FailedOnly}
 use Rattle.jc_types.specs.declared.statuses.IndexCount.{IndexCount}
@@ -25,11 +25,11 @@ use Rattle.jc_states.specs.Indexes.{has_index}
 use Rattle.jc_states.specs.PodLists.{IsRising, RisesFrom}
 use Rattle.jc_states.specs.Pods.{is_active, is_ending, is_tracked, is_tracked_active, tracked_active_pods}
 use Rattle.jc_states.proofs.PodListFacts.{rises_filter}
-use Rattle.jc_account.specs.Accounts.{completed_in, counted_in}
+use Rattle.jc_account.specs.Accounts.{counted_in}
 use Rattle.jc_account.specs.Modes.{completed_after, indexes_below}
 use Rattle.jc_account.proofs.AccountFacts.{empty-in, indexed-total, left-indexed}
 use Rattle.jc_account.proofs.Owned.{filter-least}
-use Rattle.jc_perindex.specs.Failures.{failed_set, failing_by, failing_in, failures_by, failures_in, has_failed, newly_failed, raised}
+use Rattle.jc_perindex.specs.Failures.{failing_by, failing_in, failures_by, failures_in, has_failed, newly_failed, raised}
 use Rattle.jc_perindex.proofs.Raised.{raised-ascends}
 use Rattle.jc_perindex.proofs.Sets.{increasing-filter, increasing-join, up-kept}
 use Rattle.jc_manage.specs.Backoffs.{backoff_after, is_held_back, opening}
@@ -42,9 +42,9 @@ use Rattle.jc_plan.specs.Statuses.{accounted, decided_in, is_settled}
 use Rattle.jc_plan.proofs.PlanFacts.{plan-creates}
 use Rattle.jc_plan.proofs.ValueFacts.{second-index_failures}
 use Rattle.jc_making.specs.After.{AreNew, IsAfter}
-use Rattle.jc_making.specs.Making.{IsCounted, completed_now, failed_by, failed_now, fails, is_closed, may_be_made, misses, new_successes, open_indexes, places, places_of, successes, will_fail}
-use Rattle.jc_making.proofs.ClosedFacts.{closed-stays, closed_by, is_over, past-closed}
-use Rattle.jc_making.proofs.CreationFacts.{fresh-length, kept, kept-many, made-few, made_now, misses-few, needless, rest, tracked, tracked-now, wants}
+use Rattle.jc_making.specs.Making.{IsCounted, completed_now, failed_by, fails, is_closed, may_be_made, misses, new_successes, open_indexes, places, places_of, successes, will_fail}
+use Rattle.jc_making.proofs.ClosedFacts.{closed-stays, is_over, past-closed}
+use Rattle.jc_making.proofs.CreationFacts.{fresh-length, kept, kept-many, made-few, made_now, misses-few, tracked-now, wants}
 use Rattle.jc_making.proofs.FreshFacts.{all-of-use, increasing-take, open-size}
 use Rattle.jc_making.proofs.Lists.{each-not, fewer, none-any}
 use Rattle.jc_making.proofs.OrderFacts.{few-go_indexed}

@@ -1,5 +1,5 @@
 -- No plan leaves more to be made than there was, less what it makes.
-use Rattle.std.proofs.Common.{◌≡◌, ℕ, ◌+◌, ◌≤◌, Bool, true, false, cond, not, ◌&&◌, ◌||◌, List, [], ◌∷◌, length, Option, Some, None, IfSome, is_some, refl, sym, ap, ◌∙◌, arith, true≢false}
+use Rattle.std.proofs.Common.{◌≡◌, ℕ, ◌+◌, ◌≤◌, Bool, true, false, cond, ◌||◌, List, [], length, Some, IfSome, is_some, refl, ap, ◌∙◌, arith, true≢false}
 use Rattle.std.proofs.lemmas.Bool.{or_left, or_right}
 use Rattle.jc_types.specs.declared.actions.End.{End}
 use Rattle.jc_types.specs.declared.objects.Job.{Job}
@@ -13,7 +13,7 @@ use Rattle.jc_states.specs.Conditions.{has_target}
 use Rattle.jc_states.specs.PodLists.{IsRising}
 use Rattle.jc_account.specs.Accounts.{counted_out}
 use Rattle.jc_manage.specs.Backoffs.{backoff_after, is_held_back, opening}
-use Rattle.jc_manage.specs.Creations.{creatable, creates, free, job_lacks, keepers, new_pods}
+use Rattle.jc_manage.specs.Creations.{free, job_lacks, keepers, new_pods}
 use Rattle.jc_history.specs.Nodes.{last_end}
 use Rattle.jc_plan.specs.Plans.{planned}
 use Rattle.jc_plan.specs.Statuses.{accounted, decided_in, first_status_of, is_second_due, is_settled, second_value, wants_in}

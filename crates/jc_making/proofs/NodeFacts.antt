@@ -1,5 +1,5 @@
 -- What the node does to a pod never raises how many pods may still be made.
-use Rattle.std.proofs.Common.{◌≡◌, ℕ, ◌≤◌, Bool, true, false, cond, not, ◌&&◌, ◌||◌, List, [], ◌∷◌, ◌++◌, Option, Some, None, is_some, pos, refl, sym, ap, ◌∙◌, subst, arith, true≢false}
+use Rattle.std.proofs.Common.{◌≡◌, ℕ, ◌≤◌, Bool, true, false, cond, not, ◌&&◌, List, [], ◌∷◌, ◌++◌, Option, Some, None, is_some, pos, refl, sym, ap, ◌∙◌, subst, arith, true≢false}
 use Rattle.std.specs.List.{AllByRecursion as Each}
 use Rattle.std.specs.Option.{option_map_or, unwrap_or}
 use Rattle.std.specs.Ordering.{int_eq}
@@ -18,7 +18,7 @@ use Rattle.jc_failpol.specs.declared.outcomes.Outcome.TheVariants as outcome
 use Rattle.jc_failpol.specs.Outcomes.{is_succeeded, is_verdict, outcome_of, same_outcome}
 use Rattle.jc_account.specs.Judged.{is_candidate}
 use Rattle.jc_history.specs.Nodes.{NodeAct, Stop, Start, Again, Finish, act_on, act_with, change_by, end_at, is_again, pod_end}
-use Rattle.jc_making.specs.Making.{IsCounted, creations_left, will_fail}
+use Rattle.jc_making.specs.Making.{IsCounted, creations_left}
 use Rattle.jc_making.proofs.PodFacts.{fails-now, goes-on, is_new, nothing, succeeds-now}
 use Rattle.jc_making.proofs.PlanFacts.{active-not, success-is}
 

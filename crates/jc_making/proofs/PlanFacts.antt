@@ -1,7 +1,7 @@
 -- What a plan makes of each of the Job's own pods.
-use Rattle.std.proofs.Common.{◌≡◌, ℕ, ◌+◌, ◌≤◌, Bool, true, false, cond, not, ◌&&◌, ◌||◌, List, [], ◌∷◌, ◌++◌, map, filter, length, Option, Some, None, refl, sym, ap, ◌∙◌, subst, arith, true≢false, unwrap_or}
+use Rattle.std.proofs.Common.{◌≡◌, Bool, true, false, cond, not, ◌&&◌, ◌||◌, List, [], ◌∷◌, map, filter, Option, Some, None, refl, sym, ap, ◌∙◌, subst, true≢false, unwrap_or}
 use Rattle.std.specs.List.{AllByRecursion as Each, list_any}
-use Rattle.std.proofs.lemmas.Bool.{and_parts, or_cases}
+use Rattle.std.proofs.lemmas.Bool.{and_parts}
 use Rattle.jc_types.specs.declared.numbers.Uid.{Uid}
 use Rattle.jc_types.specs.declared.objects.Job.{Job}
 use Rattle.jc_types.specs.declared.objects.Phase.{Phase}
@@ -27,14 +27,14 @@ use Rattle.jc_failpol.specs.Rules.{action_of}
 use Rattle.jc_account.specs.Accounts.{counted_in}
 use Rattle.jc_account.specs.Judged.{fits, is_candidate, is_left_over, is_to_release, to_release}
 use Rattle.jc_manage.specs.Creations.{job_wants}
-use Rattle.jc_manage.specs.LetGoes.{going, is_let_go, is_needless, is_to_mark, let_goes, marks, seen}
+use Rattle.jc_manage.specs.LetGoes.{going, is_let_go, is_needless, is_to_mark, seen}
 use Rattle.jc_plan.specs.declared.plans.Planned.{Planned}
 use Rattle.jc_plan.specs.Numbers.{is_let_go_of}
 use Rattle.jc_plan.specs.Plans.{planned}
 use Rattle.jc_plan.specs.Releases.{is_orphan, is_owed, is_released, due_uids, releases_of}
-use Rattle.jc_plan.specs.Statuses.{accounted, decided_in, is_settled, wants_in}
-use Rattle.jc_plan.proofs.PlanFacts.{plan-creates, plan-let_goes, plan-marks, plan-releases}
-use Rattle.jc_making.specs.After.{Becomes, Follows, Nothing, Stays, Goes, frees, touches}
+use Rattle.jc_plan.specs.Statuses.{accounted, decided_in, is_settled}
+use Rattle.jc_plan.proofs.PlanFacts.{plan-let_goes, plan-marks, plan-releases}
+use Rattle.jc_making.specs.After.{Becomes, Follows, Nothing, Stays, Goes, frees}
 use Rattle.jc_making.proofs.Lists.{passes-in}
 use Rattle.jc_making.proofs.PodFacts.{is_new}
 

@@ -1,11 +1,10 @@
 -- What counts of a Job is the same before and after all requests of a plan.
-use Rattle.std.proofs.Common.{◌≡◌, ℕ, suc, ◌+◌, ◌<◌, ◌≤◌, ◌==◌, nat_lt, Bool, true, false, cond, not, ◌&&◌, ◌||◌, List, [], ◌∷◌, ◌++◌, map, filter, length, Option, Some, None, refl, sym, ap, ◌∙◌, subst, arith, true≢false, unwrap_or}
+use Rattle.std.proofs.Common.{◌≡◌, ℕ, suc, ◌+◌, ◌<◌, ◌==◌, nat_lt, Bool, true, false, not, ◌&&◌, ◌||◌, List, [], ◌∷◌, ◌++◌, map, filter, length, Option, Some, refl, sym, ap, ◌∙◌, subst, arith, true≢false, unwrap_or}
 use Rattle.std.specs.List.{AllByRecursion as Each, list_any}
 use Rattle.std.proofs.lemmas.Bool.{eqb-true, lt-ltb, ltb-true}
 use Rattle.std.proofs.lemmas.List.{append-nil, nil_from_length}
 use Rattle.std.proofs.lemmas.List.Elements.{filter-append, recursion_from_All}
 use Rattle.jc_ranges.specs.Sets.{IsIncreasing, has}
-use Rattle.jc_types.specs.declared.numbers.Uid.{Uid}
 use Rattle.jc_types.specs.declared.objects.Job.{Job}
 use Rattle.jc_types.specs.declared.objects.Pod.{Pod}
 use Rattle.jc_types.specs.declared.policies.FailurePolicy.{FailurePolicy}
@@ -13,12 +12,12 @@ use Rattle.jc_types.specs.declared.specifications.Mode.{Mode}
 use Rattle.jc_types.specs.declared.specifications.Mode.TheVariants.{NonIndexed, Indexed}
 use Rattle.jc_types.specs.declared.statuses.IndexCount.{IndexCount}
 use Rattle.jc_types.specs.declared.statuses.JobStatus.{JobStatus}
-use Rattle.jc_types.proofs.ListFacts.{Each-weaker, any_map, filter_all, filter_filter, filter_none, filter_swap, filter_within}
+use Rattle.jc_types.proofs.ListFacts.{Each-weaker, filter_all, filter_filter, filter_none, filter_swap, filter_within}
 use Rattle.jc_states.specs.declared.bases.Basis.{Basis}
 use Rattle.jc_states.specs.Bases.{own_pods}
 use Rattle.jc_states.specs.Conditions.{has_end}
 use Rattle.jc_states.specs.PodLists.{IsRising}
-use Rattle.jc_states.specs.Pods.{is_active, is_tracked, is_tracked_active}
+use Rattle.jc_states.specs.Pods.{is_active, is_tracked}
 use Rattle.jc_states.specs.Indexes.{has_index}
 use Rattle.jc_states.specs.UidLists.{join}
 use Rattle.jc_states.proofs.UidListFacts.{has-join}
@@ -30,14 +29,14 @@ use Rattle.jc_account.specs.Judged.{candidates, fits, is_candidate, left_with, n
 use Rattle.jc_account.specs.Modes.{completed_after, indexes_of, kept_indexes}
 use Rattle.jc_account.specs.Rooms.{joins_list, precedes, takes_room}
 use Rattle.jc_account.proofs.AccountFacts.{indexes-below, left-indexed, left-succeeded, succeeded-all-out, succeeded-sum}
-use Rattle.jc_perindex.specs.Failures.{fails_at, failures_by, failures_in, failures_of, newly_failed, policy_fails_index, raised, raised_at}
+use Rattle.jc_perindex.specs.Failures.{fails_at, failures_of, policy_fails_index, raised, raised_at}
 use Rattle.jc_perindex.proofs.Raised.{none-raised}
 use Rattle.jc_plan.specs.Next.{ListsNoSuccess}
 use Rattle.jc_plan.specs.Plans.{last_status, planned}
-use Rattle.jc_plan.specs.Statuses.{accounted, first_value, second_value}
+use Rattle.jc_plan.specs.Statuses.{first_value, second_value}
 use Rattle.jc_plan.proofs.NextFacts.{last-second}
-use Rattle.jc_plan.proofs.ValueFacts.{first-succeeded, first-succeeded_list, second-completed, second-index_failures, second-lists_none, second-succeeded}
-use Rattle.jc_making.specs.After.{AreNew, IsAfter, Follows, job_after}
+use Rattle.jc_plan.proofs.ValueFacts.{first-succeeded, first-succeeded_list, second-completed, second-lists_none, second-succeeded}
+use Rattle.jc_making.specs.After.{AreNew, IsAfter, job_after}
 use Rattle.jc_making.specs.Making.{completed_now, new_successes, successes}
 use Rattle.jc_making.proofs.ClosedFacts.{is_over}
 use Rattle.jc_making.proofs.Lists.{halves}

@@ -1,9 +1,9 @@
 -- How many pods may still be made, by the new successes and the active tracked pods alone; and that this does not rise
 -- where one of these ends.
-use Rattle.std.proofs.Common.{◌≡◌, ℕ, zero, suc, ◌+◌, ◌-◌, ◌<◌, ◌≤◌, ◌==◌, min, nat_lt, nat_le, Bool, true, false, cond, not, ◌&&◌, ◌||◌, List, [], ◌∷◌, ◌++◌, filter, length, drop, Option, Some, None, IsSome, unwrap_or, refl, sym, ap, ◌∙◌, arith, true≢false}
+use Rattle.std.proofs.Common.{◌≡◌, ℕ, suc, ◌+◌, ◌-◌, ◌≤◌, ◌==◌, min, nat_lt, nat_le, Bool, true, false, cond, not, ◌&&◌, ◌||◌, List, [], ◌∷◌, ◌++◌, filter, length, drop, Option, Some, None, IsSome, unwrap_or, refl, sym, ap, ◌∙◌, arith, true≢false}
 use Rattle.std.specs.List.{AllByRecursion as Each, list_any, range_with_len}
 use Rattle.std.specs.Option.{option_map_or}
-use Rattle.std.proofs.lemmas.Bool.{and_from, eq-eqb, le-leb, leb-false, lt-ltb, ltb-false, ne_eqb, or_left, or_right}
+use Rattle.std.proofs.lemmas.Bool.{eq-eqb, ltb-false, ne_eqb}
 use Rattle.std.proofs.lemmas.List.Elements.{filter_agree}
 use Rattle.jc_ranges.specs.Sets.{has}
 use Rattle.jc_types.specs.declared.actions.End.{End}
@@ -11,7 +11,7 @@ use Rattle.jc_types.specs.declared.objects.Pod.{Pod}
 use Rattle.jc_types.specs.declared.specifications.Mode.{Mode}
 use Rattle.jc_types.specs.declared.specifications.Mode.TheVariants.{NonIndexed, Indexed}
 use Rattle.jc_types.specs.declared.statuses.IndexCount.{IndexCount}
-use Rattle.jc_types.proofs.ListFacts.{Each-weaker, filter_all}
+use Rattle.jc_types.proofs.ListFacts.{filter_all}
 use Rattle.jc_states.specs.Indexes.{has_index}
 use Rattle.jc_states.specs.PodLists.{RisesFrom}
 use Rattle.jc_states.proofs.UidListFacts.{has-join}

@@ -12,7 +12,7 @@
 --     misses ends made own      ends to come that are no success
 --     creations_left ends made job own    how many pods may still be made
 --     IsCounted job own         what is known of every Job, and of its pods
-use Rattle.std.specs.Prelude.{◌≡◌, ℕ, pos, ◌+◌, ◌-◌, ◌==◌, min, nat_le, Bool, true, false, not, ◌&&◌, ◌||◌, if◌then◌else◌, List, [], map, filter, length, drop, Option, Some, None, IsSome, unwrap_or}
+use Rattle.std.specs.Prelude.{◌≡◌, ℕ, pos, ◌+◌, ◌-◌, ◌==◌, min, nat_le, Bool, true, false, not, ◌||◌, if◌then◌else◌, List, [], map, filter, length, drop, Option, Some, None, IsSome, unwrap_or}
 use Rattle.std.specs.List.{AllByRecursion as Each, range_with_len}
 use Rattle.std.specs.Option.{option_map_or}
 use Rattle.std.specs.Ordering.{int_eq}

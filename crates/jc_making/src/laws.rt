@@ -1,11 +1,12 @@
 //! Laws on how many pods a Job may still make. Each function is empty: what it ensures holds of every Job and its own
 //! pods, and its callers may cite it.
 
-ghost use Rattle.std.specs.Prelude.{◌≡◌, ◌++◌, ◌+◌, ◌≤◌, ◌∷◌, IfSome, List, Option, Some, false, length, ℕ};
+ghost use Rattle.std.specs.Prelude.{◌≡◌, ◌++◌, ◌+◌, ◌≤◌, ◌∷◌, IfSome, List, None, Option, Some, [], false, length, ℕ};
 ghost use Rattle.jc_types.specs.declared.actions.End.{End};
 ghost use Rattle.jc_types.specs.declared.objects.Entry.{Entry};
 ghost use Rattle.jc_types.specs.declared.objects.Job.{Job};
 ghost use Rattle.jc_types.specs.declared.objects.Key.{Key};
+ghost use Rattle.jc_types.specs.declared.objects.Phase.TheVariants.{Failed, Succeeded};
 ghost use Rattle.jc_types.specs.declared.objects.Pod.{Pod};
 ghost use Rattle.jc_types.specs.declared.specifications.Mode.TheVariants.{Indexed, NonIndexed};
 ghost use Rattle.jc_log.specs.Requests.{with_report};
@@ -18,7 +19,28 @@ ghost use Rattle.jc_plan.specs.Next.{ListsNoSuccess};
 ghost use Rattle.jc_plan.specs.Plans.{planned};
 ghost use Rattle.jc_history.specs.Nodes.{NodeAct, act_on, change_by, end_at, last_end, pod_end};
 ghost use Rattle.jc_making.specs.After.{IsAfter, job_after};
+ghost use Rattle.jc_making.specs.Examples.{in_phase, one_fails, runs_as, small_indexed, small_job};
 ghost use Rattle.jc_making.specs.Making.{IsCounted, completed_now, creations_left, fails, successes};
+
+/// How many pods may still be made for small Jobs of three completions, of which two may run at once, where the first pod
+/// fails. Four, before any is made. Where two run it is two more, and so it is once the first has failed; one, once there is
+/// another in its place, and then once one has succeeded. Of an Indexed Job only the older of two pods of one index is of
+/// use.
+pub fn small_jobs_are_worked_out()
+    ensures none { (job : Job) (pod : Pod) → creations_left one_fails 0 (small_job job) [] ≡ 4 }
+    ensures two { (job : Job) (pod : Pod) → creations_left one_fails 2 (small_job job)
+        (runs_as 0 None pod ∷ runs_as 1 None pod ∷ []) ≡ 2 }
+    ensures failed { (job : Job) (pod : Pod) → creations_left one_fails 2 (small_job job)
+        (in_phase Failed (runs_as 0 None pod) ∷ runs_as 1 None pod ∷ []) ≡ 2 }
+    ensures replaced { (job : Job) (pod : Pod) → creations_left one_fails 3 (small_job job)
+        (runs_as 1 None pod ∷ runs_as 2 None pod ∷ []) ≡ 1 }
+    ensures succeeded { (job : Job) (pod : Pod) → creations_left one_fails 3 (small_job job)
+        (in_phase Succeeded (runs_as 1 None pod) ∷ runs_as 2 None pod ∷ []) ≡ 1 }
+    ensures indexed { (job : Job) (pod : Pod) → creations_left one_fails 3 (small_indexed job)
+        (in_phase Succeeded (runs_as 1 (Some 0) pod) ∷ runs_as 2 (Some 1) pod ∷ []) ≡ 1 }
+    ensures doubled { (job : Job) (pod : Pod) → creations_left one_fails 3 (small_indexed job)
+        (runs_as 1 (Some 0) pod ∷ runs_as 2 (Some 0) pod ∷ []) ≡ 2 }
+{}
 
 /// What counts of a Job is the same before a sync and after it, once all its requests are granted, whatever these are: what
 /// moves from pods to lists and from lists to totals counts before and after. Of a Job that is not Indexed these are its
