@@ -25,8 +25,8 @@ use Rattle.jc_history.specs.Nodes.{last_end}
 use Rattle.jc_plan.specs.Plans.{planned}
 use Rattle.jc_plan.specs.Statuses.{accounted, decided_in, is_settled}
 use Rattle.jc_plan.proofs.PlanFacts.{plan-creates}
-use Rattle.jc_making.specs.After.{AreNew, IsAfter}
-use Rattle.jc_making.specs.Making.{IsCounted, fails, is_closed, may_be_made, misses, open_indexes, places, places_of, successes, will_fail}
+use Rattle.jc_making.specs.Grants.{AreNew, IsGranted}
+use Rattle.jc_making.specs.Making.{IsCounted, fails, is_closed, may_be_made, misses, open_indexes, places, places_of, pods_succeeded, will_fail}
 use Rattle.jc_making.proofs.Lists.{halves}
 use Rattle.jc_making.proofs.MissFacts.{new-length, new-misses}
 use Rattle.jc_making.proofs.OrderFacts.{few-go_plain}
@@ -43,7 +43,7 @@ all-active made (index ∷ indexes) (p ∷ pods) h = (h.0.active, all-active (su
 
 module _ (ends : List End) (made : ℕ) (job : Job) (basis : Basis) (this : basis.job ≡ Some job) (rises : IsRising basis.pods)
     (counted : IsCounted job (own_pods job basis.pods)) (last : IfSome (last_end ends) (λ end. fails end ≡ false))
-    (now : List Pod) (is : IsAfter (planned basis) made (own_pods job basis.pods) now)
+    (now : List Pod) (is : IsGranted (planned basis) made (own_pods job basis.pods) now)
     (undecided : is_settled job (decided_in job basis) ≡ false) (running : job.spec.suspend ≡ false) where
   abbrev pub own : List Pod
   own = own_pods job basis.pods
@@ -126,7 +126,7 @@ module _ (ends : List End) (made : ℕ) (job : Job) (basis : Basis) (this : basi
   -- ---- a Job that is not Indexed
 
   module _ (plain : job.spec.mode ≡ NonIndexed) where
-    succeeded-now : (counts (accounted job basis)).1 ≡ successes job own
+    succeeded-now : (counts (accounted job basis)).1 ≡ pods_succeeded job own
     succeeded-now = omega (arith, succeeded-sum job basis.pods plain rises, left-succeeded job basis.pods, judged-or-left job basis this rises (λ at. absurd (other (sym plain ∙ at))))
       where
         other : NonIndexed ≡ Indexed → ⊥
@@ -168,15 +168,15 @@ module _ (ends : List End) (made : ℕ) (job : Job) (basis : Basis) (this : basi
     pub plain-lowers : may_be_made ends (made + made_now) (then job basis this rises counted.none) now + made_now ≤ may_be_made ends made job own
     plain-lowers =
         let closed_then = is_closed (then job basis this rises counted.none) now in
-        let wanted_is : wants ≡ wanted job.spec.parallelism job.spec.completions (successes job own) 0 (length tracked) =
+        let wanted_is : wants ≡ wanted job.spec.parallelism job.spec.completions (pods_succeeded job own) 0 (length tracked) =
         (λ i. wanted job.spec.parallelism job.spec.completions (succeeded-now i) (none-failed i) (length tracked)) in
-        let lower = falls-by job.spec.completions job.spec.parallelism (successes job own) (length kept) (length tracked) wants made_now
+        let lower = falls-by job.spec.completions job.spec.parallelism (pods_succeeded job own) (length kept) (length tracked) wants made_now
         (misses ends made own) (length (filter (will_fail ends) (kept ++ is.fresh)) + length (filter fails (drop (made + made_now) ends)))
         (open_indexes (then job basis this rises counted.none) now) (open_indexes job own) wanted_is
         (let many = kept-many few-go in let all = all-count needless tracked in omega (arith, many, all)) made-few misses-few in
-        let places_then : places (then job basis this rises counted.none) now ≡ places_of NonIndexed job.spec.completions job.spec.parallelism (successes job own) (open_indexes (then job basis this rises counted.none) now) =
+        let places_then : places (then job basis this rises counted.none) now ≡ places_of NonIndexed job.spec.completions job.spec.parallelism (pods_succeeded job own) (open_indexes (then job basis this rises counted.none) now) =
         (λ i. places_of (plain i) job.spec.completions job.spec.parallelism (successes-stay job basis this rises counted.none made now plain is i) (open_indexes (then job basis this rises counted.none) now)) in
-        let places_now = ap (λ mode. places_of mode job.spec.completions job.spec.parallelism (successes job own) (open_indexes job own)) plain in
+        let places_now = ap (λ mode. places_of mode job.spec.completions job.spec.parallelism (pods_succeeded job own) (open_indexes job own)) plain in
         let used_then = all-count closed_then (tracked_active_pods now) ∙ ap length tracked-now ∙ length-append kept is.fresh in
         let used_now = all-count (is_closed job own) tracked in
         let missed = ap (λ pods. length (filter (will_fail ends) pods) + length (filter fails (drop (made + made_now) ends))) tracked-now in

@@ -4,7 +4,7 @@ use Rattle.std.specs.Option.{option_map_or, option_or}
 use Rattle.jc_types.specs.declared.actions.End.{End}
 use Rattle.jc_types.specs.declared.objects.Pod.{Pod}
 use Rattle.jc_history.specs.Nodes.{end_at, last_end}
-use Rattle.jc_making.specs.After.{AreNew}
+use Rattle.jc_making.specs.Grants.{AreNew}
 use Rattle.jc_making.specs.Making.{fails, will_fail}
 use Rattle.jc_making.proofs.Lists.{length-with, one_if}
 

@@ -4,7 +4,7 @@
 --     small_job any            three completions, of which two may run at once
 --     small_indexed any        the same of an Indexed Job
 --     runs_as serial index any a pod that runs, the one of this serial and this index
---     in_phase phase pod       the pod in another phase
+--     with_phase phase pod       the pod in another phase
 use Rattle.std.specs.Prelude.{ℕ, pos, ◌+◌, true, List, [], ◌∷◌, Option, Some, None}
 use Rattle.jc_types.specs.declared.actions.End.{End}
 use Rattle.jc_types.specs.declared.objects.Job.{Job}
@@ -47,5 +47,5 @@ runs_as serial index any = record any {
 }
 
 -- The pod in another phase.
-abbrev pub in_phase : Phase → Pod → Pod
-in_phase phase pod = record pod { phase = phase }
+abbrev pub with_phase : Phase → Pod → Pod
+with_phase phase pod = record pod { phase = phase }

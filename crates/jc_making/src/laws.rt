@@ -18,9 +18,9 @@ ghost use Rattle.jc_states.specs.Pods.{is_tracked};
 ghost use Rattle.jc_plan.specs.Next.{ListsNoSuccess};
 ghost use Rattle.jc_plan.specs.Plans.{planned};
 ghost use Rattle.jc_history.specs.Nodes.{NodeAct, act_on, change_by, end_at, last_end, pod_end};
-ghost use Rattle.jc_making.specs.After.{IsAfter, job_after};
-ghost use Rattle.jc_making.specs.Examples.{in_phase, one_fails, runs_as, small_indexed, small_job};
-ghost use Rattle.jc_making.specs.Making.{IsCounted, completed_now, creations_left, fails, successes};
+ghost use Rattle.jc_making.specs.Grants.{IsGranted, job_left};
+ghost use Rattle.jc_making.specs.Examples.{with_phase, one_fails, runs_as, small_indexed, small_job};
+ghost use Rattle.jc_making.specs.Making.{IsCounted, completed_now, creations_left, fails, pods_succeeded};
 
 /// How many pods may still be made for small Jobs of three completions, of which two may run at once, where the first pod
 /// fails. Four, before any is made. Where two run it is two more, and so it is once the first has failed; one, once there is
@@ -31,13 +31,13 @@ pub fn small_jobs_are_worked_out()
     ensures two { (job : Job) (pod : Pod) → creations_left one_fails 2 (small_job job)
         (runs_as 0 None pod ∷ runs_as 1 None pod ∷ []) ≡ 2 }
     ensures failed { (job : Job) (pod : Pod) → creations_left one_fails 2 (small_job job)
-        (in_phase Failed (runs_as 0 None pod) ∷ runs_as 1 None pod ∷ []) ≡ 2 }
+        (with_phase Failed (runs_as 0 None pod) ∷ runs_as 1 None pod ∷ []) ≡ 2 }
     ensures replaced { (job : Job) (pod : Pod) → creations_left one_fails 3 (small_job job)
         (runs_as 1 None pod ∷ runs_as 2 None pod ∷ []) ≡ 1 }
     ensures succeeded { (job : Job) (pod : Pod) → creations_left one_fails 3 (small_job job)
-        (in_phase Succeeded (runs_as 1 None pod) ∷ runs_as 2 None pod ∷ []) ≡ 1 }
+        (with_phase Succeeded (runs_as 1 None pod) ∷ runs_as 2 None pod ∷ []) ≡ 1 }
     ensures indexed { (job : Job) (pod : Pod) → creations_left one_fails 3 (small_indexed job)
-        (in_phase Succeeded (runs_as 1 (Some 0) pod) ∷ runs_as 2 (Some 1) pod ∷ []) ≡ 1 }
+        (with_phase Succeeded (runs_as 1 (Some 0) pod) ∷ runs_as 2 (Some 1) pod ∷ []) ≡ 1 }
     ensures doubled { (job : Job) (pod : Pod) → creations_left one_fails 3 (small_indexed job)
         (runs_as 1 (Some 0) pod ∷ runs_as 2 (Some 0) pod ∷ []) ≡ 2 }
 {}
@@ -48,13 +48,13 @@ pub fn small_jobs_are_worked_out()
 pub fn plans_keep_what_counts()
     ensures successes { (job : Job) (basis : Basis) (made : ℕ) (now : List Pod)
         → basis.job ≡ Some job → IsRising basis.pods → job.spec.mode ≡ NonIndexed
-        → IsAfter (planned basis) made (own_pods job basis.pods) now
-        → successes (job_after (planned basis) job) now ≡ successes job (own_pods job basis.pods) }
+        → IsGranted (planned basis) made (own_pods job basis.pods) now
+        → pods_succeeded (job_left (planned basis) job) now ≡ pods_succeeded job (own_pods job basis.pods) }
     ensures indexes { (job : Job) (basis : Basis) (made : ℕ) (now : List Pod)
         → basis.job ≡ Some job → IsRising basis.pods → ListsNoSuccess job
         → job.spec.mode ≡ Indexed → has_end job.status.conditions ≡ false
-        → IsAfter (planned basis) made (own_pods job basis.pods) now
-        → completed_now (job_after (planned basis) job) now
+        → IsGranted (planned basis) made (own_pods job basis.pods) now
+        → completed_now (job_left (planned basis) job) now
         ≡ completed_now job (own_pods job basis.pods) }
 {}
 
@@ -66,8 +66,8 @@ pub fn plans_use_up_what_may_be_made()
     ensures { (ends : List End) (made : ℕ) (job : Job) (basis : Basis) (now : List Pod)
         → basis.job ≡ Some job → IsRising basis.pods → IsCounted job (own_pods job basis.pods)
         → IfSome (last_end ends) (λ end. fails end ≡ false)
-        → IsAfter (planned basis) made (own_pods job basis.pods) now
-        → creations_left ends (made + length (planned basis).creates) (job_after (planned basis) job) now
+        → IsGranted (planned basis) made (own_pods job basis.pods) now
+        → creations_left ends (made + length (planned basis).creates) (job_left (planned basis) job) now
         + length (planned basis).creates
         ≤ creations_left ends made job (own_pods job basis.pods) }
 {}
