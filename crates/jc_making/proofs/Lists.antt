@@ -134,11 +134,12 @@ module _ (test : Pod → Bool) where
   -- Of pods in ascending UID one with the UID of another passes just where that does.
   only-itself : (low : ℕ) (pods : List Pod) → RisesFrom low pods → Each (λ p. list_any (λ q. test q && same_uid q.uid p.uid) pods ≡ test p) pods
   only-itself low [] up = tt
-  only-itself low (p ∷ pods) up =
-      ((λ i. (test p && eq-eqb p.uid.0 p.uid.0 refl i) || none pods behind i) ∙ by (test p),
-      Each-weaker (λ q. (p.uid.0 + 1 ≤ q.uid.0) × (list_any (λ r. test r && same_uid r.uid q.uid) pods ≡ test q)) (λ q. list_any (λ r. test r && same_uid r.uid q.uid) (p ∷ pods) ≡ test q)
-      (λ q h. ap (λ b. b || list_any (λ r. test r && same_uid r.uid q.uid) pods) (and_right (test p) (same_uid p.uid q.uid) (ne_eqb p.uid.0 q.uid.0 (λ e. let l = h.0 in omega (arith, l, e)))) ∙ h.1) pods
-      (Each-both (λ q. p.uid.0 + 1 ≤ q.uid.0) (λ q. list_any (λ r. test r && same_uid r.uid q.uid) pods ≡ test q) pods behind (only-itself (p.uid.0 + 1) pods up.1)))
+  only-itself low (p ∷ pods) up = (
+    (λ i. (test p && eq-eqb p.uid.0 p.uid.0 refl i) || none pods behind i) ∙ by (test p),
+    Each-weaker (λ q. (p.uid.0 + 1 ≤ q.uid.0) × (list_any (λ r. test r && same_uid r.uid q.uid) pods ≡ test q)) (λ q. list_any (λ r. test r && same_uid r.uid q.uid) (p ∷ pods) ≡ test q)
+        (λ q h. ap (λ b. b || list_any (λ r. test r && same_uid r.uid q.uid) pods) (and_right (test p) (same_uid p.uid q.uid) (ne_eqb p.uid.0 q.uid.0 (λ e. let l = h.0 in omega (arith, l, e)))) ∙ h.1) pods
+        (Each-both (λ q. p.uid.0 + 1 ≤ q.uid.0) (λ q. list_any (λ r. test r && same_uid r.uid q.uid) pods ≡ test q) pods behind (only-itself (p.uid.0 + 1) pods up.1)),
+  )
     where
       behind : Each (λ q. p.uid.0 + 1 ≤ q.uid.0) pods
       behind = rises-each (p.uid.0 + 1) pods up.1

@@ -1,5 +1,5 @@
 -- What a plan makes of each of the Job's own pods.
-use Rattle.std.proofs.Common.{◌≡◌, Bool, true, false, cond, not, ◌&&◌, ◌||◌, List, [], ◌∷◌, map, filter, Option, Some, None, refl, sym, ap, ◌∙◌, subst, true≢false, unwrap_or}
+use Rattle.std.proofs.Common.{◌≡◌, Bool, true, false, cond, not, ◌&&◌, ◌||◌, List, [], ◌∷◌, map, filter, Option, Some, None, refl, sym, ap, ◌∙◌, true≢false, unwrap_or}
 use Rattle.std.specs.List.{AllByRecursion as Each, list_any}
 use Rattle.std.proofs.lemmas.Bool.{and_parts}
 use Rattle.jc_types.specs.declared.numbers.Uid.{Uid}
@@ -31,7 +31,7 @@ use Rattle.jc_manage.specs.LetGoes.{going, is_let_go, is_needless, is_to_mark, s
 use Rattle.jc_plan.specs.declared.plans.Planned.{Planned}
 use Rattle.jc_plan.specs.Numbers.{is_let_go_of}
 use Rattle.jc_plan.specs.Plans.{planned}
-use Rattle.jc_plan.specs.Releases.{is_orphan, is_owed, is_released, due_uids, releases_of}
+use Rattle.jc_plan.specs.Releases.{is_orphan, is_owed, is_released, due_uids}
 use Rattle.jc_plan.specs.Statuses.{accounted, decided_in, is_settled}
 use Rattle.jc_plan.proofs.PlanFacts.{plan-let_goes, plan-marks, plan-releases}
 use Rattle.jc_making.specs.Grants.{Becomes, AllBecome, Nothing, Stays, Goes, frees}
