@@ -29,7 +29,10 @@ has-failed-is limit completions completed n (count ∷ counts) =
     indexes : List IndexCount → List ℕ
     indexes cs = map (λ (c : IndexCount). c.index) cs
 
-    joined : (k : ℕ) (t : Bool) → has n (indexes (cond t (count ∷ filter (has_failed limit completions completed) counts) (filter (has_failed limit completions completed) counts))) ≡ ((t && (count.index == n)) || has n (indexes (filter (has_failed limit completions completed) counts)))
+    joined : (k : ℕ) (t : Bool) → has n (indexes
+        (cond t (count ∷ filter (has_failed limit completions completed) counts)
+        (filter (has_failed limit completions completed) counts)))
+        ≡ ((t && (count.index == n)) || has n (indexes (filter (has_failed limit completions completed) counts)))
     joined k true = refl
     joined k false = refl
 

@@ -31,12 +31,16 @@ pub open-size : (completions : ℕ) (completed failed : List ℕ) → IsIncreasi
     → length (open_in (λ n. (has n completed || has n failed) || nat_le completions n) completions) + length completed + length failed ≡ completions
 open-size completions completed failed up below rise apart =
     let range = range_set 0 completions in
-    let all = gained-length completed (range_with_len 0 completions) up range.0 (Each-weaker (λ n. n < completions) (λ n. has n (range_with_len 0 completions) ≡ true) (λ n l. has-range n 0 completions (omega arith) (omega (arith, l))) completed below) in
+    let all = gained-length completed (range_with_len 0 completions) up range.0
+    (Each-weaker (λ n. n < completions) (λ n. has n (range_with_len 0 completions) ≡ true)
+    (λ n l. has-range n 0 completions (omega arith) (omega (arith, l))) completed below) in
     let size = length-range_with_len 0 completions in
     let one = length-filter (λ n. not (has n completed)) (range_with_len 0 completions) in
     let others = gained-length failed (filter (λ n. not (has n completed)) (range_with_len 0 completions)) rise (increasing-filter (λ n. not (has n completed)) (range_with_len 0 completions) range.0)
     (Each-weaker (λ n. (n < completions) × (has n completed ≡ false)) (λ n. has n (filter (λ m. not (has m completed)) (range_with_len 0 completions)) ≡ true)
-    (λ n h. has-filter (λ m. not (has m completed)) n (range_with_len 0 completions) ∙ and_from (not (has n completed)) (has n (range_with_len 0 completions)) (ap not h.1) (has-range n 0 completions (omega arith) (let l = h.0 in omega (arith, l)))) failed apart) in
+    (λ n h. has-filter (λ m. not (has m completed)) n (range_with_len 0 completions)
+    ∙ and_from (not (has n completed)) (has n (range_with_len 0 completions)) (ap not h.1)
+    (has-range n 0 completions (omega arith) (let l = h.0 in omega (arith, l)))) failed apart) in
     let two = length-filter (λ n. not (has n failed)) (filter (λ n. not (has n completed)) (range_with_len 0 completions)) in
     let both = ap length (filter_filter (λ n. not (has n failed)) (λ n. not (has n completed)) (range_with_len 0 completions)) in
     let same = ap length (filter_same (λ n. not ((has n completed || has n failed) || nat_le completions n)) (λ n. not (has n completed) && not (has n failed)) (range_with_len 0 completions)
@@ -69,7 +73,11 @@ rises-apart low (p ∷ front) back up =
 
 -- No pod behind is an older one.
 younger : (n u : ℕ) (pods : List Pod) → Each (λ q. u < q.uid.0) pods → list_any (is_earlier n u) pods ≡ false
-younger n u pods h = list_any_none (is_earlier n u) pods (All-from_recursion (λ q. is_earlier n u q ≡ false) pods (Each-weaker (λ q. u < q.uid.0) (λ q. is_earlier n u q ≡ false) (λ q l. ap (λ b. has_index n q && b) (le-ltb q.uid.0 u (omega (arith, l))) ∙ and_right (has_index n q) false refl) pods h))
+younger n u pods h = list_any_none (is_earlier n u) pods
+    (All-from_recursion (λ q. is_earlier n u q ≡ false) pods
+    (Each-weaker (λ q. u < q.uid.0) (λ q. is_earlier n u q ≡ false)
+    (λ q l. ap (λ b. has_index n q && b) (le-ltb q.uid.0 u (omega (arith, l))) ∙ and_right (has_index n q) false refl)
+    pods h))
 
 -- ---- new pods
 
@@ -149,7 +157,10 @@ module _ (closed : ℕ → Bool) (old kept fresh : List Pod) (made : ℕ) (set :
       by q None at some free first = absurd (true≢false (sym some))
       by q (Some n) at some free first =
           use-from closed (kept ++ fresh) q n at (free n at).0
-          (both-none (is_earlier n q.uid.0) (list_any_none (is_earlier n q.uid.0) kept (All-from_recursion (λ p. is_earlier n q.uid.0 p ≡ false) kept (Each-weaker (λ p. has_index n p ≡ false) (λ p. is_earlier n q.uid.0 p ≡ false) (λ p h. ap (λ b. b && nat_lt p.uid.0 q.uid.0) h) kept (free n at).1))) (first n at))
+          (both-none (is_earlier n q.uid.0) (list_any_none (is_earlier n q.uid.0) kept
+          (All-from_recursion (λ p. is_earlier n q.uid.0 p ≡ false) kept
+          (Each-weaker (λ p. has_index n p ≡ false) (λ p. is_earlier n q.uid.0 p ≡ false)
+          (λ p h. ap (λ b. b && nat_lt p.uid.0 q.uid.0) h) kept (free n at).1))) (first n at))
 
   pub all-of-use : length (remaining Indexed closed (kept ++ fresh)) ≡ length kept + length fresh
   all-of-use =

@@ -74,7 +74,10 @@ module _ (fates : Key → Option (List End)) (ends : List End) (made : ℕ) (job
   stops : is_open pod ≡ true → is_marked pod ≡ true → Falls Stop
   stops opened marked =
       let now = nothing ends made job front back (after Stop) (unsucceeded job (after Stop) refl) refl in
-      let was = nothing ends made job front back pod (unsucceeded job pod (open-not pod.phase (not-open (is_final pod.phase) opened))) ((λ i. (is_open pod && not (marked i)) && is_tracked pod) ∙ ap (λ b. b && is_tracked pod) (and_right (is_open pod) false refl)) in
+      let was = nothing ends made job front back pod
+      (unsucceeded job pod (open-not pod.phase (not-open (is_final pod.phase) opened)))
+      ((λ i. (is_open pod && not (marked i)) && is_tracked pod)
+      ∙ ap (λ b. b && is_tracked pod) (and_right (is_open pod) false refl)) in
       omega (arith, now, was)
     where
       not-open : (b : Bool) → not b ≡ true → b ≡ false

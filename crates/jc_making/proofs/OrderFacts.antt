@@ -102,7 +102,10 @@ one-uid low u [] up = omega arith
 one-uid low u (p ∷ pods) up = by (p.uid.0 == u) refl (one-uid (p.uid.0 + 1) u pods up.1)
   where
     by : (b : Bool) → (p.uid.0 == u) ≡ b → length (filter (λ q. q.uid.0 == u) pods) ≤ 1 → length (cond b (p ∷ filter (λ q. q.uid.0 == u) pods) (filter (λ q. q.uid.0 == u) pods)) ≤ 1
-    by true e ih = let none = ap length (filter_none (λ q. q.uid.0 == u) pods (Each-weaker (λ q. p.uid.0 + 1 ≤ q.uid.0) (λ q. (q.uid.0 == u) ≡ false) (λ q l. ne_eqb q.uid.0 u (λ g. let is = eqb-true p.uid.0 u e in omega (arith, l, g, is))) pods (rises-each (p.uid.0 + 1) pods up.1))) in omega (arith, none)
+    by true e ih = let none = ap length (filter_none (λ q. q.uid.0 == u) pods
+        (Each-weaker (λ q. p.uid.0 + 1 ≤ q.uid.0) (λ q. (q.uid.0 == u) ≡ false)
+        (λ q l. ne_eqb q.uid.0 u (λ g. let is = eqb-true p.uid.0 u e in omega (arith, l, g, is))) pods
+        (rises-each (p.uid.0 + 1) pods up.1))) in omega (arith, none)
     by false e ih = ih
 
 -- Of pods of a Job that is not Indexed no more go than are to go.

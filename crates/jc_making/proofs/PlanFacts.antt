@@ -29,7 +29,7 @@ use Rattle.jc_account.specs.Judged.{fits, is_candidate, is_left_over, is_to_rele
 use Rattle.jc_manage.specs.Creations.{job_wants}
 use Rattle.jc_manage.specs.LetGoes.{going, is_let_go, is_needless, is_to_mark, seen}
 use Rattle.jc_plan.specs.declared.plans.Planned.{Planned}
-use Rattle.jc_plan.specs.Numbers.{is_let_go_of}
+use Rattle.jc_plan.specs.PodNumbers.{is_let_go_of}
 use Rattle.jc_plan.specs.Plans.{planned}
 use Rattle.jc_plan.specs.Releases.{is_orphan, is_owed, is_released, due_uids}
 use Rattle.jc_plan.specs.Statuses.{accounted, decided_in, is_settled}
@@ -285,13 +285,18 @@ module _ (job : Job) (basis : Basis) (this : basis.job ≡ Some job) (rises : Is
                 let e = is.same ((λ i. f i || h i)) in (
                   ap (is_new later) e
                       ∙ ap (λ b. (is_tracked p && (is_verdict (outcome_of job.spec p) && not b)) && succeeds p) (unlisted p.uid)
-                      ∙ kept-old (outcome_of job.spec p) (is_tracked p) (is_listed job.status p.uid) (fits job own p) (sym r ∙ (either-false (is_in p.uid (planned basis).releases) (is_let_go_of p.uid (planned basis).let_goes) (is_in p.uid (planned basis).marks) (λ i. f i || h i)).0),
+                      ∙ kept-old (outcome_of job.spec p) (is_tracked p) (is_listed job.status p.uid) (fits job own p)
+                      (sym r ∙ (either-false (is_in p.uid (planned basis).releases)
+                      (is_let_go_of p.uid (planned basis).let_goes) (is_in p.uid (planned basis).marks)
+                      (λ i. f i || h i)).0),
                   λ k. e,
                 )
 
     news-each : Each News own
     news-each =
-        Each-weaker (λ p. (is_in p.uid (planned basis).releases ≡ is_to_release job own p) × ((is_in p.uid (planned basis).marks ≡ is_to_mark settled p) × (is_let_go_of p.uid (planned basis).let_goes ≡ goes_now p))) News (λ p h. news-of p h.0 h.1.0 h.1.1) own
+        Each-weaker (λ p. (is_in p.uid (planned basis).releases ≡ is_to_release job own p)
+        × ((is_in p.uid (planned basis).marks ≡ is_to_mark settled p)
+        × (is_let_go_of p.uid (planned basis).let_goes ≡ goes_now p))) News (λ p h. news-of p h.0 h.1.0 h.1.1) own
         (Each-both (λ p. is_in p.uid (planned basis).releases ≡ is_to_release job own p) (λ p. (is_in p.uid (planned basis).marks ≡ is_to_mark settled p) × (is_let_go_of p.uid (planned basis).let_goes ≡ goes_now p)) own releases-are
         (Each-both (λ p. is_in p.uid (planned basis).marks ≡ is_to_mark settled p) (λ p. is_let_go_of p.uid (planned basis).let_goes ≡ goes_now p) own marks-are lets-are))
 
@@ -359,8 +364,14 @@ module _ (job : Job) (basis : Basis) (this : basis.job ≡ Some job) (rises : Is
       where
         each : Each (Known (planned basis) stays_active is_tracked_active) own
         each =
-            Each-weaker (λ p. (is_in p.uid (planned basis).releases ≡ is_to_release job own p) × ((is_in p.uid (planned basis).marks ≡ is_to_mark settled p) × ((is_let_go_of p.uid (planned basis).let_goes ≡ goes_now p) × (is_listed job.status p.uid ≡ true → is_active p ≡ false))))
+            Each-weaker (λ p. (is_in p.uid (planned basis).releases ≡ is_to_release job own p)
+            × ((is_in p.uid (planned basis).marks ≡ is_to_mark settled p)
+            × ((is_let_go_of p.uid (planned basis).let_goes ≡ goes_now p)
+            × (is_listed job.status p.uid ≡ true → is_active p ≡ false))))
             (Known (planned basis) stays_active is_tracked_active) (λ p h. activity-of p h.0 h.1.0 h.1.1.0 h.1.1.1) own
-            (Each-both (λ p. is_in p.uid (planned basis).releases ≡ is_to_release job own p) (λ p. (is_in p.uid (planned basis).marks ≡ is_to_mark settled p) × ((is_let_go_of p.uid (planned basis).let_goes ≡ goes_now p) × (is_listed job.status p.uid ≡ true → is_active p ≡ false))) own releases-are
+            (Each-both (λ p. is_in p.uid (planned basis).releases ≡ is_to_release job own p)
+            (λ p. (is_in p.uid (planned basis).marks ≡ is_to_mark settled p)
+            × ((is_let_go_of p.uid (planned basis).let_goes ≡ goes_now p)
+            × (is_listed job.status p.uid ≡ true → is_active p ≡ false))) own releases-are
             (Each-both (λ p. is_in p.uid (planned basis).marks ≡ is_to_mark settled p) (λ p. (is_let_go_of p.uid (planned basis).let_goes ≡ goes_now p) × (is_listed job.status p.uid ≡ true → is_active p ≡ false)) own marks-are
             (Each-both (λ p. is_let_go_of p.uid (planned basis).let_goes ≡ goes_now p) (λ p. is_listed job.status p.uid ≡ true → is_active p ≡ false) own lets-are ended)))

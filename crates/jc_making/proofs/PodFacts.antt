@@ -102,7 +102,9 @@ module _ (ends : List End) (made : ℕ) (job : Job) where
       goes-on uid index serial ox oy ax ay =
           left-is y news (before ++ y ∷ behind) (unnew y oy) (active y true ay)
           ∙ ap (cond settled 0)
-          (quiet-same job.spec.completions job.spec.parallelism job.spec.per_index job.status.completed job.status.index_failures (job.status.succeeded + length job.status.uncounted_succeeded) ends made before behind x y uid index serial job.spec.mode news)
+          (quiet-same job.spec.completions job.spec.parallelism job.spec.per_index job.status.completed
+          job.status.index_failures (job.status.succeeded + length job.status.uncounted_succeeded) ends made before
+          behind x y uid index serial job.spec.mode news)
           ∙ sym (left-is x news (before ++ x ∷ behind) (unnew x ox) (active x true ax))
 
       -- It fails.
@@ -112,7 +114,9 @@ module _ (ends : List End) (made : ℕ) (job : Job) where
           let now = left-is y news (before ++ behind) (unnew y oy) (active y false ay) in
           let was = left-is x news (before ++ x ∷ behind) (unnew x ox) (active x true ax) in
           let less = at-most settled (valued news (before ++ behind)) (valued news (before ++ x ∷ behind))
-          (fail-lowers job.spec.completions job.spec.parallelism job.spec.per_index job.status.completed job.status.index_failures (job.status.succeeded + length job.status.uncounted_succeeded) ends made before behind x job.spec.mode news miss (up ax) (numbered ax)) in
+          (fail-lowers job.spec.completions job.spec.parallelism job.spec.per_index job.status.completed
+          job.status.index_failures (job.status.succeeded + length job.status.uncounted_succeeded) ends made before
+          behind x job.spec.mode news miss (up ax) (numbered ax)) in
           omega (arith, now, was, less)
 
       -- It succeeds.
@@ -123,5 +127,7 @@ module _ (ends : List End) (made : ℕ) (job : Job) where
           (new-mid job front back y ∙ ap (λ b. new_successes job front ++ cond b (y ∷ new_successes job back) (new_successes job back)) oy) (active y false ay) in
           let was = left-is x news (before ++ x ∷ behind) (unnew x ox) (active x true ax) in
           let less = at-most settled (valued (new_successes job front ++ y ∷ new_successes job back) (before ++ behind)) (valued news (before ++ x ∷ behind))
-          (success-lowers job.spec.completions job.spec.parallelism job.spec.per_index job.status.completed job.status.index_failures (job.status.succeeded + length job.status.uncounted_succeeded) ends made before behind x (new_successes job front) (new_successes job back) y index job.spec.mode (up ax) (numbered ax)) in
+          (success-lowers job.spec.completions job.spec.parallelism job.spec.per_index job.status.completed
+          job.status.index_failures (job.status.succeeded + length job.status.uncounted_succeeded) ends made before
+          behind x (new_successes job front) (new_successes job back) y index job.spec.mode (up ax) (numbered ax)) in
           omega (arith, now, was, less)

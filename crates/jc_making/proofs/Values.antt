@@ -164,7 +164,9 @@ module _ (comps : Option ℕ) (parallelism : ℕ) (limit : Option ℕ) (set : Li
       success-lowers NonIndexed up numbered =
           omega (
             arith,
-            plain-falls comps parallelism (total + length before) (open_in (closed NonIndexed after) wanted_of) (open_in (closed NonIndexed before) wanted_of) (length (front ++ x ∷ back)) (length (front ++ back)) (missed (front ++ x ∷ back)) (missed (front ++ back)) (length-one front back x) fewer-missed,
+            plain-falls comps parallelism (total + length before) (open_in (closed NonIndexed after) wanted_of)
+                (open_in (closed NonIndexed before) wanted_of) (length (front ++ x ∷ back)) (length (front ++ back))
+                (missed (front ++ x ∷ back)) (missed (front ++ back)) (length-one front back x) fewer-missed,
             ap (λ s. places_of NonIndexed comps parallelism s (open_in (closed NonIndexed after) wanted_of)) counted,
             ap length (all-used (closed NonIndexed after) (front ++ back)),
             ap length (all-used (closed NonIndexed before) (front ++ x ∷ back)),
@@ -178,9 +180,13 @@ module _ (comps : Option ℕ) (parallelism : ℕ) (limit : Option ℕ) (set : Li
       success-lowers Indexed up numbered =
           falls parallelism (lacks Indexed before) (lacks Indexed after) (length (remaining Indexed (closed Indexed before) (front ++ x ∷ back))) (length (remaining Indexed (closed Indexed after) (front ++ back)))
           (missed (front ++ x ∷ back)) (missed (front ++ back)) 0
-          (use-kept (closed Indexed before) (closed Indexed after) (front ++ x ∷ back) (front ++ back) wanted_of 0 closes (λ n l. past-closed limit wanted_of n (done Indexed before) counts l) up (numbered refl) (λ n u h. any-rest (is_earlier n u) front back x h)
+          (use-kept (closed Indexed before) (closed Indexed after) (front ++ x ∷ back) (front ++ back) wanted_of 0
+          closes (λ n l. past-closed limit wanted_of n (done Indexed before) counts l) up (numbered refl)
+          (λ n u h. any-rest (is_earlier n u) front back x h)
           (let mid = length-mid (is_of_use (closed Indexed after) (front ++ back)) front back x in let none = ap one_if (gone (each-mid (λ pod. IsSome pod.index) front back x (numbered refl))) in omega (arith, mid, none)))
-          (fewer (λ n. not (closed Indexed after n)) (λ n. not (closed Indexed before n)) (range_with_len 0 wanted_of) (each (λ n. not (closed Indexed after n) ≡ true → not (closed Indexed before n) ≡ true) (λ n. other (closed Indexed before n) (closed Indexed after n) (closes n)) (range_with_len 0 wanted_of)))
+          (fewer (λ n. not (closed Indexed after n)) (λ n. not (closed Indexed before n)) (range_with_len 0 wanted_of)
+          (each (λ n. not (closed Indexed after n) ≡ true → not (closed Indexed before n) ≡ true)
+          (λ n. other (closed Indexed before n) (closed Indexed after n) (closes n)) (range_with_len 0 wanted_of)))
           (omega (arith, length-mid (will_fail ends) front back x))
         where
           other : (a b : Bool) → (a ≡ true → b ≡ true) → not b ≡ true → not a ≡ true
