@@ -20,17 +20,17 @@ abbrev pub one_if : Bool → ℕ
 one_if b = cond b 1 0
 
 module _ {X : Type 0} where
-  pub length-with : (f : X → Bool) (x : X) (xs : List X) → length (filter f (x ∷ xs)) ≡ one_if (f x) + length (filter f xs)
+  pub length-with : (f : X → Bool) (x : X) (xs : List X) → one_if (f x) + length (filter f xs) ≡ length (filter f (x ∷ xs))
   length-with f x xs = by (f x)
     where
-      by : (b : Bool) → length (cond b (x ∷ filter f xs) (filter f xs)) ≡ one_if b + length (filter f xs)
+      by : (b : Bool) → one_if b + length (filter f xs) ≡ length (cond b (x ∷ filter f xs) (filter f xs))
       by true = omega arith
       by false = omega arith
 
   -- Fewer pass a stronger test.
   pub fewer : (f g : X → Bool) (xs : List X) → Each (λ x. f x ≡ true → g x ≡ true) xs → length (filter f xs) ≤ length (filter g xs)
   fewer f g [] h = omega arith
-  fewer f g (x ∷ xs) h = by (f x) (g x) h.0 (length-with f x xs) (length-with g x xs) (fewer f g xs h.1)
+  fewer f g (x ∷ xs) h = by (f x) (g x) h.0 (sym (length-with f x xs)) (sym (length-with g x xs)) (fewer f g xs h.1)
     where
       by : (a b : Bool) → (a ≡ true → b ≡ true) → length (filter f (x ∷ xs)) ≡ one_if a + length (filter f xs) → length (filter g (x ∷ xs)) ≡ one_if b + length (filter g xs)
           → length (filter f xs) ≤ length (filter g xs) → length (filter f (x ∷ xs)) ≤ length (filter g (x ∷ xs))
@@ -42,7 +42,7 @@ module _ {X : Type 0} where
   -- Those that pass and those that do not are all.
   pub halves : (f : X → Bool) (xs : List X) → length (filter f xs) + length (filter (λ x. not (f x)) xs) ≡ length xs
   halves f [] = refl
-  halves f (x ∷ xs) = by (f x) (length-with f x xs) (length-with (λ y. not (f y)) x xs) (halves f xs)
+  halves f (x ∷ xs) = by (f x) (sym (length-with f x xs)) (sym (length-with (λ y. not (f y)) x xs)) (halves f xs)
     where
       by : (b : Bool) → length (filter f (x ∷ xs)) ≡ one_if b + length (filter f xs) → length (filter (λ y. not (f y)) (x ∷ xs)) ≡ one_if (not b) + length (filter (λ y. not (f y)) xs)
           → length (filter f xs) + length (filter (λ y. not (f y)) xs) ≡ length xs → length (filter f (x ∷ xs)) + length (filter (λ y. not (f y)) (x ∷ xs)) ≡ suc (length xs)
@@ -51,7 +51,7 @@ module _ {X : Type 0} where
 
   -- One in the middle of a list.
   pub length-mid : (f : X → Bool) (front back : List X) (x : X) → length (filter f (front ++ x ∷ back)) ≡ one_if (f x) + length (filter f (front ++ back))
-  length-mid f [] back x = length-with f x back
+  length-mid f [] back x = sym (length-with f x back)
   length-mid f (y ∷ front) back x =
       omega (arith, length-with f y (front ++ x ∷ back), length-with f y (front ++ back), length-mid f front back x)
 
