@@ -73,7 +73,7 @@ fn run_locked<R: Threads + Wait + Sync, G: Gate + Sync>(
 ) -> Result<Cluster, ThreadsFault>
     requires fine { Each (λ (command : Command). IsValidAction command.action) play.script.now.commands }
     requires proper { IsProper play.script.now play.shape.now }
-    ensures { EndsRun play.script.now play.shape.now result }
+    ensures { EndsRun play.entry.script.now play.entry.shape.now result }
 {
     match lock {
         LockKind::Mutex => run_threads(
@@ -104,7 +104,7 @@ fn run_by<R: Threads + Wait + Sync, G: Gate + Sync>(
     requires fine { Each (λ (command : Command). IsValidAction command.action) play.script.now.commands }
     requires proper { IsProper play.script.now play.shape.now }
     ensures { IfOk result (λ ended.
-        IsEndOfRun play.script.now play.shape.now ended.cluster.seen ended.full) }
+        IsEndOfRun play.entry.script.now play.entry.shape.now ended.cluster.seen ended.full) }
 {
     match run_locked(host, lock, play) {
         Ok(cluster) => Ok(Ended {
@@ -130,7 +130,7 @@ fn threaded_report<R: Threads + Wait + Sync, G: Gate + Sync>(
     requires lanes { Each (λ (command : Command). command.lane < 2 ^ 8) play.script.now.commands }
     requires fit_shape { IsFitShape play.shape.now }
     ensures { IfOk result (λ output.
-        IsReport play.threads play.script.now play.shape.now output.full output.text.items) }
+        IsReport play.entry.threads play.entry.script.now play.entry.shape.now output.full output.text.items) }
 {
     let ended = run_by(host, lock, play)?;
     told(host.alloc, &ended.cluster, ended.full)

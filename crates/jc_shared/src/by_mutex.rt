@@ -87,7 +87,7 @@ fn run_named<J: Naming + Send + Sync, R: Threads + Wait + Sync, G: Gate + Sync>(
     requires shape { play.shape.now ≡ J.shape }
     requires fine { Each (λ (command : Command). IsValidAction command.action) play.script.now.commands }
     requires proper { IsProper play.script.now play.shape.now }
-    ensures { EndsRun play.script.now play.shape.now result }
+    ensures { EndsRun play.entry.script.now play.entry.shape.now result }
 {
     let Ok(kept) = new_kept::<J>(host.alloc, play) else {
         return Err(ThreadsFault::Want);

@@ -205,8 +205,8 @@ fn open<J: Naming>(alloc: Global, play: Play<'_>) -> Option<(TurnLock<Kept<J>>, 
     requires shape { play.shape.now ≡ J.shape }
     requires fine { Each (λ (command : Command). IsValidAction command.action) play.script.now.commands }
     requires proper { IsProper play.script.now play.shape.now }
-    ensures count { IfSome result (λ made. made.0.seats ≡ play.threads) }
-    ensures fresh { IfSome result (λ made. made.1 ≡ fresh_seats made.0.name 0 play.threads) }
+    ensures count { IfSome result (λ made. made.0.seats ≡ play.entry.threads) }
+    ensures fresh { IfSome result (λ made. made.1 ≡ fresh_seats made.0.name 0 play.entry.threads) }
 {
     let kept = new_kept::<J>(alloc, play).ok()?;
     make(alloc, kept, play.threads).ok()
@@ -288,7 +288,7 @@ fn run_named<J: Naming + Send + Sync, R: Threads + Wait + Sync, G: Gate + Sync>(
     requires shape { play.shape.now ≡ J.shape }
     requires fine { Each (λ (command : Command). IsValidAction command.action) play.script.now.commands }
     requires proper { IsProper play.script.now play.shape.now }
-    ensures { EndsRun play.script.now play.shape.now result }
+    ensures { EndsRun play.entry.script.now play.entry.shape.now result }
 {
     match played::<J, R, G>(host, play) {
         Some(cluster) => finish(cluster, play),
