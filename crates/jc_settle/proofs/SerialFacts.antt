@@ -111,7 +111,7 @@ used (Some x) e = (x, refl)
 
 -- ---- what is first
 
-first-of-act : (act : Act) (events : List Sys) → IsFirst act events → (x : Sys) × (first_event events ≡ Some (event.System x)) × (act_of_system x ≡ act)
+pub first-of-act : (act : Act) (events : List Sys) → IsFirst act events → (x : Sys) × (first_event events ≡ Some (event.System x)) × (act_of_system x ≡ act)
 first-of-act act [] h = absurd h
 first-of-act act (x ∷ xs) h = (x, refl, h)
 

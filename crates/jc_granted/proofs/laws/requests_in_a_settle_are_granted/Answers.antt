@@ -1,0 +1,8 @@
+-- The lemmas on syncs along a settle.
+use Rattle.jc_granted.proofs.SettleGrants.{granted}
+use Rattle.jc_granted.proofs.laws.requests_in_a_settle_are_granted.Goals as goal
+
+pub returns : goal.returns
+returns c =
+    λ shape run past k w basis d legal valid some.
+    granted c.allowed_updates_stay_valid.ensures shape some past run k w basis d legal valid
