@@ -1,0 +1,13 @@
+pub mod Lists
+pub mod UseFacts
+pub mod ClosedFacts
+pub mod Values
+pub mod PodFacts
+pub mod PlanFacts
+pub mod NodeFacts
+pub mod StatusFacts
+pub mod OrderFacts
+pub mod MissFacts
+pub mod CreationFacts
+pub mod FreshFacts
+pub mod IndexedFacts

@@ -1,0 +1,68 @@
+-- What stands once all requests of a plan are granted. `own` are the Job's own pods.
+--     frees plan u               the plan takes the finalizer of the pod: it releases it, or lets it go
+--     touches plan u             it does, or marks the pod
+--     Becomes plan old new       what the plan makes of a pod
+--     Follows plan own after     what it makes of all, but for pods that are gone since
+--     IsNew serial index pod     a pod that was just made
+--     AreNew made indexes pods   these are, one for each index, where so many were made before
+--     IsAfter plan made own now  the own pods are these then
+--     job_after plan job         the Job with the status that is left
+use Rattle.std.specs.Prelude.{◌≡◌, ℕ, suc, Bool, true, false, ◌||◌, List, [], ◌∷◌, ◌++◌, Option}
+use Rattle.jc_types.specs.declared.numbers.Uid.{Uid}
+use Rattle.jc_types.specs.declared.objects.Job.{Job}
+use Rattle.jc_types.specs.declared.objects.Pod.{Pod}
+use Rattle.jc_states.specs.PodLists.{IsRising}
+use Rattle.jc_states.specs.Pods.{is_marked, is_tracked_active}
+use Rattle.jc_states.specs.UidLists.{is_in}
+use Rattle.jc_plan.specs.declared.plans.Planned.{Planned}
+use Rattle.jc_plan.specs.Numbers.{is_let_go_of}
+use Rattle.jc_plan.specs.Plans.{last_status}
+
+-- The plan takes the finalizer of the pod of the UID: it releases it, or lets it go.
+abbrev pub frees : Planned → Uid → Bool
+frees plan u = is_in u plan.releases || is_let_go_of u plan.let_goes
+
+-- It takes its finalizer, or marks it.
+abbrev pub touches : Planned → Uid → Bool
+touches plan u = frees plan u || is_in u plan.marks
+
+-- What the plan makes of a pod: its phase stays, and one that it does not touch stays as it is.
+pub record Becomes (plan : Planned) (old new : Pod) : Type 0 where
+  pub phase : new.phase ≡ old.phase
+  pub same : touches plan old.uid ≡ false → new ≡ old
+  pub freed : frees plan old.uid ≡ true → new.tracked ≡ false
+  pub marked : is_in old.uid plan.marks ≡ true → is_marked new ≡ true
+
+-- What it makes of all of them. One that lost its finalizer may be gone.
+pub data Follows (plan : Planned) : List Pod → List Pod → Type 0 where
+  Nothing : Follows plan [] []
+  Stays : (old new : Pod) (own after : List Pod) → Becomes plan old new → Follows plan own after
+      → Follows plan (old ∷ own) (new ∷ after)
+  Goes : (old : Pod) (own after : List Pod) → frees plan old.uid ≡ true → Follows plan own after
+      → Follows plan (old ∷ own) after
+
+-- A pod that was just made: of this serial and this index, active and with its finalizer.
+pub record IsNew (serial : ℕ) (index : Option ℕ) (pod : Pod) : Type 0 where
+  pub serial_is : pod.serial ≡ serial
+  pub index_is : pod.index ≡ index
+  pub active : is_tracked_active pod ≡ true
+
+-- Pods that were just made, one for each of the indexes, where so many were made before.
+abbrev pub AreNew : ℕ → List (Option ℕ) → List Pod → Type 0
+AreNew made [] [] = Unit {0}
+AreNew made [] (pod ∷ pods) = ⊥
+AreNew made (index ∷ indexes) [] = ⊥
+AreNew made (index ∷ indexes) (pod ∷ pods) = IsNew made index pod × AreNew (suc made) indexes pods
+
+-- The own pods, once all requests are granted: what has become of those that were there, and behind them the new ones.
+pub record IsAfter (plan : Planned) (made : ℕ) (own now : List Pod) : Type 0 where
+  pub after : List Pod
+  pub fresh : List Pod
+  pub parts : now ≡ after ++ fresh
+  pub follow : Follows plan own after
+  pub new : AreNew made plan.creates fresh
+  pub rising : IsRising now
+
+-- The Job with the status that is left.
+abbrev pub job_after : Planned → Job → Job
+job_after plan job = record job { status = last_status plan job.status }
