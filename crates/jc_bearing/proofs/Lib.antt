@@ -1,0 +1,5 @@
+pub mod TrackFacts
+pub mod WriteKinds
+pub mod BearFacts
+pub mod DoneFacts
+pub mod WholeFacts

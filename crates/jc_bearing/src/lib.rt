@@ -1,0 +1,6 @@
+//! What a whole sync of a settle does: it runs alone from its begin to its end, and all that it plans is so.
+#![tactic(auto)]
+
+mod laws;
+
+pub use laws::whole_syncs_do_what_they_plan;
