@@ -1,39 +1,36 @@
 -- A plan that makes pods leaves as many fewer to be made, and no plan leaves more.
-use Rattle.std.proofs.Common.{◌≡◌, ℕ, suc, ◌+◌, ◌-◌, ◌<◌, ◌≤◌, ◌==◌, min, nat_lt, nat_le, Bool, true, false, cond, not, ◌&&◌, ◌||◌, List, [], ◌∷◌, ◌++◌, filter, length, drop, Option, Some, None, IsSome, IfSome, is_some, unwrap_or, refl, sym, ap, ◌∙◌, subst, arith, true≢false}
-use Rattle.std.specs.List.{AllByRecursion as Each, list_any, range_with_len}
+use Rattle.std.proofs.Common.{◌≡◌, ℕ, suc, ◌+◌, ◌-◌, ◌≤◌, ◌==◌, min, Bool, true, false, cond, not, ◌&&◌, ◌||◌, List, [], ◌∷◌, ◌++◌, filter, length, drop, Option, Some, None, IfSome, is_some, unwrap_or, refl, sym, ap, ◌∙◌, subst, arith}
+use Rattle.std.specs.List.{AllByRecursion as Each}
 use Rattle.std.proofs.lemmas.List.{length-append}
 use Rattle.std.proofs.lemmas.List.Elements.{filter-append, filter_agree}
 use Rattle.jc_types.specs.declared.actions.End.{End}
 use Rattle.jc_types.specs.declared.objects.Job.{Job}
 use Rattle.jc_types.specs.declared.objects.Pod.{Pod}
-use Rattle.jc_types.specs.declared.specifications.Mode.{Mode}
 use Rattle.jc_types.specs.declared.specifications.Mode.TheVariants.{NonIndexed, Indexed}
-use Rattle.jc_types.specs.declared.syncs.CountIn.{CountIn}
 use Rattle.jc_types.specs.Counts.{counts}
 use Rattle.jc_types.proofs.ListFacts.{filter_all, filter_filter}
 use Rattle.jc_states.specs.declared.bases.Basis.{Basis}
 use Rattle.jc_states.specs.Bases.{own_pods}
-use Rattle.jc_states.specs.PodLists.{IsRising, RisesFrom}
-use Rattle.jc_states.specs.Pods.{is_active, is_tracked_active, tracked_active_pods}
+use Rattle.jc_states.specs.PodLists.{IsRising}
+use Rattle.jc_states.specs.Pods.{is_tracked_active, tracked_active_pods}
 use Rattle.jc_states.proofs.PodListFacts.{rises_filter}
-use Rattle.jc_failpol.specs.declared.outcomes.Outcome.TheVariants as outcome
 use Rattle.jc_account.specs.Accounts.{counted_in}
 use Rattle.jc_account.proofs.AccountFacts.{left-succeeded, succeeded-sum}
 use Rattle.jc_account.proofs.Owned.{filter-least}
 use Rattle.jc_perindex.specs.Failures.{failing_by, failing_in, newly_failed}
-use Rattle.jc_manage.specs.Creations.{creatable, creates, job_lacks, job_wants, wanted}
+use Rattle.jc_manage.specs.Creations.{creatable, job_wants, wanted}
 use Rattle.jc_manage.specs.LetGoes.{is_let_go, is_needless, is_one_of, is_spare, remaining}
 use Rattle.jc_manage.proofs.Bounds.{creatable-few, creates-few, lacks-few}
 use Rattle.jc_history.specs.Nodes.{last_end}
 use Rattle.jc_plan.specs.Plans.{planned}
-use Rattle.jc_plan.specs.Statuses.{accounted, decided_in, is_settled, wants_in}
+use Rattle.jc_plan.specs.Statuses.{accounted, decided_in, is_settled}
 use Rattle.jc_plan.proofs.PlanFacts.{plan-creates}
-use Rattle.jc_making.specs.After.{AreNew, IsAfter}
-use Rattle.jc_making.specs.Making.{IsCounted, fails, is_closed, may_be_made, misses, new_successes, open_indexes, places, places_of, successes, will_fail}
-use Rattle.jc_making.proofs.Lists.{fewer, halves}
+use Rattle.jc_making.specs.Grants.{AreNew, IsGranted}
+use Rattle.jc_making.specs.Making.{IsCounted, fails, is_closed, may_be_made, misses, open_indexes, places, places_of, pods_succeeded, will_fail}
+use Rattle.jc_making.proofs.Lists.{halves}
 use Rattle.jc_making.proofs.MissFacts.{new-length, new-misses}
 use Rattle.jc_making.proofs.OrderFacts.{few-go_plain}
-use Rattle.jc_making.proofs.PlanFacts.{active-left, goes_now, own-rises, stays_active}
+use Rattle.jc_making.proofs.PlanFacts.{active-left, own-rises, stays_active}
 use Rattle.jc_making.proofs.StatusFacts.{judged-or-left, successes-stay, then}
 use Rattle.jc_making.proofs.Values.{all-used}
 
@@ -46,7 +43,7 @@ all-active made (index ∷ indexes) (p ∷ pods) h = (h.0.active, all-active (su
 
 module _ (ends : List End) (made : ℕ) (job : Job) (basis : Basis) (this : basis.job ≡ Some job) (rises : IsRising basis.pods)
     (counted : IsCounted job (own_pods job basis.pods)) (last : IfSome (last_end ends) (λ end. fails end ≡ false))
-    (now : List Pod) (is : IsAfter (planned basis) made (own_pods job basis.pods) now)
+    (now : List Pod) (is : IsGranted (planned basis) made (own_pods job basis.pods) now)
     (undecided : is_settled job (decided_in job basis) ≡ false) (running : job.spec.suspend ≡ false) where
   abbrev pub own : List Pod
   own = own_pods job basis.pods
@@ -129,7 +126,7 @@ module _ (ends : List End) (made : ℕ) (job : Job) (basis : Basis) (this : basi
   -- ---- a Job that is not Indexed
 
   module _ (plain : job.spec.mode ≡ NonIndexed) where
-    succeeded-now : (counts (accounted job basis)).1 ≡ successes job own
+    succeeded-now : (counts (accounted job basis)).1 ≡ pods_succeeded job own
     succeeded-now = omega (arith, succeeded-sum job basis.pods plain rises, left-succeeded job basis.pods, judged-or-left job basis this rises (λ at. absurd (other (sym plain ∙ at))))
       where
         other : NonIndexed ≡ Indexed → ⊥
@@ -171,15 +168,15 @@ module _ (ends : List End) (made : ℕ) (job : Job) (basis : Basis) (this : basi
     pub plain-lowers : may_be_made ends (made + made_now) (then job basis this rises counted.none) now + made_now ≤ may_be_made ends made job own
     plain-lowers =
         let closed_then = is_closed (then job basis this rises counted.none) now in
-        let wanted_is : wants ≡ wanted job.spec.parallelism job.spec.completions (successes job own) 0 (length tracked) =
+        let wanted_is : wants ≡ wanted job.spec.parallelism job.spec.completions (pods_succeeded job own) 0 (length tracked) =
         (λ i. wanted job.spec.parallelism job.spec.completions (succeeded-now i) (none-failed i) (length tracked)) in
-        let lower = falls-by job.spec.completions job.spec.parallelism (successes job own) (length kept) (length tracked) wants made_now
+        let lower = falls-by job.spec.completions job.spec.parallelism (pods_succeeded job own) (length kept) (length tracked) wants made_now
         (misses ends made own) (length (filter (will_fail ends) (kept ++ is.fresh)) + length (filter fails (drop (made + made_now) ends)))
         (open_indexes (then job basis this rises counted.none) now) (open_indexes job own) wanted_is
         (let many = kept-many few-go in let all = all-count needless tracked in omega (arith, many, all)) made-few misses-few in
-        let places_then : places (then job basis this rises counted.none) now ≡ places_of NonIndexed job.spec.completions job.spec.parallelism (successes job own) (open_indexes (then job basis this rises counted.none) now) =
+        let places_then : places (then job basis this rises counted.none) now ≡ places_of NonIndexed job.spec.completions job.spec.parallelism (pods_succeeded job own) (open_indexes (then job basis this rises counted.none) now) =
         (λ i. places_of (plain i) job.spec.completions job.spec.parallelism (successes-stay job basis this rises counted.none made now plain is i) (open_indexes (then job basis this rises counted.none) now)) in
-        let places_now = ap (λ mode. places_of mode job.spec.completions job.spec.parallelism (successes job own) (open_indexes job own)) plain in
+        let places_now = ap (λ mode. places_of mode job.spec.completions job.spec.parallelism (pods_succeeded job own) (open_indexes job own)) plain in
         let used_then = all-count closed_then (tracked_active_pods now) ∙ ap length tracked-now ∙ length-append kept is.fresh in
         let used_now = all-count (is_closed job own) tracked in
         let missed = ap (λ pods. length (filter (will_fail ends) pods) + length (filter fails (drop (made + made_now) ends))) tracked-now in

@@ -1,26 +1,27 @@
 -- The new pods of an Indexed Job are all of use, beside those that were; and how many indexes are open.
-use Rattle.std.proofs.Common.{◌≡◌, ℕ, zero, suc, ◌+◌, ◌-◌, ◌<◌, ◌≤◌, ◌==◌, nat_lt, nat_le, Bool, true, false, cond, not, ◌&&◌, ◌||◌, List, [], ◌∷◌, ◌++◌, map, filter, length, take, Option, Some, None, IsSome, refl, sym, ap, ◌∙◌, subst, arith, true≢false}
+use Rattle.std.proofs.Common.{◌≡◌, ℕ, zero, suc, ◌+◌, ◌<◌, ◌≤◌, ◌==◌, nat_lt, nat_le, Bool, true, false, not, ◌&&◌, ◌||◌, List, [], ◌∷◌, ◌++◌, map, filter, length, take, Option, Some, None, IsSome, refl, sym, ap, ◌∙◌, subst, arith, true≢false}
 use Rattle.std.specs.List.{AllByRecursion as Each, count_by, list_any, range_with_len}
 use Rattle.std.specs.Option.{option_map_or}
-use Rattle.std.proofs.lemmas.Bool.{and_from, and_parts, eqb-true, le-ltb, lt-leb, ltb-true, ne_eqb}
+use Rattle.std.proofs.lemmas.Bool.{and_from, and_right, le-ltb, lt-leb, ne_eqb}
 use Rattle.std.proofs.lemmas.List.{length-append}
-use Rattle.std.proofs.lemmas.List.Folds.{list_any-append}
+use Rattle.std.proofs.lemmas.List.Elements.{All-from_recursion}
+use Rattle.std.proofs.lemmas.List.Folds.{list_any-append, list_any_none}
+use Rattle.std.proofs.lemmas.Option.{same_Some}
 use Rattle.std.proofs.lemmas.List.FromFn.{length-range_with_len}
 use Rattle.std.proofs.lemmas.List.Sums.{length-filter}
 use Rattle.jc_ranges.specs.Sets.{IsIncreasing, has}
 use Rattle.jc_ranges.proofs.Back.{range_set}
 use Rattle.jc_types.specs.declared.objects.Pod.{Pod}
-use Rattle.jc_types.specs.declared.specifications.Mode.TheVariants.{NonIndexed, Indexed}
-use Rattle.jc_types.proofs.ListFacts.{Each-append, Each-both, Each-filter, Each-take, Each-weaker, filter_all, filter_filter, filter_same}
+use Rattle.jc_types.specs.declared.specifications.Mode.TheVariants.{Indexed}
+use Rattle.jc_types.proofs.ListFacts.{Each-append, Each-both, Each-take, Each-weaker, filter_all, filter_filter, filter_same}
 use Rattle.jc_states.specs.Indexes.{has_index}
 use Rattle.jc_states.specs.PodLists.{RisesFrom}
 use Rattle.jc_states.proofs.PodListFacts.{rises-each}
-use Rattle.jc_account.specs.Modes.{gained}
 use Rattle.jc_account.proofs.GainFacts.{gained-length}
 use Rattle.jc_perindex.proofs.Sets.{increasing-filter}
-use Rattle.jc_manage.specs.LetGoes.{is_earlier, is_spare, remaining}
-use Rattle.jc_making.specs.After.{AreNew}
-use Rattle.jc_making.proofs.Lists.{each-not, has-filter, has-range, none-any}
+use Rattle.jc_manage.specs.LetGoes.{is_earlier, remaining}
+use Rattle.jc_making.specs.Grants.{AreNew}
+use Rattle.jc_making.proofs.Lists.{has-filter, has-range}
 use Rattle.jc_making.proofs.UseFacts.{is_of_use, open_in, use-from, use-parts}
 
 -- ---- how many indexes are open
@@ -68,11 +69,7 @@ rises-apart low (p ∷ front) back up =
 
 -- No pod behind is an older one.
 younger : (n u : ℕ) (pods : List Pod) → Each (λ q. u < q.uid.0) pods → list_any (is_earlier n u) pods ≡ false
-younger n u pods h = none-any (is_earlier n u) pods (Each-weaker (λ q. u < q.uid.0) (λ q. is_earlier n u q ≡ false) (λ q l. ap (λ b. has_index n q && b) (le-ltb q.uid.0 u (omega (arith, l))) ∙ and-false (has_index n q)) pods h)
-  where
-    and-false : (b : Bool) → (b && false) ≡ false
-    and-false true = refl
-    and-false false = refl
+younger n u pods h = list_any_none (is_earlier n u) pods (All-from_recursion (λ q. is_earlier n u q ≡ false) pods (Each-weaker (λ q. u < q.uid.0) (λ q. is_earlier n u q ≡ false) (λ q l. ap (λ b. has_index n q && b) (le-ltb q.uid.0 u (omega (arith, l))) ∙ and_right (has_index n q) false refl) pods h))
 
 -- ---- new pods
 
@@ -80,16 +77,13 @@ younger n u pods h = none-any (is_earlier n u) pods (Each-weaker (λ q. u < q.ui
 abbrev pub HasOne : List ℕ → Pod → Type 0
 HasOne set q = (n : ℕ) → q.index ≡ Some n → has n set ≡ true
 
-some-same : (m n : ℕ) → Some m ≡ Some n → m ≡ n
-some-same m n e = ap (λ o. option_map_or (λ k. k) o m) e
-
 -- What is known of each of the indexes is known of that of each pod.
 pub index-each : (P : ℕ → Type 0) (made : ℕ) (set : List ℕ) (pods : List Pod) → AreNew made (map (λ n. Some n) set) pods → Each P set → Each (λ q. (IsSome q.index) × ((n : ℕ) → q.index ≡ Some n → P n)) pods
 index-each P made [] [] new h = tt
 index-each P made [] (p ∷ pods) new h = absurd new
 index-each P made (m ∷ set) [] new h = absurd new
 index-each P made (m ∷ set) (p ∷ pods) new h =
-    ((ap Rattle.std.specs.Prelude.is_some new.0.index_is, λ n e. subst P (some-same m n (sym new.0.index_is ∙ e)) h.0), index-each P (suc made) set pods new.1 h.1)
+    ((ap Rattle.std.specs.Prelude.is_some new.0.index_is, λ n e. subst P (same_Some m n (sym new.0.index_is ∙ e)) h.0), index-each P (suc made) set pods new.1 h.1)
 
 -- No older one among them has the index.
 pub first-new : (made : ℕ) (set : List ℕ) (pods : List Pod) → AreNew made (map (λ n. Some n) set) pods → IsIncreasing set → (low : ℕ) → RisesFrom low pods
@@ -97,24 +91,21 @@ pub first-new : (made : ℕ) (set : List ℕ) (pods : List Pod) → AreNew made 
 first-new made [] [] new up low rises = tt
 first-new made [] (p ∷ pods) new up low rises = absurd new
 first-new made (m ∷ set) [] new up low rises = absurd new
-first-new made (m ∷ set) (p ∷ pods) new up low rises =
-    (λ n e. (λ i. (has_index n p && itself i) || younger n p.uid.0 pods later i) ∙ ap (λ b. b || false) (and-false (has_index n p)),
-    Each-weaker (λ q. ((IsSome q.index) × ((n : ℕ) → q.index ≡ Some n → m < n)) × ((n : ℕ) → q.index ≡ Some n → list_any (is_earlier n q.uid.0) pods ≡ false))
-    (λ q. (n : ℕ) → q.index ≡ Some n → list_any (is_earlier n q.uid.0) (p ∷ pods) ≡ false)
-    (λ q h n e. ap (λ b. (b && nat_lt p.uid.0 q.uid.0) || list_any (is_earlier n q.uid.0) pods) (other n (h.0.1 n e)) ∙ h.1 n e) pods
-    (Each-both (λ q. (IsSome q.index) × ((n : ℕ) → q.index ≡ Some n → m < n)) (λ q. (n : ℕ) → q.index ≡ Some n → list_any (is_earlier n q.uid.0) pods ≡ false) pods
-    (index-each (λ n. m < n) (suc made) set pods new.1 up.0)
-    (first-new (suc made) set pods new.1 up.1 (p.uid.0 + 1) rises.1)))
+first-new made (m ∷ set) (p ∷ pods) new up low rises = (
+  λ n e. (λ i. (has_index n p && itself i) || younger n p.uid.0 pods later i) ∙ ap (λ b. b || false) (and_right (has_index n p) false refl),
+  Each-weaker (λ q. ((IsSome q.index) × ((n : ℕ) → q.index ≡ Some n → m < n)) × ((n : ℕ) → q.index ≡ Some n → list_any (is_earlier n q.uid.0) pods ≡ false))
+      (λ q. (n : ℕ) → q.index ≡ Some n → list_any (is_earlier n q.uid.0) (p ∷ pods) ≡ false)
+      (λ q h n e. ap (λ b. (b && nat_lt p.uid.0 q.uid.0) || list_any (is_earlier n q.uid.0) pods) (other n (h.0.1 n e)) ∙ h.1 n e) pods
+      (Each-both (λ q. (IsSome q.index) × ((n : ℕ) → q.index ≡ Some n → m < n)) (λ q. (n : ℕ) → q.index ≡ Some n → list_any (is_earlier n q.uid.0) pods ≡ false) pods
+      (index-each (λ n. m < n) (suc made) set pods new.1 up.0)
+      (first-new (suc made) set pods new.1 up.1 (p.uid.0 + 1) rises.1)),
+)
   where
     itself : nat_lt p.uid.0 p.uid.0 ≡ false
     itself = le-ltb p.uid.0 p.uid.0 (omega arith)
 
     later : Each (λ q. p.uid.0 < q.uid.0) pods
     later = Each-weaker (λ q. p.uid.0 + 1 ≤ q.uid.0) (λ q. p.uid.0 < q.uid.0) (λ q l. omega (arith, l)) pods (rises-each (p.uid.0 + 1) pods rises.1)
-
-    and-false : (b : Bool) → (b && false) ≡ false
-    and-false true = refl
-    and-false false = refl
 
     other : (n : ℕ) → m < n → has_index n p ≡ false
     other n l = ap (λ o. option_map_or (λ k. k == n) o false) new.0.index_is ∙ ne_eqb m n (λ e. omega (arith, e, l))
@@ -158,7 +149,7 @@ module _ (closed : ℕ → Bool) (old kept fresh : List Pod) (made : ℕ) (set :
       by q None at some free first = absurd (true≢false (sym some))
       by q (Some n) at some free first =
           use-from closed (kept ++ fresh) q n at (free n at).0
-          (both-none (is_earlier n q.uid.0) (none-any (is_earlier n q.uid.0) kept (Each-weaker (λ p. has_index n p ≡ false) (λ p. is_earlier n q.uid.0 p ≡ false) (λ p h. ap (λ b. b && nat_lt p.uid.0 q.uid.0) h) kept (free n at).1)) (first n at))
+          (both-none (is_earlier n q.uid.0) (list_any_none (is_earlier n q.uid.0) kept (All-from_recursion (λ p. is_earlier n q.uid.0 p ≡ false) kept (Each-weaker (λ p. has_index n p ≡ false) (λ p. is_earlier n q.uid.0 p ≡ false) (λ p h. ap (λ b. b && nat_lt p.uid.0 q.uid.0) h) kept (free n at).1))) (first n at))
 
   pub all-of-use : length (remaining Indexed closed (kept ++ fresh)) ≡ length kept + length fresh
   all-of-use =

@@ -1,16 +1,17 @@
 -- A plan of an Indexed Job uses up what may be made.
-use Rattle.std.proofs.Common.{◌≡◌, ℕ, suc, ◌+◌, ◌-◌, ◌<◌, ◌≤◌, ◌==◌, min, nat_lt, nat_le, Bool, true, false, cond, not, ◌&&◌, ◌||◌, List, [], ◌∷◌, ◌++◌, map, filter, length, take, drop, Option, Some, None, IsSome, IfSome, is_some, unwrap_or, refl, sym, ap, ◌∙◌, subst, arith, true≢false}
-use Rattle.std.specs.List.{AllByRecursion as Each, list_any, range_with_len}
+use Rattle.std.proofs.Common.{◌≡◌, ℕ, ◌+◌, ◌-◌, ◌<◌, ◌≤◌, min, nat_lt, nat_le, Bool, true, false, cond, not, ◌&&◌, ◌||◌, List, [], ◌++◌, map, filter, length, take, drop, Option, Some, None, IsSome, IfSome, is_some, unwrap_or, refl, sym, ap, ◌∙◌, subst, arith, true≢false}
+use Rattle.std.specs.List.{AllByRecursion as Each, range_with_len}
 use Rattle.std.proofs.lemmas.Bool.{and_parts, lt-leb, ltb-true}
 use Rattle.std.proofs.lemmas.List.{append-nil, length-append}
-use Rattle.std.proofs.lemmas.List.Elements.{recursion_from_All}
+use Rattle.std.proofs.lemmas.List.Elements.{All-from_recursion, recursion_from_All}
+use Rattle.std.proofs.lemmas.List.Folds.{list_any_none}
 use Rattle.jc_ranges.specs.Sets.{IsIncreasing, has}
 use Rattle.jc_ranges.proofs.Back.{range_set}
 use Rattle.jc_types.specs.declared.actions.End.{End}
 use Rattle.jc_types.specs.declared.objects.Job.{Job}
 use Rattle.jc_types.specs.declared.objects.Pod.{Pod}
 use Rattle.jc_types.specs.declared.specifications.Mode.{Mode}
-use Rattle.jc_types.specs.declared.specifications.Mode.TheVariants.{NonIndexed, Indexed}
+use Rattle.jc_types.specs.declared.specifications.Mode.TheVariants.{Indexed}
 use Rattle.jc_types.specs.declared.specifications.Replacement.{Replacement}
 use Rattle.jc_types.specs.declared.specifications.Replacement.TheVariants.{TerminatingOrFailed, FailedOnly}
 use Rattle.jc_types.specs.declared.statuses.IndexCount.{IndexCount}
@@ -24,11 +25,13 @@ use Rattle.jc_states.specs.Conditions.{has_end, has_target}
 use Rattle.jc_states.specs.Indexes.{has_index}
 use Rattle.jc_states.specs.PodLists.{IsRising, RisesFrom}
 use Rattle.jc_states.specs.Pods.{is_active, is_ending, is_tracked, is_tracked_active, tracked_active_pods}
-use Rattle.jc_states.proofs.PodListFacts.{rises_filter}
-use Rattle.jc_account.specs.Accounts.{completed_in, counted_in}
+use Rattle.jc_states.proofs.PodListFacts.{each-fails, rises_filter}
+use Rattle.jc_account.specs.Accounts.{counted_in}
 use Rattle.jc_account.specs.Modes.{completed_after, indexes_below}
 use Rattle.jc_account.proofs.AccountFacts.{empty-in, indexed-total, left-indexed}
-use Rattle.jc_perindex.specs.Failures.{failed_set, failing_by, failing_in, failures_by, failures_in, has_failed, newly_failed, raised}
+use Rattle.jc_account.proofs.ListedFacts.{each}
+use Rattle.jc_account.proofs.Owned.{filter-least}
+use Rattle.jc_perindex.specs.Failures.{failing_by, failing_in, failures_by, failures_in, has_failed, newly_failed, raised}
 use Rattle.jc_perindex.proofs.Raised.{raised-ascends}
 use Rattle.jc_perindex.proofs.Sets.{increasing-filter, increasing-join, up-kept}
 use Rattle.jc_manage.specs.Backoffs.{backoff_after, is_held_back, opening}
@@ -40,17 +43,16 @@ use Rattle.jc_plan.specs.Plans.{planned}
 use Rattle.jc_plan.specs.Statuses.{accounted, decided_in, is_settled}
 use Rattle.jc_plan.proofs.PlanFacts.{plan-creates}
 use Rattle.jc_plan.proofs.ValueFacts.{second-index_failures}
-use Rattle.jc_making.specs.After.{AreNew, IsAfter}
-use Rattle.jc_making.specs.Making.{IsCounted, completed_now, failed_by, failed_now, fails, is_closed, may_be_made, misses, new_successes, open_indexes, places, places_of, successes, will_fail}
-use Rattle.jc_making.proofs.ClosedFacts.{closed-stays, closed_by, is_over, past-closed}
-use Rattle.jc_making.proofs.CreationFacts.{fresh-length, kept, kept-many, made-few, made_now, misses-few, needless, rest, tracked, tracked-now, wants}
+use Rattle.jc_making.specs.Grants.{AreNew, IsGranted}
+use Rattle.jc_making.specs.Making.{IsCounted, completed_now, failed_by, fails, is_closed, may_be_made, misses, new_successes, open_indexes, places, places_of, pods_succeeded, will_fail}
+use Rattle.jc_making.proofs.ClosedFacts.{closed-stays, is_over, past-closed}
+use Rattle.jc_making.proofs.CreationFacts.{fresh-length, kept, kept-many, made-few, made_now, misses-few, tracked-now, wants}
 use Rattle.jc_making.proofs.FreshFacts.{all-of-use, increasing-take, open-size}
-use Rattle.jc_making.proofs.Lists.{each-not, fewer, none-any}
+use Rattle.jc_making.proofs.Lists.{fewer}
 use Rattle.jc_making.proofs.OrderFacts.{few-go_indexed}
 use Rattle.jc_making.proofs.PlanFacts.{own-rises}
 use Rattle.jc_making.proofs.StatusFacts.{below, counted-is, in-is, indexes-stay, left-is, over-raised, then}
 use Rattle.jc_making.proofs.UseFacts.{is_of_use, one-of-use, open_in, use-kept}
-use Rattle.jc_making.proofs.Values.{every}
 
 -- With completions, as many are wanted as may run, and as places are left.
 wanted-some : (o : Option ℕ) → IsSome o → (p s f a : ℕ) → wanted p o s f a ≡ min p (unwrap_or o 0 - s - f)
@@ -73,7 +75,7 @@ unheld : (r : Replacement) (own : List Pod) (n : ℕ) → holds (keepers r own) 
 unheld r own n h =
     Each-weaker (λ p. ((keeps r p && has_index n p) ≡ false) × (is_tracked_active p ≡ true)) (λ p. has_index n p ≡ false) (λ p k. by (keeps r p) (has_index n p) (active-keeps r p (and_parts (is_active p) (is_tracked p) k.1).0) k.0) (tracked_active_pods own)
     (Each-both (λ p. (keeps r p && has_index n p) ≡ false) (λ p. is_tracked_active p ≡ true) (tracked_active_pods own)
-    (Each-filter (λ p. (keeps r p && has_index n p) ≡ false) is_tracked_active own (each-not (λ p. keeps r p && has_index n p) own (sym (any_filter (has_index n) (keeps r) own) ∙ h)))
+    (Each-filter (λ p. (keeps r p && has_index n p) ≡ false) is_tracked_active own (each-fails (λ p. keeps r p && has_index n p) own (sym (any_filter (has_index n) (keeps r) own) ∙ h)))
     (Each-passes is_tracked_active own))
   where
     by : (a b : Bool) → a ≡ true → (a && b) ≡ false → b ≡ false
@@ -147,7 +149,7 @@ module _ (completions : ℕ) (completed : List ℕ) (job : Job) (pods : List Pod
 
 module _ (ends : List End) (made : ℕ) (job : Job) (basis : Basis) (this : basis.job ≡ Some job) (rises : IsRising basis.pods)
     (counted : IsCounted job (own_pods job basis.pods)) (last : IfSome (last_end ends) (λ end. fails end ≡ false))
-    (now : List Pod) (is : IsAfter (planned basis) made (own_pods job basis.pods) now)
+    (now : List Pod) (is : IsGranted (planned basis) made (own_pods job basis.pods) now)
     (undecided : is_settled job (decided_in job basis) ≡ false) (running : job.spec.suspend ≡ false)
     (indexed : job.spec.mode ≡ Indexed) where
   abbrev own : List Pod
@@ -254,8 +256,79 @@ module _ (ends : List End) (made : ℕ) (job : Job) (basis : Basis) (this : basi
   fewer-open : length (open_in useless completions) ≤ length (open_in (is_closed job own) completions)
   fewer-open =
       fewer (λ n. not (useless n)) (λ n. not (is_closed job own n)) (range_with_len 0 completions)
-      (every (λ n. not (useless n) ≡ true → not (is_closed job own n) ≡ true) (λ n. other (is_closed job own n) (useless n) (closes n)) (range_with_len 0 completions))
+      (each (λ n. not (useless n) ≡ true → not (is_closed job own n) ≡ true) (λ n. other (is_closed job own n) (useless n) (closes n)) (range_with_len 0 completions))
     where
       other : (a b : Bool) → (a ≡ true → b ≡ true) → not b ≡ true → not a ≡ true
       other true b h g = absurd (true≢false (sym g ∙ ap not (h refl)))
       other false b h g = refl
+
+  -- ---- what is of use then
+
+  abbrev Few : Mode → Type 0
+  Few m =
+      length (filter (is_one_of (length (remaining m useless active) - wants ends made job basis this rises counted last now is undecided running) m (remaining m useless active)) (remaining m useless active))
+      ≤ length (remaining m useless active) - wants ends made job basis this rises counted last now is undecided running
+
+  few-go : Few job.spec.mode
+  few-go =
+      subst Few (sym indexed)
+      (few-go_indexed (remaining Indexed useless active) (length (remaining Indexed useless active) - wants ends made job basis this rises counted last now is undecided running)
+      (Each-filter (λ p. IsSome p.index) (is_of_use useless active) active numbered) (one-of-use useless active up))
+
+  made-as : (planned basis).creates
+      ≡ cond (is_held_back (opening (backoff_after basis.backoff (accounted job basis) basis.now)) basis.now) []
+      (cond (is_settled job (decided_in job basis) || job.spec.suspend) [] (new_pods Indexed (job_lacks job own (accounted job basis)) (free completions (accounted job basis) (keepers job.spec.replacement own))))
+  made-as =
+      plan-creates basis job this
+      ∙ ap (λ m. cond (is_held_back (opening (backoff_after basis.backoff (accounted job basis) basis.now)) basis.now) []
+      (cond (is_settled job (decided_in job basis) || job.spec.suspend) [] (new_pods m (job_lacks job own (accounted job basis)) (free completions (accounted job basis) (keepers job.spec.replacement own))))) indexed
+
+  of-use-then : length (remaining Indexed useless (stay ++ is.fresh)) ≡ length stay + length is.fresh
+  of-use-then = with-numbers (numbers-of job own (accounted job basis) (is_settled job (decided_in job basis)) (job_lacks job own (accounted job basis)) (is_held_back (opening (backoff_after basis.backoff (accounted job basis) basis.now)) basis.now))
+    where
+      in-stay : (P : Pod → Type 0) → Each P active → Each P stay
+      in-stay P h =
+          Each-filter P (λ p. not (is_one_of (length (remaining job.spec.mode useless active) - wants ends made job basis this rises counted last now is undecided running) job.spec.mode (remaining job.spec.mode useless active) p)) (remaining job.spec.mode useless active)
+          (Each-filter P (λ p. not (is_spare job.spec.mode useless active p)) active h)
+
+      used : Each (λ p. is_of_use useless active p ≡ true) stay
+      used =
+          Each-filter (λ p. is_of_use useless active p ≡ true) (λ p. not (is_one_of (length (remaining job.spec.mode useless active) - wants ends made job basis this rises counted last now is undecided running) job.spec.mode (remaining job.spec.mode useless active) p)) (remaining job.spec.mode useless active)
+          (Each-weaker (λ p. not (is_spare job.spec.mode useless active p) ≡ true) (λ p. is_of_use useless active p ≡ true) (λ p h. ap (λ m. not (is_spare m useless active p)) (sym indexed) ∙ h) (remaining job.spec.mode useless active)
+          (Each-passes (λ p. not (is_spare job.spec.mode useless active p)) active))
+
+      with-numbers : Numbers useless active
+          (cond (is_held_back (opening (backoff_after basis.backoff (accounted job basis) basis.now)) basis.now) []
+          (cond (is_settled job (decided_in job basis) || job.spec.suspend) [] (new_pods Indexed (job_lacks job own (accounted job basis)) (free completions (accounted job basis) (keepers job.spec.replacement own)))))
+          → length (remaining Indexed useless (stay ++ is.fresh)) ≡ length stay + length is.fresh
+      with-numbers numbers =
+          all-of-use useless active stay is.fresh made numbers.set (subst (λ cs. AreNew made cs is.fresh) (made-as ∙ numbers.are) is.new) numbers.up
+          (subst (RisesFrom 0) (tracked-now ends made job basis this rises counted last now is undecided running) (rises_filter 0 is_tracked_active now is.rising))
+          (Each-weaker (λ n. (useless n ≡ false) × Each (λ p. has_index n p ≡ false) active) (λ n. (useless n ≡ false) × Each (λ p. has_index n p ≡ false) stay) (λ n h. (h.0, in-stay (λ p. has_index n p ≡ false) h.1)) numbers.set numbers.opened)
+          (Each-both (λ p. IsSome p.index) (λ p. is_of_use useless active p ≡ true) stay (in-stay (λ p. IsSome p.index) numbered) used)
+          (λ n u h. list_any_none (is_earlier n u) stay (All-from_recursion (λ p. is_earlier n u p ≡ false) stay (in-stay (λ p. is_earlier n u p ≡ false) (each-fails (is_earlier n u) active h))))
+
+  pub indexed-lowers : may_be_made ends (made + made_now ends made job basis this rises counted last now is undecided running) later now + made_now ends made job basis this rises counted last now is undecided running ≤ may_be_made ends made job own
+  indexed-lowers =
+      let new = made_now ends made job basis this rises counted last now is undecided running in
+      let misses_then = length (filter (will_fail ends) (stay ++ is.fresh)) + length (filter fails (drop (made + new) ends)) in
+      let left_is : length (remaining job.spec.mode useless active) ≡ length (remaining Indexed useless active) = ap (λ m. length (remaining m useless active)) indexed in
+      let many = kept-many ends made job basis this rises counted last now is undecided running few-go in
+      let lower = indexed-falls job.spec.parallelism (length (open_in (is_closed job own) completions)) (length (open_in useless completions))
+      (length (remaining Indexed (is_closed job own) active)) (length (remaining Indexed useless active)) (length (stay ++ is.fresh)) (length stay) (length active)
+      (wants ends made job basis this rises counted last now is undecided running) new (misses ends made own) misses_then
+      before-after fewer-open wants-are (filter-least (is_of_use useless active) active)
+      (omega (arith, left_is, many))
+      (let sum = length-append stay is.fresh in let same = fresh-length ends made job basis this rises counted last now is undecided running in omega (arith, sum, same))
+      (made-few ends made job basis this rises counted last now is undecided running)
+      (misses-few ends made job basis this rises counted last now is undecided running) in
+      let places_then : places later now ≡ length (open_in useless completions) =
+      (λ i. places_of (indexed i) job.spec.completions job.spec.parallelism (pods_succeeded later now) (filter (λ n. not (sym useless-is i n)) (range_with_len 0 completions))) in
+      let places_now = ap (λ m. places_of m job.spec.completions job.spec.parallelism (pods_succeeded job own) (open_indexes job own)) indexed in
+      let used_then : length (remaining job.spec.mode (is_closed later now) (tracked_active_pods now)) ≡ length (remaining Indexed useless (stay ++ is.fresh)) =
+      (λ i. length (remaining (indexed i) (sym useless-is i) (tracked-now ends made job basis this rises counted last now is undecided running i))) in
+      let all = of-use-then in
+      let joined = length-append stay is.fresh in
+      let used_now = ap (λ m. length (remaining m (is_closed job own) active)) indexed in
+      let missed = ap (λ pods. length (filter (will_fail ends) pods) + length (filter fails (drop (made + new) ends))) (tracked-now ends made job basis this rises counted last now is undecided running) in
+      omega (arith, lower, places_then, places_now, used_then, all, joined, used_now, missed)

@@ -11,3 +11,4 @@ pub mod MissFacts
 pub mod CreationFacts
 pub mod FreshFacts
 pub mod IndexedFacts
+pub mod LowerFacts

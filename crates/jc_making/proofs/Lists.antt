@@ -1,9 +1,10 @@
 -- Counts over lists, of which one is put in or taken out; and over the numbers of a range.
-use Rattle.std.proofs.Common.{◌≡◌, ℕ, zero, suc, ◌+◌, ◌<◌, ◌≤◌, ◌==◌, nat_lt, Bool, true, false, cond, not, ◌&&◌, ◌||◌, List, [], ◌∷◌, ◌++◌, filter, length, Option, Some, None, IsSome, refl, sym, ap, ◌∙◌, arith, true≢false}
+use Rattle.std.proofs.Common.{◌≡◌, ℕ, zero, suc, ◌+◌, ◌<◌, ◌≤◌, ◌==◌, Bool, true, false, cond, not, ◌&&◌, ◌||◌, List, [], ◌∷◌, ◌++◌, filter, length, Option, Some, None, refl, sym, ap, ◌∙◌, arith, true≢false}
 use Rattle.std.specs.List.{AllByRecursion as Each, list_any, range_with_len}
 use Rattle.std.specs.Option.{option_map_or}
-use Rattle.std.proofs.lemmas.Bool.{and_from, and_parts, eq-eqb, eqb-false, eqb-true, lt-ltb, le-ltb, ne_eqb, or_right}
+use Rattle.std.proofs.lemmas.Bool.{and_right, eq-eqb, eqb-false, eqb-true, ne_eqb, or_right}
 use Rattle.jc_ranges.specs.Sets.{has}
+use Rattle.jc_types.specs.declared.numbers.Uid.{Uid}
 use Rattle.jc_types.specs.declared.objects.Pod.{Pod}
 use Rattle.jc_types.specs.Keys.{same_uid}
 use Rattle.jc_types.proofs.ListFacts.{Each-both, Each-filter, Each-passes, Each-weaker, filter_swap}
@@ -11,6 +12,7 @@ use Rattle.jc_states.specs.Indexes.{has_index}
 use Rattle.jc_states.specs.PodLists.{RisesFrom}
 use Rattle.jc_states.specs.UidLists.{is_in, uids_of}
 use Rattle.jc_states.proofs.PodListFacts.{rises-each}
+use Rattle.jc_account.proofs.ListedFacts.{among_passing}
 use Rattle.jc_account.proofs.Owned.{filter-least}
 
 -- 1 where it holds.
@@ -61,19 +63,6 @@ module _ {X : Type 0} where
       by true true = refl
       by true false = refl
       by false b = refl
-
-  -- Where none passes, none does.
-  pub each-not : (f : X → Bool) (xs : List X) → list_any f xs ≡ false → Each (λ x. f x ≡ false) xs
-  each-not f [] h = tt
-  each-not f (x ∷ xs) h = by (f x) refl h (each-not f xs)
-    where
-      by : (b : Bool) → f x ≡ b → (b || list_any f xs) ≡ false → (list_any f xs ≡ false → Each (λ y. f y ≡ false) xs) → (f x ≡ false) × Each (λ y. f y ≡ false) xs
-      by true e g more = absurd (true≢false g)
-      by false e g more = (e, more g)
-
-  pub none-any : (f : X → Bool) (xs : List X) → Each (λ x. f x ≡ false) xs → list_any f xs ≡ false
-  none-any f [] h = refl
-  none-any f (x ∷ xs) h = ap (λ b. b || list_any f xs) h.0 ∙ none-any f xs h.1
 
 -- ---- numbers
 
@@ -141,26 +130,32 @@ held-few (n ∷ set) pods h few =
 
 -- ---- UIDs of pods that pass
 
--- Of pods in ascending UID, the UID of one is among those of the pods that pass where it passes itself.
-pub passes-in : (test : Pod → Bool) (low : ℕ) (pods : List Pod) → RisesFrom low pods → Each (λ pod. is_in pod.uid (uids_of (filter test pods)) ≡ test pod) pods
-passes-in test low [] up = tt
-passes-in test low (p ∷ pods) up = (first (test p) refl, Each-weaker (λ q. (p.uid.0 + 1 ≤ q.uid.0) × (is_in q.uid (uids_of (filter test pods)) ≡ test q)) (λ q. is_in q.uid (uids_of (filter test (p ∷ pods))) ≡ test q) (λ q h. behind q h.0 (test p) ∙ h.1) pods (Each-both (λ q. p.uid.0 + 1 ≤ q.uid.0) (λ q. is_in q.uid (uids_of (filter test pods)) ≡ test q) pods (rises-each (p.uid.0 + 1) pods up.1) (passes-in test (p.uid.0 + 1) pods up.1)))
-  where
-    behind : (q : Pod) → p.uid.0 + 1 ≤ q.uid.0 → (b : Bool) → is_in q.uid (uids_of (cond b (p ∷ filter test pods) (filter test pods))) ≡ is_in q.uid (uids_of (filter test pods))
-    behind q l true = ap (λ b. b || is_in q.uid (uids_of (filter test pods))) (ne_eqb p.uid.0 q.uid.0 (λ e. omega (arith, l, e)))
-    behind q l false = refl
+module _ (test : Pod → Bool) where
+  -- Of pods in ascending UID one with the UID of another passes just where that does.
+  only-itself : (low : ℕ) (pods : List Pod) → RisesFrom low pods → Each (λ p. list_any (λ q. test q && same_uid q.uid p.uid) pods ≡ test p) pods
+  only-itself low [] up = tt
+  only-itself low (p ∷ pods) up = (
+    (λ i. (test p && eq-eqb p.uid.0 p.uid.0 refl i) || none pods behind i) ∙ by (test p),
+    Each-weaker (λ q. (p.uid.0 + 1 ≤ q.uid.0) × (list_any (λ r. test r && same_uid r.uid q.uid) pods ≡ test q)) (λ q. list_any (λ r. test r && same_uid r.uid q.uid) (p ∷ pods) ≡ test q)
+        (λ q h. ap (λ b. b || list_any (λ r. test r && same_uid r.uid q.uid) pods) (and_right (test p) (same_uid p.uid q.uid) (ne_eqb p.uid.0 q.uid.0 (λ e. let l = h.0 in omega (arith, l, e)))) ∙ h.1) pods
+        (Each-both (λ q. p.uid.0 + 1 ≤ q.uid.0) (λ q. list_any (λ r. test r && same_uid r.uid q.uid) pods ≡ test q) pods behind (only-itself (p.uid.0 + 1) pods up.1)),
+  )
+    where
+      behind : Each (λ q. p.uid.0 + 1 ≤ q.uid.0) pods
+      behind = rises-each (p.uid.0 + 1) pods up.1
 
-    none : (qs : List Pod) → Each (λ q. p.uid.0 + 1 ≤ q.uid.0) qs → is_in p.uid (uids_of (filter test qs)) ≡ false
-    none [] h = refl
-    none (q ∷ qs) h = by (test q) (none qs h.1)
-      where
-        low_q : p.uid.0 + 1 ≤ q.uid.0
-        low_q = h.0
+      none : (qs : List Pod) → Each (λ q. p.uid.0 + 1 ≤ q.uid.0) qs → list_any (λ q. test q && same_uid q.uid p.uid) qs ≡ false
+      none [] h = refl
+      none (q ∷ qs) h =
+          let l : p.uid.0 + 1 ≤ q.uid.0 = h.0 in
+          ap (λ b. b || list_any (λ q. test q && same_uid q.uid p.uid) qs) (and_right (test q) (same_uid q.uid p.uid) (ne_eqb q.uid.0 p.uid.0 (λ e. omega (arith, l, e)))) ∙ none qs h.1
 
-        by : (b : Bool) → is_in p.uid (uids_of (filter test qs)) ≡ false → is_in p.uid (uids_of (cond b (q ∷ filter test qs) (filter test qs))) ≡ false
-        by true more = ap (λ b. b || is_in p.uid (uids_of (filter test qs))) (ne_eqb q.uid.0 p.uid.0 (λ e. omega (arith, low_q, e))) ∙ more
-        by false more = more
+      by : (b : Bool) → ((b && true) || false) ≡ b
+      by true = refl
+      by false = refl
 
-    first : (b : Bool) → test p ≡ b → is_in p.uid (uids_of (cond b (p ∷ filter test pods) (filter test pods))) ≡ test p
-    first true e = ap (λ b. b || is_in p.uid (uids_of (filter test pods))) (eq-eqb p.uid.0 p.uid.0 refl) ∙ sym e
-    first false e = none pods (rises-each (p.uid.0 + 1) pods up.1) ∙ sym e
+  -- Where UIDs are those of the pods that pass, that of a pod is among them where it passes.
+  pub passes-in : (uids : List Uid) (pods : List Pod) → RisesFrom 0 pods → uids ≡ uids_of (filter test pods) → Each (λ p. is_in p.uid uids ≡ test p) pods
+  passes-in uids pods up are =
+      Each-weaker (λ p. list_any (λ q. test q && same_uid q.uid p.uid) pods ≡ test p) (λ p. is_in p.uid uids ≡ test p)
+      (λ p h. ap (is_in p.uid) are ∙ among_passing p.uid test pods ∙ h) pods (only-itself 0 pods up)

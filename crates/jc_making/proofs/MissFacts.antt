@@ -1,10 +1,10 @@
 -- New pods end as was to come: what is still to come is as much less.
-use Rattle.std.proofs.Common.{◌≡◌, ℕ, zero, suc, ◌+◌, ◌≤◌, Bool, true, false, cond, List, [], ◌∷◌, filter, length, drop, slice_get, Option, Some, None, IfSome, refl, sym, ap, ◌∙◌, arith}
+use Rattle.std.proofs.Common.{◌≡◌, ℕ, zero, suc, ◌+◌, ◌≤◌, false, List, [], ◌∷◌, filter, length, drop, slice_get, Option, Some, None, IfSome, refl, ap, arith}
 use Rattle.std.specs.Option.{option_map_or, option_or}
 use Rattle.jc_types.specs.declared.actions.End.{End}
 use Rattle.jc_types.specs.declared.objects.Pod.{Pod}
 use Rattle.jc_history.specs.Nodes.{end_at, last_end}
-use Rattle.jc_making.specs.After.{AreNew}
+use Rattle.jc_making.specs.Grants.{AreNew}
 use Rattle.jc_making.specs.Making.{fails, will_fail}
 use Rattle.jc_making.proofs.Lists.{length-with, one_if}
 

@@ -1,5 +1,6 @@
 -- What the node does to a pod never raises how many pods may still be made.
-use Rattle.std.proofs.Common.{◌≡◌, ℕ, ◌≤◌, Bool, true, false, cond, not, ◌&&◌, ◌||◌, List, [], ◌∷◌, ◌++◌, Option, Some, None, is_some, pos, refl, sym, ap, ◌∙◌, subst, arith, true≢false}
+use Rattle.std.proofs.Common.{◌≡◌, ℕ, ◌≤◌, Bool, true, false, cond, not, ◌&&◌, List, [], ◌∷◌, ◌++◌, Option, Some, None, is_some, pos, refl, sym, ap, ◌∙◌, subst, arith, true≢false}
+use Rattle.std.proofs.lemmas.Bool.{and_right}
 use Rattle.std.specs.List.{AllByRecursion as Each}
 use Rattle.std.specs.Option.{option_map_or, unwrap_or}
 use Rattle.std.specs.Ordering.{int_eq}
@@ -7,7 +8,6 @@ use Rattle.jc_types.specs.declared.actions.End.{End}
 use Rattle.jc_types.specs.declared.objects.Entry.{Entry}
 use Rattle.jc_types.specs.declared.objects.Job.{Job}
 use Rattle.jc_types.specs.declared.objects.Key.{Key}
-use Rattle.jc_types.specs.declared.objects.Phase.{Phase}
 use Rattle.jc_types.specs.declared.objects.Phase.TheVariants as phase
 use Rattle.jc_types.specs.declared.objects.Pod.{Pod}
 use Rattle.jc_log.specs.Requests.{with_report}
@@ -18,37 +18,27 @@ use Rattle.jc_failpol.specs.declared.outcomes.Outcome.TheVariants as outcome
 use Rattle.jc_failpol.specs.Outcomes.{is_succeeded, is_verdict, outcome_of, same_outcome}
 use Rattle.jc_account.specs.Judged.{is_candidate}
 use Rattle.jc_history.specs.Nodes.{NodeAct, Stop, Start, Again, Finish, act_on, act_with, change_by, end_at, is_again, pod_end}
-use Rattle.jc_making.specs.Making.{IsCounted, creations_left, will_fail}
+use Rattle.jc_making.specs.Making.{IsCounted, creations_left}
 use Rattle.jc_making.proofs.PodFacts.{fails-now, goes-on, is_new, nothing, succeeds-now}
-use Rattle.jc_making.proofs.PlanFacts.{active-not, success-is}
+use Rattle.jc_making.proofs.PlanFacts.{active-not, open-not, success-is}
 
 some-is : (one two : NodeAct) → Some one ≡ Some two → one ≡ two
 some-is one two e = ap (λ o. unwrap_or o one) e
 
-and-false : (b : Bool) → (b && false) ≡ false
-and-false true = refl
-and-false false = refl
-
 -- A pod that has not succeeded is no new success.
 unsucceeded : (job : Job) (p : Pod) → is_succeeded p.phase ≡ false → is_new job p ≡ false
-unsucceeded job p e = ap (λ b. is_candidate job p && b) (success-is job.spec p ∙ e) ∙ and-false (is_candidate job p)
+unsucceeded job p e = ap (λ b. is_candidate job p && b) (success-is job.spec p ∙ e) ∙ and_right (is_candidate job p) false refl
 
 untracked : (job : Job) (p : Pod) → is_tracked p ≡ false → is_new job p ≡ false
 untracked job p e = ap (λ b. (b && (is_verdict (outcome_of job.spec p) && not (is_listed job.status p.uid))) && same_outcome (outcome_of job.spec p) outcome.Succeeded) e
 
 -- A pod without its finalizer counts for nothing.
 pub gone : (ends : List End) (made : ℕ) (job : Job) (front back : List Pod) (p : Pod) → is_tracked p ≡ false → creations_left ends made job (front ++ p ∷ back) ≡ creations_left ends made job (front ++ back)
-gone ends made job front back p e = nothing ends made job front back p (untracked job p e) (ap (λ b. is_active p && b) e ∙ and-false (is_active p))
+gone ends made job front back p e = nothing ends made job front back p (untracked job p e) (ap (λ b. is_active p && b) e ∙ and_right (is_active p) false refl)
 
 each-mid : (P : Pod → Type 0) (xs ys : List Pod) (x : Pod) → Each P (xs ++ x ∷ ys) → P x
 each-mid P [] ys x h = h.0
 each-mid P (z ∷ xs) ys x h = each-mid P xs ys x h.1
-
-open-not : (p : Phase) → is_final p ≡ false → is_succeeded p ≡ false
-open-not phase.Pending e = refl
-open-not phase.Running e = refl
-open-not phase.Succeeded e = absurd (true≢false e)
-open-not phase.Failed e = refl
 
 -- A tracked pod that has just succeeded is a new success, if it is not listed.
 anew : (job : Job) (p : Pod) → is_tracked p ≡ true → is_succeeded p.phase ≡ true → is_listed job.status p.uid ≡ false → is_new job p ≡ true
@@ -84,7 +74,7 @@ module _ (fates : Key → Option (List End)) (ends : List End) (made : ℕ) (job
   stops : is_open pod ≡ true → is_marked pod ≡ true → Falls Stop
   stops opened marked =
       let now = nothing ends made job front back (after Stop) (unsucceeded job (after Stop) refl) refl in
-      let was = nothing ends made job front back pod (unsucceeded job pod (open-not pod.phase (not-open (is_final pod.phase) opened))) ((λ i. (is_open pod && not (marked i)) && is_tracked pod) ∙ ap (λ b. b && is_tracked pod) (and-false (is_open pod))) in
+      let was = nothing ends made job front back pod (unsucceeded job pod (open-not pod.phase (not-open (is_final pod.phase) opened))) ((λ i. (is_open pod && not (marked i)) && is_tracked pod) ∙ ap (λ b. b && is_tracked pod) (and_right (is_open pod) false refl)) in
       omega (arith, now, was)
     where
       not-open : (b : Bool) → not b ≡ true → b ≡ false
@@ -99,7 +89,7 @@ module _ (fates : Key → Option (List End)) (ends : List End) (made : ℕ) (job
     is-active = (λ i. active i && tracked i)
 
     old : is_new job pod ≡ false
-    old = ap (λ b. is_candidate job pod && b) (active-not job.spec pod active) ∙ and-false (is_candidate job pod)
+    old = ap (λ b. is_candidate job pod && b) (active-not job.spec pod active) ∙ and_right (is_candidate job pod) false refl
 
     unlisted : is_listed job.status pod.uid ≡ false
     unlisted = by (is_listed job.status pod.uid) refl

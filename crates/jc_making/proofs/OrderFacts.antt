@@ -1,5 +1,5 @@
 -- Of pods in an order no more go than are to go.
-use Rattle.std.proofs.Common.{◌≡◌, ℕ, suc, ◌+◌, ◌-◌, ◌<◌, ◌≤◌, ◌==◌, nat_lt, Bool, true, false, cond, not, List, [], ◌∷◌, filter, length, Option, Some, None, IsSome, refl, sym, ap, ◌∙◌, subst, arith, true≢false, ⊎_elim}
+use Rattle.std.proofs.Common.{◌≡◌, ℕ, ◌+◌, ◌<◌, ◌≤◌, ◌==◌, nat_lt, Bool, true, false, cond, not, List, [], ◌∷◌, filter, length, Option, Some, None, IsSome, refl, sym, ap, subst, arith, true≢false, ⊎_elim}
 use Rattle.std.specs.List.{AllByRecursion as Each, count_by}
 use Rattle.std.specs.Option.{option_map_or, unwrap_or}
 use Rattle.std.proofs.lemmas.Bool.{cases_lt, eq-eqb, eqb-true, lt-ltb, ltb-false, ltb-true, ne_eqb}
@@ -137,9 +137,9 @@ module _ (pods : List Pod) (n : ℕ) (up : RisesFrom 0 pods) where
       (Each-weaker (λ p. p.uid.0 < bound) (λ p. (length (filter (λ q. plain_key bound q == plain_key bound p) pods) ≤ 1) × Each (λ q. plain_key bound p < plain_key bound q → goes_before NonIndexed q p ≡ true) pods)
       (λ p h. (
         (let uid = one-uid 0 p.uid.0 pods up in
-        let less = fewer (λ q. plain_key bound q == plain_key bound p) (λ q. q.uid.0 == p.uid.0) pods
-        (Each-weaker (λ q. q.uid.0 < bound) (λ q. (plain_key bound q == plain_key bound p) ≡ true → (q.uid.0 == p.uid.0) ≡ true) (λ q g. same-uid p q h g) pods below) in
-        omega (arith, uid, less)),
+            let less = fewer (λ q. plain_key bound q == plain_key bound p) (λ q. q.uid.0 == p.uid.0) pods
+            (Each-weaker (λ q. q.uid.0 < bound) (λ q. (plain_key bound q == plain_key bound p) ≡ true → (q.uid.0 == p.uid.0) ≡ true) (λ q g. same-uid p q h g) pods below) in
+            omega (arith, uid, less)),
         Each-weaker (λ q. q.uid.0 < bound) (λ q. plain_key bound p < plain_key bound q → goes_before NonIndexed q p ≡ true) (λ q g. first p q h g) pods below,
       ))
       pods below)
@@ -170,9 +170,9 @@ module _ (pods : List Pod) (n : ℕ) (numbered : Each (λ p. IsSome p.index) pod
       (Each-weaker (λ p. IsSome p.index) (λ p. (length (filter (λ q. index_key q == index_key p) pods) ≤ 1) × Each (λ q. index_key p < index_key q → goes_before Indexed q p ≡ true) pods)
       (λ p h. (
         (let one = apart (index_key p) in
-        let less = fewer (λ q. index_key q == index_key p) (has_index (index_key p)) pods
-        (Each-weaker (λ q. IsSome q.index) (λ q. (index_key q == index_key p) ≡ true → has_index (index_key p) q ≡ true) (λ q g. has-key p q g) pods numbered) in
-        omega (arith, one, less)),
+            let less = fewer (λ q. index_key q == index_key p) (has_index (index_key p)) pods
+            (Each-weaker (λ q. IsSome q.index) (λ q. (index_key q == index_key p) ≡ true → has_index (index_key p) q ≡ true) (λ q g. has-key p q g) pods numbered) in
+            omega (arith, one, less)),
         Each-weaker (λ q. IsSome q.index) (λ q. index_key p < index_key q → goes_before Indexed q p ≡ true) (λ q g. greater p q h g) pods numbered,
       ))
       pods numbered)

@@ -1,7 +1,7 @@
 -- What a plan makes of each of the Job's own pods.
-use Rattle.std.proofs.Common.{◌≡◌, ℕ, ◌+◌, ◌≤◌, Bool, true, false, cond, not, ◌&&◌, ◌||◌, List, [], ◌∷◌, ◌++◌, map, filter, length, Option, Some, None, refl, sym, ap, ◌∙◌, subst, arith, true≢false, unwrap_or}
+use Rattle.std.proofs.Common.{◌≡◌, Bool, true, false, cond, not, ◌&&◌, ◌||◌, List, [], ◌∷◌, map, filter, Option, Some, None, refl, sym, ap, ◌∙◌, true≢false, unwrap_or}
 use Rattle.std.specs.List.{AllByRecursion as Each, list_any}
-use Rattle.std.proofs.lemmas.Bool.{and_parts, or_cases}
+use Rattle.std.proofs.lemmas.Bool.{and_parts}
 use Rattle.jc_types.specs.declared.numbers.Uid.{Uid}
 use Rattle.jc_types.specs.declared.objects.Job.{Job}
 use Rattle.jc_types.specs.declared.objects.Phase.{Phase}
@@ -27,14 +27,14 @@ use Rattle.jc_failpol.specs.Rules.{action_of}
 use Rattle.jc_account.specs.Accounts.{counted_in}
 use Rattle.jc_account.specs.Judged.{fits, is_candidate, is_left_over, is_to_release, to_release}
 use Rattle.jc_manage.specs.Creations.{job_wants}
-use Rattle.jc_manage.specs.LetGoes.{going, is_let_go, is_needless, is_to_mark, let_goes, marks, seen}
+use Rattle.jc_manage.specs.LetGoes.{going, is_let_go, is_needless, is_to_mark, seen}
 use Rattle.jc_plan.specs.declared.plans.Planned.{Planned}
 use Rattle.jc_plan.specs.Numbers.{is_let_go_of}
 use Rattle.jc_plan.specs.Plans.{planned}
-use Rattle.jc_plan.specs.Releases.{is_orphan, is_owed, is_released, due_uids, releases_of}
-use Rattle.jc_plan.specs.Statuses.{accounted, decided_in, is_settled, wants_in}
-use Rattle.jc_plan.proofs.PlanFacts.{plan-creates, plan-let_goes, plan-marks, plan-releases}
-use Rattle.jc_making.specs.After.{Becomes, Follows, Nothing, Stays, Goes, frees, touches}
+use Rattle.jc_plan.specs.Releases.{is_orphan, is_owed, is_released, due_uids}
+use Rattle.jc_plan.specs.Statuses.{accounted, decided_in, is_settled}
+use Rattle.jc_plan.proofs.PlanFacts.{plan-let_goes, plan-marks, plan-releases}
+use Rattle.jc_making.specs.Grants.{Becomes, AllBecome, Nothing, Stays, Goes, frees}
 use Rattle.jc_making.proofs.Lists.{passes-in}
 use Rattle.jc_making.proofs.PodFacts.{is_new}
 
@@ -55,7 +55,7 @@ success-is spec pod = by (is_succeeded pod.phase) (has_ended_badly spec.replacem
         either false = refl
 
 -- An open pod has not.
-open-not : (p : Phase) → is_final p ≡ false → is_succeeded p ≡ false
+pub open-not : (p : Phase) → is_final p ≡ false → is_succeeded p ≡ false
 open-not phase.Pending e = refl
 open-not phase.Running e = refl
 open-not phase.Succeeded e = absurd (true≢false e)
@@ -94,7 +94,7 @@ Known plan test then p =
     ((q : Pod) → Becomes plan p q → (then q ≡ test p) × (test p ≡ true → q ≡ p)) × (frees plan p.uid ≡ true → test p ≡ false)
 
 -- So those that pass then are those that pass now.
-pub follow-filter : (plan : Planned) (test then : Pod → Bool) (pods after : List Pod) → Each (Known plan test then) pods → Follows plan pods after → filter then after ≡ filter test pods
+pub follow-filter : (plan : Planned) (test then : Pod → Bool) (pods after : List Pod) → Each (Known plan test then) pods → AllBecome plan pods after → filter then after ≡ filter test pods
 follow-filter plan test then [] [] h Nothing = refl
 follow-filter plan test then [] (q ∷ after) h follow = elim follow [ ]
 follow-filter plan test then (p ∷ pods) (q ∷ after) h (Stays _ _ _ _ is rest) = by (test p) refl (follow-filter plan test then pods after h.1 rest)
@@ -127,7 +127,7 @@ module _ (job : Job) (basis : Basis) (this : basis.job ≡ Some job) (rises : Is
       && (not settled && (job.spec.suspend || is_let_go job.spec.mode (is_needless (unwrap_or job.spec.completions 0) (accounted job basis)) (job_wants job own (accounted job basis)) (tracked_active_pods own) p))
 
   pub marks-are : Each (λ p. is_in p.uid (planned basis).marks ≡ is_to_mark settled p) own
-  marks-are = subst (λ us. Each (λ p. is_in p.uid us ≡ is_to_mark settled p) own) (sym (plan-marks basis job this)) (passes-in (is_to_mark settled) 0 own own-rises)
+  marks-are = passes-in (is_to_mark settled) (planned basis).marks own own-rises (plan-marks basis job this)
 
   going-is : going settled job own (accounted job basis) ≡ filter goes_now own
   going-is = by settled job.spec.suspend
@@ -156,7 +156,7 @@ module _ (job : Job) (basis : Basis) (this : basis.job ≡ Some job) (rises : Is
   lets-are =
       Each-weaker (λ p. is_in p.uid (uids_of (filter goes_now own)) ≡ goes_now p) (λ p. is_let_go_of p.uid (planned basis).let_goes ≡ goes_now p)
       (λ p h. ap (is_let_go_of p.uid) (plan-let_goes basis job this ∙ ap (map seen) going-is) ∙ any_map seen (λ row. same_uid row.0 p.uid) (filter goes_now own) ∙ sym (any_map (λ (q : Pod). q.uid) (λ v. same_uid v p.uid) (filter goes_now own)) ∙ h)
-      own (passes-in goes_now 0 own own-rises)
+      own (passes-in goes_now (uids_of (filter goes_now own)) own own-rises refl)
 
   due-is : due_uids basis.job basis.pods ≡ uids_of (to_release job own)
   unfolding counted_in
@@ -164,14 +164,14 @@ module _ (job : Job) (basis : Basis) (this : basis.job ≡ Some job) (rises : Is
 
   pub releases-are : Each (λ p. is_in p.uid (planned basis).releases ≡ is_to_release job own p) own
   releases-are =
-      Each-weaker (λ p. (is_own job p ≡ true) × ((is_in p.uid (releases_of basis) ≡ is_released basis p) × (is_in p.uid (uids_of (to_release job own)) ≡ is_to_release job own p)))
+      Each-weaker (λ p. (is_own job p ≡ true) × ((is_in p.uid (planned basis).releases ≡ is_released basis p) × (is_in p.uid (uids_of (to_release job own)) ≡ is_to_release job own p)))
       (λ p. is_in p.uid (planned basis).releases ≡ is_to_release job own p)
-      (λ p h. ap (is_in p.uid) (plan-releases basis) ∙ h.1.0 ∙ one p h.0 h.1.1) own
-      (Each-both (λ p. is_own job p ≡ true) (λ p. (is_in p.uid (releases_of basis) ≡ is_released basis p) × (is_in p.uid (uids_of (to_release job own)) ≡ is_to_release job own p)) own
+      (λ p h. h.1.0 ∙ one p h.0 h.1.1) own
+      (Each-both (λ p. is_own job p ≡ true) (λ p. (is_in p.uid (planned basis).releases ≡ is_released basis p) × (is_in p.uid (uids_of (to_release job own)) ≡ is_to_release job own p)) own
       (Each-passes (is_own job) basis.pods)
-      (Each-both (λ p. is_in p.uid (releases_of basis) ≡ is_released basis p) (λ p. is_in p.uid (uids_of (to_release job own)) ≡ is_to_release job own p) own
-      (Each-filter (λ p. is_in p.uid (releases_of basis) ≡ is_released basis p) (is_own job) basis.pods (passes-in (is_released basis) 0 basis.pods rises))
-      (passes-in (is_to_release job own) 0 own own-rises)))
+      (Each-both (λ p. is_in p.uid (planned basis).releases ≡ is_released basis p) (λ p. is_in p.uid (uids_of (to_release job own)) ≡ is_to_release job own p) own
+      (Each-filter (λ p. is_in p.uid (planned basis).releases ≡ is_released basis p) (is_own job) basis.pods (passes-in (is_released basis) (planned basis).releases basis.pods rises (plan-releases basis)))
+      (passes-in (is_to_release job own) (uids_of (to_release job own)) own own-rises refl)))
     where
       one : (p : Pod) → is_own job p ≡ true → is_in p.uid (uids_of (to_release job own)) ≡ is_to_release job own p → is_released basis p ≡ is_to_release job own p
       one p mine due =
@@ -295,7 +295,7 @@ module _ (job : Job) (basis : Basis) (this : basis.job ≡ Some job) (rises : Is
         (Each-both (λ p. is_in p.uid (planned basis).releases ≡ is_to_release job own p) (λ p. (is_in p.uid (planned basis).marks ≡ is_to_mark settled p) × (is_let_go_of p.uid (planned basis).let_goes ≡ goes_now p)) own releases-are
         (Each-both (λ p. is_in p.uid (planned basis).marks ≡ is_to_mark settled p) (λ p. is_let_go_of p.uid (planned basis).let_goes ≡ goes_now p) own marks-are lets-are))
 
-    pub news-left : (after : List Pod) → Follows (planned basis) own after → filter (is_new later) after ≡ filter stays_new own
+    pub news-left : (after : List Pod) → AllBecome (planned basis) own after → filter (is_new later) after ≡ filter stays_new own
     news-left after follow = follow-filter (planned basis) stays_new (is_new later) own after news-each follow
 
   -- ---- what stays active
@@ -354,7 +354,7 @@ module _ (job : Job) (basis : Basis) (this : basis.job ≡ Some job) (rises : Is
                 and-true true = refl
                 and-true false = refl
 
-    pub active-left : (after : List Pod) → Follows (planned basis) own after → tracked_active_pods after ≡ filter stays_active own
+    pub active-left : (after : List Pod) → AllBecome (planned basis) own after → tracked_active_pods after ≡ filter stays_active own
     active-left after follow = follow-filter (planned basis) stays_active is_tracked_active own after each follow
       where
         each : Each (Known (planned basis) stays_active is_tracked_active) own

@@ -1,11 +1,10 @@
 -- What counts of a Job is the same before and after all requests of a plan.
-use Rattle.std.proofs.Common.{◌≡◌, ℕ, suc, ◌+◌, ◌<◌, ◌≤◌, ◌==◌, nat_lt, Bool, true, false, cond, not, ◌&&◌, ◌||◌, List, [], ◌∷◌, ◌++◌, map, filter, length, Option, Some, None, refl, sym, ap, ◌∙◌, subst, arith, true≢false, unwrap_or}
+use Rattle.std.proofs.Common.{◌≡◌, ℕ, suc, ◌+◌, ◌<◌, ◌==◌, nat_lt, Bool, true, false, not, ◌&&◌, ◌||◌, List, [], ◌∷◌, ◌++◌, map, filter, length, Option, Some, refl, sym, ap, ◌∙◌, subst, arith, true≢false, unwrap_or}
 use Rattle.std.specs.List.{AllByRecursion as Each, list_any}
-use Rattle.std.proofs.lemmas.Bool.{eqb-true, lt-ltb, ltb-true}
+use Rattle.std.proofs.lemmas.Bool.{and_parts, and_right, eqb-true, lt-ltb, ltb-true}
 use Rattle.std.proofs.lemmas.List.{append-nil, nil_from_length}
 use Rattle.std.proofs.lemmas.List.Elements.{filter-append, recursion_from_All}
 use Rattle.jc_ranges.specs.Sets.{IsIncreasing, has}
-use Rattle.jc_types.specs.declared.numbers.Uid.{Uid}
 use Rattle.jc_types.specs.declared.objects.Job.{Job}
 use Rattle.jc_types.specs.declared.objects.Pod.{Pod}
 use Rattle.jc_types.specs.declared.policies.FailurePolicy.{FailurePolicy}
@@ -13,12 +12,12 @@ use Rattle.jc_types.specs.declared.specifications.Mode.{Mode}
 use Rattle.jc_types.specs.declared.specifications.Mode.TheVariants.{NonIndexed, Indexed}
 use Rattle.jc_types.specs.declared.statuses.IndexCount.{IndexCount}
 use Rattle.jc_types.specs.declared.statuses.JobStatus.{JobStatus}
-use Rattle.jc_types.proofs.ListFacts.{Each-weaker, any_map, filter_all, filter_filter, filter_none, filter_swap, filter_within}
+use Rattle.jc_types.proofs.ListFacts.{Each-weaker, filter_all, filter_filter, filter_none, filter_swap, filter_within}
 use Rattle.jc_states.specs.declared.bases.Basis.{Basis}
 use Rattle.jc_states.specs.Bases.{own_pods}
 use Rattle.jc_states.specs.Conditions.{has_end}
 use Rattle.jc_states.specs.PodLists.{IsRising}
-use Rattle.jc_states.specs.Pods.{is_active, is_tracked, is_tracked_active}
+use Rattle.jc_states.specs.Pods.{is_active, is_tracked}
 use Rattle.jc_states.specs.Indexes.{has_index}
 use Rattle.jc_states.specs.UidLists.{join}
 use Rattle.jc_states.proofs.UidListFacts.{has-join}
@@ -30,27 +29,19 @@ use Rattle.jc_account.specs.Judged.{candidates, fits, is_candidate, left_with, n
 use Rattle.jc_account.specs.Modes.{completed_after, indexes_of, kept_indexes}
 use Rattle.jc_account.specs.Rooms.{joins_list, precedes, takes_room}
 use Rattle.jc_account.proofs.AccountFacts.{indexes-below, left-indexed, left-succeeded, succeeded-all-out, succeeded-sum}
-use Rattle.jc_perindex.specs.Failures.{fails_at, failures_by, failures_in, failures_of, newly_failed, policy_fails_index, raised, raised_at}
+use Rattle.jc_perindex.specs.Failures.{fails_at, failures_of, policy_fails_index, raised, raised_at}
 use Rattle.jc_perindex.proofs.Raised.{none-raised}
 use Rattle.jc_plan.specs.Next.{ListsNoSuccess}
 use Rattle.jc_plan.specs.Plans.{last_status, planned}
-use Rattle.jc_plan.specs.Statuses.{accounted, first_value, second_value}
+use Rattle.jc_plan.specs.Statuses.{first_value, second_value}
 use Rattle.jc_plan.proofs.NextFacts.{last-second}
-use Rattle.jc_plan.proofs.ValueFacts.{first-succeeded, first-succeeded_list, second-completed, second-index_failures, second-lists_none, second-succeeded}
-use Rattle.jc_making.specs.After.{AreNew, IsAfter, Follows, job_after}
-use Rattle.jc_making.specs.Making.{completed_now, new_successes, successes}
+use Rattle.jc_plan.proofs.ValueFacts.{first-succeeded, first-succeeded_list, second-completed, second-lists_none, second-succeeded}
+use Rattle.jc_making.specs.Grants.{AreNew, IsGranted, job_left}
+use Rattle.jc_making.specs.Making.{completed_now, new_successes, pods_succeeded}
 use Rattle.jc_making.proofs.ClosedFacts.{is_over}
 use Rattle.jc_making.proofs.Lists.{halves}
 use Rattle.jc_making.proofs.PlanFacts.{active-not, news-left, stays_new}
 use Rattle.jc_making.proofs.PodFacts.{is_new}
-
-and-false : (b : Bool) → (b && false) ≡ false
-and-false true = refl
-and-false false = refl
-
-and-left : (a b : Bool) → (a && b) ≡ true → a ≡ true
-and-left true b e = refl
-and-left false b e = absurd (true≢false (sym e))
 
 -- A success of an Indexed Job takes no room.
 no-room : (mode : Mode) → mode ≡ Indexed → (o : Outcome) (b : Bool) → same_outcome o outcome.Succeeded ≡ true → (not (joins_list mode o) || b) ≡ true
@@ -62,7 +53,7 @@ none-fresh job made [] [] h = tt
 none-fresh job made [] (p ∷ pods) h = absurd h
 none-fresh job made (index ∷ indexes) [] h = absurd h
 none-fresh job made (index ∷ indexes) (p ∷ pods) h =
-    (ap (λ b. is_candidate job p && b) (active-not job.spec p (and-left (is_active p) (is_tracked p) h.0.active)) ∙ and-false (is_candidate job p), none-fresh job (suc made) indexes pods h.1)
+    (ap (λ b. is_candidate job p && b) (active-not job.spec p (and_parts (is_active p) (is_tracked p) h.0.active).0) ∙ and_right (is_candidate job p) false refl, none-fresh job (suc made) indexes pods h.1)
 
 -- ---- failures by index
 
@@ -129,7 +120,7 @@ module _ (job : Job) (basis : Basis) (this : basis.job ≡ Some job) (rises : Is
   left = last_status (planned basis) job.status
 
   abbrev pub then : Job
-  then = job_after (planned basis) job
+  then = job_left (planned basis) job
 
   pub left-is : left ≡ second_value job basis
   left-is = last-second job basis this
@@ -141,7 +132,7 @@ module _ (job : Job) (basis : Basis) (this : basis.job ≡ Some job) (rises : Is
   lists-failure = ap (λ (s : JobStatus). s.uncounted_failed) left-is ∙ (second-lists_none job basis).0
 
   -- What is counted anew then is what is left over now.
-  pub news-then : (made : ℕ) (now : List Pod) → IsAfter (planned basis) made own_now now → new_successes then now ≡ left_with job own_now outcome.Succeeded
+  pub news-then : (made : ℕ) (now : List Pod) → IsGranted (planned basis) made own_now now → new_successes then now ≡ left_with job own_now outcome.Succeeded
   news-then made now is =
       filter_filter (λ pod. same_outcome (outcome_of job.spec pod) outcome.Succeeded) (is_candidate then) now
       ∙ ap (filter (is_new then)) is.parts
@@ -160,7 +151,7 @@ module _ (job : Job) (basis : Basis) (this : basis.job ≡ Some job) (rises : Is
       omega (arith, first, second, both)
 
   -- The successes of a Job that is not Indexed stay as many.
-  pub successes-stay : (made : ℕ) (now : List Pod) → job.spec.mode ≡ NonIndexed → IsAfter (planned basis) made own_now now → successes then now ≡ successes job own_now
+  pub successes-stay : (made : ℕ) (now : List Pod) → job.spec.mode ≡ NonIndexed → IsGranted (planned basis) made own_now now → pods_succeeded then now ≡ pods_succeeded job own_now
   successes-stay made now plain is =
       omega (
         arith,
@@ -206,6 +197,6 @@ module _ (job : Job) (basis : Basis) (this : basis.job ≡ Some job) (rises : Is
       kept = filter_all (λ n. nat_lt n wanted_now) (completed_now job own_now) (Each-weaker (λ n. n < wanted_now) (λ n. nat_lt n wanted_now ≡ true) (λ n l. lt-ltb n wanted_now l) (completed_now job own_now) below)
 
       -- The completed indexes of an Indexed Job stay.
-      pub indexes-stay : (made : ℕ) (now : List Pod) → IsAfter (planned basis) made own_now now → completed_now then now ≡ completed_now job own_now
+      pub indexes-stay : (made : ℕ) (now : List Pod) → IsGranted (planned basis) made own_now now → completed_now then now ≡ completed_now job own_now
       indexes-stay made now is =
           (λ i. completed_after (indexed i) false wanted_now (left-completed i) ((news-then made now is ∙ none-left) i)) ∙ kept

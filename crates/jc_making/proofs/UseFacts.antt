@@ -1,21 +1,21 @@
 -- Of each open index at most one pod is of use, so that where an index is closed no more than one pod less is.
-use Rattle.std.proofs.Common.{◌≡◌, ℕ, zero, suc, ◌+◌, ◌-◌, ◌<◌, ◌≤◌, ◌==◌, nat_lt, nat_le, Bool, true, false, cond, not, ◌&&◌, ◌||◌, List, [], ◌∷◌, ◌++◌, filter, length, Option, Some, None, IsSome, refl, sym, ap, ◌∙◌, arith, true≢false}
+use Rattle.std.proofs.Common.{◌≡◌, ℕ, ◌+◌, ◌<◌, ◌≤◌, ◌==◌, nat_lt, nat_le, Bool, true, false, not, ◌&&◌, ◌||◌, List, [], ◌∷◌, filter, length, Option, Some, None, IsSome, refl, sym, ap, ◌∙◌, arith, true≢false}
 use Rattle.std.specs.List.{AllByRecursion as Each, list_any, range_with_len}
 use Rattle.std.specs.Option.{option_map_or}
-use Rattle.std.proofs.lemmas.Bool.{and_from, and_parts, eq-eqb, eqb-true, leb-false, leb-true, lt-ltb, le-ltb, ne_eqb}
+use Rattle.std.proofs.lemmas.Bool.{and_from, and_parts, eqb-true, leb-false, leb-true, lt-ltb}
 use Rattle.std.proofs.lemmas.List.Elements.{filter_agree}
 use Rattle.jc_ranges.specs.Sets.{has}
 use Rattle.jc_types.specs.declared.objects.Pod.{Pod}
-use Rattle.jc_types.specs.declared.specifications.Mode.{Mode}
-use Rattle.jc_types.specs.declared.specifications.Mode.TheVariants.{NonIndexed, Indexed}
+use Rattle.jc_types.specs.declared.specifications.Mode.TheVariants.{Indexed}
 use Rattle.jc_types.proofs.ListFacts.{Each-both, Each-filter, Each-passes, Each-weaker, filter_filter, filter_swap}
 use Rattle.jc_states.specs.Indexes.{has_index}
 use Rattle.jc_states.specs.PodLists.{RisesFrom}
-use Rattle.jc_states.proofs.PodListFacts.{rises_filter}
+use Rattle.jc_states.proofs.PodListFacts.{each-fails, rises_filter}
+use Rattle.jc_account.proofs.ListedFacts.{each}
 use Rattle.jc_account.proofs.Owned.{filter-least}
-use Rattle.jc_manage.specs.LetGoes.{is_doubled, is_earlier, is_spare, remaining}
+use Rattle.jc_manage.specs.LetGoes.{is_earlier, is_spare}
 use Rattle.jc_manage.proofs.SpareFacts.{length-split}
-use Rattle.jc_making.proofs.Lists.{each-not, fewer, has-filter, has-range, has_one_of, held-few}
+use Rattle.jc_making.proofs.Lists.{fewer, has-filter, has-range, has_one_of, held-few}
 
 -- The pod is not spare.
 abbrev pub is_of_use : (ℕ → Bool) → List Pod → Pod → Bool
@@ -58,7 +58,7 @@ module _ (closed : ℕ → Bool) (tracked : List Pod) (up : RisesFrom 0 tracked)
   among : (u : ℕ) → list_any (is_earlier n u) tracked ≡ false → Each (λ p. is_earlier n u p ≡ false) found
   among u h =
       Each-filter (λ p. is_earlier n u p ≡ false) (has_index n) used
-      (Each-filter (λ p. is_earlier n u p ≡ false) (is_of_use closed tracked) tracked (each-not (is_earlier n u) tracked h))
+      (Each-filter (λ p. is_earlier n u p ≡ false) (is_of_use closed tracked) tracked (each-fails (is_earlier n u) tracked h))
 
   oldest : Each (λ q. Each (λ p. is_earlier n q.uid.0 p ≡ false) found) found
   oldest =
@@ -152,8 +152,4 @@ module _ (closed after : ℕ → Bool) (tracked later : List Pod) (completions e
       omega (arith, parts, first, second, few-lost, opens, stay)
     where
       both : Each (λ pod. (was pod && is pod) ≡ true → is pod ≡ true) tracked
-      both = every tracked
-        where
-          every : (pods : List Pod) → Each (λ pod. (was pod && is pod) ≡ true → is pod ≡ true) pods
-          every [] = tt
-          every (pod ∷ pods) = ((λ h. (and_parts (was pod) (is pod) h).1), every pods)
+      both = each (λ pod. (was pod && is pod) ≡ true → is pod ≡ true) (λ pod h. (and_parts (was pod) (is pod) h).1) tracked

@@ -1,9 +1,9 @@
 -- How many pods may still be made, by the new successes and the active tracked pods alone; and that this does not rise
 -- where one of these ends.
-use Rattle.std.proofs.Common.{◌≡◌, ℕ, zero, suc, ◌+◌, ◌-◌, ◌<◌, ◌≤◌, ◌==◌, min, nat_lt, nat_le, Bool, true, false, cond, not, ◌&&◌, ◌||◌, List, [], ◌∷◌, ◌++◌, filter, length, drop, Option, Some, None, IsSome, unwrap_or, refl, sym, ap, ◌∙◌, arith, true≢false}
+use Rattle.std.proofs.Common.{◌≡◌, ℕ, suc, ◌+◌, ◌-◌, ◌≤◌, ◌==◌, min, nat_lt, nat_le, Bool, true, false, cond, not, ◌&&◌, ◌||◌, List, [], ◌∷◌, ◌++◌, filter, length, drop, Option, Some, None, IsSome, unwrap_or, refl, sym, ap, ◌∙◌, arith, true≢false}
 use Rattle.std.specs.List.{AllByRecursion as Each, list_any, range_with_len}
 use Rattle.std.specs.Option.{option_map_or}
-use Rattle.std.proofs.lemmas.Bool.{and_from, eq-eqb, le-leb, leb-false, lt-ltb, ltb-false, ne_eqb, or_left, or_right}
+use Rattle.std.proofs.lemmas.Bool.{eq-eqb, ltb-false, ne_eqb}
 use Rattle.std.proofs.lemmas.List.Elements.{filter_agree}
 use Rattle.jc_ranges.specs.Sets.{has}
 use Rattle.jc_types.specs.declared.actions.End.{End}
@@ -11,12 +11,12 @@ use Rattle.jc_types.specs.declared.objects.Pod.{Pod}
 use Rattle.jc_types.specs.declared.specifications.Mode.{Mode}
 use Rattle.jc_types.specs.declared.specifications.Mode.TheVariants.{NonIndexed, Indexed}
 use Rattle.jc_types.specs.declared.statuses.IndexCount.{IndexCount}
-use Rattle.jc_types.proofs.ListFacts.{Each-weaker, filter_all}
+use Rattle.jc_types.proofs.ListFacts.{filter_all}
 use Rattle.jc_states.specs.Indexes.{has_index}
 use Rattle.jc_states.specs.PodLists.{RisesFrom}
 use Rattle.jc_states.proofs.UidListFacts.{has-join}
 use Rattle.jc_account.specs.Modes.{completed_after, indexes_below, indexes_of, kept_indexes}
-use Rattle.jc_account.proofs.ListedFacts.{has-indexes}
+use Rattle.jc_account.proofs.ListedFacts.{each, has-indexes}
 use Rattle.jc_manage.specs.LetGoes.{is_earlier, is_spare, remaining}
 use Rattle.jc_history.specs.Nodes.{end_at}
 use Rattle.jc_making.specs.Making.{fails, places_of, will_fail}
@@ -36,13 +36,9 @@ plain-falls None p s xs ys used now m n h l =
     let none : places_of NonIndexed None p (suc s) xs ≡ 0 = ap (λ b. cond b p 0) (ne_eqb (suc s) 0 (λ e. omega (arith, e))) in
     omega (arith, none, l)
 
-pub every : {X : Type 0} (P : X → Type 0) → ((x : X) → P x) → (xs : List X) → Each P xs
-every P h [] = tt
-every P h (x ∷ xs) = (h x, every P h xs)
-
 -- All pods of a Job that is not Indexed are of use.
 pub all-used : (closed : ℕ → Bool) (tracked : List Pod) → remaining NonIndexed closed tracked ≡ tracked
-all-used closed tracked = filter_all (λ pod. not (is_spare NonIndexed closed tracked pod)) tracked (every (λ pod. not (is_spare NonIndexed closed tracked pod) ≡ true) (λ pod. refl) tracked)
+all-used closed tracked = filter_all (λ pod. not (is_spare NonIndexed closed tracked pod)) tracked (each (λ pod. not (is_spare NonIndexed closed tracked pod) ≡ true) (λ pod. refl) tracked)
 
 pub length-one : (xs ys : List Pod) (x : Pod) → length (xs ++ x ∷ ys) ≡ suc (length (xs ++ ys))
 length-one [] ys x = refl
@@ -184,7 +180,7 @@ module _ (comps : Option ℕ) (parallelism : ℕ) (limit : Option ℕ) (set : Li
           (missed (front ++ x ∷ back)) (missed (front ++ back)) 0
           (use-kept (closed Indexed before) (closed Indexed after) (front ++ x ∷ back) (front ++ back) wanted_of 0 closes (λ n l. past-closed limit wanted_of n (done Indexed before) counts l) up (numbered refl) (λ n u h. any-rest (is_earlier n u) front back x h)
           (let mid = length-mid (is_of_use (closed Indexed after) (front ++ back)) front back x in let none = ap one_if (gone (each-mid (λ pod. IsSome pod.index) front back x (numbered refl))) in omega (arith, mid, none)))
-          (fewer (λ n. not (closed Indexed after n)) (λ n. not (closed Indexed before n)) (range_with_len 0 wanted_of) (every (λ n. not (closed Indexed after n) ≡ true → not (closed Indexed before n) ≡ true) (λ n. other (closed Indexed before n) (closed Indexed after n) (closes n)) (range_with_len 0 wanted_of)))
+          (fewer (λ n. not (closed Indexed after n)) (λ n. not (closed Indexed before n)) (range_with_len 0 wanted_of) (each (λ n. not (closed Indexed after n) ≡ true → not (closed Indexed before n) ≡ true) (λ n. other (closed Indexed before n) (closed Indexed after n) (closes n)) (range_with_len 0 wanted_of)))
           (omega (arith, length-mid (will_fail ends) front back x))
         where
           other : (a b : Bool) → (a ≡ true → b ≡ true) → not b ≡ true → not a ≡ true

@@ -1,2 +1,3 @@
 pub mod Making
-pub mod After
+pub mod Grants
+pub mod Examples

@@ -1,7 +1,7 @@
 -- How many pods a Job may still make, at most, where nobody interferes. `own` are the Job's own pods, `ends` how the pods
 -- of its key end, one after the other (none, where nothing says so), and `made` how many pods were made for it so far.
 --     new_successes job own     its tracked pods that have succeeded, and are not listed
---     successes job own         how many of its pods have succeeded, whether the status says it already or not
+--     pods_succeeded job own    how many of its pods have succeeded, whether the status says it already or not
 --     completed_now job own     the completed indexes, with those of the new successes
 --     failed_by .., failed_now job own     the failed indexes, by what the status says of the failures of each
 --     is_closed job own n       no pod of the index is of use: it is completed, has failed, or is past the completions
@@ -12,7 +12,7 @@
 --     misses ends made own      ends to come that are no success
 --     creations_left ends made job own    how many pods may still be made
 --     IsCounted job own         what is known of every Job, and of its pods
-use Rattle.std.specs.Prelude.{◌≡◌, ℕ, pos, ◌+◌, ◌-◌, ◌==◌, min, nat_le, Bool, true, false, not, ◌&&◌, ◌||◌, if◌then◌else◌, List, [], map, filter, length, drop, Option, Some, None, IsSome, unwrap_or}
+use Rattle.std.specs.Prelude.{◌≡◌, ℕ, pos, ◌+◌, ◌-◌, ◌==◌, min, nat_le, Bool, true, false, not, ◌||◌, if◌then◌else◌, List, [], map, filter, length, drop, Option, Some, None, IsSome, unwrap_or}
 use Rattle.std.specs.List.{AllByRecursion as Each, range_with_len}
 use Rattle.std.specs.Option.{option_map_or}
 use Rattle.std.specs.Ordering.{int_eq}
@@ -44,8 +44,8 @@ new_successes job own =
     filter (λ pod. same_outcome (outcome_of job.spec pod) Succeeded) (candidates job own)
 
 -- How many of its pods have succeeded: the total, those that are listed, and the new ones.
-abbrev pub successes : Job → List Pod → ℕ
-successes job own =
+abbrev pub pods_succeeded : Job → List Pod → ℕ
+pods_succeeded job own =
     job.status.succeeded + length job.status.uncounted_succeeded + length (new_successes job own)
 
 -- The completed indexes below the completions, with those of the new successes. Of a Job that is not Indexed, what its
@@ -84,14 +84,14 @@ open_indexes job own =
 -- The successes that are lacking. Of an Indexed Job each open index lacks one. Without completions as many pods are
 -- wanted as may run at once, until one has succeeded.
 abbrev pub places_of : Mode → Option ℕ → ℕ → ℕ → List ℕ → ℕ
-places_of NonIndexed (Some completions) parallelism successes opened = completions - successes
-places_of NonIndexed None parallelism successes opened = if successes == 0 then parallelism else 0
-places_of Indexed completions parallelism successes opened = length opened
+places_of NonIndexed (Some completions) parallelism succeeded opened = completions - succeeded
+places_of NonIndexed None parallelism succeeded opened = if succeeded == 0 then parallelism else 0
+places_of Indexed completions parallelism succeeded opened = length opened
 
 -- Those that the Job lacks.
 abbrev pub places : Job → List Pod → ℕ
 places job own =
-    places_of job.spec.mode job.spec.completions job.spec.parallelism (successes job own)
+    places_of job.spec.mode job.spec.completions job.spec.parallelism (pods_succeeded job own)
     (open_indexes job own)
 
 -- The active tracked pods that are not spare: of an Indexed Job, of each open index the oldest one.

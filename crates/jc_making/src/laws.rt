@@ -1,11 +1,12 @@
 //! Laws on how many pods a Job may still make. Each function is empty: what it ensures holds of every Job and its own
 //! pods, and its callers may cite it.
 
-ghost use Rattle.std.specs.Prelude.{◌≡◌, ◌++◌, ◌≤◌, ◌∷◌, List, Option, Some, false, ℕ};
+ghost use Rattle.std.specs.Prelude.{◌≡◌, ◌++◌, ◌+◌, ◌≤◌, ◌∷◌, IfSome, List, None, Option, Some, [], false, length, ℕ};
 ghost use Rattle.jc_types.specs.declared.actions.End.{End};
 ghost use Rattle.jc_types.specs.declared.objects.Entry.{Entry};
 ghost use Rattle.jc_types.specs.declared.objects.Job.{Job};
 ghost use Rattle.jc_types.specs.declared.objects.Key.{Key};
+ghost use Rattle.jc_types.specs.declared.objects.Phase.TheVariants.{Failed, Succeeded};
 ghost use Rattle.jc_types.specs.declared.objects.Pod.{Pod};
 ghost use Rattle.jc_types.specs.declared.specifications.Mode.TheVariants.{Indexed, NonIndexed};
 ghost use Rattle.jc_log.specs.Requests.{with_report};
@@ -16,9 +17,30 @@ ghost use Rattle.jc_states.specs.PodLists.{IsRising};
 ghost use Rattle.jc_states.specs.Pods.{is_tracked};
 ghost use Rattle.jc_plan.specs.Next.{ListsNoSuccess};
 ghost use Rattle.jc_plan.specs.Plans.{planned};
-ghost use Rattle.jc_history.specs.Nodes.{NodeAct, act_on, change_by, end_at, pod_end};
-ghost use Rattle.jc_making.specs.After.{IsAfter, job_after};
-ghost use Rattle.jc_making.specs.Making.{IsCounted, completed_now, creations_left, successes};
+ghost use Rattle.jc_history.specs.Nodes.{NodeAct, act_on, change_by, end_at, last_end, pod_end};
+ghost use Rattle.jc_making.specs.Grants.{IsGranted, job_left};
+ghost use Rattle.jc_making.specs.Examples.{with_phase, one_fails, runs_as, small_indexed, small_job};
+ghost use Rattle.jc_making.specs.Making.{IsCounted, completed_now, creations_left, fails, pods_succeeded};
+
+/// How many pods may still be made for small Jobs of three completions, of which two may run at once, where the first pod
+/// fails. Four, before any is made. Where two run it is two more, and so it is once the first has failed; one, once there is
+/// another in its place, and then once one has succeeded. Of an Indexed Job only the older of two pods of one index is of
+/// use.
+pub fn small_jobs_are_worked_out()
+    ensures none { (job : Job) (pod : Pod) → creations_left one_fails 0 (small_job job) [] ≡ 4 }
+    ensures two { (job : Job) (pod : Pod) → creations_left one_fails 2 (small_job job)
+        (runs_as 0 None pod ∷ runs_as 1 None pod ∷ []) ≡ 2 }
+    ensures failed { (job : Job) (pod : Pod) → creations_left one_fails 2 (small_job job)
+        (with_phase Failed (runs_as 0 None pod) ∷ runs_as 1 None pod ∷ []) ≡ 2 }
+    ensures replaced { (job : Job) (pod : Pod) → creations_left one_fails 3 (small_job job)
+        (runs_as 1 None pod ∷ runs_as 2 None pod ∷ []) ≡ 1 }
+    ensures succeeded { (job : Job) (pod : Pod) → creations_left one_fails 3 (small_job job)
+        (with_phase Succeeded (runs_as 1 None pod) ∷ runs_as 2 None pod ∷ []) ≡ 1 }
+    ensures indexed { (job : Job) (pod : Pod) → creations_left one_fails 3 (small_indexed job)
+        (with_phase Succeeded (runs_as 1 (Some 0) pod) ∷ runs_as 2 (Some 1) pod ∷ []) ≡ 1 }
+    ensures doubled { (job : Job) (pod : Pod) → creations_left one_fails 3 (small_indexed job)
+        (runs_as 1 (Some 0) pod ∷ runs_as 2 (Some 0) pod ∷ []) ≡ 2 }
+{}
 
 /// What counts of a Job is the same before a sync and after it, once all its requests are granted, whatever these are: what
 /// moves from pods to lists and from lists to totals counts before and after. Of a Job that is not Indexed these are its
@@ -26,14 +48,28 @@ ghost use Rattle.jc_making.specs.Making.{IsCounted, completed_now, creations_lef
 pub fn plans_keep_what_counts()
     ensures successes { (job : Job) (basis : Basis) (made : ℕ) (now : List Pod)
         → basis.job ≡ Some job → IsRising basis.pods → job.spec.mode ≡ NonIndexed
-        → IsAfter (planned basis) made (own_pods job basis.pods) now
-        → successes (job_after (planned basis) job) now ≡ successes job (own_pods job basis.pods) }
+        → IsGranted (planned basis) made (own_pods job basis.pods) now
+        → pods_succeeded (job_left (planned basis) job) now ≡ pods_succeeded job (own_pods job basis.pods) }
     ensures indexes { (job : Job) (basis : Basis) (made : ℕ) (now : List Pod)
         → basis.job ≡ Some job → IsRising basis.pods → ListsNoSuccess job
         → job.spec.mode ≡ Indexed → has_end job.status.conditions ≡ false
-        → IsAfter (planned basis) made (own_pods job basis.pods) now
-        → completed_now (job_after (planned basis) job) now
+        → IsGranted (planned basis) made (own_pods job basis.pods) now
+        → completed_now (job_left (planned basis) job) now
         ≡ completed_now job (own_pods job basis.pods) }
+{}
+
+/// **How many pods a Job may still make is bounded, and falls with each pod that is made.** Where the last of the ends is a
+/// success, a plan leaves, once all its requests are granted, as many fewer to be made as it makes pods; and one that makes
+/// none, but lets pods go, marks or releases them, leaves no more. So from then on no more pods are made for the Job than may
+/// be made now, if nobody interferes.
+pub fn plans_use_up_what_may_be_made()
+    ensures { (ends : List End) (made : ℕ) (job : Job) (basis : Basis) (now : List Pod)
+        → basis.job ≡ Some job → IsRising basis.pods → IsCounted job (own_pods job basis.pods)
+        → IfSome (last_end ends) (λ end. fails end ≡ false)
+        → IsGranted (planned basis) made (own_pods job basis.pods) now
+        → creations_left ends (made + length (planned basis).creates) (job_left (planned basis) job) now
+        + length (planned basis).creates
+        ≤ creations_left ends made job (own_pods job basis.pods) }
 {}
 
 /// Whatever the node does to one of the Job's pods, that starts, restarts, succeeds, fails, or is stopped as it was marked,

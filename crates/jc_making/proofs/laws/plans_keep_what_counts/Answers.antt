@@ -1,5 +1,5 @@
 -- The lemmas on what counts.
-use Rattle.std.proofs.Common.{◌≡◌, sym, ◌∙◌, Bool, true, false, ap, true≢false}
+use Rattle.std.proofs.Common.{◌≡◌, sym, ◌∙◌}
 use Rattle.jc_types.specs.declared.specifications.Mode.TheVariants.{Indexed, NonIndexed}
 use Rattle.jc_making.proofs.StatusFacts.{indexes-stay, successes-stay}
 use Rattle.jc_making.proofs.laws.plans_keep_what_counts.Goals as goal

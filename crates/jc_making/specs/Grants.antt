@@ -1,12 +1,12 @@
 -- What stands once all requests of a plan are granted. `own` are the Job's own pods.
 --     frees plan u               the plan takes the finalizer of the pod: it releases it, or lets it go
---     touches plan u             it does, or marks the pod
+--     concerns plan u            it does, or marks the pod
 --     Becomes plan old new       what the plan makes of a pod
---     Follows plan own after     what it makes of all, but for pods that are gone since
+--     AllBecome plan own after   what it makes of all, but for pods that are gone since
 --     IsNew serial index pod     a pod that was just made
 --     AreNew made indexes pods   these are, one for each index, where so many were made before
---     IsAfter plan made own now  the own pods are these then
---     job_after plan job         the Job with the status that is left
+--     IsGranted plan made own now    the own pods are these then
+--     job_left plan job          the Job with the status that is left
 use Rattle.std.specs.Prelude.{◌≡◌, ℕ, suc, Bool, true, false, ◌||◌, List, [], ◌∷◌, ◌++◌, Option}
 use Rattle.jc_types.specs.declared.numbers.Uid.{Uid}
 use Rattle.jc_types.specs.declared.objects.Job.{Job}
@@ -23,23 +23,23 @@ abbrev pub frees : Planned → Uid → Bool
 frees plan u = is_in u plan.releases || is_let_go_of u plan.let_goes
 
 -- It takes its finalizer, or marks it.
-abbrev pub touches : Planned → Uid → Bool
-touches plan u = frees plan u || is_in u plan.marks
+abbrev pub concerns : Planned → Uid → Bool
+concerns plan u = frees plan u || is_in u plan.marks
 
--- What the plan makes of a pod: its phase stays, and one that it does not touch stays as it is.
+-- What the plan makes of a pod: its phase stays, and one that it does not concern stays as it is.
 pub record Becomes (plan : Planned) (old new : Pod) : Type 0 where
   pub phase : new.phase ≡ old.phase
-  pub same : touches plan old.uid ≡ false → new ≡ old
+  pub same : concerns plan old.uid ≡ false → new ≡ old
   pub freed : frees plan old.uid ≡ true → new.tracked ≡ false
   pub marked : is_in old.uid plan.marks ≡ true → is_marked new ≡ true
 
 -- What it makes of all of them. One that lost its finalizer may be gone.
-pub data Follows (plan : Planned) : List Pod → List Pod → Type 0 where
-  Nothing : Follows plan [] []
-  Stays : (old new : Pod) (own after : List Pod) → Becomes plan old new → Follows plan own after
-      → Follows plan (old ∷ own) (new ∷ after)
-  Goes : (old : Pod) (own after : List Pod) → frees plan old.uid ≡ true → Follows plan own after
-      → Follows plan (old ∷ own) after
+pub data AllBecome (plan : Planned) : List Pod → List Pod → Type 0 where
+  Nothing : AllBecome plan [] []
+  Stays : (old new : Pod) (own after : List Pod) → Becomes plan old new → AllBecome plan own after
+      → AllBecome plan (old ∷ own) (new ∷ after)
+  Goes : (old : Pod) (own after : List Pod) → frees plan old.uid ≡ true → AllBecome plan own after
+      → AllBecome plan (old ∷ own) after
 
 -- A pod that was just made: of this serial and this index, active and with its finalizer.
 pub record IsNew (serial : ℕ) (index : Option ℕ) (pod : Pod) : Type 0 where
@@ -55,14 +55,14 @@ AreNew made (index ∷ indexes) [] = ⊥
 AreNew made (index ∷ indexes) (pod ∷ pods) = IsNew made index pod × AreNew (suc made) indexes pods
 
 -- The own pods, once all requests are granted: what has become of those that were there, and behind them the new ones.
-pub record IsAfter (plan : Planned) (made : ℕ) (own now : List Pod) : Type 0 where
+pub record IsGranted (plan : Planned) (made : ℕ) (own now : List Pod) : Type 0 where
   pub after : List Pod
   pub fresh : List Pod
   pub parts : now ≡ after ++ fresh
-  pub follow : Follows plan own after
+  pub follow : AllBecome plan own after
   pub new : AreNew made plan.creates fresh
   pub rising : IsRising now
 
 -- The Job with the status that is left.
-abbrev pub job_after : Planned → Job → Job
-job_after plan job = record job { status = last_status plan job.status }
+abbrev pub job_left : Planned → Job → Job
+job_left plan job = record job { status = last_status plan job.status }
