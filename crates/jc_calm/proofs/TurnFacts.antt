@@ -178,7 +178,7 @@ module _ (shape : Shape) (some : 0 < shape.workers) (past : List Deed) (legal : 
 
   -- ---- a pod
 
-  pub asks-pod : (ask : Ask) (left : List Ask) → asks_of (planned basis) ≡ ask ∷ left → asks_status (as_request ask) ≡ false → pending w (diary shape c past) ≡ None → AsksForAPod shape past
+  abbrev asks-pod : (ask : Ask) (left : List Ask) → asks_of (planned basis) ≡ ask ∷ left → asks_status (as_request ask) ≡ false → pending w (diary shape c past) ≡ None → AsksForAPod shape past
   asks-pod ask left are pod p = record {
     events = 1;
     ask = step;
@@ -419,7 +419,7 @@ module _ (shape : Shape) (some : 0 < shape.workers) (past : List Deed) (legal : 
 
       by : AsksFirst basis → (fault : Option Fault) → pending w (diary shape c past) ≡ fault → Turn shape past
       by (Nothing none unwritten) fault p = Finds c w basis d step begins (finds none unwritten)
-      by (Pod ask left are pod) None p = Asks c w basis d begins p (asks-pod ask left are pod p)
+      by (Pod ask left are pod) None p = Asks c w basis d begins p (asks-pod ask left are pod p) refl
       by (Pod ask left are pod) (Some fault) p = Fails c w basis d step begins (fails fault ask left p are)
       by (First job status this f late are) None p = writes job status this f late are p
       by (First job status this f late are) (Some fault) p = Fails c w basis d step begins (fails fault WriteFirst _ p are)

@@ -1,4 +1,4 @@
--- From a calm state a settle goes on by turns: a sync that runs alone from its begin to its end, one act of the node, or
+-- From a calm state a settle goes on by turns: a sync that runs alone from its begin to its end, an act of the node, or
 -- the clock.
 --     faults_pending shape past    how many workers' next requests meet a fault
 --     asks_for_a_pod reply         a sync asked to make, mark, let go or release a pod
@@ -99,7 +99,8 @@ abbrev pub SawAll : List Note → List Entry → ℕ → Basis → Type 0
 SawAll notes log now basis = basis ≡ basis_of notes log now basis.key (log_end log) (log_end log)
 
 -- A sync begins: the settle's next deed begins it, of the key that is first in line, and it sees the whole log.
-pub record BeginsAlone (shape : Shape) (past : List Deed) (c w : ℕ) (basis : Basis) (begin : Deed) : Type 0 where
+pub record BeginsAlone (shape : Shape) (past : List Deed) (c w : ℕ) (basis : Basis) (begin : Deed)
+    : Type 0 where
   pub next : next_of_settle shape past ≡ Some begin
   pub controller : c < shape.controllers
   pub worker : w < shape.workers
@@ -114,7 +115,8 @@ notes_of_nothing w basis now = Ended w basis (end.Ended (planned basis).next) no
 
 -- It asks for nothing, and ends at its only step: the log and the moment are as they were, its controller has noted its
 -- begin and its end, and no other has noted anything.
-pub record EndsAtOnce (shape : Shape) (past : List Deed) (c w : ℕ) (basis : Basis) (begin end : Deed) : Type 0 where
+pub record EndsAtOnce (shape : Shape) (past : List Deed) (c w : ℕ) (basis : Basis) (begin end : Deed)
+    : Type 0 where
   pub asks : asks_of (planned basis) ≡ []
   pub writes : (planned basis).first ≡ None
   pub after : settled_on shape 2 past ≡ end ∷ begin ∷ past
@@ -127,8 +129,8 @@ pub record EndsAtOnce (shape : Shape) (past : List Deed) (c w : ℕ) (basis : Ba
   pub faults : faults_pending shape (end ∷ begin ∷ past) ≤ faults_pending shape past
 
 -- It asks for no pod before its first status, and its first step writes that.
-pub record WritesStatus (shape : Shape) (past : List Deed) (c w : ℕ) (basis : Basis) (job : Job) (status : JobStatus)
-    (begin write : Deed) : Type 0 where
+pub record WritesStatus (shape : Shape) (past : List Deed) (c w : ℕ) (basis : Basis) (job : Job)
+    (status : JobStatus) (begin write : Deed) : Type 0 where
   pub no_fault : pending w (diary shape c past) ≡ None
   pub job_is : basis.job ≡ Some job
   pub status_is : (planned basis).first ≡ Some status
@@ -141,7 +143,8 @@ pub record WritesStatus (shape : Shape) (past : List Deed) (c w : ℕ) (basis : 
       ≡ JobPut (with_status (log_given shape past) job status) ∷ log_given shape past
 
 -- It asks for nothing more: after so many events it is calm again, and that status is all that was written.
-pub record WritesNoMore (shape : Shape) (past : List Deed) (basis : Basis) (job : Job) (status : JobStatus) : Type 0 where
+pub record WritesNoMore (shape : Shape) (past : List Deed) (basis : Basis) (job : Job) (status : JobStatus)
+    : Type 0 where
   pub events : ℕ
   pub releases : (planned basis).releases ≡ []
   pub second : (planned basis).second ≡ None
@@ -151,8 +154,8 @@ pub record WritesNoMore (shape : Shape) (past : List Deed) (basis : Basis) (job 
   pub calm : IsCalm shape (settled_on shape events past)
   pub faults : faults_pending shape (settled_on shape events past) ≤ faults_pending shape past
 
--- A fault is pending: its first request is not answered, which ends it. After so many events it is calm again, and fewer
--- faults are pending.
+-- A fault is pending: its first request is not answered, which ends it. After so many events it is calm again, and
+-- fewer faults are pending.
 pub record MeetsFault (shape : Shape) (past : List Deed) (c w : ℕ) (begin fails : Deed) : Type 0 where
   pub fault : Fault
   pub is_pending : pending w (diary shape c past) ≡ Some fault
@@ -177,7 +180,8 @@ pub data Turn (shape : Shape) (past : List Deed) : Type 0 where
       → EndsAtOnce shape past c w basis begin end → Turn shape past
   -- One asks for a pod at its first step.
   Asks : (c w : ℕ) (basis : Basis) (begin : Deed) → BeginsAlone shape past c w basis begin
-      → pending w (diary shape c past) ≡ None → AsksForAPod shape past → Turn shape past
+      → pending w (diary shape c past) ≡ None → (asks : AsksForAPod shape past) → asks.events ≡ 1
+      → Turn shape past
   -- One writes its Job's status, and asks for a pod then.
   WritesAndAsks : (c w : ℕ) (basis : Basis) (job : Job) (status : JobStatus) (begin write : Deed)
       → BeginsAlone shape past c w basis begin → WritesStatus shape past c w basis job status begin write

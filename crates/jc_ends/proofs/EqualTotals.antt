@@ -1,5 +1,5 @@
 -- Sums that are equal, where none of their parts is greater.
-use Rattle.std.proofs.Common.{◌≡◌, ℕ, zero, suc, ◌+◌, ◌<◌, ◌≤◌, ◌==◌, Bool, true, false, arith, eqb-true, subst, sym, refl}
+use Rattle.std.proofs.Common.{◌≡◌, ℕ, zero, suc, ◌<◌, ◌≤◌, ◌==◌, Bool, true, false, arith, eqb-true, subst, sym, refl}
 use Rattle.std.proofs.lemmas.Bool.{eqb-false}
 use Rattle.jc_settle.specs.Totals.{total}
 use Rattle.jc_settle.proofs.TotalFacts.{total-most}

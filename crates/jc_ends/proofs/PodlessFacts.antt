@@ -3,7 +3,6 @@ use Rattle.std.proofs.Common.{◌≡◌, ℕ, zero, suc, ◌+◌, ◌-◌, ◌<�
 use Rattle.jc_types.specs.declared.objects.Entry.{Entry}
 use Rattle.jc_types.specs.declared.objects.Entry.TheVariants.{JobPut}
 use Rattle.jc_types.specs.declared.objects.Job.{Job}
-use Rattle.jc_types.specs.declared.objects.Key.{Key}
 use Rattle.jc_types.specs.declared.runs.Shape.{Shape}
 use Rattle.jc_types.specs.declared.runs.Sys.{Sys}
 use Rattle.jc_types.specs.declared.runs.Sys.TheVariants as sys
@@ -14,11 +13,8 @@ use Rattle.jc_log.specs.Log.{job_in}
 use Rattle.jc_log.specs.Requests.{with_status}
 use Rattle.jc_log.proofs.LogFacts.{upto-all}
 use Rattle.jc_log.specs.Range.{IsMoment}
-use Rattle.jc_plan.specs.Plans.{planned}
-use Rattle.jc_history.specs.Delays.{least_delay}
 use Rattle.jc_history.specs.Diaries.{moment}
 use Rattle.jc_history.specs.Legal.{IsLegal}
-use Rattle.jc_history.specs.Lines.{line}
 use Rattle.jc_history.specs.Notes.{Note, Ticked}
 use Rattle.jc_history.specs.Replies.{diary, log_given}
 use Rattle.jc_runs.specs.Runs.{AllAskValid, AsksValid}
@@ -26,7 +22,7 @@ use Rattle.jc_settle.specs.Settles.{CalmsDown, ComesToRest, IsCalm, next_of_sett
 use Rattle.jc_settle.specs.Totals.{total}
 use Rattle.jc_settle.proofs.CalmFacts.{calms-down}
 use Rattle.jc_settle.proofs.ClockFacts.{moments-are}
-use Rattle.jc_settle.proofs.OnFacts.{IsNext, next-is, next-legal, on-adds, on-legal, on-some, rest-earlier}
+use Rattle.jc_settle.proofs.OnFacts.{next-is, next-legal, on-adds, on-legal, on-some, rest-earlier}
 use Rattle.jc_settle.proofs.TotalFacts.{total-less, total-most}
 use Rattle.jc_calm.specs.Turns.{Asks, AsksForAPod, BeginsAlone, ClockMoves, Fails, Finds, EndsAtOnce, MeetsFault, MovesTheClock, NodeActs, Rests, Turn, Writes, WritesAndAsks, WritesStatus, WritesNoMore, asks_for_a_pod, is_node, notes_of_nothing}
 use Rattle.jc_calm.proofs.GoFacts.{goes-on}
@@ -225,7 +221,7 @@ module _ (statuses : ℕ → List Entry → ℕ) (moments keys : ℕ → List En
         by (NodeActs d e a) = absurd (true≢false (sym (ap (λ t. t || asks_for_a_pod d.reply) (ap is_node a)) ∙ g.leaves 0 d e))
         by (ClockMoves d due h) = inr (clock d due h)
         by (Finds c w basis begin end b h) = inr (finds c w basis begin b end h)
-        by (Asks c w basis begin b none h) = absurd (no-pod h)
+        by (Asks c w basis begin b none h at) = absurd (no-pod h)
         by (WritesAndAsks c w basis job status begin write b h asks) = absurd (no-pod asks)
         by (Writes c w basis job status begin write b h m) = inr (writes c w basis begin b job status write h m)
         by (Fails c w basis begin failed b h) = inr (fails c w basis begin b failed h)
