@@ -37,7 +37,7 @@ use Rattle.jc_sync.specs.Ask.TheVariants.{MakePod, MarkPod, LetPodGo, WriteFirst
 use Rattle.jc_sync.specs.Asks.{asks_after, is_gone, left_when, writes_status}
 use Rattle.jc_sync.proofs.QuietFacts.{IfSome-at}
 use Rattle.jc_granted.specs.Ready.{IsOther, IsReady, IsThere, pod_asked}
-use Rattle.jc_making.specs.After.{AreNew, IsNew, frees, touches}
+use Rattle.jc_making.specs.Grants.{AreNew, IsNew, frees, concerns}
 use Rattle.jc_bearing.proofs.TrackFacts.{IsChangeOf, Tracks, Under, map-same, put-replaced, replaced, tracks-dropped, tracks-itself, tracks-replaced}
 use Rattle.jc_bearing.proofs.WriteKinds.{IsBorn, Makes, Puts, States, Takes, Writes}
 
@@ -49,9 +49,9 @@ creates_in [] = []
 creates_in (MakePod index ∷ left) = index ∷ creates_in left
 creates_in (other ∷ left) = creates_in left
 
--- The pod is one that the plan touches, and it is under the key of the sync.
+-- The pod is one that the plan concerns, and it is under the key of the sync.
 pub record IsMeant (old : List Entry) (basis : Basis) (u : Uid) : Type 0 where
-  pub touched : touches (planned basis) u ≡ true
+  pub touched : concerns (planned basis) u ≡ true
   pub under : Under (planned basis) basis.key u (pods_in old)
 
 -- So is the pod of each request; and one that is released is freed.

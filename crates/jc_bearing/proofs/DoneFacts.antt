@@ -43,7 +43,7 @@ use Rattle.jc_sync.specs.Asks.{asks_of, early_asks, first_asks, last_asks, late_
 use Rattle.jc_sync.proofs.QuietFacts.{IfSome-at}
 use Rattle.jc_granted.specs.Done.{HasItsPlan, HasStatus, IsMarked, IsStopped}
 use Rattle.jc_granted.specs.Ready.{IsThere}
-use Rattle.jc_making.specs.After.{AreNew, IsAfter, frees, job_after, touches}
+use Rattle.jc_making.specs.Grants.{AreNew, IsGranted, frees, job_left, concerns}
 use Rattle.jc_bearing.specs.Whole.{DoesAll, HasAllFor, LeavesOthers, at_version}
 use Rattle.jc_bearing.proofs.TrackFacts.{IsChangeOf, IsDone, Under, tracks-filter, tracks-follow, tracks-itself, tracks-same}
 use Rattle.jc_bearing.proofs.BearFacts.{AreMade, Bears, IsMeant, IsPlanned, creates_in, front-each}
@@ -277,7 +277,7 @@ module _ (old log : List Entry) (basis : Basis) (p : HasItsPlan log basis) (h : 
         ∙ ap (λ l. own_pods job (filter (is_under basis.key) h.after) ++ l)
         (ap (own_pods job) (filter_all (is_under basis.key) h.fresh h.under) ∙ filter_all (is_own job) h.fresh m.owned)
 
-    own-is : IsAfter (planned basis) (made_for job.uid old) (own_pods job (pods_under basis.key old)) (own_pods job (pods_under basis.key log))
+    own-is : IsGranted (planned basis) (made_for job.uid old) (own_pods job (pods_under basis.key old)) (own_pods job (pods_under basis.key log))
     own-is = record {
       after = own_pods job (filter (is_under basis.key) h.after);
       fresh = h.fresh;
@@ -296,7 +296,7 @@ module _ (old log : List Entry) (basis : Basis) (p : HasItsPlan log basis) (h : 
         let s = IfSome-at basis.job (λ j. HasStatus log basis j (second_value j basis)) job saw p.status in
         ap (λ (o : Option Job). (unwrap_or o m.still.current).status) (sym m.still.there ∙ s.there) ∙ s.status ∙ sym (last-second job basis saw)
 
-    job-is : m.still.current ≡ at_version m.still.current.version (job_after (planned basis) job)
+    job-is : m.still.current ≡ at_version m.still.current.version (job_left (planned basis) job)
     job-is =
         (λ i. record m.still.current { version = m.still.current.version; status = status-is i })
         ∙ ap (λ (j : Job). record j { version = m.still.current.version; status = last_status (planned basis) job.status }) m.still.is

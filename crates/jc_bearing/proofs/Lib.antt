@@ -3,3 +3,4 @@ pub mod WriteKinds
 pub mod BearFacts
 pub mod DoneFacts
 pub mod WholeFacts
+pub mod AtMostFacts

@@ -13,7 +13,7 @@ use Rattle.jc_states.specs.PodLists.{RisesFrom, drop_pod, put_pod}
 use Rattle.jc_states.specs.UidLists.{is_in}
 use Rattle.jc_states.proofs.PodListFacts.{among_none, pod_among, rises-each}
 use Rattle.jc_plan.specs.declared.plans.Planned.{Planned}
-use Rattle.jc_making.specs.After.{Becomes, Follows, Goes, Nothing, Stays, frees, touches}
+use Rattle.jc_making.specs.Grants.{Becomes, AllBecome, Goes, Nothing, Stays, frees, concerns}
 
 -- ---- a pod in the place of that of its UID
 
@@ -60,12 +60,12 @@ pub record IsChangeOf (was new : Pod) : Type 0 where
   pub owner : new.owner ≡ was.owner
   pub owner_uid : new.owner_uid ≡ was.owner_uid
 
--- The plan of a sync of the key touches the pod.
+-- The plan of a sync of the key concerns the pod.
 pub record IsTouched (plan : Planned) (k : Key) (pod : Pod) : Type 0 where
-  pub touched : touches plan pod.uid ≡ true
+  pub touched : concerns plan pod.uid ≡ true
   pub under : same_key pod.owner k ≡ true
 
--- The pod is as it was, or it is one that the plan touches.
+-- The pod is as it was, or it is one that the plan concerns.
 pub record IsLike (plan : Planned) (k : Key) (old new : Pod) : Type 0 where
   pub change : IsChangeOf old new
   pub same : (new ≡ old) ⊎ IsTouched plan k old
@@ -86,7 +86,7 @@ module _ (plan : Planned) (k : Key) where
   Under u pods = Each (λ (pod : Pod). same_uid pod.uid u ≡ true → same_key pod.owner k ≡ true) pods
 
   -- One of them is written again.
-  module _ (was new : Pod) (change : IsChangeOf was new) (touched : touches plan new.uid ≡ true) where
+  module _ (was new : Pod) (change : IsChangeOf was new) (touched : concerns plan new.uid ≡ true) where
     one-more : (old now : Pod) → same_uid now.uid new.uid ≡ true → (same_uid old.uid new.uid ≡ true → same_key old.owner k ≡ true) → now ≡ was → IsLike plan k old now → IsLike plan k old new
     one-more old now same under is like = record {
       change = record {
@@ -96,7 +96,7 @@ module _ (plan : Planned) (k : Key) where
         owner_uid = change.owner_uid ∙ ap (λ (p : Pod). p.owner_uid) (sym is) ∙ like.change.owner_uid;
       };
       same = inr (record {
-        touched = ap (touches plan) (sym like.change.uid ∙ same_uid-eq now.uid new.uid same) ∙ touched;
+        touched = ap (concerns plan) (sym like.change.uid ∙ same_uid-eq now.uid new.uid same) ∙ touched;
         under = under (ap (λ u. same_uid u new.uid) (sym like.change.uid) ∙ same);
       });
     }
@@ -162,7 +162,7 @@ module _ (plan : Planned) (k : Key) where
     pub freed : frees plan pod.uid ≡ true → pod.tracked ≡ false
     pub marked : is_in pod.uid plan.marks ≡ true → is_marked pod ≡ true
 
-  pub tracks-follow : (olds news : List Pod) → Each IsDone news → Tracks plan k olds news → Follows plan olds news
+  pub tracks-follow : (olds news : List Pod) → Each IsDone news → Tracks plan k olds news → AllBecome plan olds news
   tracks-follow [] [] done Empty = Nothing
   tracks-follow [] (now ∷ news) done h = elim h [ ]
   tracks-follow (old ∷ olds) (now ∷ news) done (Kept _ _ _ _ like rest) = Stays old now olds news (record {
@@ -172,7 +172,7 @@ module _ (plan : Planned) (k : Key) where
     marked = λ h. done.0.marked (ap (λ u. is_in u plan.marks) like.change.uid ∙ h);
   }) (tracks-follow olds news done.1 rest)
     where
-      by : (now ≡ old) ⊎ IsTouched plan k old → touches plan old.uid ≡ false → now ≡ old
+      by : (now ≡ old) ⊎ IsTouched plan k old → concerns plan old.uid ≡ false → now ≡ old
       by (inl same) untouched = same
       by (inr touched) untouched = absurd (true≢false (sym touched.touched ∙ untouched))
   tracks-follow (old ∷ olds) news done (Left _ _ _ freed under-it rest) = Goes old olds news freed (tracks-follow olds news done rest)

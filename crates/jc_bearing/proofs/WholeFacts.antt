@@ -70,7 +70,7 @@ use Rattle.jc_granted.proofs.GrantFacts.{is-granted, stays-ready}
 use Rattle.jc_granted.proofs.SettleGrants.{going}
 use Rattle.jc_granted.proofs.StepGrants.{further, grant-keeps, step-ended}
 use Rattle.jc_granted.proofs.UnderWay.{IsGoing, IsUnderWay, going-ready, left-told, under-way}
-use Rattle.jc_bearing.specs.Whole.{DoesAll, RunsWhole}
+use Rattle.jc_bearing.specs.Whole.{DoesAll, RunsWhole, SawLog}
 use Rattle.jc_bearing.proofs.BearFacts.{Bears, bears-next}
 use Rattle.jc_bearing.proofs.DoneFacts.{bears-first, does-all}
 use Rattle.jc_bearing.proofs.WriteKinds.{writes-what}
@@ -491,8 +491,11 @@ module _ (stay : Stay) (shape : Shape) (some : 0 < shape.workers) (past : List D
   its-pods : basis.pods ≡ pods_under basis.key (log_given shape past)
   its-pods = ap (λ (q : Basis). q.pods) b.saw ∙ ap (pods_under basis.key) (upto-all (length log) log (omega arith))
 
+  its-job : basis.job ≡ job_in basis.key (log_given shape past)
+  its-job = ap (λ (q : Basis). q.job) b.saw ∙ ap (job_in basis.key) (upto-all (length log) log (omega arith))
+
   job-there : (job : Job) → basis.job ≡ Some job → job_in basis.key (log_given shape past) ≡ Some job
-  job-there job is = ap (job_in basis.key) (sym (upto-all (length log) log (omega arith))) ∙ sym (ap (λ (q : Basis). q.job) b.saw) ∙ is
+  job-there job is = sym its-job ∙ is
 
   its-keys : (job : Job) → basis.job ≡ Some job → same_key job.key basis.key ≡ true
   its-keys job is = ap (λ q. same_key q basis.key) (job_in-key basis.key log job (job-there job is)) ∙ same_key-itself basis.key
@@ -544,6 +547,7 @@ module _ (stay : Stay) (shape : Shape) (some : 0 < shape.workers) (past : List D
         run = r.run;
         are = on-some shape r.events past begin b.next ∙ r.are;
         way = r.way;
+        saw = record { job = its-job; pods = its-pods };
         all = r.all;
         now_is = r.now_is ∙ begun-now shape past legal calm begin c w basis.key b.rest b.next b.controller b.worker b.act b.first;
         calm = r.calm;

@@ -26,7 +26,7 @@ use Rattle.jc_sync.specs.Flight.{Flight}
 use Rattle.jc_sync.specs.Steps.{answered_to, make_gives, status_gives, written_gives}
 use Rattle.jc_log.proofs.WriteFacts.{life-uid}
 use Rattle.jc_granted.specs.Ready.{IsActiveAt, IsReady, IsThere, pod_asked}
-use Rattle.jc_making.specs.After.{IsNew}
+use Rattle.jc_making.specs.Grants.{IsNew}
 use Rattle.jc_bearing.proofs.TrackFacts.{IsChangeOf}
 
 -- The pod that is made.

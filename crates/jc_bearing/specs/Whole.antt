@@ -3,6 +3,7 @@
 --     HasAllFor log basis job new   the Job and its own pods are as the plan has them
 --     LeavesOthers log basis new    Jobs of other keys, and pods that were made for these, are as they were
 --     DoesAll log basis new         both
+--     SawLog log basis              the basis is what stands in the log of its key
 --     RunsWhole shape past ..       the sync runs alone, does all that it plans, and it is calm again
 use Rattle.std.specs.Prelude.{◌≡◌, ◌⊎◌, ℕ, ◌+◌, ◌≤◌, true, false, List, ◌∷◌, ◌++◌, length, Some, IfSome}
 use Rattle.std.specs.List.{AllByRecursion as Each}
@@ -23,7 +24,7 @@ use Rattle.jc_runs.specs.Diaries.{moment}
 use Rattle.jc_runs.specs.Replies.{log_given}
 use Rattle.jc_settle.specs.Settles.{IsCalm, is_telling, settled_on}
 use Rattle.jc_calm.specs.Turns.{faults_pending}
-use Rattle.jc_making.specs.After.{IsAfter, job_after}
+use Rattle.jc_making.specs.Grants.{IsGranted, job_left}
 
 -- The Job at the version.
 abbrev pub at_version : Version → Job → Job
@@ -33,8 +34,8 @@ at_version version job = record job { version = version }
 -- the new ones; of these so many were made as it was to make.
 pub record HasAllFor (log : List Entry) (basis : Basis) (job : Job) (new : List Entry) : Type 0 where
   pub version : Version
-  pub job_is : job_in basis.key new ≡ Some (at_version version (job_after (planned basis) job))
-  pub own : IsAfter (planned basis) (made_for job.uid log) (own_pods job (pods_under basis.key log))
+  pub job_is : job_in basis.key new ≡ Some (at_version version (job_left (planned basis) job))
+  pub own : IsGranted (planned basis) (made_for job.uid log) (own_pods job (pods_under basis.key log))
       (own_pods job (pods_under basis.key new))
   pub made : made_for job.uid new ≡ made_for job.uid log + length (planned basis).creates
 
@@ -50,6 +51,11 @@ pub record DoesAll (log : List Entry) (basis : Basis) (new : List Entry) : Type 
   pub its : (job : Job) → basis.job ≡ Some job → HasAllFor log basis job new
   pub others : LeavesOthers log basis new
 
+-- The basis is what stands in the log of its key.
+pub record SawLog (log : List Entry) (basis : Basis) : Type 0 where
+  pub job : basis.job ≡ job_in basis.key log
+  pub pods : basis.pods ≡ pods_under basis.key log
+
 -- The sync that begins there runs alone: after so many events, lists, deliveries and its own steps, it is calm again, and
 -- all that it plans is so. The moment is the same, and no fault is new.
 pub record RunsWhole (shape : Shape) (past : List Deed) (c w : ℕ) (basis : Basis) (begin : Deed)
@@ -58,6 +64,7 @@ pub record RunsWhole (shape : Shape) (past : List Deed) (c w : ℕ) (basis : Bas
   pub run : List Deed
   pub are : settled_on shape events past ≡ run ++ begin ∷ past
   pub way : Each (λ (d : Deed). (d.act ≡ does.Step c w) ⊎ (is_telling d.act ≡ true)) run
+  pub saw : SawLog (log_given shape past) basis
   pub all : DoesAll (log_given shape past) basis (log_given shape (run ++ begin ∷ past))
   pub now_is : moment shape (run ++ begin ∷ past) ≡ moment shape past
   pub calm : IsCalm shape (run ++ begin ∷ past)

@@ -1,17 +1,26 @@
 //! Laws on whole syncs of a settle. Each function is empty: what it ensures holds of every history, and its callers may
 //! cite it.
 
-ghost use Rattle.std.specs.Prelude.{◌≡◌, ◌<◌, List, None, ℕ};
+ghost use Rattle.std.specs.Prelude.{◌≡◌, ◌<◌, ◌≤◌, IfSome, List, None, Some, false, ℕ};
+ghost use Rattle.jc_types.specs.Keys.{same_key, same_uid};
+ghost use Rattle.jc_types.specs.declared.actions.End.{End};
+ghost use Rattle.jc_types.specs.declared.objects.Entry.{Entry};
+ghost use Rattle.jc_types.specs.declared.objects.Job.{Job};
 ghost use Rattle.jc_types.specs.declared.runs.Shape.{Shape};
+ghost use Rattle.jc_states.specs.Bases.{own_pods};
 ghost use Rattle.jc_states.specs.declared.bases.Basis.{Basis};
 ghost use Rattle.jc_log.specs.Deeds.{Deed};
+ghost use Rattle.jc_log.specs.Log.{job_in, pods_under};
 ghost use Rattle.jc_runs.specs.Legal.{IsLegal};
 ghost use Rattle.jc_runs.specs.Registers.{pending};
 ghost use Rattle.jc_runs.specs.Replies.{diary};
 ghost use Rattle.jc_runs.specs.Runs.{AllAskValid};
 ghost use Rattle.jc_settle.specs.Settles.{IsCalm};
 ghost use Rattle.jc_calm.specs.Turns.{BeginsAlone};
-ghost use Rattle.jc_bearing.specs.Whole.{RunsWhole};
+ghost use Rattle.jc_making.specs.Making.{IsCounted, fails};
+ghost use Rattle.jc_making.specs.Nodes.{last_end};
+ghost use Rattle.jc_bearing.specs.AtMost.{pods_at_most};
+ghost use Rattle.jc_bearing.specs.Whole.{DoesAll, RunsWhole, SawLog};
 
 use jc_runs::allowed_updates_stay_valid;
 
@@ -29,3 +38,19 @@ pub fn whole_syncs_do_what_they_plan()
 {
     allowed_updates_stay_valid();
 }
+
+/// **A whole sync makes no pod beyond those that may be made for its Job at most**: where the last of the ends is a success,
+/// those that were made and those that may still be are together no more after it than before, whatever it does. Of a Job
+/// of another key and another UID they are as many as before.
+pub fn whole_syncs_make_no_pod_beyond()
+    ensures own { (ends : List End) (log new : List Entry) (basis : Basis) (job now : Job)
+        → SawLog log basis → DoesAll log basis new
+        → job_in basis.key log ≡ Some job → job_in basis.key new ≡ Some now
+        → IsCounted job (own_pods job (pods_under basis.key log))
+        → IfSome (last_end ends) (λ end. fails end ≡ false)
+        → pods_at_most ends new now ≤ pods_at_most ends log job }
+    ensures others { (ends : List End) (log new : List Entry) (basis : Basis) (job : Job)
+        → DoesAll log basis new → same_key basis.key job.key ≡ false
+        → IfSome basis.job (λ seen. same_uid seen.uid job.uid ≡ false)
+        → pods_at_most ends new job ≡ pods_at_most ends log job }
+{}

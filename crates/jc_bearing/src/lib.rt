@@ -3,4 +3,4 @@
 
 mod laws;
 
-pub use laws::whole_syncs_do_what_they_plan;
+pub use laws::{whole_syncs_do_what_they_plan, whole_syncs_make_no_pod_beyond};
