@@ -4,3 +4,4 @@ pub mod BearFacts
 pub mod DoneFacts
 pub mod WholeFacts
 pub mod AtMostFacts
+pub mod ReportFacts

@@ -3,4 +3,6 @@
 
 mod laws;
 
-pub use laws::{whole_syncs_do_what_they_plan, whole_syncs_make_no_pod_beyond};
+pub use laws::{
+    the_node_allows_no_more_pods, whole_syncs_do_what_they_plan, whole_syncs_make_no_pod_beyond,
+};
