@@ -1,14 +1,13 @@
 -- A sync on its way: what it has written so far of pods and Jobs, and what it leaves.
-use Rattle.std.proofs.Common.{◌≡◌, ◌⊎◌, inl, inr, ℕ, suc, ◌+◌, ◌<◌, ◌≤◌, ◌==◌, Bool, true, false, not, cond, ◌&&◌, ◌||◌, List, [], ◌∷◌, ◌++◌, map, filter, length, Option, Some, None, is_some, IfSome, refl, sym, ap, ◌∙◌, subst, arith, true≢false, append_assoc}
-use Rattle.std.specs.List.{AllByRecursion as Each, list_any}
-use Rattle.std.specs.Option.{unwrap_or}
+use Rattle.std.proofs.Common.{◌≡◌, ℕ, suc, ◌+◌, Bool, true, false, not, cond, ◌&&◌, List, [], ◌∷◌, ◌++◌, map, length, Option, Some, is_some, IfSome, refl, sym, ap, ◌∙◌, subst, arith, true≢false, append_assoc}
+use Rattle.std.specs.List.{AllByRecursion as Each}
 use Rattle.std.proofs.Math.Bool.{and-false}
 use Rattle.std.proofs.lemmas.Bool.{and_from, cond-false, cond-true, false_from_ne_true}
-use Rattle.std.proofs.lemmas.List.{append-nil, length-append, map-append}
+use Rattle.std.proofs.lemmas.List.{length-append, map-append}
 use Rattle.std.proofs.lemmas.List.Elements.{filter-append}
 use Rattle.std.proofs.lemmas.Option.{same_Some as some_is}
-use Rattle.jc_types.proofs.KeyFacts.{same_key-itself, same_uid-either_way, same_uid-eq, same_uid-itself}
-use Rattle.jc_types.proofs.ListFacts.{Each-append, Each-both, Each-weaker, filter_all}
+use Rattle.jc_types.proofs.KeyFacts.{same_key-itself, same_uid-eq, same_uid-itself}
+use Rattle.jc_types.proofs.ListFacts.{Each-append, Each-weaker, filter_all}
 use Rattle.jc_types.specs.Keys.{same_key, same_uid}
 use Rattle.jc_types.specs.declared.numbers.Uid.{Uid}
 use Rattle.jc_types.specs.declared.numbers.Version.{Version}
@@ -20,10 +19,9 @@ use Rattle.jc_types.specs.declared.objects.Pod.{Pod}
 use Rattle.jc_types.specs.declared.replies.Answer.{Answer}
 use Rattle.jc_types.specs.declared.statuses.JobStatus.{JobStatus}
 use Rattle.jc_states.specs.declared.bases.Basis.{Basis}
-use Rattle.jc_states.specs.PodLists.{drop_pod, put_pod}
-use Rattle.jc_states.specs.UidLists.{is_in}
+use Rattle.jc_states.specs.PodLists.{drop_pod}
 use Rattle.jc_states.proofs.PodListFacts.{pod_among, rises-found}
-use Rattle.jc_log.specs.Log.{Life, Live, Never, births, is_never, job_in, life, living, made_for, next_uid, pods_in}
+use Rattle.jc_log.specs.Log.{Live, Never, is_never, job_in, life, living, made_for, next_uid, pods_in}
 use Rattle.jc_log.specs.Requests.{with_status}
 use Rattle.jc_log.specs.Writes.{Stored}
 use Rattle.jc_log.proofs.BirthFacts.{fresh_never}
@@ -31,14 +29,13 @@ use Rattle.jc_log.proofs.JobFacts.{new_pod-last}
 use Rattle.jc_log.proofs.PodFacts.{pods_in-among, pods_in-rises}
 use Rattle.jc_log.proofs.WriteFacts.{job_in-key}
 use Rattle.jc_plan.specs.Plans.{planned}
-use Rattle.jc_plan.specs.declared.plans.Planned.{Planned}
 use Rattle.jc_sync.specs.Ask.{Ask}
 use Rattle.jc_sync.specs.Ask.TheVariants.{MakePod, MarkPod, LetPodGo, WriteFirst, ReleasePod, WriteSecond}
 use Rattle.jc_sync.specs.Asks.{asks_after, is_gone, left_when, writes_status}
 use Rattle.jc_sync.proofs.QuietFacts.{IfSome-at}
 use Rattle.jc_granted.specs.Ready.{IsOther, IsReady, IsThere, pod_asked}
 use Rattle.jc_making.specs.Grants.{AreNew, IsNew, frees, concerns}
-use Rattle.jc_bearing.proofs.TrackFacts.{IsChangeOf, Tracks, Under, map-same, put-replaced, replaced, tracks-dropped, tracks-itself, tracks-replaced}
+use Rattle.jc_bearing.proofs.TrackFacts.{IsChangeOf, Tracks, Under, map-same, put-replaced, replaced, tracks-dropped, tracks-replaced}
 use Rattle.jc_bearing.proofs.WriteKinds.{IsBorn, Makes, Puts, States, Takes, Writes}
 
 -- ---- what is left

@@ -1,5 +1,5 @@
 -- A sync that saw the whole log: where it begins, and what it has done where nothing is left to ask.
-use Rattle.std.proofs.Common.{◌≡◌, ◌⊎◌, inl, inr, ℕ, ◌+◌, Bool, true, false, not, ◌||◌, List, [], ◌∷◌, ◌++◌, map, filter, length, Option, Some, None, is_some, IfSome, refl, sym, ap, ◌∙◌, subst, arith, true≢false}
+use Rattle.std.proofs.Common.{◌≡◌, ◌⊎◌, inl, inr, ℕ, ◌+◌, Bool, true, false, ◌||◌, List, [], ◌∷◌, ◌++◌, map, filter, length, Option, Some, None, refl, sym, ap, ◌∙◌, subst, arith, true≢false}
 use Rattle.std.specs.List.{AllByRecursion as Each}
 use Rattle.std.specs.Option.{unwrap_or}
 use Rattle.std.proofs.lemmas.Bool.{not-true, or_cases, or_left, or_right}
@@ -18,8 +18,6 @@ use Rattle.jc_types.specs.declared.objects.Pod.{Pod}
 use Rattle.jc_types.specs.declared.statuses.JobStatus.{JobStatus}
 use Rattle.jc_states.specs.Bases.{is_own, own_pods}
 use Rattle.jc_states.specs.declared.bases.Basis.{Basis}
-use Rattle.jc_states.specs.Pods.{is_marked}
-use Rattle.jc_states.specs.PodLists.{IsRising}
 use Rattle.jc_states.specs.UidLists.{is_in}
 use Rattle.jc_states.proofs.PodListFacts.{pod_among, rises-found, rises_filter}
 use Rattle.jc_states.proofs.UidListFacts.{Found, some_in}
@@ -43,8 +41,8 @@ use Rattle.jc_sync.specs.Asks.{asks_of, early_asks, first_asks, last_asks, late_
 use Rattle.jc_sync.proofs.QuietFacts.{IfSome-at}
 use Rattle.jc_granted.specs.Done.{HasItsPlan, HasStatus, IsMarked, IsStopped}
 use Rattle.jc_granted.specs.Ready.{IsThere}
-use Rattle.jc_making.specs.Grants.{AreNew, IsGranted, frees, job_left, concerns}
-use Rattle.jc_bearing.specs.Whole.{DoesAll, HasAllFor, LeavesOthers, at_version}
+use Rattle.jc_making.specs.Grants.{AreNew, IsGranted, frees, job_left}
+use Rattle.jc_bearing.specs.Whole.{DoesAll, HasAllFor, at_version}
 use Rattle.jc_bearing.proofs.TrackFacts.{IsChangeOf, IsDone, Under, tracks-filter, tracks-follow, tracks-itself, tracks-same}
 use Rattle.jc_bearing.proofs.BearFacts.{AreMade, Bears, IsMeant, IsPlanned, creates_in, front-each}
 
@@ -97,11 +95,10 @@ creates-plan plan =
 -- Each row is among these.
 each-listed : (rows : List (Uid × Version)) → Each (λ row. is_let_go_of row.0 rows ≡ true) rows
 each-listed [] = tt
-each-listed (row ∷ rows) =
-    (
-      or_left (same_uid row.0 row.0) (is_let_go_of row.0 rows) (same_uid-itself row.0),
-      Each-weaker (λ r. is_let_go_of r.0 rows ≡ true) (λ r. is_let_go_of r.0 (row ∷ rows) ≡ true) (λ r h. or_right (same_uid row.0 r.0) (is_let_go_of r.0 rows) h) rows (each-listed rows),
-    )
+each-listed (row ∷ rows) = (
+  or_left (same_uid row.0 row.0) (is_let_go_of row.0 rows) (same_uid-itself row.0),
+  Each-weaker (λ r. is_let_go_of r.0 rows ≡ true) (λ r. is_let_go_of r.0 (row ∷ rows) ≡ true) (λ r h. or_right (same_uid row.0 r.0) (is_let_go_of r.0 rows) h) rows (each-listed rows),
+)
 
 module _ (old : List Entry) (basis : Basis) (pods : basis.pods ≡ pods_under basis.key old) (job-there : (job : Job) → basis.job ≡ Some job → job_in basis.key old ≡ Some job) where
   abbrev plan : Planned

@@ -1,10 +1,10 @@
 -- What the node does to a pod, and how many pods are made for a Job at most.
-use Rattle.std.proofs.Common.{◌≡◌, ℕ, ◌+◌, ◌≤◌, Bool, true, false, not, cond, ◌&&◌, List, [], ◌∷◌, ◌++◌, map, filter, Option, Some, None, is_some, refl, sym, ap, ◌∙◌, subst, arith, true≢false, ne_eqb, eqb-true}
+use Rattle.std.proofs.Common.{◌≡◌, ℕ, ◌+◌, ◌≤◌, Bool, true, false, not, cond, ◌&&◌, List, [], ◌∷◌, ◌++◌, map, filter, Option, Some, None, is_some, refl, sym, ap, ◌∙◌, subst, arith, true≢false, eqb-true}
 use Rattle.std.specs.List.{AllByRecursion as Each}
 use Rattle.std.proofs.Math.Bool.{and-false}
 use Rattle.std.proofs.lemmas.Bool.{and_parts, cond-false, not-true}
 use Rattle.std.proofs.lemmas.Option.{same_Some as some_is}
-use Rattle.jc_types.proofs.KeyFacts.{same_uid-eq, same_uid-itself}
+use Rattle.jc_types.proofs.KeyFacts.{same_uid-eq}
 use Rattle.jc_types.proofs.ListFacts.{Each-filter, Each-passes, Each-weaker, filter_swap, find_each, find_passes}
 use Rattle.jc_types.specs.Keys.{same_key, same_uid}
 use Rattle.jc_types.specs.declared.actions.End.{End}
@@ -16,16 +16,16 @@ use Rattle.jc_types.specs.declared.objects.Key.{Key}
 use Rattle.jc_types.specs.declared.objects.Pod.{Pod}
 use Rattle.jc_states.specs.Bases.{is_own, own_pods}
 use Rattle.jc_states.specs.Pods.{goes, is_final, is_marked, is_tracked}
-use Rattle.jc_states.specs.PodLists.{IsRising, RisesFrom, drop_pod, put_pod}
-use Rattle.jc_states.proofs.PodListFacts.{among_none, drop-absent, pod_among, rises-each, rises-found, rises_filter}
-use Rattle.jc_log.specs.Log.{Live, is_never, life, living, made_for, pod_in, pods_in, pods_under}
+use Rattle.jc_states.specs.PodLists.{IsRising, RisesFrom, drop_pod}
+use Rattle.jc_states.proofs.PodListFacts.{among_none, drop-absent, pod_among, rises-found, rises_filter}
+use Rattle.jc_log.specs.Log.{is_never, life, made_for, pod_in, pods_in, pods_under}
 use Rattle.jc_log.specs.Requests.{pod_entry, with_report}
 use Rattle.jc_log.proofs.PodFacts.{living-live, pods_in-among, pods_in-rises}
 use Rattle.jc_making.specs.Making.{IsCounted, creations_left}
 use Rattle.jc_making.specs.Nodes.{NodeAct, act_on, change_by, end_at, pod_end}
 use Rattle.jc_making.proofs.NodeFacts.{gone, node-falls}
 use Rattle.jc_bearing.specs.AtMost.{pods_at_most}
-use Rattle.jc_bearing.proofs.TrackFacts.{map-same, put-replaced, replaced}
+use Rattle.jc_bearing.proofs.TrackFacts.{put-replaced, replaced}
 
 -- ---- one pod among others
 

@@ -1,7 +1,7 @@
 -- What becomes of the pods that are there, where a sync writes some of them again and some go.
-use Rattle.std.proofs.Common.{◌≡◌, ◌⊎◌, inl, inr, ℕ, ◌+◌, ◌≤◌, ◌==◌, nat_lt, Bool, true, false, not, cond, List, [], ◌∷◌, ◌++◌, map, filter, Option, Some, None, is_some, refl, sym, ap, ◌∙◌, subst, arith, ltb-true, eqb-true, ne_eqb, true≢false}
+use Rattle.std.proofs.Common.{◌≡◌, ◌⊎◌, inl, inr, ℕ, ◌+◌, ◌≤◌, ◌==◌, nat_lt, Bool, true, false, not, cond, List, [], ◌∷◌, map, filter, Some, is_some, refl, sym, ap, ◌∙◌, subst, arith, ltb-true, eqb-true, ne_eqb, true≢false}
 use Rattle.std.specs.List.{AllByRecursion as Each}
-use Rattle.std.proofs.lemmas.Bool.{cond-true, cond-false, eqb-false}
+use Rattle.std.proofs.lemmas.Bool.{cond-false, eqb-false}
 use Rattle.jc_types.proofs.KeyFacts.{same_uid-eq}
 use Rattle.jc_types.proofs.ListFacts.{Each-weaker}
 use Rattle.jc_types.specs.Keys.{same_key, same_uid}
@@ -13,7 +13,7 @@ use Rattle.jc_states.specs.PodLists.{RisesFrom, drop_pod, put_pod}
 use Rattle.jc_states.specs.UidLists.{is_in}
 use Rattle.jc_states.proofs.PodListFacts.{among_none, pod_among, rises-each}
 use Rattle.jc_plan.specs.declared.plans.Planned.{Planned}
-use Rattle.jc_making.specs.Grants.{Becomes, AllBecome, Goes, Nothing, Stays, frees, concerns}
+use Rattle.jc_making.specs.Grants.{AllBecome, Goes, Nothing, Stays, frees, concerns}
 
 -- ---- a pod in the place of that of its UID
 

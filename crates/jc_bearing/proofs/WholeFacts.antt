@@ -1,19 +1,16 @@
 -- A whole sync of a settle: from its begin, over lists, deliveries and its steps, to its end.
-use Rattle.std.proofs.Common.{◌≡◌, ◌⊎◌, inl, inr, ℕ, zero, suc, ◌+◌, ◌<◌, ◌≤◌, ◌==◌, Bool, true, false, ◌&&◌, cond, List, [], ◌∷◌, ◌++◌, length, Option, Some, None, is_some, refl, sym, ap, ◌∙◌, subst, arith, true≢false, eq-eqb, append_assoc}
+use Rattle.std.proofs.Common.{◌≡◌, ◌⊎◌, inl, inr, ℕ, zero, suc, ◌+◌, ◌<◌, ◌==◌, Bool, true, false, ◌&&◌, cond, List, [], ◌∷◌, ◌++◌, length, Option, Some, None, is_some, refl, sym, ap, ◌∙◌, subst, arith, true≢false, eq-eqb, append_assoc}
 use Rattle.std.proofs.lemmas.Option.{none-some as none_some}
 use Rattle.std.specs.List.{AllByRecursion as Each}
-use Rattle.std.specs.Option.{option_map, option_to_list}
 use Rattle.jc_types.proofs.KeyFacts.{same_key-itself}
 use Rattle.jc_types.proofs.ListFacts.{Each-append, Each-weaker}
 use Rattle.jc_types.specs.Keys.{same_key}
 use Rattle.jc_types.specs.ValidSpecs.{IsValidSpec}
-use Rattle.jc_types.specs.declared.actions.Fault.{Fault}
 use Rattle.jc_types.specs.declared.actions.SpecChange.{SpecChange}
 use Rattle.jc_types.specs.declared.objects.Entry.{Entry}
 use Rattle.jc_types.specs.declared.objects.Job.{Job}
 use Rattle.jc_types.specs.declared.replies.Answer.{Answer}
 use Rattle.jc_types.specs.declared.replies.Answer.TheVariants as answer
-use Rattle.jc_types.specs.declared.replies.Reply.{Reply}
 use Rattle.jc_types.specs.declared.replies.Reply.TheVariants as reply
 use Rattle.jc_types.specs.declared.replies.Request.{Request}
 use Rattle.jc_types.specs.declared.replies.Request.TheVariants as request
@@ -23,7 +20,7 @@ use Rattle.jc_states.specs.declared.bases.Basis.{Basis}
 use Rattle.jc_log.specs.Acts as does
 use Rattle.jc_log.specs.Acts.{Act}
 use Rattle.jc_log.specs.Deeds.{Deed}
-use Rattle.jc_log.specs.Log.{job_in, pods_under, upto}
+use Rattle.jc_log.specs.Log.{job_in, pods_under}
 use Rattle.jc_log.specs.Requests.{changed_spec, grown, update_refusal}
 use Rattle.jc_log.specs.Writes.{Stored}
 use Rattle.jc_log.proofs.LogFacts.{upto-all}
@@ -38,7 +35,7 @@ use Rattle.jc_sync.specs.Quiet.{GoesOnTo}
 use Rattle.jc_sync.specs.Readings.{is_step, step_told, steps_of, told_step, with_step}
 use Rattle.jc_sync.specs.Registers.{HasSyncs, put_at, register_at, register_of}
 use Rattle.jc_sync.specs.Sends.{sends_of}
-use Rattle.jc_sync.specs.Steps.{Ends, GoesOn, Next, Sync, SyncEnd, answered_to, as_answer, end_given, flight_after, next_unless, stepped_at}
+use Rattle.jc_sync.specs.Steps.{Ends, GoesOn, Next, SyncEnd, answered_to, as_answer, end_given, flight_after, next_unless, stepped_at}
 use Rattle.jc_sync.specs.Syncs.{began_of, is_begin}
 use Rattle.jc_sync.proofs.ReadFacts.{reads_begun}
 use Rattle.jc_sync.proofs.RegisterFacts.{step_basis, step_syncs}
@@ -46,7 +43,7 @@ use Rattle.jc_sync.proofs.StepFacts.{after_basis}
 use Rattle.jc_runs.specs.Diaries.{moment, notes, on_step, ticks}
 use Rattle.jc_runs.specs.Legal.{IsLegal, IsLegalNext}
 use Rattle.jc_runs.specs.Registers.{pending, register}
-use Rattle.jc_runs.specs.Replies.{AppendsNothing, diary, log_given}
+use Rattle.jc_runs.specs.Replies.{diary, log_given}
 use Rattle.jc_runs.specs.Runs.{AllAskValid, AsksValid}
 use Rattle.jc_runs.specs.Teams.{registers_of}
 use Rattle.jc_runs.proofs.LegalRuns.{Given, Machine, given, legal_run}
@@ -59,7 +56,7 @@ use Rattle.jc_settle.proofs.CalmFacts.{Calm, NextIs, Step, caught-legal, next-wh
 use Rattle.jc_settle.proofs.CatchFacts.{catches-up}
 use Rattle.jc_settle.proofs.OnFacts.{next-first, next-legal, on-adds, on-some}
 use Rattle.jc_settle.proofs.SerialFacts.{register-kept, reply-is}
-use Rattle.jc_calm.specs.Turns.{BeginsAlone, faults_pending}
+use Rattle.jc_calm.specs.Turns.{BeginsAlone}
 use Rattle.jc_calm.proofs.FirstFacts.{begun-is-alone, begun-legal, begun-log, begun-now, begun-pending, begun-register}
 use Rattle.jc_calm.proofs.NowFacts.{ended-pending, faults-most, now-same, now-told}
 use Rattle.jc_calm.proofs.StepFacts.{ends-calm, noted}
@@ -70,7 +67,7 @@ use Rattle.jc_granted.proofs.GrantFacts.{is-granted, stays-ready}
 use Rattle.jc_granted.proofs.SettleGrants.{going}
 use Rattle.jc_granted.proofs.StepGrants.{further, grant-keeps, step-ended}
 use Rattle.jc_granted.proofs.UnderWay.{IsGoing, IsUnderWay, going-ready, left-told, under-way}
-use Rattle.jc_bearing.specs.Whole.{DoesAll, RunsWhole, SawLog}
+use Rattle.jc_bearing.specs.Whole.{DoesAll, RunsWhole}
 use Rattle.jc_bearing.proofs.BearFacts.{Bears, bears-next}
 use Rattle.jc_bearing.proofs.DoneFacts.{bears-first, does-all}
 use Rattle.jc_bearing.proofs.WriteKinds.{writes-what}
@@ -232,8 +229,7 @@ module _ (shape : Shape) (past : List Deed) (d : Deed) (before : IsLegal shape p
         → HasSyncs (d ∷ past) (grown m.log entry) (put_at c w (register_of next) (registers_of m.teams)) → (n : IsBearing shape c w old basis (d ∷ past)) × (n.left ≡ asks_after ask answered left)
     goes-to entry (Ends end) grew ready same bears has = absurd ready
     goes-to entry (GoesOn s) grew ready same bears has =
-        let known = has.each c w s (put-same c w (Some its.sync) (Some s) (registers_of m.teams) its.in_register) in
-        (
+        let known = has.each c w s (put-same c w (Some its.sync) (Some s) (registers_of m.teams) its.in_register) in (
           record {
             left = s.left;
             reads = subst (λ q. IsLeftBy (planned q) (steps_of c w (d ∷ past)) s.left) (same ∙ its.of_basis) known.reads;
