@@ -15,7 +15,7 @@ use Rattle.jc_log.specs.Log.{job_in, made_for, pods_in, pods_under}
 use Rattle.jc_log.proofs.PodFacts.{pods_in-rises}
 use Rattle.jc_log.proofs.WriteFacts.{job_in-key}
 use Rattle.jc_plan.specs.Plans.{planned}
-use Rattle.jc_making.specs.Grants.{IsGranted, job_left}
+use Rattle.jc_making.specs.Grants.{AllGranted, job_left}
 use Rattle.jc_making.specs.Making.{IsCounted, creations_left, fails}
 use Rattle.jc_making.specs.Nodes.{last_end}
 use Rattle.jc_making.proofs.LowerFacts.{lowers}
@@ -43,7 +43,7 @@ module _ (ends : List End) (log new : List Entry) (basis : Basis) (job now : Job
       subst (λ pods. creations_left ends (made_for job.uid log + length (planned basis).creates) (job_left (planned basis) job) (own_pods job (pods_under basis.key new)) + length (planned basis).creates
       ≤ creations_left ends (made_for job.uid log) job (own_pods job pods)) saw.pods
       (lowers ends (made_for job.uid log) job basis (saw.job ∙ there) rising (subst (λ pods. IsCounted job (own_pods job pods)) (sym saw.pods) counted) last (own_pods job (pods_under basis.key new))
-      (subst (λ pods. IsGranted (planned basis) (made_for job.uid log) (own_pods job pods) (own_pods job (pods_under basis.key new))) (sym saw.pods) its.own))
+      (subst (λ pods. AllGranted (planned basis) (made_for job.uid log) (own_pods job pods) (own_pods job (pods_under basis.key new))) (sym saw.pods) its.own))
 
   now-is : now ≡ at_version its.version (job_left (planned basis) job)
   now-is = some_is now (at_version its.version (job_left (planned basis) job)) (sym then ∙ its.job_is)

@@ -39,9 +39,10 @@ use Rattle.jc_sync.specs.Ask.{Ask}
 use Rattle.jc_sync.specs.Ask.TheVariants.{MakePod, MarkPod, LetPodGo, WriteFirst, ReleasePod, WriteSecond}
 use Rattle.jc_sync.specs.Asks.{asks_of, early_asks, first_asks, last_asks, late_asks, let_go_ask, second_asks}
 use Rattle.jc_sync.proofs.QuietFacts.{IfSome-at}
+use Rattle.jc_granted.proofs.StepGrants.{of-each}
 use Rattle.jc_granted.specs.Done.{HasItsPlan, HasStatus, IsMarked, IsStopped}
 use Rattle.jc_granted.specs.Ready.{IsThere}
-use Rattle.jc_making.specs.Grants.{AreNew, IsGranted, frees, job_left}
+use Rattle.jc_making.specs.Grants.{AllGranted, AreNew, frees, job_left}
 use Rattle.jc_bearing.specs.Whole.{DoesAll, HasAllFor, at_version}
 use Rattle.jc_bearing.proofs.TrackFacts.{IsChangeOf, IsDone, Under, tracks-filter, tracks-follow, tracks-itself, tracks-same}
 use Rattle.jc_bearing.proofs.BearFacts.{AreMade, Bears, IsMeant, IsPlanned, creates_in, front-each}
@@ -213,14 +214,6 @@ module _ (old : List Entry) (basis : Basis) (pods : basis.pods ≡ pods_under ba
 
 -- ---- the end
 
-in-each : (P : Uid → Type 0) (u : Uid) (us : List Uid) → Each P us → is_in u us ≡ true → P u
-in-each P u [] all h = absurd (true≢false (sym h))
-in-each P u (v ∷ us) all h = by (in-each P u us all.1) (same_uid v u) refl h
-  where
-    by : (is_in u us ≡ true → P u) → (b : Bool) → same_uid v u ≡ b → (b || is_in u us) ≡ true → P u
-    by more true s g = subst P (same_uid-eq v u s) all.0
-    by more false s g = more g
-
 in-rows : (P : Uid → Type 0) (u : Uid) (rows : List (Uid × Version)) → Each (λ row. P row.0) rows → is_let_go_of u rows ≡ true → P u
 in-rows P u [] all h = absurd (true≢false (sym h))
 in-rows P u (row ∷ rows) all h = by (in-rows P u rows all.1) (same_uid row.0 u) refl h
@@ -237,11 +230,11 @@ module _ (basis : Basis) (log : List Entry) (p : HasItsPlan log basis) where
   one-done : (pod : Pod) → life pod.uid log ≡ Live pod → IsDone (planned basis) basis.key pod
   one-done pod there = record {
     freed = λ h. by (or_cases (is_in pod.uid (planned basis).releases) (is_let_go_of pod.uid (planned basis).let_goes) h);
-    marked = λ h. that IsMarked pod there (in-each (λ u. IsThere IsMarked u log) pod.uid (planned basis).marks p.marks h);
+    marked = λ h. that IsMarked pod there (of-each (λ u. IsThere IsMarked u log) pod.uid (planned basis).marks p.marks h);
   }
     where
       by : (is_in pod.uid (planned basis).releases ≡ true) ⊎ (is_let_go_of pod.uid (planned basis).let_goes ≡ true) → pod.tracked ≡ false
-      by (inl h) = not-true pod.tracked (ap is_lost (sym there) ∙ in-each (λ u. is_lost (life u log) ≡ true) pod.uid (planned basis).releases p.releases h)
+      by (inl h) = not-true pod.tracked (ap is_lost (sym there) ∙ of-each (λ u. is_lost (life u log) ≡ true) pod.uid (planned basis).releases p.releases h)
       by (inr h) = (that IsStopped pod there (in-rows (λ u. IsThere IsStopped u log) pod.uid (planned basis).let_goes p.let_goes h)).untracked
 
 module _ (old log : List Entry) (basis : Basis) (p : HasItsPlan log basis) (h : Bears old basis [] log) where
@@ -274,7 +267,7 @@ module _ (old log : List Entry) (basis : Basis) (p : HasItsPlan log basis) (h : 
         ∙ ap (λ l. own_pods job (filter (is_under basis.key) h.after) ++ l)
         (ap (own_pods job) (filter_all (is_under basis.key) h.fresh h.under) ∙ filter_all (is_own job) h.fresh m.owned)
 
-    own-is : IsGranted (planned basis) (made_for job.uid old) (own_pods job (pods_under basis.key old)) (own_pods job (pods_under basis.key log))
+    own-is : AllGranted (planned basis) (made_for job.uid old) (own_pods job (pods_under basis.key old)) (own_pods job (pods_under basis.key log))
     own-is = record {
       after = own_pods job (filter (is_under basis.key) h.after);
       fresh = h.fresh;

@@ -24,7 +24,7 @@ use Rattle.jc_runs.specs.Diaries.{moment}
 use Rattle.jc_runs.specs.Replies.{log_given}
 use Rattle.jc_settle.specs.Settles.{IsCalm, is_telling, settled_on}
 use Rattle.jc_calm.specs.Turns.{faults_pending}
-use Rattle.jc_making.specs.Grants.{IsGranted, job_left}
+use Rattle.jc_making.specs.Grants.{AllGranted, job_left}
 
 -- The Job at the version.
 abbrev pub at_version : Version → Job → Job
@@ -35,7 +35,7 @@ at_version version job = record job { version = version }
 pub record HasAllFor (log : List Entry) (basis : Basis) (job : Job) (new : List Entry) : Type 0 where
   pub version : Version
   pub job_is : job_in basis.key new ≡ Some (at_version version (job_left (planned basis) job))
-  pub own : IsGranted (planned basis) (made_for job.uid log) (own_pods job (pods_under basis.key log))
+  pub own : AllGranted (planned basis) (made_for job.uid log) (own_pods job (pods_under basis.key log))
       (own_pods job (pods_under basis.key new))
   pub made : made_for job.uid new ≡ made_for job.uid log + length (planned basis).creates
 

@@ -25,7 +25,7 @@ use Rattle.jc_history.specs.Nodes.{last_end}
 use Rattle.jc_plan.specs.Plans.{planned}
 use Rattle.jc_plan.specs.Statuses.{accounted, decided_in, is_settled}
 use Rattle.jc_plan.proofs.PlanFacts.{plan-creates}
-use Rattle.jc_making.specs.Grants.{AreNew, IsGranted}
+use Rattle.jc_making.specs.Grants.{AllGranted, AreNew}
 use Rattle.jc_making.specs.Making.{IsCounted, fails, is_closed, may_be_made, misses, open_indexes, places, places_of, pods_succeeded, will_fail}
 use Rattle.jc_making.proofs.Lists.{halves}
 use Rattle.jc_making.proofs.MissFacts.{new-length, new-misses}
@@ -43,7 +43,7 @@ all-active made (index ∷ indexes) (p ∷ pods) h = (h.0.active, all-active (su
 
 module _ (ends : List End) (made : ℕ) (job : Job) (basis : Basis) (this : basis.job ≡ Some job) (rises : IsRising basis.pods)
     (counted : IsCounted job (own_pods job basis.pods)) (last : IfSome (last_end ends) (λ end. fails end ≡ false))
-    (now : List Pod) (is : IsGranted (planned basis) made (own_pods job basis.pods) now)
+    (now : List Pod) (is : AllGranted (planned basis) made (own_pods job basis.pods) now)
     (undecided : is_settled job (decided_in job basis) ≡ false) (running : job.spec.suspend ≡ false) where
   abbrev pub own : List Pod
   own = own_pods job basis.pods

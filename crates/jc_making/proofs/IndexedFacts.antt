@@ -43,7 +43,7 @@ use Rattle.jc_plan.specs.Plans.{planned}
 use Rattle.jc_plan.specs.Statuses.{accounted, decided_in, is_settled}
 use Rattle.jc_plan.proofs.PlanFacts.{plan-creates}
 use Rattle.jc_plan.proofs.ValueFacts.{second-index_failures}
-use Rattle.jc_making.specs.Grants.{AreNew, IsGranted}
+use Rattle.jc_making.specs.Grants.{AllGranted, AreNew}
 use Rattle.jc_making.specs.Making.{IsCounted, completed_now, failed_by, fails, is_closed, may_be_made, misses, new_successes, open_indexes, places, places_of, pods_succeeded, will_fail}
 use Rattle.jc_making.proofs.ClosedFacts.{closed-stays, is_over, past-closed}
 use Rattle.jc_making.proofs.CreationFacts.{fresh-length, kept, kept-many, made-few, made_now, misses-few, tracked-now, wants}
@@ -149,7 +149,7 @@ module _ (completions : ℕ) (completed : List ℕ) (job : Job) (pods : List Pod
 
 module _ (ends : List End) (made : ℕ) (job : Job) (basis : Basis) (this : basis.job ≡ Some job) (rises : IsRising basis.pods)
     (counted : IsCounted job (own_pods job basis.pods)) (last : IfSome (last_end ends) (λ end. fails end ≡ false))
-    (now : List Pod) (is : IsGranted (planned basis) made (own_pods job basis.pods) now)
+    (now : List Pod) (is : AllGranted (planned basis) made (own_pods job basis.pods) now)
     (undecided : is_settled job (decided_in job basis) ≡ false) (running : job.spec.suspend ≡ false)
     (indexed : job.spec.mode ≡ Indexed) where
   abbrev own : List Pod

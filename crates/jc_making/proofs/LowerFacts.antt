@@ -20,7 +20,7 @@ use Rattle.jc_plan.specs.Statuses.{accounted, decided_in, first_status_of, is_se
 use Rattle.jc_plan.proofs.PlanFacts.{plan-creates}
 use Rattle.jc_plan.proofs.Targets.{target-kind}
 use Rattle.jc_plan.proofs.ValueFacts.{settled-target}
-use Rattle.jc_making.specs.Grants.{IsGranted, job_left}
+use Rattle.jc_making.specs.Grants.{AllGranted, job_left}
 use Rattle.jc_making.specs.Making.{IsCounted, creations_left, fails, may_be_made}
 use Rattle.jc_making.proofs.CreationFacts.{plain-lowers}
 use Rattle.jc_making.proofs.IndexedFacts.{indexed-lowers}
@@ -36,7 +36,7 @@ no-more false m = omega arith
 
 module _ (ends : List End) (made : ℕ) (job : Job) (basis : Basis) (this : basis.job ≡ Some job) (rises : IsRising basis.pods)
     (counted : IsCounted job (own_pods job basis.pods)) (last : IfSome (last_end ends) (λ end. fails end ≡ false))
-    (now : List Pod) (is : IsGranted (planned basis) made (own_pods job basis.pods) now) where
+    (now : List Pod) (is : AllGranted (planned basis) made (own_pods job basis.pods) now) where
   abbrev own : List Pod
   own = own_pods job basis.pods
 
