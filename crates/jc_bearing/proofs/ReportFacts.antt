@@ -1,29 +1,40 @@
 -- What the node does to a pod, and how many pods are made for a Job at most.
-use Rattle.std.proofs.Common.{◌≡◌, ℕ, ◌+◌, ◌≤◌, Bool, true, false, not, cond, ◌&&◌, List, [], ◌∷◌, ◌++◌, map, filter, Option, Some, None, is_some, refl, sym, ap, ◌∙◌, subst, arith, true≢false, eqb-true}
+use Rattle.std.proofs.Common.{◌≡◌, ℕ, ◌+◌, ◌≤◌, Bool, true, false, not, cond, ◌&&◌, List, [], ◌∷◌, ◌++◌, map, filter, find, Option, Some, None, is_some, refl, sym, ap, ◌∙◌, subst, arith, true≢false, eqb-true}
 use Rattle.std.specs.List.{AllByRecursion as Each}
+use Rattle.std.specs.Option.{option_map_or}
 use Rattle.std.proofs.Math.Bool.{and-false}
 use Rattle.std.proofs.lemmas.Bool.{and_parts, cond-false, not-true}
 use Rattle.std.proofs.lemmas.Option.{same_Some as some_is}
-use Rattle.jc_types.proofs.KeyFacts.{same_uid-eq}
+use Rattle.jc_types.proofs.KeyFacts.{same_key-eq, same_uid-eq}
 use Rattle.jc_types.proofs.ListFacts.{Each-filter, Each-passes, Each-weaker, filter_swap, find_each, find_passes}
 use Rattle.jc_types.specs.Keys.{same_key, same_uid}
+use Rattle.jc_types.specs.Equality.{same_phase}
+use Rattle.jc_types.specs.declared.actions.ContainerChange.{ContainerChange}
 use Rattle.jc_types.specs.declared.actions.End.{End}
 use Rattle.jc_types.specs.declared.numbers.Uid.{Uid}
 use Rattle.jc_types.specs.declared.objects.Entry.{Entry}
 use Rattle.jc_types.specs.declared.objects.Entry.TheVariants.{PodPut, PodGone}
 use Rattle.jc_types.specs.declared.objects.Job.{Job}
 use Rattle.jc_types.specs.declared.objects.Key.{Key}
+use Rattle.jc_types.specs.declared.objects.Phase.TheVariants.{Pending, Running}
 use Rattle.jc_types.specs.declared.objects.Pod.{Pod}
+use Rattle.jc_types.specs.declared.replies.Reply.{Reply}
+use Rattle.jc_types.specs.declared.replies.Reply.TheVariants as reply
+use Rattle.jc_types.specs.declared.runs.Shape.{Shape}
 use Rattle.jc_states.specs.Bases.{is_own, own_pods}
 use Rattle.jc_states.specs.Pods.{goes, is_final, is_marked, is_tracked}
 use Rattle.jc_states.specs.PodLists.{IsRising, RisesFrom, drop_pod}
 use Rattle.jc_states.proofs.PodListFacts.{among_none, drop-absent, pod_among, rises-found, rises_filter}
 use Rattle.jc_log.specs.Log.{is_never, life, made_for, pod_in, pods_in, pods_under}
-use Rattle.jc_log.specs.Requests.{pod_entry, with_report}
+use Rattle.jc_log.specs.Acts as does
+use Rattle.jc_log.specs.Deeds.{Deed}
+use Rattle.jc_log.specs.Requests.{Answered, grown, is_unnamed, pod_entry, refused, report_phase_at, report_phase_gives, report_unless, same_course_of, with_report}
 use Rattle.jc_log.proofs.PodFacts.{living-live, pods_in-among, pods_in-rises}
+use Rattle.jc_runs.specs.Replies.{gives, log_given, node_gives}
 use Rattle.jc_making.specs.Making.{IsCounted, creations_left}
-use Rattle.jc_making.specs.Nodes.{NodeAct, act_on, change_by, end_at, pod_end}
+use Rattle.jc_making.specs.Nodes.{NodeAct, act_on, change_by, end_at, fate, node_step, pod_end}
 use Rattle.jc_making.proofs.NodeFacts.{gone, node-falls}
+use Rattle.jc_making.proofs.NodeSteps.{Befalls, node-step-befalls}
 use Rattle.jc_bearing.specs.AtMost.{pods_at_most}
 use Rattle.jc_bearing.proofs.TrackFacts.{put-replaced, replaced}
 
@@ -97,7 +108,7 @@ filter-drops test u pods = filter_swap test (λ (pod : Pod). not (same_uid pod.u
 -- ---- what the node does
 
 module _ (fates : Key → Option (List End)) (ends : List End) (log : List Entry) (job : Job) (pod : Pod) (act : NodeAct) (there : pod_in pod.uid log ≡ Some pod)
-    (counted : IsCounted job (own_pods job (pods_under job.key log))) (fated : is_own job pod ≡ true → pod_end fates pod ≡ end_at pod.serial ends) (befalls : act_on fates pod ≡ Some act) where
+    (counted : IsCounted job (own_pods job (pods_under job.key log))) (fated : fates job.key ≡ Some ends) (befalls : act_on fates pod ≡ Some act) where
   abbrev new : Pod
   new = with_report log pod (change_by pod act)
 
@@ -141,14 +152,19 @@ module _ (fates : Key → Option (List End)) (ends : List End) (log : List Entry
     none-more false = let same = ap left (put-own ∙ none-same new (own_pods job (pods_under job.key log)) none) in omega (arith, same)
 
   -- It is one of them.
-  module _ (some : is_some (pod_among pod.uid (own_pods job (pods_under job.key log))) ≡ true) (mine : is_own job pod ≡ true) where
+  module _ (some : is_some (pod_among pod.uid (own_pods job (pods_under job.key log))) ≡ true) (mine : same_key pod.owner job.key ≡ true) where
     at : Among new pod (own_pods job (pods_under job.key log))
     at = splits new pod 0 (own_pods job (pods_under job.key log)) own-rises own-only some
+
+    ended : pod_end fates pod ≡ end_at pod.serial ends
+    ended =
+        ap (λ k. option_map_or (end_at pod.serial) (fates k) None) (same_key-eq pod.owner job.key mine)
+        ∙ ap (λ (o : Option (List End)). option_map_or (end_at pod.serial) o None) fated
 
     falls : creations_left ends (made_for job.uid log) job (at.front ++ new ∷ at.back) ≤ creations_left ends (made_for job.uid log) job (own_pods job (pods_under job.key log))
     falls =
         subst (λ pods. creations_left ends (made_for job.uid log) job (at.front ++ new ∷ at.back) ≤ creations_left ends (made_for job.uid log) job pods) (sym at.are)
-        (node-falls fates ends (made_for job.uid log) job at.front at.back log pod (subst (IsCounted job) at.are counted) (fated mine) act befalls)
+        (node-falls fates ends (made_for job.uid log) job at.front at.back log pod (subst (IsCounted job) at.are counted) ended act befalls)
 
     some-more : (b : Bool) → goes new ≡ b → creations_left ends (made_for job.uid log) job (own_pods job (pods_under job.key (cond b (PodGone new) (PodPut new) ∷ log))) ≤ creations_left ends (made_for job.uid log) job (own_pods job (pods_under job.key log))
     some-more true goes-now =
@@ -167,11 +183,13 @@ module _ (fates : Key → Option (List End)) (ends : List End) (log : List Entry
   pub node-no-more : pods_at_most ends (pod_entry new ∷ log) job ≤ pods_at_most ends log job
   node-no-more = by (goes new) refl (pod_among pod.uid (own_pods job (pods_under job.key log))) refl
     where
-      mine-of : (q : Pod) → pod_among pod.uid (own_pods job (pods_under job.key log)) ≡ Some q → is_own job pod ≡ true
+      mine-of : (q : Pod) → pod_among pod.uid (own_pods job (pods_under job.key log)) ≡ Some q → same_key pod.owner job.key ≡ true
       mine-of q found =
-          let passes = find_each (λ (p : Pod). is_own job p ≡ true) (λ (p : Pod). same_uid p.uid pod.uid) (own_pods job (pods_under job.key log)) q (Each-passes (is_own job) (pods_under job.key log)) found in
+          let passes =
+          find_each (λ (p : Pod). same_key p.owner job.key ≡ true) (λ (p : Pod). same_uid p.uid pod.uid) (own_pods job (pods_under job.key log)) q
+          (Each-filter (λ (p : Pod). same_key p.owner job.key ≡ true) (is_own job) (pods_under job.key log) (Each-passes (λ (p : Pod). same_key p.owner job.key) (pods_in log))) found in
           let is = find_each (λ (p : Pod). same_uid p.uid pod.uid ≡ true → p ≡ pod) (λ (p : Pod). same_uid p.uid pod.uid) (own_pods job (pods_under job.key log)) q own-only found in
-          ap (is_own job) (sym (is (find_passes (λ (p : Pod). same_uid p.uid pod.uid) (own_pods job (pods_under job.key log)) q found))) ∙ passes
+          ap (λ (p : Pod). same_key p.owner job.key) (sym (is (find_passes (λ (p : Pod). same_uid p.uid pod.uid) (own_pods job (pods_under job.key log)) q found))) ∙ passes
 
       less : (b : Bool) → goes new ≡ b → (o : Option Pod) → pod_among pod.uid (own_pods job (pods_under job.key log)) ≡ o
           → creations_left ends (made_for job.uid log) job (own_pods job (pods_under job.key (cond b (PodGone new) (PodPut new) ∷ log))) ≤ creations_left ends (made_for job.uid log) job (own_pods job (pods_under job.key log))
@@ -184,3 +202,42 @@ module _ (fates : Key → Option (List End)) (ends : List End) (log : List Entry
           let made = made-same b in
           let all = ap (λ n. n + creations_left ends n job (own_pods job (pods_under job.key (cond b (PodGone new) (PodPut new) ∷ log)))) made in
           omega (arith, fewer, all)
+
+-- ---- a deed of the node
+
+module _ (shape : Shape) (past : List Deed) (d : Deed) (act : d.act ≡ does.Node) (ends : List End) (job : Job) (fated : fate past job.key ≡ Some ends)
+    (counted : IsCounted job (own_pods job (pods_under job.key (log_given shape past)))) where
+  abbrev log : List Entry
+  log = log_given shape past
+
+  grew : log_given shape (d ∷ past) ≡ grown (log_given shape past) (node_gives (log_given shape past) (node_step (log_given shape past) (fate past))).entry
+  unfolding log_given gives
+  grew = ap (λ a. grown (log_given shape past) (gives shape past (log_given shape past) a).entry) act
+
+  -- A report that is refused changes nothing.
+  refused-or : (b : Bool) (r : Reply) (a : Answered) → pods_at_most ends (grown (log_given shape past) a.entry) job ≤ pods_at_most ends (log_given shape past) job
+      → pods_at_most ends (grown (log_given shape past) (cond b (refused r) a).entry) job ≤ pods_at_most ends (log_given shape past) job
+  refused-or true r a h = omega arith
+  refused-or false r a h = h
+
+  reported : (pod : Pod) (what : NodeAct) → Befalls (log_given shape past) (fate past) pod what
+      → pods_at_most ends (grown (log_given shape past) (report_phase_gives (log_given shape past) pod.uid (change_by pod what)).entry) job ≤ pods_at_most ends (log_given shape past) job
+  reported pod what b =
+      subst (λ o. pods_at_most ends (grown (log_given shape past) (report_phase_at (log_given shape past) (change_by pod what) o).entry) job ≤ pods_at_most ends (log_given shape past) job) (sym b.there)
+      (refused-or (is_final pod.phase) (reply.Final pod.phase) _
+      (refused-or (same_phase pod.phase Running && same_phase (change_by pod what).phase Pending) (reply.BadStep Running Pending) _
+      (unless (find (is_unnamed pod) (change_by pod what).containers))))
+    where
+      unless : (o : Option ContainerChange) → pods_at_most ends (grown (log_given shape past) (report_unless (log_given shape past) pod (change_by pod what) o).entry) job ≤ pods_at_most ends (log_given shape past) job
+      unless (Some unnamed) = omega arith
+      unless None =
+          refused-or (same_course_of pod (with_report (log_given shape past) pod (change_by pod what))) (reply.Unchanged pod.version) _
+          (node-no-more (fate past) ends (log_given shape past) job pod what b.there counted fated b.acts)
+
+  pub node-turn : pods_at_most ends (log_given shape (d ∷ past)) job ≤ pods_at_most ends (log_given shape past) job
+  node-turn = subst (λ l. pods_at_most ends l job ≤ pods_at_most ends (log_given shape past) job) (sym grew) (by (node_step (log_given shape past) (fate past)) refl)
+    where
+      by : (o : Option (Pod × NodeAct)) → node_step (log_given shape past) (fate past) ≡ o
+          → pods_at_most ends (grown (log_given shape past) (node_gives (log_given shape past) o).entry) job ≤ pods_at_most ends (log_given shape past) job
+      by None is = omega arith
+      by (Some step) is = reported step.0 step.1 (node-step-befalls (log_given shape past) (fate past) step is)

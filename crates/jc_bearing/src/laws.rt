@@ -1,27 +1,25 @@
 //! Laws on whole syncs of a settle. Each function is empty: what it ensures holds of every history, and its callers may
 //! cite it.
 
-ghost use Rattle.std.specs.Prelude.{◌≡◌, ◌<◌, ◌≤◌, ◌∷◌, IfSome, List, None, Option, Some, false, true, ℕ};
+ghost use Rattle.std.specs.Prelude.{◌≡◌, ◌<◌, ◌≤◌, ◌∷◌, IfSome, List, None, Some, false, ℕ};
 ghost use Rattle.jc_types.specs.Keys.{same_key, same_uid};
 ghost use Rattle.jc_types.specs.declared.actions.End.{End};
 ghost use Rattle.jc_types.specs.declared.objects.Entry.{Entry};
 ghost use Rattle.jc_types.specs.declared.objects.Job.{Job};
-ghost use Rattle.jc_types.specs.declared.objects.Key.{Key};
-ghost use Rattle.jc_types.specs.declared.objects.Pod.{Pod};
 ghost use Rattle.jc_types.specs.declared.runs.Shape.{Shape};
-ghost use Rattle.jc_states.specs.Bases.{is_own, own_pods};
+ghost use Rattle.jc_states.specs.Bases.{own_pods};
 ghost use Rattle.jc_states.specs.declared.bases.Basis.{Basis};
+ghost use Rattle.jc_log.specs.Acts as does;
 ghost use Rattle.jc_log.specs.Deeds.{Deed};
-ghost use Rattle.jc_log.specs.Log.{job_in, pod_in, pods_under};
-ghost use Rattle.jc_log.specs.Requests.{pod_entry, with_report};
+ghost use Rattle.jc_log.specs.Log.{job_in, pods_under};
 ghost use Rattle.jc_runs.specs.Legal.{IsLegal};
 ghost use Rattle.jc_runs.specs.Registers.{pending};
-ghost use Rattle.jc_runs.specs.Replies.{diary};
+ghost use Rattle.jc_runs.specs.Replies.{diary, log_given};
 ghost use Rattle.jc_runs.specs.Runs.{AllAskValid};
 ghost use Rattle.jc_settle.specs.Settles.{IsCalm};
 ghost use Rattle.jc_calm.specs.Turns.{BeginsAlone};
 ghost use Rattle.jc_making.specs.Making.{IsCounted, fails};
-ghost use Rattle.jc_making.specs.Nodes.{NodeAct, act_on, change_by, end_at, last_end, pod_end};
+ghost use Rattle.jc_making.specs.Nodes.{fate, last_end};
 ghost use Rattle.jc_bearing.specs.AtMost.{pods_at_most};
 ghost use Rattle.jc_bearing.specs.Whole.{DoesAll, RunsWhole, SawLog};
 
@@ -58,14 +56,12 @@ pub fn whole_syncs_make_no_pod_beyond()
         → pods_at_most ends new job ≡ pods_at_most ends log job }
 {}
 
-/// **And neither does what the node does to a pod**, be it one of the Job's or another: it starts, restarts, succeeds, fails,
-/// or is stopped, and may be gone then.
+/// **And neither does what the node does**, to one of the Job's pods or to another: it starts, restarts, succeeds, fails, or
+/// is stopped, and may be gone then. Such a deed leaves them no more, where the pods of the Job's key have fates.
 pub fn the_node_allows_no_more_pods()
-    ensures { (fates : Key → Option (List End)) (ends : List End) (log : List Entry) (job : Job)
-        (pod : Pod) (act : NodeAct) → pod_in pod.uid log ≡ Some pod
-        → IsCounted job (own_pods job (pods_under job.key log))
-        → (is_own job pod ≡ true → pod_end fates pod ≡ end_at pod.serial ends)
-        → act_on fates pod ≡ Some act
-        → pods_at_most ends (pod_entry (with_report log pod (change_by pod act)) ∷ log) job
-        ≤ pods_at_most ends log job }
+    ensures { (shape : Shape) (past : List Deed) (d : Deed) (ends : List End) (job : Job)
+        → d.act ≡ does.Node → fate past job.key ≡ Some ends
+        → IsCounted job (own_pods job (pods_under job.key (log_given shape past)))
+        → pods_at_most ends (log_given shape (d ∷ past)) job
+        ≤ pods_at_most ends (log_given shape past) job }
 {}
