@@ -1,5 +1,5 @@
 -- What counts of a Job of a legal history, and of its own pods.
-use Rattle.std.proofs.Common.{◌≡◌, ◌⊎◌, inl, inr, Bool, true, false, not, ◌&&◌, ◌||◌, List, [], ◌∷◌, map, filter, length, Option, Some, None, is_some, IsSome, IfSome, refl, sym, ap, ◌∙◌, subst, arith, true≢false}
+use Rattle.std.proofs.Common.{◌≡◌, ◌⊎◌, inl, inr, true, false, not, List, length, Option, Some, None, is_some, IfSome, refl, sym, ap, ◌∙◌, subst, arith, true≢false}
 use Rattle.std.specs.List.{AllByRecursion as Each}
 use Rattle.std.proofs.lemmas.Bool.{and_from, and_parts, false_from_ne_true, not-true, or_cases}
 use Rattle.jc_ranges.specs.Sets.{IsIncreasing}
@@ -8,7 +8,6 @@ use Rattle.jc_types.proofs.ListFacts.{Each-both, Each-filter, Each-passes, Each-
 use Rattle.jc_types.specs.Keys.{same_key, same_uid}
 use Rattle.jc_types.specs.ValidSpecs.{IsValidSpec}
 use Rattle.jc_types.specs.declared.actions.SpecChange.{SpecChange}
-use Rattle.jc_types.specs.declared.numbers.Uid.{Uid}
 use Rattle.jc_types.specs.declared.objects.Entry.{Entry}
 use Rattle.jc_types.specs.declared.objects.Entry.TheVariants.{JobPut}
 use Rattle.jc_types.specs.declared.objects.Job.{Job}
@@ -22,7 +21,6 @@ use Rattle.jc_states.specs.Bases.{is_own, own_pods}
 use Rattle.jc_states.specs.Conditions.{has_end, has_target}
 use Rattle.jc_states.specs.Listed.{is_listed}
 use Rattle.jc_states.specs.ObjectChanges.{PodStep}
-use Rattle.jc_states.specs.PodLists.{IsRising}
 use Rattle.jc_states.specs.Pods.{is_active, is_final, is_marked, is_open}
 use Rattle.jc_states.specs.UidLists.{is_in}
 use Rattle.jc_states.proofs.PodListFacts.{rises_filter}
@@ -35,7 +33,7 @@ use Rattle.jc_log.proofs.LogFacts.{upto-all}
 use Rattle.jc_log.proofs.PodFacts.{pods_in-live, pods_in-rises}
 use Rattle.jc_log.proofs.WriteFacts.{Stored-from_legal, job_in-key}
 use Rattle.jc_ledger.specs.declared.flights.Flight.{Flight}
-use Rattle.jc_ledger.specs.Ledger.{Record, ledger_of, record_of}
+use Rattle.jc_ledger.specs.Ledger.{Record, ledger_of}
 use Rattle.jc_ledger.specs.Once.{IsJudged}
 use Rattle.jc_ledger.specs.Tied.{HasSoundLists, IsCurrent, IsSound, Tied, TiesJob, made_as}
 use Rattle.jc_ledger.proofs.DoneFacts.{done-increases}
