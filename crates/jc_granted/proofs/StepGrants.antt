@@ -53,7 +53,7 @@ use Rattle.jc_granted.proofs.GrantFacts.{is-granted, stays-ready}
 use Rattle.jc_granted.proofs.UnderWay.{IsGoing, IsUnderWay, going-doing, going-ready, under-way}
 
 -- What holds of each holds of one that is in the list.
-of-each : (P : Uid → Type 0) (u : Uid) (us : List Uid) → Each P us → is_in u us ≡ true → P u
+pub of-each : (P : Uid → Type 0) (u : Uid) (us : List Uid) → Each P us → is_in u us ≡ true → P u
 of-each P u [] all h = absurd (true≢false (sym h))
 of-each P u (v ∷ us) all h = by (of-each P u us all.1) (same_uid v u) refl h
   where

@@ -25,7 +25,7 @@ use Rattle.jc_history.specs.Nodes.{last_end}
 use Rattle.jc_plan.specs.Plans.{planned}
 use Rattle.jc_plan.specs.Statuses.{accounted, decided_in, is_settled}
 use Rattle.jc_plan.proofs.PlanFacts.{plan-creates}
-use Rattle.jc_making.specs.Grants.{AreNew, IsCarriedOut}
+use Rattle.jc_making.specs.Grants.{AllGranted, AreNew}
 use Rattle.jc_making.specs.Making.{IsCounted, fails, is_closed, may_be_made, misses, open_indexes, places, places_of, pods_succeeded, will_fail}
 use Rattle.jc_making.proofs.Lists.{halves}
 use Rattle.jc_making.proofs.MissFacts.{new-length, new-misses}
@@ -43,7 +43,7 @@ all-active made (index ∷ indexes) (p ∷ pods) h = (h.0.active, all-active (su
 
 module _ (ends : List End) (made : ℕ) (job : Job) (basis : Basis) (this : basis.job ≡ Some job) (rises : IsRising basis.pods)
     (counted : IsCounted job (own_pods job basis.pods)) (last : IfSome (last_end ends) (λ end. fails end ≡ false))
-    (now : List Pod) (is : IsCarriedOut (planned basis) made (own_pods job basis.pods) now)
+    (now : List Pod) (is : AllGranted (planned basis) made (own_pods job basis.pods) now)
     (undecided : is_settled job (decided_in job basis) ≡ false) (running : job.spec.suspend ≡ false) where
   abbrev pub own : List Pod
   own = own_pods job basis.pods
@@ -71,10 +71,7 @@ module _ (ends : List End) (made : ℕ) (job : Job) (basis : Basis) (this : basi
   staying-is =
       filter_agree (stays_active job basis this rises undecided counted.listed) (λ p. is_tracked_active p && not (lets p)) each own
       ∙ sym (filter_filter (λ p. not (lets p)) is_tracked_active own)
-      ∙ filter_agree (λ p. not (lets p)) (λ p. not (is_spare job.spec.mode needless tracked p) && not
-      (is_one_of (length rest - wants) job.spec.mode rest p))
-      (λ p. nor (is_spare job.spec.mode needless tracked p) (is_one_of (length rest - wants) job.spec.mode rest p))
-      tracked
+      ∙ filter_agree (λ p. not (lets p)) (λ p. not (is_spare job.spec.mode needless tracked p) && not (is_one_of (length rest - wants) job.spec.mode rest p)) (λ p. nor (is_spare job.spec.mode needless tracked p) (is_one_of (length rest - wants) job.spec.mode rest p)) tracked
       ∙ sym (filter_filter (λ p. not (is_one_of (length rest - wants) job.spec.mode rest p)) (λ p. not (is_spare job.spec.mode needless tracked p)) tracked)
     where
       lets : Pod → Bool

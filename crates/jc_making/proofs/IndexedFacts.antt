@@ -43,7 +43,7 @@ use Rattle.jc_plan.specs.Plans.{planned}
 use Rattle.jc_plan.specs.Statuses.{accounted, decided_in, is_settled}
 use Rattle.jc_plan.proofs.PlanFacts.{plan-creates}
 use Rattle.jc_plan.proofs.ValueFacts.{second-index_failures}
-use Rattle.jc_making.specs.Grants.{AreNew, IsCarriedOut}
+use Rattle.jc_making.specs.Grants.{AllGranted, AreNew}
 use Rattle.jc_making.specs.Making.{IsCounted, completed_now, failed_by, fails, is_closed, may_be_made, misses, new_successes, open_indexes, places, places_of, pods_succeeded, will_fail}
 use Rattle.jc_making.proofs.ClosedFacts.{closed-stays, is_over, past-closed}
 use Rattle.jc_making.proofs.CreationFacts.{fresh-length, kept, kept-many, made-few, made_now, misses-few, tracked-now, wants}
@@ -73,9 +73,7 @@ active-keeps FailedOnly p h = ap (λ b. b || is_ending p) h
 
 unheld : (r : Replacement) (own : List Pod) (n : ℕ) → holds (keepers r own) n ≡ false → Each (λ p. has_index n p ≡ false) (tracked_active_pods own)
 unheld r own n h =
-    Each-weaker (λ p. ((keeps r p && has_index n p) ≡ false) × (is_tracked_active p ≡ true))
-    (λ p. has_index n p ≡ false) (λ p k. by (keeps r p) (has_index n p)
-    (active-keeps r p (and_parts (is_active p) (is_tracked p) k.1).0) k.0) (tracked_active_pods own)
+    Each-weaker (λ p. ((keeps r p && has_index n p) ≡ false) × (is_tracked_active p ≡ true)) (λ p. has_index n p ≡ false) (λ p k. by (keeps r p) (has_index n p) (active-keeps r p (and_parts (is_active p) (is_tracked p) k.1).0) k.0) (tracked_active_pods own)
     (Each-both (λ p. (keeps r p && has_index n p) ≡ false) (λ p. is_tracked_active p ≡ true) (tracked_active_pods own)
     (Each-filter (λ p. (keeps r p && has_index n p) ≡ false) is_tracked_active own (each-fails (λ p. keeps r p && has_index n p) own (sym (any_filter (has_index n) (keeps r) own) ∙ h)))
     (Each-passes is_tracked_active own))
@@ -151,7 +149,7 @@ module _ (completions : ℕ) (completed : List ℕ) (job : Job) (pods : List Pod
 
 module _ (ends : List End) (made : ℕ) (job : Job) (basis : Basis) (this : basis.job ≡ Some job) (rises : IsRising basis.pods)
     (counted : IsCounted job (own_pods job basis.pods)) (last : IfSome (last_end ends) (λ end. fails end ≡ false))
-    (now : List Pod) (is : IsCarriedOut (planned basis) made (own_pods job basis.pods) now)
+    (now : List Pod) (is : AllGranted (planned basis) made (own_pods job basis.pods) now)
     (undecided : is_settled job (decided_in job basis) ≡ false) (running : job.spec.suspend ≡ false)
     (indexed : job.spec.mode ≡ Indexed) where
   abbrev own : List Pod
@@ -201,10 +199,7 @@ module _ (ends : List End) (made : ℕ) (job : Job) (basis : Basis) (this : basi
     where
       by : (o : Option ℕ) → failing_by o job (counted_in job basis.pods).completed failing ≡ failed_by o completions (counted_in job basis.pods).completed (failures_by o job failing)
       by None = refl
-      by (Some most) = ap (λ b. cond b job.status.failed_indexes
-          (map (λ (count : IndexCount). count.index)
-          (filter (has_failed most completions (counted_in job basis.pods).completed)
-          (raised job.spec.failure job.status.index_failures failing)))) unended
+      by (Some most) = ap (λ b. cond b job.status.failed_indexes (map (λ (count : IndexCount). count.index) (filter (has_failed most completions (counted_in job basis.pods).completed) (raised job.spec.failure job.status.index_failures failing)))) unended
 
   counts-then : later.status.index_failures ≡ failures_by limit job failing
   unfolding failures_in
@@ -293,17 +288,12 @@ module _ (ends : List End) (made : ℕ) (job : Job) (basis : Basis) (this : basi
     where
       in-stay : (P : Pod → Type 0) → Each P active → Each P stay
       in-stay P h =
-          Each-filter P (λ p. not (is_one_of (length (remaining job.spec.mode useless active) - wants ends made job
-          basis this rises counted last now is undecided running) job.spec.mode (remaining job.spec.mode useless active)
-          p)) (remaining job.spec.mode useless active)
+          Each-filter P (λ p. not (is_one_of (length (remaining job.spec.mode useless active) - wants ends made job basis this rises counted last now is undecided running) job.spec.mode (remaining job.spec.mode useless active) p)) (remaining job.spec.mode useless active)
           (Each-filter P (λ p. not (is_spare job.spec.mode useless active p)) active h)
 
       used : Each (λ p. is_of_use useless active p ≡ true) stay
       used =
-          Each-filter (λ p. is_of_use useless active p ≡ true)
-          (λ p. not (is_one_of (length (remaining job.spec.mode useless active) - wants ends made job basis this rises
-          counted last now is undecided running) job.spec.mode (remaining job.spec.mode useless active) p))
-          (remaining job.spec.mode useless active)
+          Each-filter (λ p. is_of_use useless active p ≡ true) (λ p. not (is_one_of (length (remaining job.spec.mode useless active) - wants ends made job basis this rises counted last now is undecided running) job.spec.mode (remaining job.spec.mode useless active) p)) (remaining job.spec.mode useless active)
           (Each-weaker (λ p. not (is_spare job.spec.mode useless active p) ≡ true) (λ p. is_of_use useless active p ≡ true) (λ p h. ap (λ m. not (is_spare m useless active p)) (sym indexed) ∙ h) (remaining job.spec.mode useless active)
           (Each-passes (λ p. not (is_spare job.spec.mode useless active p)) active))
 

@@ -5,6 +5,7 @@ pub mod Values
 pub mod PodFacts
 pub mod PlanFacts
 pub mod NodeFacts
+pub mod NodeSteps
 pub mod StatusFacts
 pub mod OrderFacts
 pub mod MissFacts

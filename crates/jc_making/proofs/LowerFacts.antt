@@ -20,7 +20,7 @@ use Rattle.jc_plan.specs.Statuses.{accounted, decided_in, first_status_of, is_se
 use Rattle.jc_plan.proofs.PlanFacts.{plan-creates}
 use Rattle.jc_plan.proofs.Targets.{target-kind}
 use Rattle.jc_plan.proofs.ValueFacts.{settled-target}
-use Rattle.jc_making.specs.Grants.{IsCarriedOut, job_left}
+use Rattle.jc_making.specs.Grants.{AllGranted, job_left}
 use Rattle.jc_making.specs.Making.{IsCounted, creations_left, fails, may_be_made}
 use Rattle.jc_making.proofs.CreationFacts.{plain-lowers}
 use Rattle.jc_making.proofs.IndexedFacts.{indexed-lowers}
@@ -36,7 +36,7 @@ no-more false m = omega arith
 
 module _ (ends : List End) (made : ℕ) (job : Job) (basis : Basis) (this : basis.job ≡ Some job) (rises : IsRising basis.pods)
     (counted : IsCounted job (own_pods job basis.pods)) (last : IfSome (last_end ends) (λ end. fails end ≡ false))
-    (now : List Pod) (is : IsCarriedOut (planned basis) made (own_pods job basis.pods) now) where
+    (now : List Pod) (is : AllGranted (planned basis) made (own_pods job basis.pods) now) where
   abbrev own : List Pod
   own = own_pods job basis.pods
 
@@ -57,10 +57,7 @@ module _ (ends : List End) (made : ℕ) (job : Job) (basis : Basis) (this : basi
       (cond b [] (new_pods job.spec.mode (job_lacks job own (accounted job basis)) (free (Rattle.std.specs.Prelude.unwrap_or job.spec.completions 0) (accounted job basis) (keepers job.spec.replacement own)))))) h
       ∙ by (is_held_back (opening (backoff_after basis.backoff (accounted job basis) basis.now)) basis.now)
     where
-      by : (b : Bool) → length (cond b [] (cond true []
-          (new_pods job.spec.mode (job_lacks job own (accounted job basis))
-          (free (Rattle.std.specs.Prelude.unwrap_or job.spec.completions 0) (accounted job basis)
-          (keepers job.spec.replacement own))))) ≡ 0
+      by : (b : Bool) → length (cond b [] (cond true [] (new_pods job.spec.mode (job_lacks job own (accounted job basis)) (free (Rattle.std.specs.Prelude.unwrap_or job.spec.completions 0) (accounted job basis) (keepers job.spec.replacement own))))) ≡ 0
       by true = refl
       by false = refl
 

@@ -36,7 +36,7 @@ use Rattle.jc_plan.specs.Plans.{last_status, planned}
 use Rattle.jc_plan.specs.Statuses.{first_value, second_value}
 use Rattle.jc_plan.proofs.NextFacts.{last-second}
 use Rattle.jc_plan.proofs.ValueFacts.{first-succeeded, first-succeeded_list, second-completed, second-lists_none, second-succeeded}
-use Rattle.jc_making.specs.Grants.{AreNew, IsCarriedOut, job_left}
+use Rattle.jc_making.specs.Grants.{AllGranted, AreNew, job_left}
 use Rattle.jc_making.specs.Making.{completed_now, new_successes, pods_succeeded}
 use Rattle.jc_making.proofs.ClosedFacts.{is_over}
 use Rattle.jc_making.proofs.Lists.{halves}
@@ -132,7 +132,7 @@ module _ (job : Job) (basis : Basis) (this : basis.job ≡ Some job) (rises : Is
   lists-failure = ap (λ (s : JobStatus). s.uncounted_failed) left-is ∙ (second-lists_none job basis).0
 
   -- What is counted anew then is what is left over now.
-  pub news-then : (made : ℕ) (now : List Pod) → IsCarriedOut (planned basis) made own_now now → new_successes then now ≡ left_with job own_now outcome.Succeeded
+  pub news-then : (made : ℕ) (now : List Pod) → AllGranted (planned basis) made own_now now → new_successes then now ≡ left_with job own_now outcome.Succeeded
   news-then made now is =
       filter_filter (λ pod. same_outcome (outcome_of job.spec pod) outcome.Succeeded) (is_candidate then) now
       ∙ ap (filter (is_new then)) is.parts
@@ -151,7 +151,7 @@ module _ (job : Job) (basis : Basis) (this : basis.job ≡ Some job) (rises : Is
       omega (arith, first, second, both)
 
   -- The successes of a Job that is not Indexed stay as many.
-  pub successes-stay : (made : ℕ) (now : List Pod) → job.spec.mode ≡ NonIndexed → IsCarriedOut (planned basis) made own_now now → pods_succeeded then now ≡ pods_succeeded job own_now
+  pub successes-stay : (made : ℕ) (now : List Pod) → job.spec.mode ≡ NonIndexed → AllGranted (planned basis) made own_now now → pods_succeeded then now ≡ pods_succeeded job own_now
   successes-stay made now plain is =
       omega (
         arith,
@@ -197,6 +197,6 @@ module _ (job : Job) (basis : Basis) (this : basis.job ≡ Some job) (rises : Is
       kept = filter_all (λ n. nat_lt n wanted_now) (completed_now job own_now) (Each-weaker (λ n. n < wanted_now) (λ n. nat_lt n wanted_now ≡ true) (λ n l. lt-ltb n wanted_now l) (completed_now job own_now) below)
 
       -- The completed indexes of an Indexed Job stay.
-      pub indexes-stay : (made : ℕ) (now : List Pod) → IsCarriedOut (planned basis) made own_now now → completed_now then now ≡ completed_now job own_now
+      pub indexes-stay : (made : ℕ) (now : List Pod) → AllGranted (planned basis) made own_now now → completed_now then now ≡ completed_now job own_now
       indexes-stay made now is =
           (λ i. completed_after (indexed i) false wanted_now (left-completed i) ((news-then made now is ∙ none-left) i)) ∙ kept

@@ -5,7 +5,7 @@
 --     AllBecome plan own after   what it makes of all, but for pods that are gone since
 --     IsNew serial index pod     a pod that was just made
 --     AreNew made indexes pods   these are, one for each index, where so many were made before
---     IsCarriedOut plan made own now    the own pods are these then
+--     AllGranted plan made own now    the own pods are these then
 --     job_left plan job          the Job with the status that is left
 use Rattle.std.specs.Prelude.{◌≡◌, ℕ, suc, Bool, true, false, ◌||◌, List, [], ◌∷◌, ◌++◌, Option}
 use Rattle.jc_types.specs.declared.numbers.Uid.{Uid}
@@ -15,7 +15,7 @@ use Rattle.jc_states.specs.PodLists.{IsRising}
 use Rattle.jc_states.specs.Pods.{is_marked, is_tracked_active}
 use Rattle.jc_states.specs.UidLists.{is_in}
 use Rattle.jc_plan.specs.declared.plans.Planned.{Planned}
-use Rattle.jc_plan.specs.PodNumbers.{is_let_go_of}
+use Rattle.jc_plan.specs.Numbers.{is_let_go_of}
 use Rattle.jc_plan.specs.Plans.{last_status}
 
 -- The plan takes the finalizer of the pod of the UID: it releases it, or lets it go.
@@ -55,7 +55,7 @@ AreNew made (index ∷ indexes) [] = ⊥
 AreNew made (index ∷ indexes) (pod ∷ pods) = IsNew made index pod × AreNew (suc made) indexes pods
 
 -- The own pods, once all requests are granted: what has become of those that were there, and behind them the new ones.
-pub record IsCarriedOut (plan : Planned) (made : ℕ) (own now : List Pod) : Type 0 where
+pub record AllGranted (plan : Planned) (made : ℕ) (own now : List Pod) : Type 0 where
   pub after : List Pod
   pub fresh : List Pod
   pub parts : now ≡ after ++ fresh

@@ -18,7 +18,7 @@ ghost use Rattle.jc_states.specs.Pods.{is_tracked};
 ghost use Rattle.jc_plan.specs.Next.{ListsNoSuccess};
 ghost use Rattle.jc_plan.specs.Plans.{planned};
 ghost use Rattle.jc_history.specs.Nodes.{NodeAct, act_on, change_by, end_at, last_end, pod_end};
-ghost use Rattle.jc_making.specs.Grants.{IsCarriedOut, job_left};
+ghost use Rattle.jc_making.specs.Grants.{AllGranted, job_left};
 ghost use Rattle.jc_making.specs.Examples.{with_phase, one_fails, runs_as, small_indexed, small_job};
 ghost use Rattle.jc_making.specs.Making.{IsCounted, completed_now, creations_left, fails, pods_succeeded};
 
@@ -48,12 +48,12 @@ pub fn small_jobs_are_worked_out()
 pub fn plans_keep_what_counts()
     ensures successes { (job : Job) (basis : Basis) (made : ℕ) (now : List Pod)
         → basis.job ≡ Some job → IsRising basis.pods → job.spec.mode ≡ NonIndexed
-        → IsCarriedOut (planned basis) made (own_pods job basis.pods) now
+        → AllGranted (planned basis) made (own_pods job basis.pods) now
         → pods_succeeded (job_left (planned basis) job) now ≡ pods_succeeded job (own_pods job basis.pods) }
     ensures indexes { (job : Job) (basis : Basis) (made : ℕ) (now : List Pod)
         → basis.job ≡ Some job → IsRising basis.pods → ListsNoSuccess job
         → job.spec.mode ≡ Indexed → has_end job.status.conditions ≡ false
-        → IsCarriedOut (planned basis) made (own_pods job basis.pods) now
+        → AllGranted (planned basis) made (own_pods job basis.pods) now
         → completed_now (job_left (planned basis) job) now
         ≡ completed_now job (own_pods job basis.pods) }
 {}
@@ -66,7 +66,7 @@ pub fn plans_use_up_what_may_be_made()
     ensures { (ends : List End) (made : ℕ) (job : Job) (basis : Basis) (now : List Pod)
         → basis.job ≡ Some job → IsRising basis.pods → IsCounted job (own_pods job basis.pods)
         → IfSome (last_end ends) (λ end. fails end ≡ false)
-        → IsCarriedOut (planned basis) made (own_pods job basis.pods) now
+        → AllGranted (planned basis) made (own_pods job basis.pods) now
         → creations_left ends (made + length (planned basis).creates) (job_left (planned basis) job) now
         + length (planned basis).creates
         ≤ creations_left ends made job (own_pods job basis.pods) }

@@ -1,0 +1,6 @@
+-- The lemma on a deed of the node.
+use Rattle.jc_bearing.proofs.ReportFacts.{node-turn}
+use Rattle.jc_bearing.proofs.laws.the_node_allows_no_more_pods.Goals as goal
+
+pub returns : goal.returns
+returns c = λ shape past d ends job act fated counted. node-turn shape past d act ends job fated counted

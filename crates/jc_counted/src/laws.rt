@@ -1,0 +1,29 @@
+//! A law on the Jobs of legal histories. The function is empty: what it ensures holds of every history, and its callers
+//! may cite it.
+
+ghost use Rattle.std.specs.Prelude.{◌≡◌, List, Some, true};
+ghost use Rattle.jc_types.specs.declared.objects.Job.{Job};
+ghost use Rattle.jc_types.specs.declared.objects.Key.{Key};
+ghost use Rattle.jc_types.specs.declared.runs.Shape.{Shape};
+ghost use Rattle.jc_states.specs.Bases.{own_pods};
+ghost use Rattle.jc_states.specs.Conditions.{has_end, has_target};
+ghost use Rattle.jc_log.specs.Deeds.{Deed};
+ghost use Rattle.jc_log.specs.Log.{job_in, pods_under};
+ghost use Rattle.jc_runs.specs.Legal.{IsLegal};
+ghost use Rattle.jc_runs.specs.Replies.{log_given};
+ghost use Rattle.jc_runs.specs.Runs.{AllAskValid};
+ghost use Rattle.jc_making.specs.Making.{IsCounted};
+
+use jc_runs::allowed_updates_stay_valid;
+
+/// **What counts of each Job of a legal history is in order**, if it has a target where it has ended: its specification is
+/// valid, its completed indexes and those of its failures ascend, an Indexed one lists no success and each of its pods has
+/// an index, and no pod that it lists is active.
+pub fn jobs_are_counted()
+    ensures { (shape : Shape) (past : List Deed) → IsLegal shape past → AllAskValid past
+        → (k : Key) (job : Job) → job_in k (log_given shape past) ≡ Some job
+        → (has_end job.status.conditions ≡ true → has_target job.status.conditions ≡ true)
+        → IsCounted job (own_pods job (pods_under k (log_given shape past))) }
+{
+    allowed_updates_stay_valid();
+}
