@@ -24,7 +24,7 @@ use Rattle.jc_states.proofs.UidListFacts.{Found, some_in}
 use Rattle.jc_log.specs.Log.{Live, is_lost, job_in, life, living, made_for, pods_in, pods_under}
 use Rattle.jc_log.proofs.PodFacts.{pods_in-live, pods_in-rises}
 use Rattle.jc_plan.specs.LetGoes.{is_to_mark}
-use Rattle.jc_plan.specs.Numbers.{is_let_go_of}
+use Rattle.jc_plan.specs.PodNumbers.{is_let_go_of}
 use Rattle.jc_plan.specs.Plans.{last_status, planned}
 use Rattle.jc_plan.specs.Releases.{is_released}
 use Rattle.jc_plan.specs.SeenPods.{IsSeen}

@@ -136,8 +136,14 @@ module _ (fates : Key → Option (List End)) (ends : List End) (log : List Entry
   put-own : own_pods job (pods_under job.key (PodPut new ∷ log)) ≡ map (replaced new) (own_pods job (pods_under job.key log))
   put-own =
       ap (λ pods. own_pods job (filter is_under pods)) (put-replaced 0 new (pods_in log) (pods_in-rises log) (ap is_some (pods_in-among pod.uid log ∙ there)))
-      ∙ ap (own_pods job) (filter-replaced is_under new (pods_in log) (Each-weaker (λ (q : Pod). same_uid q.uid pod.uid ≡ true → q ≡ pod) (λ (q : Pod). same_uid q.uid pod.uid ≡ true → is_under new ≡ is_under q) (λ q is same. ap is_under (sym (is same))) (pods_in log) all-only))
-      ∙ filter-replaced (is_own job) new (pods_under job.key log) (Each-weaker (λ (q : Pod). same_uid q.uid pod.uid ≡ true → q ≡ pod) (λ (q : Pod). same_uid q.uid pod.uid ≡ true → is_own job new ≡ is_own job q) (λ q is same. ap (is_own job) (sym (is same))) (pods_under job.key log) under-only)
+      ∙ ap (own_pods job) (filter-replaced is_under new (pods_in log)
+      (Each-weaker (λ (q : Pod). same_uid q.uid pod.uid ≡ true → q ≡ pod)
+      (λ (q : Pod). same_uid q.uid pod.uid ≡ true → is_under new ≡ is_under q)
+      (λ q is same. ap is_under (sym (is same))) (pods_in log) all-only))
+      ∙ filter-replaced (is_own job) new (pods_under job.key log)
+      (Each-weaker (λ (q : Pod). same_uid q.uid pod.uid ≡ true → q ≡ pod)
+      (λ (q : Pod). same_uid q.uid pod.uid ≡ true → is_own job new ≡ is_own job q)
+      (λ q is same. ap (is_own job) (sym (is same))) (pods_under job.key log) under-only)
 
   gone-own : own_pods job (pods_under job.key (PodGone new ∷ log)) ≡ drop_pod pod.uid (own_pods job (pods_under job.key log))
   gone-own = ap (own_pods job) (filter-drops is_under pod.uid (pods_in log)) ∙ filter-drops (is_own job) pod.uid (pods_under job.key log)
@@ -166,7 +172,9 @@ module _ (fates : Key → Option (List End)) (ends : List End) (log : List Entry
         subst (λ pods. creations_left ends (made_for job.uid log) job (at.front ++ new ∷ at.back) ≤ creations_left ends (made_for job.uid log) job pods) (sym at.are)
         (node-falls fates ends (made_for job.uid log) job at.front at.back log pod (subst (IsCounted job) at.are counted) ended act befalls)
 
-    some-more : (b : Bool) → goes new ≡ b → creations_left ends (made_for job.uid log) job (own_pods job (pods_under job.key (cond b (PodGone new) (PodPut new) ∷ log))) ≤ creations_left ends (made_for job.uid log) job (own_pods job (pods_under job.key log))
+    some-more : (b : Bool) → goes new ≡ b → creations_left ends (made_for job.uid log) job
+        (own_pods job (pods_under job.key (cond b (PodGone new) (PodPut new) ∷ log))) ≤ creations_left ends
+        (made_for job.uid log) job (own_pods job (pods_under job.key log))
     some-more true goes-now =
         let lost = not-true (is_tracked new) (and_parts (not (is_tracked new)) (is_final new.phase) (and_parts (is_marked new) (not (is_tracked new) && is_final new.phase) goes-now).1).0 in
         let none = gone ends (made_for job.uid log) job at.front at.back new lost in

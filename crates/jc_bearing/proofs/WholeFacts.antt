@@ -30,10 +30,10 @@ use Rattle.jc_sync.specs.Ask.{Ask}
 use Rattle.jc_sync.specs.Ask.TheVariants.{MakePod, MarkPod, LetPodGo, WriteFirst, ReleasePod, WriteSecond}
 use Rattle.jc_sync.specs.Asks.{as_request, asks_after, asks_of, is_gone}
 use Rattle.jc_sync.specs.Leftovers.{IsLeftBy}
-use Rattle.jc_sync.specs.Places.{IfGoesOn, IsAt}
+use Rattle.jc_sync.specs.SyncPlaces.{IfGoesOn, IsAt}
 use Rattle.jc_sync.specs.Quiet.{GoesOnTo}
 use Rattle.jc_sync.specs.Readings.{is_step, step_told, steps_of, told_step, with_step}
-use Rattle.jc_sync.specs.Registers.{HasSyncs, put_at, register_at, register_of}
+use Rattle.jc_sync.specs.AllRegisters.{HasSyncs, put_at, register_at, register_of}
 use Rattle.jc_sync.specs.Sends.{sends_of}
 use Rattle.jc_sync.specs.Steps.{Ends, GoesOn, Next, SyncEnd, answered_to, as_answer, end_given, flight_after, next_unless, stepped_at}
 use Rattle.jc_sync.specs.Syncs.{began_of, is_begin}
@@ -44,7 +44,7 @@ use Rattle.jc_runs.specs.Diaries.{moment, notes, on_step, ticks}
 use Rattle.jc_runs.specs.Legal.{IsLegal, IsLegalNext}
 use Rattle.jc_runs.specs.Registers.{pending, register}
 use Rattle.jc_runs.specs.Replies.{diary, log_given}
-use Rattle.jc_runs.specs.Runs.{AllAskValid, AsksValid}
+use Rattle.jc_runs.specs.Machines.{AllAskValid, AsksValid}
 use Rattle.jc_runs.specs.Teams.{registers_of}
 use Rattle.jc_runs.proofs.LegalRuns.{Given, Machine, given, legal_run}
 use Rattle.jc_runs.proofs.QuietSteps.{put-same}

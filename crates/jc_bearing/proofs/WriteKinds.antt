@@ -123,9 +123,13 @@ module _ (log : List Entry) (now : ℕ) (flight : Flight) where
           subst (W ask)
           (some_is (JobPut (with_status log current status)) e
           (not-refused (same_status current.status status) (reply.Unchanged current.version) (accepted (reply.Written (next_version log)) (JobPut (with_status log current status))) e
-          (not-refused (not (current.version.0 == flight.sends.0)) (reply.Conflict current.version) (cond (same_status current.status status) (refused (reply.Unchanged current.version)) (accepted (reply.Written (next_version log)) (JobPut (with_status log current status)))) e
+          (not-refused (not (current.version.0 == flight.sends.0)) (reply.Conflict current.version)
+          (cond (same_status current.status status) (refused (reply.Unchanged current.version))
+          (accepted (reply.Written (next_version log)) (JobPut (with_status log current status)))) e
           (not-refused (not (same_uid current.uid job.uid)) reply.NotFound
-          (cond (not (current.version.0 == flight.sends.0)) (refused (reply.Conflict current.version)) (cond (same_status current.status status) (refused (reply.Unchanged current.version)) (accepted (reply.Written (next_version log)) (JobPut (with_status log current status))))) e g))))
+          (cond (not (current.version.0 == flight.sends.0)) (refused (reply.Conflict current.version))
+          (cond (same_status current.status status) (refused (reply.Unchanged current.version))
+          (accepted (reply.Written (next_version log)) (JobPut (with_status log current status))))) e g))))
           (States ask current status is there)
 
       seen : (o : Option Job) → (status_gives log flight status o).entry ≡ Some e → W ask e

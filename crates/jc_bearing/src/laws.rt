@@ -15,7 +15,7 @@ ghost use Rattle.jc_log.specs.Log.{job_in, pods_under};
 ghost use Rattle.jc_runs.specs.Legal.{IsLegal};
 ghost use Rattle.jc_runs.specs.Registers.{pending};
 ghost use Rattle.jc_runs.specs.Replies.{diary, log_given};
-ghost use Rattle.jc_runs.specs.Runs.{AllAskValid};
+ghost use Rattle.jc_runs.specs.Machines.{AllAskValid};
 ghost use Rattle.jc_settle.specs.Settles.{IsCalm};
 ghost use Rattle.jc_calm.specs.Turns.{BeginsAlone};
 ghost use Rattle.jc_making.specs.Making.{IsCounted, fails};

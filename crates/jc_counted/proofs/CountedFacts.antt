@@ -47,7 +47,7 @@ use Rattle.jc_plan.specs.Outcome.{Outcome}
 use Rattle.jc_sync.specs.Plannable.{IsPlannable}
 use Rattle.jc_runs.specs.Legal.{IsLegal}
 use Rattle.jc_runs.specs.Replies.{log_given}
-use Rattle.jc_runs.specs.Runs.{AllAskValid}
+use Rattle.jc_runs.specs.Machines.{AllAskValid}
 use Rattle.jc_runs.proofs.LegalRuns.{legal_run}
 use Rattle.jc_making.specs.Making.{IsCounted}
 

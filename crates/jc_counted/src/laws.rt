@@ -11,7 +11,7 @@ ghost use Rattle.jc_log.specs.Deeds.{Deed};
 ghost use Rattle.jc_log.specs.Log.{job_in, pods_under};
 ghost use Rattle.jc_runs.specs.Legal.{IsLegal};
 ghost use Rattle.jc_runs.specs.Replies.{log_given};
-ghost use Rattle.jc_runs.specs.Runs.{AllAskValid};
+ghost use Rattle.jc_runs.specs.Machines.{AllAskValid};
 ghost use Rattle.jc_making.specs.Making.{IsCounted};
 
 use jc_runs::allowed_updates_stay_valid;

@@ -71,7 +71,10 @@ module _ (ends : List End) (made : ℕ) (job : Job) (basis : Basis) (this : basi
   staying-is =
       filter_agree (stays_active job basis this rises undecided counted.listed) (λ p. is_tracked_active p && not (lets p)) each own
       ∙ sym (filter_filter (λ p. not (lets p)) is_tracked_active own)
-      ∙ filter_agree (λ p. not (lets p)) (λ p. not (is_spare job.spec.mode needless tracked p) && not (is_one_of (length rest - wants) job.spec.mode rest p)) (λ p. nor (is_spare job.spec.mode needless tracked p) (is_one_of (length rest - wants) job.spec.mode rest p)) tracked
+      ∙ filter_agree (λ p. not (lets p)) (λ p. not (is_spare job.spec.mode needless tracked p) && not
+      (is_one_of (length rest - wants) job.spec.mode rest p))
+      (λ p. nor (is_spare job.spec.mode needless tracked p) (is_one_of (length rest - wants) job.spec.mode rest p))
+      tracked
       ∙ sym (filter_filter (λ p. not (is_one_of (length rest - wants) job.spec.mode rest p)) (λ p. not (is_spare job.spec.mode needless tracked p)) tracked)
     where
       lets : Pod → Bool

@@ -73,7 +73,9 @@ active-keeps FailedOnly p h = ap (λ b. b || is_ending p) h
 
 unheld : (r : Replacement) (own : List Pod) (n : ℕ) → holds (keepers r own) n ≡ false → Each (λ p. has_index n p ≡ false) (tracked_active_pods own)
 unheld r own n h =
-    Each-weaker (λ p. ((keeps r p && has_index n p) ≡ false) × (is_tracked_active p ≡ true)) (λ p. has_index n p ≡ false) (λ p k. by (keeps r p) (has_index n p) (active-keeps r p (and_parts (is_active p) (is_tracked p) k.1).0) k.0) (tracked_active_pods own)
+    Each-weaker (λ p. ((keeps r p && has_index n p) ≡ false) × (is_tracked_active p ≡ true))
+    (λ p. has_index n p ≡ false) (λ p k. by (keeps r p) (has_index n p)
+    (active-keeps r p (and_parts (is_active p) (is_tracked p) k.1).0) k.0) (tracked_active_pods own)
     (Each-both (λ p. (keeps r p && has_index n p) ≡ false) (λ p. is_tracked_active p ≡ true) (tracked_active_pods own)
     (Each-filter (λ p. (keeps r p && has_index n p) ≡ false) is_tracked_active own (each-fails (λ p. keeps r p && has_index n p) own (sym (any_filter (has_index n) (keeps r) own) ∙ h)))
     (Each-passes is_tracked_active own))
@@ -199,7 +201,10 @@ module _ (ends : List End) (made : ℕ) (job : Job) (basis : Basis) (this : basi
     where
       by : (o : Option ℕ) → failing_by o job (counted_in job basis.pods).completed failing ≡ failed_by o completions (counted_in job basis.pods).completed (failures_by o job failing)
       by None = refl
-      by (Some most) = ap (λ b. cond b job.status.failed_indexes (map (λ (count : IndexCount). count.index) (filter (has_failed most completions (counted_in job basis.pods).completed) (raised job.spec.failure job.status.index_failures failing)))) unended
+      by (Some most) = ap (λ b. cond b job.status.failed_indexes
+          (map (λ (count : IndexCount). count.index)
+          (filter (has_failed most completions (counted_in job basis.pods).completed)
+          (raised job.spec.failure job.status.index_failures failing)))) unended
 
   counts-then : later.status.index_failures ≡ failures_by limit job failing
   unfolding failures_in
@@ -288,12 +293,17 @@ module _ (ends : List End) (made : ℕ) (job : Job) (basis : Basis) (this : basi
     where
       in-stay : (P : Pod → Type 0) → Each P active → Each P stay
       in-stay P h =
-          Each-filter P (λ p. not (is_one_of (length (remaining job.spec.mode useless active) - wants ends made job basis this rises counted last now is undecided running) job.spec.mode (remaining job.spec.mode useless active) p)) (remaining job.spec.mode useless active)
+          Each-filter P (λ p. not (is_one_of (length (remaining job.spec.mode useless active) - wants ends made job
+          basis this rises counted last now is undecided running) job.spec.mode (remaining job.spec.mode useless active)
+          p)) (remaining job.spec.mode useless active)
           (Each-filter P (λ p. not (is_spare job.spec.mode useless active p)) active h)
 
       used : Each (λ p. is_of_use useless active p ≡ true) stay
       used =
-          Each-filter (λ p. is_of_use useless active p ≡ true) (λ p. not (is_one_of (length (remaining job.spec.mode useless active) - wants ends made job basis this rises counted last now is undecided running) job.spec.mode (remaining job.spec.mode useless active) p)) (remaining job.spec.mode useless active)
+          Each-filter (λ p. is_of_use useless active p ≡ true)
+          (λ p. not (is_one_of (length (remaining job.spec.mode useless active) - wants ends made job basis this rises
+          counted last now is undecided running) job.spec.mode (remaining job.spec.mode useless active) p))
+          (remaining job.spec.mode useless active)
           (Each-weaker (λ p. not (is_spare job.spec.mode useless active p) ≡ true) (λ p. is_of_use useless active p ≡ true) (λ p h. ap (λ m. not (is_spare m useless active p)) (sym indexed) ∙ h) (remaining job.spec.mode useless active)
           (Each-passes (λ p. not (is_spare job.spec.mode useless active p)) active))
 

@@ -57,7 +57,10 @@ module _ (ends : List End) (made : ℕ) (job : Job) (basis : Basis) (this : basi
       (cond b [] (new_pods job.spec.mode (job_lacks job own (accounted job basis)) (free (Rattle.std.specs.Prelude.unwrap_or job.spec.completions 0) (accounted job basis) (keepers job.spec.replacement own)))))) h
       ∙ by (is_held_back (opening (backoff_after basis.backoff (accounted job basis) basis.now)) basis.now)
     where
-      by : (b : Bool) → length (cond b [] (cond true [] (new_pods job.spec.mode (job_lacks job own (accounted job basis)) (free (Rattle.std.specs.Prelude.unwrap_or job.spec.completions 0) (accounted job basis) (keepers job.spec.replacement own))))) ≡ 0
+      by : (b : Bool) → length (cond b [] (cond true []
+          (new_pods job.spec.mode (job_lacks job own (accounted job basis))
+          (free (Rattle.std.specs.Prelude.unwrap_or job.spec.completions 0) (accounted job basis)
+          (keepers job.spec.replacement own))))) ≡ 0
       by true = refl
       by false = refl
 

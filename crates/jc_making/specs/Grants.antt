@@ -15,7 +15,7 @@ use Rattle.jc_states.specs.PodLists.{IsRising}
 use Rattle.jc_states.specs.Pods.{is_marked, is_tracked_active}
 use Rattle.jc_states.specs.UidLists.{is_in}
 use Rattle.jc_plan.specs.declared.plans.Planned.{Planned}
-use Rattle.jc_plan.specs.Numbers.{is_let_go_of}
+use Rattle.jc_plan.specs.PodNumbers.{is_let_go_of}
 use Rattle.jc_plan.specs.Plans.{last_status}
 
 -- The plan takes the finalizer of the pod of the UID: it releases it, or lets it go.
