@@ -7,11 +7,12 @@ mod run;
 mod threaded;
 
 pub use audited::run_audit;
-pub use jc_shared::{FreeGate, Gate};
+pub use jc_shared::{FreeGate, Gate, run_turn};
 pub use jc_single::{
-    Status, plays_tell_their_history, reapers_collect_what_is_due, run_single,
+    Status, plays_tell_their_history, reapers_collect_what_is_due, report, run_single,
     runs_tell_their_history, single_runs_end_as_told,
 };
+pub use jc_words::default_shape;
 pub use laws::{
     audited_reports_keep_the_promises, played_scripts_are_proper, runs_end_as_told,
     written_reports_pass_audits,
