@@ -1,6 +1,6 @@
 -- What words of a run on threads, or of an audit, ask for.
-use Rattle.std.proofs.Common.{◌≡◌, ℕ, true, false, List, Result, Ok, Err, Option, Some, None, refl, ap, subst, sym, true≢false, ◌∙◌}
-use Rattle.std.specs.Prelude.{IfSome, is_ok}
+use Rattle.std.proofs.Common.{◌≡◌, ℕ, Bool, true, false, List, Result, Ok, Err, Option, Some, None, is_some, not, refl, ap, arith, subst, sym, true≢false, ◌∙◌}
+use Rattle.std.specs.Prelude.{IfSome, IsTrue, is_ok}
 use Rattle.std.proofs.lemmas.Option.{same_Some}
 use Rattle.jc_types.specs.declared.actions.Command.{Command}
 use Rattle.jc_types.specs.declared.runs.Shape.{Shape}
@@ -16,7 +16,43 @@ use Rattle.jc_single.specs.declared.status.Status.{Status}
 use Rattle.jc_single.proofs.EndFacts.{EndsBad}
 use Rattle.jc_single.proofs.RunFacts.{order_same, same_bad}
 use Rattle.jc_single.specs.Played.{as_script}
-use Rattle.jc_single.specs.RunAnswers.{OfInput, answer_of, reported}
+use Rattle.jc_single.specs.RunAnswers.{IsSingle, OfInput, answer_of, reported}
+use Rattle.jc_ctl.specs.declared.run.Asked.{Asked}
+use Rattle.jc_ctl.specs.declared.run.Asked.TheVariants as ask
+use Rattle.jc_ctl.specs.Asked.{HasThreads, order_asked}
+
+-- What is asked for is not done on one thread.
+not-single : (asked : Asked) → HasThreads asked → IsSingle (order_asked asked) → ⊥
+not-single (ask.Threads threads lock shape) some zero = omega (arith, zero, some)
+not-single (ask.Audit shape) some none = none
+
+-- An order is done on one thread where it is found to be no run on threads and no audit.
+found-is : (order : Order) (asked : Option Asked) (b : Bool) → is_some asked ≡ not b
+    → IfSome asked (λ asked. order ≡ order_asked asked) → IfSome asked HasThreads → (asked ≡ None → IsSingle order)
+    → (IsTrue b → IsSingle order) × (IsSingle order → IsTrue b)
+found-is order None true is found some none = ((λ t. none refl), (λ h. refl))
+found-is order None false is found some none = absurd (true≢false (sym is))
+found-is order (Some asked) true is found some none = absurd (true≢false is)
+found-is order (Some asked) false is found some none =
+    ((λ t. absurd (true≢false (sym t))), (λ h. absurd (not-single asked some (subst IsSingle found h))))
+
+-- So it is with the order of the words.
+pub single-is : (words : Option Order) (order : Order) (asked : Option Asked) (b : Bool) → words ≡ Some order
+    → is_some asked ≡ not b → IfSome asked (λ asked. order ≡ order_asked asked) → IfSome asked HasThreads
+    → (asked ≡ None → IsSingle order)
+    → (IsTrue b → (order : Order) → words ≡ Some order → IsSingle order)
+    × (((order : Order) → words ≡ Some order → IsSingle order) → IsTrue b)
+single-is words order asked b words_are is found some none =
+    let found_is = found-is order asked b is found some none in (
+      (λ t other same. subst IsSingle (same_Some order other (sym words_are ∙ same)) (found_is.0 t)),
+      (λ h. found_is.1 (h order words_are)),
+    )
+
+-- Bad words ask for none of both.
+pub bad-single : (words : Option Order) → words ≡ None
+    → (IsTrue true → (order : Order) → words ≡ Some order → IsSingle order)
+    × (((order : Order) → words ≡ Some order → IsSingle order) → IsTrue true)
+bad-single words none = ((λ t order is. absurd (cc (none, is))), (λ h. refl))
 
 -- A bad line is the same on any number of threads.
 pub bad-same : (threads : ℕ) (lock : LockKind) (shape : Shape) (input : List ℕ) (bad : BadLine) → script_of shape input ≡ Err bad

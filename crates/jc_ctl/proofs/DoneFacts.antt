@@ -28,6 +28,11 @@ use Rattle.jc_ctl.proofs.AuditFacts.{audit_ends, audit_ends_long, audit_full, au
 use Rattle.jc_ctl.specs.Audited.{IsAudited, IsPromised, OfAudit, PassesAudit, TellsVerdict, TellsVerdictFront}
 use Rattle.jc_ctl.specs.Done.{ByAudit, ByOne, ByThreads, HasDone, IsPlayedBy}
 
+-- What a run of an order has done, one of words that ask for it has.
+pub done_as : {words other : Option Order} {source sink : Change} {ended : Status} → other ≡ words
+    → HasDone words source sink ended → HasDone other source sink ended
+done_as {words} {other} {source} {sink} {ended} same h = subst (λ o. HasDone o source sink ended) (sym same) h
+
 -- ---- on threads
 
 -- What holds of the commands gives more of them.

@@ -1,3 +1,4 @@
+pub mod Asked
 pub mod Audited
 pub mod Done
 -- Words of the crates below, handed on to those above.

@@ -1,15 +1,17 @@
 //! The top call: it reads, plays and writes, on one thread or on several.
 
-ghost use Rattle.std.specs.Prelude.{◌≡◌, ◌↔◌, ◌⊎◌, IfSome, IsOkAnd, IsTrue, Some, map, string_bytes};
+ghost use Rattle.std.specs.Prelude.{◌≡◌, ◌↔◌, ◌⊎◌, IfSome, IsOkAnd, IsTrue, None, Some, map, string_bytes};
 ghost use Rattle.jc_types.specs.declared.runs.Shape.{Shape};
 ghost use Rattle.jc_words.specs.Words.{order_of};
 ghost use Rattle.jc_words.specs.declared.words.Order.{Order};
 ghost use Rattle.jc_words.specs.declared.words.Order.TheVariants.{Audit};
+ghost use Rattle.jc_words.specs.FitOrders.{IsFitOrder};
 ghost use Rattle.jc_audit.specs.declared.verdicts.Verdict.TheVariants.{Yes};
 ghost use Rattle.jc_single.specs.RunEnds.{change};
 ghost use Rattle.jc_single.specs.Played.{script_played, staging_of};
 ghost use Rattle.jc_single.specs.RunAnswers.{IsSingle};
 ghost use Rattle.jc_single.specs.Headlines.{TellsHistory, ends_full};
+ghost use Rattle.jc_ctl.specs.Asked.{HasThreads, order_asked};
 ghost use Rattle.jc_ctl.specs.Audited.{IsPromised, PassesAudit, TellsVerdict};
 ghost use Rattle.jc_ctl.specs.Done.{HasDone};
 
@@ -19,10 +21,47 @@ use crate::threaded::run_threaded;
 use jc_io::{Sink, Source};
 use jc_shared::{Gate, Host};
 use jc_single::{Status, run_order, runs_tell_their_history};
-use jc_words::{Order, orders_fit, read_words};
+use jc_types::Shape;
+use jc_words::{LockKind, Order, orders_fit, read_words};
 use std::alloc::Global;
 use std::sync::Wait;
 use std::thread::Threads;
+
+// What is asked for that is done on no single thread.
+#[derive(Clone, Copy)]
+enum Asked {
+    // A run on threads.
+    Threads {
+        threads: u32,
+        lock: LockKind,
+        shape: Shape,
+    },
+    // An audit.
+    Audit {
+        shape: Shape,
+    },
+}
+
+// Which run on threads or which audit the order is, where it is one.
+fn asked_for(order: &Order) -> Option<Asked>
+    ensures some { IfSome result (λ asked. order.now ≡ order_asked asked) }
+    ensures threads { IfSome result HasThreads }
+    ensures none { result ≡ None → IsSingle order.now }
+{
+    match order {
+        Order::Run {
+            threads,
+            lock,
+            shape,
+        } if *threads > 0 => Some(Asked::Threads {
+            threads: *threads,
+            lock: *lock,
+            shape: *shape,
+        }),
+        Order::Audit { shape } => Some(Asked::Audit { shape: *shape }),
+        _ => None,
+    }
+}
 
 /// Whether the words ask for no threads and no audit, so that `run_single` does what they ask for.
 pub fn is_single(words: &[String]) -> bool
@@ -30,9 +69,33 @@ pub fn is_single(words: &[String]) -> bool
         → IsSingle order) }
 {
     match read_words(words) {
-        Some(Order::Run { threads, .. }) => threads == 0,
-        Some(Order::Audit { .. }) => false,
-        _ => true,
+        Some(order) => asked_for(&order).is_none(),
+        None => true,
+    }
+}
+
+// Does what the order asks for: what it has read and written, by how it has ended.
+fn run_asked<R: Threads + Wait + Sync, S: Source, K: Sink, G: Gate + Sync>(
+    host: &Host<'_, R, G>,
+    order: &Order,
+    source: &mut S,
+    sink: &mut K,
+) -> Status
+    requires { IsFitOrder order.now }
+    ensures { HasDone (Some order.now)
+        (change (S.left source.old) (S.left source.new) (S.faults source.old) (S.faults source.new))
+        (change (K.held sink.old) (K.held sink.new) (K.faults sink.old) (K.faults sink.new)) result }
+{
+    match asked_for(order) {
+        Some(
+            Asked::Threads {
+                threads,
+                lock,
+                shape,
+            },
+        ) => run_threaded(host, lock, &shape, threads, source, sink),
+        Some(Asked::Audit { shape }) => audit_report(host.alloc, &shape, source, sink),
+        None => run_order(host.alloc, order, source, sink),
     }
 }
 
@@ -52,16 +115,8 @@ fn run_words<R: Threads + Wait + Sync, S: Source, K: Sink, G: Gate + Sync>(
     orders_fit();
     let host = Host { rt, gate, alloc };
     match read_words(words) {
+        Some(order) => run_asked(&host, &order, source, sink),
         None => Status::BadWords,
-        Some(
-            Order::Run {
-                threads,
-                lock,
-                shape,
-            },
-        ) if threads > 0 => run_threaded(&host, lock, &shape, threads, source, sink),
-        Some(Order::Audit { shape }) => audit_report(alloc, &shape, source, sink),
-        Some(order) => run_order(alloc, &order, source, sink),
     }
 }
 
