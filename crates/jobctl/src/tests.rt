@@ -1,10 +1,9 @@
 //! Runs on threads. They stand here, since no crate but the program and those that it runs by may start a thread, and the
 //! program has the fewest functions of them, which are proved twice.
 
-use jc_ctl::{FreeGate, Gate, Status, default_shape, report as printed, run_program, run_turn};
+use jc_ctl::{FreeGate, Gate, Status, run_program};
 use jc_io::{MemSink, MemSource};
-use jc_script::{read_script, scripts_fit_their_shape};
-use jc_types::{Key, Shape};
+use jc_types::Key;
 use std::alloc::Global;
 use std::process::Abort;
 use std::sync::atomic::{AtomicBool, AtomicU32, Ordering};
@@ -305,21 +304,6 @@ fn see_plans(rt: &impl Abort, alloc: Global, made: &[Made], report: &str) -> Res
     Ok(())
 }
 
-// The first two plans came to the gate at once, and each sync of the report had its plan.
-fn see_gate<R: Wait + Abort>(
-    rt: &R,
-    alloc: Global,
-    gate: &Meeting<'_, R>,
-    report: &str,
-) -> Result<(), Fail> {
-    assert!(rt;
-        !gate.is_late.load(Ordering::SeqCst),
-        "two plans were made at once"
-    );
-    let made = gate.made.lock(rt);
-    see_plans(rt, alloc, &made, report)
-}
-
 // Two seats make their plans beside each other: each holds up its first plan until the other's has come,
 // and no plan is made under the lock. Each sync that begins has its plan made so.
 fn see_meeting<R: Threads + Wait + Sync + Abort>(
@@ -335,7 +319,12 @@ fn see_meeting<R: Threads + Wait + Sync + Abort>(
     };
     let gate = Meeting::new(rt, alloc);
     let told = report(rt, alloc, asked, script, &gate)?;
-    see_gate(rt, alloc, &gate, &told)
+    assert!(rt;
+        !gate.is_late.load(Ordering::SeqCst),
+        "two plans were made at once"
+    );
+    let made = gate.made.lock(rt);
+    see_plans(rt, alloc, &made, &told)
 }
 
 // The same by either lock.
@@ -347,54 +336,4 @@ fn plans_are_made_beside_each_other(rt: HostRuntime) -> Result<(), Fail> {
         see_meeting(&rt, alloc, &script, lock)?;
     }
     Ok(())
-}
-
-// The report of what two seats of a turn lock have played of the script, by the call itself that gives them this lock: no
-// word asks for it.
-fn turn_report<R: Threads + Wait + Sync + Abort, G: Gate + Sync>(
-    rt: &R,
-    alloc: Global,
-    script: &str,
-    gate: &G,
-) -> Result<String, Fail> {
-    let shape = Shape {
-        workers: 2,
-        events: MANY_EVENTS,
-        ..default_shape()
-    };
-    assert!(rt; script.len() < 1_000_000, "the script is short");
-    scripts_fit_their_shape();
-    let Ok(commands) = read_script(alloc, script.as_bytes(), &shape) else {
-        return Err(Fail::new("the script"));
-    };
-    let Ok(cluster) = run_turn(rt, alloc, &commands, &shape, 2, gate) else {
-        return Err(Fail::new("the run"));
-    };
-    let text = printed(alloc, &cluster, false)?;
-    Ok(String::from_str(alloc, str::from_utf8(&text)?)?)
-}
-
-// Each of the four Jobs has its pod counted.
-fn see_four_counted(rt: &impl Abort, alloc: Global, report: &str) -> Result<(), Fail> {
-    for name in ["a", "b", "c", "d"] {
-        let verdicts = format!(in alloc; "\nverdicts default/{name} succeeded 1 failed 0\n")?;
-        assert_eq!(rt; times(report, &verdicts), 1, "Job {name}");
-    }
-    Ok(())
-}
-
-// Two seats of a turn lock make their plans beside each other. All pods have been counted then, and an audit says yes.
-#[test]
-fn seats_of_a_turn_lock_plan_beside_each_other(rt: HostRuntime) -> Result<(), Fail> {
-    let alloc = rt.alloc();
-    let gate = Meeting::new(&rt, alloc);
-    let told = turn_report(&rt, alloc, &four_jobs(alloc)?, &gate)?;
-    let asked = Asked {
-        threads: 2,
-        lock: "turn",
-        events: MANY_EVENTS,
-    };
-    see_audit(&rt, alloc, asked, &told)?;
-    see_four_counted(&rt, alloc, &told)?;
-    see_gate(&rt, alloc, &gate, &told)
 }
