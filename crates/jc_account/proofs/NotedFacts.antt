@@ -10,11 +10,11 @@ use Rattle.jc_types.specs.declared.objects.Pod.{Pod}
 use Rattle.jc_types.specs.Keys.{same_uid}
 use Rattle.jc_types.proofs.KeyFacts.{same_uid-eq}
 use Rattle.jc_types.proofs.ListFacts.{any_within, filter_same, filter_within}
-use Rattle.jc_states.specs.Bases.{IsTidy, TotalsFit, own_pods}
+use Rattle.jc_states.specs.Bases.{CountsByIndex, TotalsFit, own_pods}
 use Rattle.jc_states.specs.Conditions.{has_end}
 use Rattle.jc_states.specs.Indexes.{HasSmallIndex}
 use Rattle.jc_states.specs.Listed.{is_listed}
-use Rattle.jc_states.specs.Noted.{is_noted}
+use Rattle.jc_states.specs.Noted.{needs_look}
 use Rattle.jc_states.specs.Pods.{is_tracked}
 use Rattle.jc_states.specs.UidLists.{is_in, merge, uids_of}
 use Rattle.jc_states.proofs.AtOddsFacts.{noted-listed, noted-odds, own-part, tidy-part, totals-part}
@@ -32,7 +32,7 @@ use Rattle.jc_account.proofs.Totals.{stayed_and_left}
 
 -- The pod is one at which a sync of the Job has to look.
 abbrev pub is_noted_of : Job → Pod → Bool
-is_noted_of job pod = is_noted job.uid job.status.uncounted_succeeded job.status.uncounted_failed pod
+is_noted_of job pod = needs_look job.uid job.status.uncounted_succeeded job.status.uncounted_failed pod
 
 module _ (job : Job) where
   -- It looks at a listed one,
@@ -137,12 +137,12 @@ counted-noted job pods = ap (counted_of job) (own-part job (is_noted_of job) pod
 
 -- What was noted for a sync of the Job: it counts the same of these, and what counting asks of all pods holds of them.
 module _ (job : Job) (pods some : List Pod) (us vs : List Uid) (of_s : us ≡ job.status.uncounted_succeeded) (of_f : vs ≡ job.status.uncounted_failed)
-    (are : some ≡ filter (is_noted job.uid us vs) pods) where
+    (are : some ≡ filter (needs_look job.uid us vs) pods) where
   some-is : some ≡ filter (is_noted_of job) pods
-  some-is = are ∙ (λ i. filter (is_noted job.uid (of_s i) (of_f i)) pods)
+  some-is = are ∙ (λ i. filter (needs_look job.uid (of_s i) (of_f i)) pods)
 
-  pub some-tidy : IsTidy job pods → IsTidy job some
-  some-tidy tidy = subst (IsTidy job) (sym some-is) (tidy-part job (is_noted_of job) pods tidy)
+  pub some-tidy : CountsByIndex job pods → CountsByIndex job some
+  some-tidy tidy = subst (CountsByIndex job) (sym some-is) (tidy-part job (is_noted_of job) pods tidy)
 
   pub some-totals : TotalsFit job pods → TotalsFit job some
   some-totals fit = subst (TotalsFit job) (sym some-is) (totals-part job (is_noted_of job) pods fit)

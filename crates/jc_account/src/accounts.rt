@@ -5,7 +5,7 @@ ghost use Rattle.jc_ranges.specs.declared.bounds.TheConstants.{GREATEST_INDEX};
 ghost use Rattle.jc_types.specs.declared.objects.Pod.{Pod};
 ghost use Rattle.jc_types.specs.declared.specifications.Mode.TheVariants.{Indexed, NonIndexed};
 ghost use Rattle.jc_states.specs.Indexes.{HasSmallIndex};
-ghost use Rattle.jc_states.specs.Bases.{IsTidy, TotalsFit};
+ghost use Rattle.jc_states.specs.Bases.{CountsByIndex, TotalsFit};
 ghost use Rattle.jc_states.specs.PodLists.{IsRising};
 ghost use Rattle.jc_types.specs.Counts.{counts};
 ghost use Rattle.jc_states.specs.UidLists.{merge, uids_of};
@@ -74,7 +74,7 @@ fn succeeded(mode: Mode, total: u64, completed: &Ranges) -> u64
 // # Errors
 // `Want` where there is no memory for the lists.
 fn count_job(alloc: Global, job: &Job, pods: &[Arc<Pod>]) -> Result<CountIn, Want>
-    requires tidy { IsTidy job.now pods.now }
+    requires tidy { CountsByIndex job.now pods.now }
     requires totals { TotalsFit job.now pods.now }
     requires rising { IsRising pods.now }
     requires indexes { All HasSmallIndex pods.now }
@@ -118,7 +118,7 @@ fn count_job(alloc: Global, job: &Job, pods: &[Arc<Pod>]) -> Result<CountIn, Wan
 // # Errors
 // `Want` where there is no memory for the lists.
 fn count_noted(alloc: Global, job: &Job, pods: &Pods) -> Result<CountIn, Want>
-    requires tidy { IsTidy job.now pods.now }
+    requires tidy { CountsByIndex job.now pods.now }
     requires totals { TotalsFit job.now pods.now }
     requires indexes { All HasSmallIndex pods.now }
     requires few { length pods.now < 2 ^ 31 }
@@ -129,7 +129,7 @@ fn count_noted(alloc: Global, job: &Job, pods: &Pods) -> Result<CountIn, Want>
 {
     let succeeded = job.status.uncounted_succeeded.as_slice();
     let failed = job.status.uncounted_failed.as_slice();
-    let noted = pods.noted(job.uid, succeeded, failed)?;
+    let noted = pods.to_look_at(job.uid, succeeded, failed)?;
     count_job(alloc, job, noted.as_slice())
 }
 
@@ -148,7 +148,7 @@ fn count_noted(alloc: Global, job: &Job, pods: &Pods) -> Result<CountIn, Want>
 /// `Want` where there is no memory for the lists.
 pub fn count_in(alloc: Global, basis: &Basis) -> Result<CountIn, Want>
     requires there { IsSome basis.now.job }
-    requires tidy { IfSome basis.now.job (λ job. IsTidy job basis.now.pods) }
+    requires tidy { IfSome basis.now.job (λ job. CountsByIndex job basis.now.pods) }
     requires totals { IfSome basis.now.job (λ job. TotalsFit job basis.now.pods) }
     requires indexes { All HasSmallIndex basis.now.pods }
     requires few { length basis.now.pods < 2 ^ 31 }

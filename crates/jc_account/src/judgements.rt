@@ -14,7 +14,7 @@ ghost use Rattle.jc_account.specs.Judgements.{first_left, index_judged, judgemen
 
 use crate::indexes::kept_indexes;
 use crate::rooms::{first_beyond, is_fit};
-use jc_failpol::{Outcome, is_same_outcome, is_verdict, outcome};
+use jc_failpol::{Outcome, same_outcome, is_verdict, outcome};
 use jc_ranges::Ranges;
 use jc_states::{has_end, is_listed, is_own};
 use jc_types::{Arc, Job, Mode, Pod, Uid, Uids, Want};
@@ -86,7 +86,7 @@ fn uids_judged(alloc: Global, rows: &[Judgement], want: Outcome) -> Result<Uids,
 {
     let mut uids = Uids::new(alloc);
     for row in rows {
-        if is_same_outcome(row.outcome, want) {
+        if same_outcome(row.outcome, want) {
             uids.push(row.uid)?;
         }
     }
@@ -97,7 +97,7 @@ fn uids_judged(alloc: Global, rows: &[Judgement], want: Outcome) -> Result<Uids,
 fn index_judged(row: &Judgement) -> Option<u32>
     ensures { result ≡ index_judged row.now }
 {
-    if is_same_outcome(row.outcome, Outcome::Succeeded) {
+    if same_outcome(row.outcome, Outcome::Succeeded) {
         row.index
     } else {
         None
@@ -165,7 +165,7 @@ fn count_beyond(mode: Mode, first: Option<Uid>, rows: &[Judgement], want: Outcom
 {
     rows.iter()
         .filter(|row| !is_fit(mode, first, row.outcome, row.uid))
-        .filter(|row| is_same_outcome(row.outcome, want))
+        .filter(|row| same_outcome(row.outcome, want))
         .count() as u32
 }
 

@@ -8,7 +8,7 @@ ghost use Rattle.jc_account.specs.Judged.{to_release};
 ghost use Rattle.jc_account.specs.Judgements.{first_left, has_place, is_to_go};
 
 use crate::rooms::{is_before, is_fit};
-use jc_failpol::{Outcome, has_ended, is_same_outcome, is_verdict, outcome};
+use jc_failpol::{Outcome, has_ended, same_outcome, is_verdict, outcome};
 use jc_states::{is_listed, is_own};
 use jc_types::{Arc, Job, JobSpec, Pod, Uid, Uids, Want};
 use std::alloc::Global;
@@ -22,13 +22,13 @@ fn has_place(first: Option<Uid>, spec: &JobSpec, pod: &Pod) -> bool
         return has_ended(spec, pod);
     }
     let outcome = outcome(spec, pod);
-    !is_same_outcome(outcome, Outcome::Alive)
+    !same_outcome(outcome, Outcome::Alive)
         && (!is_verdict(outcome) || is_fit(spec.mode, first, outcome, pod.uid))
 }
 
 // Whether the finalizer of the Job's own pod is to go (KEP-2307): the pod has it, and either is listed as
 // uncounted, or has ended and is not left over.
-fn is_due(first: Option<Uid>, job: &Job, pod: &Pod) -> bool
+fn is_to_go(first: Option<Uid>, job: &Job, pod: &Pod) -> bool
     ensures { result ≡ is_to_go first job.now pod.now }
 {
     pod.tracked && (is_listed(&job.status, pod.uid) || has_place(first, &job.spec, pod))
@@ -38,7 +38,7 @@ fn is_due(first: Option<Uid>, job: &Job, pod: &Pod) -> bool
 fn is_own_due(first: Option<Uid>, job: &Job, pod: &Pod) -> bool
     ensures { result ≡ is_own job.now pod.now && is_to_go first job.now pod.now }
 {
-    is_own(job, pod) && is_due(first, job, pod)
+    is_own(job, pod) && is_to_go(first, job, pod)
 }
 
 // The UIDs of the Job's pods whose finalizer is to go, by the first UID for which there is no room.

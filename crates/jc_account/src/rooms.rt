@@ -8,7 +8,7 @@ ghost use Rattle.jc_account.specs.Judgements.{first_beyond, has_room_for, is_fit
 ghost use Rattle.jc_account.specs.Rooms.{joins_list};
 
 use crate::judgements::Judgement;
-use jc_failpol::{Outcome, is_same_outcome};
+use jc_failpol::{Outcome, same_outcome};
 use jc_states::{is_listed, is_own};
 use jc_types::{Arc, Job, MOST_UNCOUNTED, Mode, Pod, Uid};
 
@@ -18,7 +18,7 @@ pub fn joins_list(mode: Mode, outcome: Outcome) -> bool
 {
     match mode {
         Mode::NonIndexed => true,
-        Mode::Indexed => !is_same_outcome(outcome, Outcome::Succeeded),
+        Mode::Indexed => !same_outcome(outcome, Outcome::Succeeded),
     }
 }
 

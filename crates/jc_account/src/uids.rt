@@ -7,7 +7,7 @@ ghost use Rattle.jc_types.specs.declared.numbers.Uid.{Uid};
 ghost use Rattle.jc_states.specs.UidLists.{merge, with_uid};
 ghost use Rattle.jc_account.specs.Accounts.{unreleased};
 
-use jc_states::is_among;
+use jc_states::is_in;
 use jc_types::{Copied, Uid, Uids, Want};
 use std::alloc::Global;
 use std::collections::VecDeque;
@@ -94,7 +94,7 @@ pub(crate) fn unreleased(alloc: Global, released: &[Uid], uids: &[Uid]) -> Resul
 {
     let mut rest = Uids::new(alloc);
     for uid in uids {
-        if !is_among(*uid, released) {
+        if !is_in(*uid, released) {
             rest.push(*uid)?;
         }
     }

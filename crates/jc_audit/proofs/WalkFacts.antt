@@ -10,7 +10,7 @@ use Rattle.jc_types.specs.declared.runs.Past.{Past}
 use Rattle.jc_types.specs.declared.runs.Shape.{Shape}
 use Rattle.jc_log.specs.Deeds.{Deed, act_of_system, deed}
 use Rattle.jc_history.specs.Available.{IsOrderly, WasAvailable, available}
-use Rattle.jc_history.specs.Legal.{InLanes, IsLegal, next_place, places_from}
+use Rattle.jc_history.specs.Legal.{InLanes, IsLegal, next_command, places_from}
 use Rattle.jc_types.specs.declared.runs.Sys.{Sys}
 use Rattle.jc_lines.specs.Events.{event_line, event_lines}
 use Rattle.jc_reading.specs.Proper.{IsProperCommand}
@@ -26,7 +26,7 @@ use Rattle.jc_lines.proofs.Texts.{event_lines-more as lines_more}
 pub record IsWalked (shape : Shape) (seen : Seen) (text : List ℕ) : Type 0 where
   pub of_shape : seen.shape ≡ shape
   pub lanes : InLanes seen.script.commands seen.pasts
-  pub used : (lane : ℕ) → next_place seen.script.commands lane seen.pasts ≡ None
+  pub used : (lane : ℕ) → next_command seen.script.commands lane seen.pasts ≡ None
   pub legal : IsLegal seen.shape (deeds_seen seen)
   pub orderly : IsOrderly seen.shape (deeds_seen seen)
   pub few : length seen.pasts ≤ seen.shape.events
@@ -47,29 +47,29 @@ drop_past [] x = refl
 drop_past (y ∷ xs) x = let same : length (y ∷ xs) + 1 ≡ suc (length xs + 1) = omega arith in ap (λ n. drop n (y ∷ (xs ++ x ∷ []))) same ∙ drop_past xs x
 
 module _ (commands : List Command) (command : Command) (before : List Past) (past : Past) (is : past.event ≡ event.Command command.lane (length commands)) (lanes : InLanes commands before)
-    (used : (lane : ℕ) → next_place commands lane before ≡ None) where
+    (used : (lane : ℕ) → next_command commands lane before ≡ None) where
   abbrev more : List Command
   more = commands ++ command ∷ []
 
-  pub comes_next : next_place more command.lane before ≡ Some (length commands)
+  pub comes_next : next_command more command.lane before ≡ Some (length commands)
   comes_next =
       longer_next commands command command.lane before lanes
-      ∙ ap (λ b. cond b (option_or (next_place commands command.lane before) (Some (length commands))) (next_place commands command.lane before)) (eq-eqb command.lane command.lane refl)
+      ∙ ap (λ b. cond b (option_or (next_command commands command.lane before) (Some (length commands))) (next_command commands command.lane before)) (eq-eqb command.lane command.lane refl)
       ∙ ap (λ o. option_or o (Some (length commands))) (used command.lane)
 
-  pub all_used : (lane : ℕ) → next_place more lane (past ∷ before) ≡ None
+  pub all_used : (lane : ℕ) → next_command more lane (past ∷ before) ≡ None
   all_used lane = decide (command.lane == lane) refl
     where
-      decide : (b : Bool) → (command.lane == lane) ≡ b → next_place more lane (past ∷ before) ≡ None
+      decide : (b : Bool) → (command.lane == lane) ≡ b → next_command more lane (past ∷ before) ≡ None
       decide true same =
           let e : command.lane ≡ lane = eqb-true command.lane lane same in
-          ap (λ l. next_place more l (past ∷ before)) (sym e)
+          ap (λ l. next_command more l (past ∷ before)) (sym e)
           ∙ next_after more before command.lane (length commands) past comes_next is
           ∙ ap (λ cs. slice_get (places_from command.lane (length commands + 1) cs) 0) (drop_past commands command)
       decide false differ =
           other_after more before lane command.lane (length commands) past (λ e. true≢false (sym (eq-eqb command.lane lane e) ∙ differ)) is
           ∙ longer_next commands command lane before lanes
-          ∙ ap (λ b. cond b (option_or (next_place commands lane before) (Some (length commands))) (next_place commands lane before)) differ
+          ∙ ap (λ b. cond b (option_or (next_command commands lane before) (Some (length commands))) (next_command commands lane before)) differ
           ∙ used lane
 
 -- ---- the steps of a walk

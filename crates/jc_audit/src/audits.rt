@@ -5,7 +5,7 @@ ghost use Rattle.jc_audit.specs.Audits.{VerdictHolds, begins_event};
 ghost use Rattle.jc_audit.specs.AuditLimits.{IsSmallShape};
 ghost use Rattle.jc_audit.specs.Walks.{at_first};
 
-use crate::tails::{rest_at, tail_verdict};
+use crate::tails::{bytes_from, tail_verdict};
 use crate::verdicts::Verdict;
 use crate::walking::take;
 use jc_play::Machine;
@@ -42,15 +42,15 @@ fn walk(alloc: Global, machine: &mut Machine, bytes: &[u8]) -> Result<Verdict, W
     ensures { IfOk result (λ v. VerdictHolds machine.old.shape bytes.now v) }
 {
     let mut at = 0;
-    'walking: while begins_event(rest_at(bytes, at)) {
+    'walking: while begins_event(bytes_from(bytes, at)) {
         let line = machine.history().events.len() as u32 + 1;
-        let taken = take(alloc, machine, rest_at(bytes, at))?;
+        let taken = take(alloc, machine, bytes_from(bytes, at))?;
         let Some(len) = taken else {
             return Ok(Verdict::No { line });
         };
         at += len;
     }
-    let verdict = tail_verdict(alloc, machine, rest_at(bytes, at))?;
+    let verdict = tail_verdict(alloc, machine, bytes_from(bytes, at))?;
     Ok(verdict)
 }
 

@@ -11,7 +11,7 @@ use jc_types::Want;
 use std::alloc::Global;
 
 /// What stands from this place on.
-pub fn rest_at(bytes: &[u8], at: usize) -> &[u8]
+pub fn bytes_from(bytes: &[u8], at: usize) -> &[u8]
     requires { at ≤ length bytes.now }
     ensures { result.now ≡ drop at bytes.now }
 {
@@ -71,7 +71,7 @@ fn at_end(line: u32, rest: &[u8], full: bool) -> Verdict
 }
 
 // The lines are those that are wanted, the first of which has that number.
-fn compared(first: u32, rest: &[u8], wanted: &[u8], full: bool) -> Verdict
+fn lines_compared(first: u32, rest: &[u8], wanted: &[u8], full: bool) -> Verdict
     requires { first + length rest.now + 1 < 2 ^ 32 }
     ensures { result ≡ lines_compared first (whole_lines rest.now) (whole_lines wanted.now) full }
 {
@@ -79,8 +79,8 @@ fn compared(first: u32, rest: &[u8], wanted: &[u8], full: bool) -> Verdict
     let mut at = 0;
     let mut due = 0;
     'comparing: while due < wanted.len() {
-        let found = rest_at(rest, at);
-        let next = rest_at(wanted, due);
+        let found = bytes_from(rest, at);
+        let next = bytes_from(wanted, due);
         let found_len = line_len(found);
         let next_len = line_len(next);
         if !is_same(&found[..found_len], &next[..next_len]) {
@@ -90,7 +90,7 @@ fn compared(first: u32, rest: &[u8], wanted: &[u8], full: bool) -> Verdict
         due += next_len;
         line += 1;
     }
-    at_end(line, rest_at(rest, at), full)
+    at_end(line, bytes_from(rest, at), full)
 }
 
 // The lines of the Jobs of the machine.
@@ -126,5 +126,5 @@ pub fn tail_verdict(alloc: Global, machine: &Machine, rest: &[u8]) -> Result<Ver
     let count = machine.history().events.len();
     let wanted = tail_of(alloc, machine)?;
     let full = count == machine.shape().events as usize;
-    Ok(compared(count as u32 + 1, rest, wanted.as_bytes(), full))
+    Ok(lines_compared(count as u32 + 1, rest, wanted.as_bytes(), full))
 }

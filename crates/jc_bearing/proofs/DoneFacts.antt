@@ -28,7 +28,7 @@ use Rattle.jc_plan.specs.PodNumbers.{is_let_go_of}
 use Rattle.jc_plan.specs.Plans.{last_status, planned}
 use Rattle.jc_plan.specs.Releases.{is_released}
 use Rattle.jc_plan.specs.SeenPods.{IsSeen}
-use Rattle.jc_plan.specs.Statuses.{accounted, decided_in, is_settled, second_value}
+use Rattle.jc_plan.specs.Statuses.{accounted, decided_in, is_end_decided, second_value}
 use Rattle.jc_plan.specs.declared.plans.Planned.{Planned}
 use Rattle.jc_plan.proofs.ListedFacts.{each, each_in}
 use Rattle.jc_plan.proofs.NextFacts.{last-second}
@@ -40,7 +40,7 @@ use Rattle.jc_sync.specs.Ask.TheVariants.{MakePod, MarkPod, LetPodGo, WriteFirst
 use Rattle.jc_sync.specs.Asks.{asks_of, early_asks, first_asks, last_asks, late_asks, let_go_ask, second_asks}
 use Rattle.jc_sync.proofs.QuietFacts.{IfSome-at}
 use Rattle.jc_granted.proofs.StepGrants.{of-each}
-use Rattle.jc_granted.specs.Done.{HasItsPlan, HasStatus, IsMarked, IsStopped}
+use Rattle.jc_granted.specs.SyncsDone.{HasItsPlan, HasStatus, IsMarked, IsStopped}
 use Rattle.jc_granted.specs.Ready.{IsThere}
 use Rattle.jc_making.specs.Grants.{AllGranted, AreNew, frees, job_left}
 use Rattle.jc_bearing.specs.Whole.{DoesAll, HasAllFor, at_version}
@@ -133,9 +133,9 @@ module _ (old : List Entry) (basis : Basis) (pods : basis.pods ≡ pods_under ba
     where
       by : (o : Option Job) → basis.job ≡ o → Under (planned basis) basis.key u (pods_in old)
       by None this = absurd (true≢false (sym h ∙ ap (λ (p : Planned). is_in u p.marks) (sym (planned-here basis None this))))
-      by (Some job) this = at (some_in WasSeen (is_to_mark (is_settled job (decided_in job basis))) u (own_pods job basis.pods) (own-seen job) (ap (is_in u) (sym (plan-marks basis job this)) ∙ h))
+      by (Some job) this = at (some_in WasSeen (is_to_mark (is_end_decided job (decided_in job basis))) u (own_pods job basis.pods) (own-seen job) (ap (is_in u) (sym (plan-marks basis job this)) ∙ h))
         where
-          at : Found WasSeen (is_to_mark (is_settled job (decided_in job basis))) u → Under (planned basis) basis.key u (pods_in old)
+          at : Found WasSeen (is_to_mark (is_end_decided job (decided_in job basis))) u → Under (planned basis) basis.key u (pods_in old)
           at f = seen-under f.pod u f.uid f.has
 
   planned-release : (u : Uid) → is_in u (planned basis).releases ≡ true → IsMeant old basis u × (frees (planned basis) u ≡ true)
@@ -158,7 +158,7 @@ module _ (old : List Entry) (basis : Basis) (pods : basis.pods ≡ pods_under ba
       by (Some job) this =
           subst (Each (λ row. Under (planned basis) basis.key row.0 (pods_in old))) (sym (plan-let_goes basis job this))
           (Each-weaker (IsSeen (own_pods job basis.pods)) (λ row. Under (planned basis) basis.key row.0 (pods_in old)) at-row _
-          (recursion_from_All (IsSeen (own_pods job basis.pods)) _ (goes-seen (own_pods job basis.pods) (is_settled job (decided_in job basis)) job (accounted job basis))))
+          (recursion_from_All (IsSeen (own_pods job basis.pods)) _ (goes-seen (own_pods job basis.pods) (is_end_decided job (decided_in job basis)) job (accounted job basis))))
         where
           at-row : (row : Uid × Version) → IsSeen (own_pods job basis.pods) row → Under (planned basis) basis.key row.0 (pods_in old)
           at-row row s =

@@ -56,11 +56,11 @@ use Rattle.jc_settle.proofs.CalmFacts.{Calm, NextIs, Step, caught-legal, next-wh
 use Rattle.jc_settle.proofs.CatchFacts.{catches-up}
 use Rattle.jc_settle.proofs.OnFacts.{next-first, next-legal, on-adds, on-some}
 use Rattle.jc_settle.proofs.SerialFacts.{register-kept, reply-is}
-use Rattle.jc_calm.specs.Turns.{BeginsAlone}
+use Rattle.jc_calm.specs.SettleTurns.{BeginsAlone}
 use Rattle.jc_calm.proofs.FirstFacts.{begun-is-alone, begun-legal, begun-log, begun-now, begun-pending, begun-register}
 use Rattle.jc_calm.proofs.NowFacts.{ended-pending, faults-most, now-same, now-told}
 use Rattle.jc_calm.proofs.StepFacts.{ends-calm, noted}
-use Rattle.jc_granted.specs.Done.{IsDoing}
+use Rattle.jc_granted.specs.SyncsDone.{IsDoing}
 use Rattle.jc_granted.specs.Granted.{grants}
 use Rattle.jc_granted.specs.Ready.{AreReady, Grants}
 use Rattle.jc_granted.proofs.GrantFacts.{is-granted, stays-ready}

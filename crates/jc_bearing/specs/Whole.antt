@@ -23,7 +23,7 @@ use Rattle.jc_plan.specs.Plans.{planned}
 use Rattle.jc_runs.specs.Diaries.{moment}
 use Rattle.jc_runs.specs.Replies.{log_given}
 use Rattle.jc_settle.specs.Settles.{IsCalm, is_telling, settled_on}
-use Rattle.jc_calm.specs.Turns.{faults_pending}
+use Rattle.jc_calm.specs.SettleTurns.{faults_pending}
 use Rattle.jc_making.specs.Grants.{AllGranted, job_left}
 
 -- The Job at the version.

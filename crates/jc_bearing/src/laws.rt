@@ -17,7 +17,7 @@ ghost use Rattle.jc_runs.specs.Registers.{pending};
 ghost use Rattle.jc_runs.specs.Replies.{diary, log_given};
 ghost use Rattle.jc_runs.specs.Machines.{AllAskValid};
 ghost use Rattle.jc_settle.specs.Settles.{IsCalm};
-ghost use Rattle.jc_calm.specs.Turns.{BeginsAlone};
+ghost use Rattle.jc_calm.specs.SettleTurns.{BeginsAlone};
 ghost use Rattle.jc_making.specs.Making.{IsCounted, fails};
 ghost use Rattle.jc_making.specs.Nodes.{fate, last_end};
 ghost use Rattle.jc_bearing.specs.AtMost.{pods_at_most};

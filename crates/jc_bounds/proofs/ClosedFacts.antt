@@ -34,7 +34,7 @@ use Rattle.jc_plan.specs.Statuses.{leaves_none}
 use Rattle.jc_history.specs.Notes.{Note}
 use Rattle.jc_bounds.specs.Bounded.{IsFlight}
 use Rattle.jc_bounds.specs.Final.{IsClosed}
-use Rattle.jc_plan.specs.Finishes.{IsWound}
+use Rattle.jc_plan.specs.Finishes.{LeavesNoPod}
 use Rattle.jc_bounds.specs.Order.{AreLost}
 use Rattle.jc_bounds.specs.Work.{pods_made}
 use Rattle.jc_bounds.proofs.EntryFacts.{none-any}
@@ -181,7 +181,7 @@ none-unreleased_y job b there closed left =
 
 -- ---- the pods that are there
 
-module _ (log : List Entry) (stored : Stored log) (notes : List Note) (w : ℕ) (b : Basis) (flight : IsFlight log notes w b) (job : Job) (there : b.job ≡ Some job) (wound : IsWound job b) where
+module _ (log : List Entry) (stored : Stored log) (notes : List Note) (w : ℕ) (b : Basis) (flight : IsFlight log notes w b) (job : Job) (there : b.job ≡ Some job) (wound : LeavesNoPod job b) where
   none-made : pods_made b.key log ≤ pods_made b.key (upto b.pods_at.0 log)
   none-made = let m = flight.made in let c = ap length (plan-creates b job there ∙ wound.creates) in omega (arith, m, c)
 

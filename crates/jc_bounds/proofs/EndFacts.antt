@@ -51,9 +51,9 @@ use Rattle.jc_history.specs.Replies.{gives, log_given}
 use Rattle.jc_history.proofs.LegalFacts.{legal-fit}
 use Rattle.jc_history.proofs.RegisterFacts.{fit-apart}
 use Rattle.jc_bounds.specs.Bounded.{IsBounded, IsFlight}
-use Rattle.jc_bounds.specs.Final.{AreNeat, IsClosed, IsFinal, IsFinishedAt, IsOverFor, IsWinding}
-use Rattle.jc_plan.specs.Finishes.{IsAtRest, IsNeat}
-use Rattle.jc_bounds.specs.Order.{AreLost, Early, Idle, IsSilent, Progress}
+use Rattle.jc_bounds.specs.Final.{AlwaysHaveIndexTotals, IsClosed, KnowsEnds, IsFinishedAt, IsOverFor, IsKnownSync}
+use Rattle.jc_plan.specs.Finishes.{IsFinalStatus, HasIndexTotals}
+use Rattle.jc_bounds.specs.Order.{AreLost, Early, Idle, AsksReleasesOnly, Progress}
 use Rattle.jc_bounds.specs.Work.{is_work}
 use Rattle.jc_bounds.proofs.Appends.{Appends, First, Idly, IsStatus, Makes, Second, appends, release-is}
 use Rattle.jc_bounds.proofs.AskEntries.{ask-own}
@@ -98,7 +98,7 @@ seen-key log b is job there = job_in-key b.key (upto b.jobs_at.0 log) job (sym i
 
 winding-more : (e : Entry) (log : List Entry) → Writes log e → Stored log → (b : Basis) → IsBasisOf log b
     → is_work b.key e log ≡ false → (before after : List (Request × Answer)) → Progress (e ∷ log) (planned b) after
-    → (IsSilent (planned b) before → IsSilent (planned b) after) → IsWinding log before b → IsWinding (e ∷ log) after b
+    → (AsksReleasesOnly (planned b) before → AsksReleasesOnly (planned b) after) → IsKnownSync log before b → IsKnownSync (e ∷ log) after b
 winding-more e log w stored b is idle before after progress silent h = record {
   progress = progress;
   known = Each-weaker (λ u. is_never (life u log) ≡ false) (λ u. is_never (life u (e ∷ log)) ≡ false) (λ u. known-entry u e log) (planned b).releases h.known;
@@ -115,13 +115,13 @@ lost-more e log w u = lost_entry u e log w
 
 -- ---- one turn
 
-module _ (log : List Entry) (stored : Stored log) (neat : AreNeat log) (old : List Note) (bounded : IsBounded log old)
-    (h : IsFinal log old) (apart : HaveOwnKeys old)
+module _ (log : List Entry) (stored : Stored log) (neat : AlwaysHaveIndexTotals log) (old : List Note) (bounded : IsBounded log old)
+    (h : KnowsEnds log old) (apart : HaveOwnKeys old)
     (within : (kind : Kind) (m : Version) → number kind old ≡ Some m → m.0 ≤ length log) where
-  same-winding : (new : List (Request × Answer)) (w : ℕ) (b : Basis) → register w old ≡ Some b → new ≡ made w old → IsWinding log new b
-  same-winding new w b r e = subst (λ m. IsWinding log m b) (sym e) (h.flights w b r)
+  same-winding : (new : List (Request × Answer)) (w : ℕ) (b : Basis) → register w old ≡ Some b → new ≡ made w old → IsKnownSync log new b
+  same-winding new w b r e = subst (λ m. IsKnownSync log m b) (sym e) (h.flights w b r)
 
-  wrote-final : (e : Entry) → Writes log e → IsIdleEntry log e → IsFinal (e ∷ log) old
+  wrote-final : (e : Entry) → Writes log e → IsIdleEntry log e → KnowsEnds (e ∷ log) old
   wrote-final e w idle = record {
     finished = λ k. finished-idle e log w stored k (idle k) (h.finished k);
     flights = λ v b r.
@@ -143,7 +143,7 @@ module _ (log : List Entry) (stored : Stored log) (neat : AreNeat log) (old : Li
         (Each-weaker (λ pod. life pod.uid (upto p.0 log) ≡ Live pod) (λ pod. is_never (life pod.uid log) ≡ false)
         (λ pod live. persists_on Writes (λ l. is_never (life pod.uid l) ≡ false) (λ e older w rest n. known-entry pod.uid e older n) p.0 log stored (ap is_never live)) (pods_in (upto p.0 log)) (pods_in-live (upto p.0 log)))
 
-    begun-winding : IsWinding log [] (basis old log now k j p)
+    begun-winding : IsKnownSync log [] (basis old log now k j p)
     begun-winding = record {
       progress = Early (omega arith);
       known = subst (λ us. Each (λ u. is_never (life u log) ≡ false) us) (sym (planned-releases (basis old log now k j p)))
@@ -160,16 +160,16 @@ module _ (log : List Entry) (stored : Stored log) (neat : AreNeat log) (old : Li
             silent = λ x.
                 let f = h.finished k job is x in
                 let closed = same-own seen job (sym same) (pods_under k (upto p.0 log)) (f.closed p.0 (within Pods p pods) s.1) in
-                let i = idle-plan seen (basis old log now k j p) there (record { ended = sym end ∙ x; rests = subst IsAtRest status f.rests; neat = neat j.0 k seen there; closed = closed.opens; untracked = closed.tracks }) in
+                let i = idle-plan seen (basis old log now k j p) there (record { ended = sym end ∙ x; rests = subst IsFinalStatus status f.rests; neat = neat j.0 k seen there; closed = closed.opens; untracked = closed.tracks }) in
                 Idle i.creates i.first i.second;
           };
     }
 
-    begun-final : IsFinal log (Began u (basis old log now k j p) ∷ old)
+    begun-final : KnowsEnds log (Began u (basis old log now k j p) ∷ old)
     begun-final = record { finished = h.finished; flights = λ w b r. by w b (began-register u (basis old log now k j p) old w b r) }
       where
-        by : (w : ℕ) (b : Basis) → (((u == w) ≡ true) × (basis old log now k j p ≡ b)) ⊎ (((u == w) ≡ false) × (register w old ≡ Some b)) → IsWinding log (made w (Began u (basis old log now k j p) ∷ old)) b
-        by w b (inl e) = subst (λ m. IsWinding log m b) (sym (began-made u (basis old log now k j p) old w true e.0)) (subst (IsWinding log []) e.1 begun-winding)
+        by : (w : ℕ) (b : Basis) → (((u == w) ≡ true) × (basis old log now k j p ≡ b)) ⊎ (((u == w) ≡ false) × (register w old ≡ Some b)) → IsKnownSync log (made w (Began u (basis old log now k j p) ∷ old)) b
+        by w b (inl e) = subst (λ m. IsKnownSync log m b) (sym (began-made u (basis old log now k j p) old w true e.0)) (subst (IsKnownSync log []) e.1 begun-winding)
         by w b (inr e) = same-winding _ w b e.1 (began-made u (basis old log now k j p) old w false e.0)
 
   module _ (u : ℕ) (b : Basis) (ask : Ask) (given : Answer) (now : ℕ) (r : register u old ≡ Some b) (next : next_by_kind (planned b) (made u old) ≡ Some ask) where
@@ -179,7 +179,7 @@ module _ (log : List Entry) (stored : Stored log) (neat : AreNeat log) (old : Li
     flight : IsFlight log old u b
     flight = bounded.flights u b r
 
-    winding : IsWinding log (made u old) b
+    winding : IsKnownSync log (made u old) b
     winding = h.flights u b r
 
     place : Where log (planned b) (made u old) ask
@@ -201,19 +201,19 @@ module _ (log : List Entry) (stored : Stored log) (neat : AreNeat log) (old : Li
         before false t = refl
 
     -- What a write of an end leaves.
-    sets-first : (seen : Job) (status : JobStatus) → b.job ≡ Some seen → (planned b).first ≡ Some status → has_end seen.status.conditions ≡ false → has_end status.conditions ≡ true → IsAtRest status × IsClosed (own_pods seen (pods_under b.key log))
+    sets-first : (seen : Job) (status : JobStatus) → b.job ≡ Some seen → (planned b).first ≡ Some status → has_end seen.status.conditions ≡ false → has_end status.conditions ≡ true → IsFinalStatus status × IsClosed (own_pods seen (pods_under b.key log))
     sets-first seen status there first none end =
         let is = changed-is seen.status (first_value seen b) status (sym (plan-first b seen there) ∙ first) in
         let new = ap (λ (s : JobStatus). has_end s.conditions) is ∙ end in
-        (subst IsAtRest is (first-rests seen b none new), first-closes log stored old u b flight seen there (first-wound seen b none new) (first-released seen b none new))
+        (subst IsFinalStatus is (first-rests seen b none new), first-closes log stored old u b flight seen there (first-wound seen b none new) (first-released seen b none new))
 
     sets-second : (seen : Job) (status : JobStatus) → b.job ≡ Some seen → (planned b).second ≡ Some status → ask
-        ≡ WriteSecond → has_end seen.status.conditions ≡ false → has_end status.conditions ≡ true → IsAtRest status
+        ≡ WriteSecond → has_end seen.status.conditions ≡ false → has_end status.conditions ≡ true → IsFinalStatus status
         × IsClosed (own_pods seen (pods_under b.key log))
     sets-second seen status there second a none end =
         let is = changed-is (first_value seen b) (second_value seen b) status (sym (plan-second b seen there) ∙ second) in
         let new = ap (λ (s : JobStatus). has_end s.conditions) is ∙ end in
-        (subst IsAtRest is (second-rests seen b none new), second-closes log stored old u b flight seen there (second-wound seen b none new) (lost place))
+        (subst IsFinalStatus is (second-rests seen b none new), second-closes log stored old u b flight seen there (second-wound seen b none new) (lost place))
       where
         lost : Where log (planned b) (made u old) ask → AreLost log (planned b).releases
         lost (InEarly lt e) = absurd (true≢false (sym e ∙ ap is_early a))
@@ -243,7 +243,7 @@ module _ (log : List Entry) (stored : Stored log) (neat : AreNeat log) (old : Li
     finished-asked e w is k = at (is_work k e log) refl
       where
         written : (seen : Job) (status : JobStatus) → b.job ≡ Some seen → is_quiet ask ≡ false → IsStatus log seen status e
-            → (has_end seen.status.conditions ≡ false → has_end status.conditions ≡ true → IsAtRest status × IsClosed (own_pods seen (pods_under b.key log))) → is_work k e log ≡ true → IsFinishedAt (e ∷ log) k
+            → (has_end seen.status.conditions ≡ false → has_end status.conditions ≡ true → IsFinalStatus status × IsClosed (own_pods seen (pods_under b.key log))) → is_work k e log ≡ true → IsFinishedAt (e ∷ log) k
         written seen status there loud s sets work =
             let put = with_status log s.current status in
             let bk = entry-own e is k work in
@@ -272,7 +272,7 @@ module _ (log : List Entry) (stored : Stored log) (neat : AreNeat log) (old : Li
         at true t = by (entry-is e is) t
 
     -- The other syncs.
-    other-winding : (e : Entry) → Writes log e → (ask_gives log now b (made u old) ask).entry ≡ Some e → (v : ℕ) (c : Basis) → (u == v) ≡ false → register v old ≡ Some c → IsWinding (e ∷ log) (made v old) c
+    other-winding : (e : Entry) → Writes log e → (ask_gives log now b (made u old) ask).entry ≡ Some e → (v : ℕ) (c : Basis) → (u == v) ≡ false → register v old ≡ Some c → IsKnownSync (e ∷ log) (made v old) c
     other-winding e w is v c ne rc =
         let f = h.flights v c rc in
         winding-more e log w stored c (bounded.flights v c rc).basis (none (is_work c.key e log) refl) (made v old) (made v old) (progress-more log (e ∷ log) (planned c) (made v old) (lost-more e log w) f.progress) (λ s. s) f
@@ -307,17 +307,17 @@ module _ (log : List Entry) (stored : Stored log) (neat : AreNeat log) (old : Li
         loses : (v : Uid) → ask ≡ ReleasePod v → is_lost (life v (grown log o)) ≡ true
         loses v a = subst (λ x. is_lost (life v (grown log x)) ≡ true) (sym (from ∙ ap (λ x. (ask_gives log now b (made u old) x).entry) a ∙ ap (λ y. y.entry) (release-is log now b (made u old) v))) (release-loses v log (known-next place v a))
 
-    quiet-silent : IsSilent (planned b) (made u old) → IsSilent (planned b) (more (made u old) (as_request ask) given)
+    quiet-silent : AsksReleasesOnly (planned b) (made u old) → AsksReleasesOnly (planned b) (more (made u old) (as_request ask) given)
     quiet-silent = silent-step (planned b) (made u old) ask next given
 
-    self-none : None ≡ (ask_gives log now b (made u old) ask).entry → IsWinding log (more (made u old) (as_request ask) given) b
+    self-none : None ≡ (ask_gives log now b (made u old) ask).entry → IsKnownSync log (more (made u old) (as_request ask) given) b
     self-none from = record {
       progress = self-progress None from (λ v l. l);
       known = winding.known;
       over = λ seen job there is same. let o = winding.over seen job there is same in record { ends = o.ends; silent = λ e. quiet-silent (o.silent e) };
     }
 
-    self-entry : (e : Entry) → Writes log e → Some e ≡ (ask_gives log now b (made u old) ask).entry → IsWinding (e ∷ log) (more (made u old) (as_request ask) given) b
+    self-entry : (e : Entry) → Writes log e → Some e ≡ (ask_gives log now b (made u old) ask).entry → IsKnownSync (e ∷ log) (more (made u old) (as_request ask) given) b
     self-entry e w from = at (is_work b.key e log) refl
       where
         progress : Progress (e ∷ log) (planned b) (more (made u old) (as_request ask) given)
@@ -328,8 +328,8 @@ module _ (log : List Entry) (stored : Stored log) (neat : AreNeat log) (old : Li
 
         written : (mine : Job) (status : JobStatus) → b.job ≡ Some mine → is_quiet ask ≡ false
             → IsStatus log mine status e → (has_end mine.status.conditions ≡ false → has_end status.conditions ≡ true
-            → IsSilent (planned b) (more (made u old) (as_request ask) given))
-            → IsWinding (e ∷ log) (more (made u old) (as_request ask) given) b
+            → AsksReleasesOnly (planned b) (more (made u old) (as_request ask) given))
+            → IsKnownSync (e ∷ log) (more (made u old) (as_request ask) given) b
         written mine status there loud s silent = record {
           progress = progress;
           known = known;
@@ -348,7 +348,7 @@ module _ (log : List Entry) (stored : Stored log) (neat : AreNeat log) (old : Li
 
         silent-first : (mine : Job) (status : JobStatus) → b.job ≡ Some mine → (planned b).first ≡ Some status → ask
             ≡ WriteFirst → has_end mine.status.conditions ≡ false → has_end status.conditions ≡ true
-            → IsSilent (planned b) (more (made u old) (as_request ask) given)
+            → AsksReleasesOnly (planned b) (more (made u old) (as_request ask) given)
         silent-first mine status there first a none end = by place
           where
             new : has_end (first_value mine b).conditions ≡ true
@@ -357,7 +357,7 @@ module _ (log : List Entry) (stored : Stored log) (neat : AreNeat log) (old : Li
             no-second : (planned b).second ≡ None
             no-second = plan-second b mine there ∙ changed-none (first_value mine b) (second_value mine b) (sym (first-same mine b none new))
 
-            by : Where log (planned b) (made u old) ask → IsSilent (planned b) (more (made u old) (as_request ask) given)
+            by : Where log (planned b) (made u old) ask → AsksReleasesOnly (planned b) (more (made u old) (as_request ask) given)
             by (InEarly lt e) = absurd (true≢false (sym e ∙ ap is_early a))
             by (AtFirst f st i tail) =
                 silent-after (planned b) (made u old) ask next given (λ v. ap (λ x. lets_go_of v (as_request x)) a) (planned b).releases
@@ -369,10 +369,10 @@ module _ (log : List Entry) (stored : Stored log) (neat : AreNeat log) (old : Li
                 is_first WriteFirst = false
                 is_first other = true
 
-        silent-second : ask ≡ WriteSecond → IsSilent (planned b) (more (made u old) (as_request ask) given)
+        silent-second : ask ≡ WriteSecond → AsksReleasesOnly (planned b) (more (made u old) (as_request ask) given)
         silent-second a = by place
           where
-            by : Where log (planned b) (made u old) ask → IsSilent (planned b) (more (made u old) (as_request ask) given)
+            by : Where log (planned b) (made u old) ask → AsksReleasesOnly (planned b) (more (made u old) (as_request ask) given)
             by (InEarly lt e) = absurd (true≢false (sym e ∙ ap is_early a))
             by (AtFirst f st i tail) = absurd (true≢false (ap is_first (sym a ∙ f)))
               where
@@ -382,7 +382,7 @@ module _ (log : List Entry) (stored : Stored log) (neat : AreNeat log) (old : Li
             by (AtRelease done x rest f split tail l) = absurd (true≢false (ap is_quiet (sym f ∙ a)))
             by (AtSecond f st s tail l) = silent-after (planned b) (made u old) ask next given (λ v. ap (λ x. lets_go_of v (as_request x)) a) [] tail
 
-        by : Appends log (planned b) b.job ask e → is_work b.key e log ≡ true → IsWinding (e ∷ log) (more (made u old) (as_request ask) given) b
+        by : Appends log (planned b) b.job ask e → is_work b.key e log ≡ true → IsKnownSync (e ∷ log) (more (made u old) (as_request ask) given) b
         by (Idly q idle) work = absurd (true≢false (sym work ∙ idle b.key))
         by (Makes mine pod index a there s owner uid) work = record {
           progress = progress;
@@ -395,15 +395,15 @@ module _ (log : List Entry) (stored : Stored log) (neat : AreNeat log) (old : Li
         by (First mine status a there first s) work = written mine status there (ap is_quiet a) s (silent-first mine status there first a)
         by (Second mine status a there second s) work = written mine status there (ap is_quiet a) s (λ none end. silent-second a)
 
-        at : (t : Bool) → is_work b.key e log ≡ t → IsWinding (e ∷ log) (more (made u old) (as_request ask) given) b
+        at : (t : Bool) → is_work b.key e log ≡ t → IsKnownSync (e ∷ log) (more (made u old) (as_request ask) given) b
         at false t = winding-more e log w stored b flight.basis t (made u old) (more (made u old) (as_request ask) given) progress quiet-silent winding
         at true t = by (entry-is e (sym from)) t
 
-    self-winding : (o : Option Entry) → Stored (grown log o) → o ≡ (ask_gives log now b (made u old) ask).entry → IsWinding (grown log o) (more (made u old) (as_request ask) given) b
+    self-winding : (o : Option Entry) → Stored (grown log o) → o ≡ (ask_gives log now b (made u old) ask).entry → IsKnownSync (grown log o) (more (made u old) (as_request ask) given) b
     self-winding None s from = self-none from
     self-winding (Some e) s from = self-entry e s.0 from
 
-    others : (o : Option Entry) → Stored (grown log o) → (o ≡ None) ⊎ (o ≡ (ask_gives log now b (made u old) ask).entry) → (v : ℕ) (c : Basis) → (u == v) ≡ false → register v old ≡ Some c → IsWinding (grown log o) (made v old) c
+    others : (o : Option Entry) → Stored (grown log o) → (o ≡ None) ⊎ (o ≡ (ask_gives log now b (made u old) ask).entry) → (v : ℕ) (c : Basis) → (u == v) ≡ false → register v old ≡ Some c → IsKnownSync (grown log o) (made v old) c
     others None s from v c ne rc = h.flights v c rc
     others (Some e) s (inl n) v c ne rc = absurd (true≢false (ap is_some n))
     others (Some e) s (inr n) v c ne rc = other-winding e s.0 (sym n) v c ne rc
@@ -413,63 +413,63 @@ module _ (log : List Entry) (stored : Stored log) (neat : AreNeat log) (old : Li
     finished-all (Some e) s (inl n) k = absurd (true≢false (ap is_some n))
     finished-all (Some e) s (inr n) k = finished-asked e s.0 (sym n) k
 
-    stepped-final : (o : Option Entry) → Stored (grown log o) → o ≡ (ask_gives log now b (made u old) ask).entry → IsFinal (grown log o) asked
+    stepped-final : (o : Option Entry) → Stored (grown log o) → o ≡ (ask_gives log now b (made u old) ask).entry → KnowsEnds (grown log o) asked
     stepped-final o s from = record { finished = finished-all o s (inr from); flights = λ v c rc. by v c rc (asked-made u b (as_request ask) given old v) }
       where
-        by : (v : ℕ) (c : Basis) → register v old ≡ Some c → (((u == v) ≡ false) × (made v asked ≡ made v old)) ⊎ (((u == v) ≡ true) × (made v asked ≡ more (made v old) (as_request ask) given)) → IsWinding (grown log o) (made v asked) c
-        by v c rc (inl e) = subst (λ m. IsWinding (grown log o) m c) (sym e.1) (others o s (inr from) v c e.0 rc)
+        by : (v : ℕ) (c : Basis) → register v old ≡ Some c → (((u == v) ≡ false) × (made v asked ≡ made v old)) ⊎ (((u == v) ≡ true) × (made v asked ≡ more (made v old) (as_request ask) given)) → IsKnownSync (grown log o) (made v asked) c
+        by v c rc (inl e) = subst (λ m. IsKnownSync (grown log o) m c) (sym e.1) (others o s (inr from) v c e.0 rc)
         by v c rc (inr e) =
             let uv = eqb-true u v e.0 in
             let same = some_is b c (sym r ∙ ap (λ x. register x old) uv ∙ rc) in
-            subst (λ m. IsWinding (grown log o) m c) (sym e.1)
-            (subst (λ x. IsWinding (grown log o) (more (made x old) (as_request ask) given) c) uv
-            (subst (IsWinding (grown log o) (more (made u old) (as_request ask) given)) same (self-winding o s from)))
+            subst (λ m. IsKnownSync (grown log o) m c) (sym e.1)
+            (subst (λ x. IsKnownSync (grown log o) (more (made x old) (as_request ask) given) c) uv
+            (subst (IsKnownSync (grown log o) (more (made u old) (as_request ask) given)) same (self-winding o s from)))
 
-    stopped-final : (o : Option Entry) (end : SyncEnd) → Stored (grown log o) → (o ≡ None) ⊎ (o ≡ (ask_gives log now b (made u old) ask).entry) → IsFinal (grown log o) (Ended u b end now ∷ asked)
+    stopped-final : (o : Option Entry) (end : SyncEnd) → Stored (grown log o) → (o ≡ None) ⊎ (o ≡ (ask_gives log now b (made u old) ask).entry) → KnowsEnds (grown log o) (Ended u b end now ∷ asked)
     stopped-final o end s from = record {
       finished = finished-all o s from;
       flights = λ v c rc.
           let n = ended-register u b end now asked v c rc in
-          subst (λ m. IsWinding (grown log o) m c) (sym (ended-made u b end now asked v)) (by v c n.0 n.1 (asked-made u b (as_request ask) given old v));
+          subst (λ m. IsKnownSync (grown log o) m c) (sym (ended-made u b end now asked v)) (by v c n.0 n.1 (asked-made u b (as_request ask) given old v));
     }
       where
         by : (v : ℕ) (c : Basis) → (u == v) ≡ false → register v old ≡ Some c
             → (((u == v) ≡ false) × (made v asked ≡ made v old))
             ⊎ (((u == v) ≡ true) × (made v asked ≡ more (made v old) (as_request ask) given))
-            → IsWinding (grown log o) (made v asked) c
-        by v c ne rc (inl e) = subst (λ m. IsWinding (grown log o) m c) (sym e.1) (others o s from v c ne rc)
+            → IsKnownSync (grown log o) (made v asked) c
+        by v c ne rc (inl e) = subst (λ m. IsKnownSync (grown log o) m c) (sym e.1) (others o s from v c ne rc)
         by v c ne rc (inr e) = absurd (true≢false (sym e.0 ∙ ne))
 
-  finished-final : (u : ℕ) (b : Basis) (end : SyncEnd) (now : ℕ) → IsFinal log (Ended u b end now ∷ old)
+  finished-final : (u : ℕ) (b : Basis) (end : SyncEnd) (now : ℕ) → KnowsEnds log (Ended u b end now ∷ old)
   finished-final u b end now = record { finished = h.finished; flights = λ v c rc. let n = ended-register u b end now old v c rc in same-winding _ v c n.1 (ended-made u b end now old v) }
 
-  pub turn-final : (now : ℕ) (log' : List Entry) (new : List Note) → Stored log' → Turn now log old log' new → IsFinal log' new
-  turn-final now log' new s (Still l n) = subst (λ x. IsFinal x new) (sym l) (subst (IsFinal log) (sym n) h)
-  turn-final now log' new s (Restarted l n) = subst (λ x. IsFinal x new) (sym l) (subst (IsFinal log) (sym n) (record { finished = h.finished; flights = λ w b e. absurd (true≢false (sym (ap is_some e))) }))
+  pub turn-final : (now : ℕ) (log' : List Entry) (new : List Note) → Stored log' → Turn now log old log' new → KnowsEnds log' new
+  turn-final now log' new s (Still l n) = subst (λ x. KnowsEnds x new) (sym l) (subst (KnowsEnds log) (sym n) h)
+  turn-final now log' new s (Restarted l n) = subst (λ x. KnowsEnds x new) (sym l) (subst (KnowsEnds log) (sym n) (record { finished = h.finished; flights = λ w b e. absurd (true≢false (sym (ap is_some e))) }))
   turn-final now log' new s (Noted note l n news) =
-      subst (λ x. IsFinal x new) (sym l) (subst (IsFinal log) (sym n)
+      subst (λ x. KnowsEnds x new) (sym l) (subst (KnowsEnds log) (sym n)
       (record { finished = h.finished; flights = λ w b e. same-winding (made w (note ∷ old)) w b (sym (news-register (length log) old note news w) ∙ e) (news-made (length log) old note news w) }))
-  turn-final now log' new s (Wrote e l n idle) = subst (λ x. IsFinal x new) (sym l) (subst (IsFinal (e ∷ log)) (sym n) (wrote-final e (subst Stored l s).0 idle))
-  turn-final now log' new s (Begins w k j p jobs pods fresh free l n) = subst (λ x. IsFinal x new) (sym l) (subst (IsFinal log) (sym n) (begun-final w k j p now jobs pods fresh))
-  turn-final now log' new s (Stepped w b ask given o r next answer from l n) = subst (λ x. IsFinal x new) (sym l) (subst (IsFinal (grown log o)) (sym n) (stepped-final w b ask given now r next o (subst Stored l s) from))
-  turn-final now log' new s (Stopped w b ask given o end r next from lost l n) = subst (λ x. IsFinal x new) (sym l) (subst (IsFinal (grown log o)) (sym n) (stopped-final w b ask given now r next o end (subst Stored l s) from))
-  turn-final now log' new s (Finished w b r l n) = subst (λ x. IsFinal x new) (sym l) (subst (IsFinal log) (sym n) (finished-final w b _ now))
+  turn-final now log' new s (Wrote e l n idle) = subst (λ x. KnowsEnds x new) (sym l) (subst (KnowsEnds (e ∷ log)) (sym n) (wrote-final e (subst Stored l s).0 idle))
+  turn-final now log' new s (Begins w k j p jobs pods fresh free l n) = subst (λ x. KnowsEnds x new) (sym l) (subst (KnowsEnds log) (sym n) (begun-final w k j p now jobs pods fresh))
+  turn-final now log' new s (Stepped w b ask given o r next answer from l n) = subst (λ x. KnowsEnds x new) (sym l) (subst (KnowsEnds (grown log o)) (sym n) (stepped-final w b ask given now r next o (subst Stored l s) from))
+  turn-final now log' new s (Stopped w b ask given o end r next from lost l n) = subst (λ x. KnowsEnds x new) (sym l) (subst (KnowsEnds (grown log o)) (sym n) (stopped-final w b ask given now r next o end (subst Stored l s) from))
+  turn-final now log' new s (Finished w b r l n) = subst (λ x. KnowsEnds x new) (sym l) (subst (KnowsEnds log) (sym n) (finished-final w b _ now))
 
 -- ---- every legal history
 
-neat-before : (log : List Entry) (o : Option Entry) → AreNeat (grown log o) → AreNeat log
+neat-before : (log : List Entry) (o : Option Entry) → AlwaysHaveIndexTotals (grown log o) → AlwaysHaveIndexTotals log
 neat-before log None h = h
 neat-before log (Some e) h = λ n k job is. by n k job is (nat_lt (length log) n) refl
   where
-    by : (n : ℕ) (k : Key) (job : Job) → job_in k (upto n log) ≡ Some job → (t : Bool) → nat_lt (length log) n ≡ t → IsNeat job
+    by : (n : ℕ) (k : Key) (job : Job) → job_in k (upto n log) ≡ Some job → (t : Bool) → nat_lt (length log) n ≡ t → HasIndexTotals job
     by n k job is true t = h (length log) k job (ap (job_in k) (upto-fixed (length log) e log (omega arith) ∙ upto-all (length log) log (omega arith) ∙ sym (upto-all n log (let lt = ltb-true (length log) n t in omega (arith, lt)))) ∙ is)
     by n k job is false t = h n k job (ap (job_in k) (upto-fixed n e log (ltb-false (length log) n t)) ∙ is)
 
-pub neat-past : (shape : Shape) (past : List Deed) (d : Deed) → AreNeat (log_given shape (d ∷ past)) → AreNeat (log_given shape past)
+pub neat-past : (shape : Shape) (past : List Deed) (d : Deed) → AlwaysHaveIndexTotals (log_given shape (d ∷ past)) → AlwaysHaveIndexTotals (log_given shape past)
 unfolding log_given
 neat-past shape past d = neat-before (log_given shape past) (gives shape past (log_given shape past) d.act).entry
 
-pub legal-final : (shape : Shape) (deeds : List Deed) → shape.controllers ≡ 1 → IsLegal shape deeds → Stored (log_given shape deeds) → AreNeat (log_given shape deeds) → IsFinal (log_given shape deeds) (notes shape 0 deeds (log_given shape deeds))
+pub legal-final : (shape : Shape) (deeds : List Deed) → shape.controllers ≡ 1 → IsLegal shape deeds → Stored (log_given shape deeds) → AlwaysHaveIndexTotals (log_given shape deeds) → KnowsEnds (log_given shape deeds) (notes shape 0 deeds (log_given shape deeds))
 unfolding log_given
 legal-final shape [] one h s neat = record { finished = λ k job e. absurd (true≢false (sym (ap is_some e))); flights = λ w b e. absurd (true≢false (sym (ap is_some e))) }
 legal-final shape (d ∷ past) one h s neat =

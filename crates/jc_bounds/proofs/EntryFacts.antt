@@ -23,7 +23,7 @@ use Rattle.jc_log.proofs.LogFacts.{upto-all}
 use Rattle.jc_types.proofs.EqualityFacts.{status-exact}
 use Rattle.jc_log.proofs.WriteFacts.{life-uid}
 use Rattle.jc_bounds.specs.Final.{IsClosed, IsFinished, IsFinishedAt}
-use Rattle.jc_plan.specs.Finishes.{IsAtRest}
+use Rattle.jc_plan.specs.Finishes.{IsFinalStatus}
 use Rattle.jc_bounds.specs.Work.{has_new_status, is_birth, is_work, last_work, pods_made}
 use Rattle.jc_bounds.proofs.FitFacts.{open-lasts, own-entry, own-other, tracked-lasts}
 use Rattle.jc_plan.proofs.PlanBounds.{none-length as any-none, none-passes}
@@ -107,7 +107,7 @@ finished-idle e log w stored k idle h new is end =
     let old = old-job e log w stored k idle new is (inl end) in
     let before = h old.job old.there (sym (ap (λ s. has_end s.conditions) old.status) ∙ end) in
     record {
-      rests = subst IsAtRest (sym old.status) before.rests;
+      rests = subst IsFinalStatus (sym old.status) before.rests;
       closed = closed-more e log k new
           (closed-entry e log w k (birth-works k e log idle) new (same-own new old.job old.uid (pods_under k log) (closed-now log k old.job before)))
           (λ m le work. same-own new old.job old.uid (pods_under k (upto m log)) (before.closed m le (let c = cond-false (is_work k e log) (length (e ∷ log)) (last_work k log) idle in omega (arith, work, c))));
@@ -131,7 +131,7 @@ finished-made pod log k h work other job is end =
 
 -- The write that sets the end.
 pub finished-written : (put : Job) (log : List Entry) (k : Key) → same_key put.key k ≡ true → is_work k (JobPut put) log
-    ≡ true → (has_end put.status.conditions ≡ true → IsAtRest put.status × IsClosed (own_pods put (pods_under k log)))
+    ≡ true → (has_end put.status.conditions ≡ true → IsFinalStatus put.status × IsClosed (own_pods put (pods_under k log)))
     → IsFinishedAt (JobPut put ∷ log) k
 finished-written put log k key work sets job is end =
     let same : put ≡ job = some_is put job (sym (cond-true (same_key put.key k) (Some put) (job_in k log) key) ∙ is) in

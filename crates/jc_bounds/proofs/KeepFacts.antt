@@ -37,8 +37,8 @@ use Rattle.jc_history.specs.Replies.{gives, log_given}
 use Rattle.jc_history.proofs.LegalFacts.{legal-fit}
 use Rattle.jc_history.proofs.RegisterFacts.{fit-apart}
 use Rattle.jc_bounds.specs.Bounded.{IsBounded}
-use Rattle.jc_bounds.specs.Final.{AreNeat, IsClosed, IsFinal}
-use Rattle.jc_bounds.specs.KeptEnds.{IsLeftAlone, IsShut, StatusesStand}
+use Rattle.jc_bounds.specs.Final.{AlwaysHaveIndexTotals, IsClosed, KnowsEnds}
+use Rattle.jc_bounds.specs.KeptEnds.{IsLeftAlone, HasNothingOpen, StatusesStand}
 use Rattle.jc_bounds.specs.Work.{is_work}
 use Rattle.jc_bounds.proofs.Appends.{Appends, First, Idly, Makes, Second}
 use Rattle.jc_bounds.proofs.BoundFacts.{legal-bounded, legal-within}
@@ -59,8 +59,8 @@ own-of log k job legal is b =
 a-basis : Key → Basis
 a-basis k = record { key = k; job = None; pods = []; jobs_at = record { 0 = 0 }; pods_at = record { 0 = 0 }; now = 0; backoff = record { failures = 0; last = None } }
 
-module _ (now : ℕ) (log : List Entry) (old : List Note) (stored : Stored log) (neat : AreNeat log)
-    (bounded : IsBounded log old) (h : IsFinal log old) (apart : HaveOwnKeys old)
+module _ (now : ℕ) (log : List Entry) (old : List Note) (stored : Stored log) (neat : AlwaysHaveIndexTotals log)
+    (bounded : IsBounded log old) (h : KnowsEnds log old) (apart : HaveOwnKeys old)
     (within : (kind : Kind) (m : Version) → number kind old ≡ Some m → m.0 ≤ length log) (k : Key) (job : Job)
     (there : job_in k log ≡ Some job) (end : has_end job.status.conditions ≡ true) where
   -- ---- its status
@@ -161,13 +161,13 @@ made-key log pod k job legal there uid =
     (ap (life pod.uid) all ∙ cond-true (same_uid pod.uid pod.uid) (Live pod) (life pod.uid log) (same_uid-itself pod.uid)) uid
 
 -- A Job that has ended is shut.
-pub final-shut : (log : List Entry) (notes : List Note) → Legal log → IsFinal log notes → (k : Key) (job : Job) → job_in k log ≡ Some job → has_end job.status.conditions ≡ true → IsShut log job
+pub final-shut : (log : List Entry) (notes : List Note) → Legal log → KnowsEnds log notes → (k : Key) (job : Job) → job_in k log ≡ Some job → has_end job.status.conditions ≡ true → HasNothingOpen log job
 final-shut log notes legal h k job there end =
     let fin = h.finished k job there end in
     record { rests = fin.rests; closed = subst IsClosed (own-of log k job legal there (a-basis k)) (closed-now log k job fin) }
 
 -- **What has ended stays as it is.**
-pub legal-keeps : (shape : Shape) (past : List Deed) (d : Deed) → shape.controllers ≡ 1 → IsLegal shape (d ∷ past) → Legal (log_given shape (d ∷ past)) → AreNeat (log_given shape (d ∷ past))
+pub legal-keeps : (shape : Shape) (past : List Deed) (d : Deed) → shape.controllers ≡ 1 → IsLegal shape (d ∷ past) → Legal (log_given shape (d ∷ past)) → AlwaysHaveIndexTotals (log_given shape (d ∷ past))
     → (k : Key) (job : Job) → job_in k (log_given shape past) ≡ Some job → has_end job.status.conditions ≡ true → IsLeftAlone (log_given shape past) (log_given shape (d ∷ past)) k job
 legal-keeps shape past d one h legal neat k job there end =
     let before = legal-before shape past d legal in
@@ -215,7 +215,7 @@ stands-more e log s h keep = λ m k old new was end is same. by m k old new was 
         let before = h m k old f.job (sym (ap (job_in k) (upto-fixed m e log le)) ∙ was) end f.is f.uid in
         keep k f.job f.is (ap (λ (s : JobStatus). has_end s.conditions) before ∙ end) new is (same ∙ sym f.uid) ∙ before
 
-pub legal-stands : (shape : Shape) (deeds : List Deed) → shape.controllers ≡ 1 → IsLegal shape deeds → ((past : List Deed) → IsLegal shape past → Legal (log_given shape past) × AreNeat (log_given shape past)) → StatusesStand (log_given shape deeds)
+pub legal-stands : (shape : Shape) (deeds : List Deed) → shape.controllers ≡ 1 → IsLegal shape deeds → ((past : List Deed) → IsLegal shape past → Legal (log_given shape past) × AlwaysHaveIndexTotals (log_given shape past)) → StatusesStand (log_given shape deeds)
 unfolding log_given
 legal-stands shape [] one h all = λ m k old new was end is same. absurd (true≢false (sym (ap is_some is)))
 legal-stands shape (d ∷ past) one h all = by (legal-stands shape past one h.1 all) (gives shape past (log_given shape past) d.act).entry (Stored-from_legal (log_given shape (d ∷ past)) (all (d ∷ past) h).0)

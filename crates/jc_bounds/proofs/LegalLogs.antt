@@ -59,8 +59,8 @@ use Rattle.jc_history.specs.Numbers.{number}
 use Rattle.jc_history.specs.Registers.{made, pending, register}
 use Rattle.jc_history.specs.Replies.{begin_gives, clock_gives, deliver_gives, finish_gives, gives, log_given, node_gives, step_done, step_gives}
 use Rattle.jc_bounds.specs.Bounded.{IsBounded}
-use Rattle.jc_bounds.specs.Final.{AreNeat}
-use Rattle.jc_plan.specs.Finishes.{IsNeat}
+use Rattle.jc_bounds.specs.Final.{AlwaysHaveIndexTotals}
+use Rattle.jc_plan.specs.Finishes.{HasIndexTotals}
 use Rattle.jc_bounds.specs.Work.{has_new_status}
 use Rattle.jc_bounds.proofs.Appends.{Appends, First, Idly, IsStatus, Makes, Second, appends}
 use Rattle.jc_bounds.proofs.BoundFacts.{legal-bounded}
@@ -72,7 +72,7 @@ use Rattle.std.proofs.lemmas.Bool.{not-false}
 -- ---- one entry
 
 abbrev pub IsNeatEntry : Entry → Type 0
-IsNeatEntry (JobPut job) = IsNeat job
+IsNeatEntry (JobPut job) = HasIndexTotals job
 IsNeatEntry other = Unit {0}
 
 -- The failures of each index stand in ascending index.
@@ -80,7 +80,7 @@ abbrev Climbs : List IndexCount → Type 0
 Climbs counts = IsIncreasing (map (λ (count : IndexCount). count.index) counts)
 
 -- Neat by mode, limit and status.
-same-neat : (old new : Job) → new.spec.mode ≡ old.spec.mode → new.spec.per_index ≡ old.spec.per_index → new.status ≡ old.status → IsNeat old → IsNeat new
+same-neat : (old new : Job) → new.spec.mode ≡ old.spec.mode → new.spec.per_index ≡ old.spec.per_index → new.status ≡ old.status → HasIndexTotals old → HasIndexTotals new
 same-neat old new mode limit status h = record {
   none = λ m. ap (λ (s : JobStatus). s.uncounted_succeeded) status ∙ h.none (sym mode ∙ m);
   size = λ m. ap (λ (s : JobStatus). s.succeeded) status ∙ h.size (sym mode ∙ m) ∙ ap (λ (s : JobStatus). length s.completed) (sym status);
@@ -88,7 +88,7 @@ same-neat old new mode limit status h = record {
   ascending = subst (λ (s : JobStatus). Climbs s.index_failures) (sym status) h.ascending;
 }
 
-empty-neat : (job : Job) → job.status ≡ empty_status → IsNeat job
+empty-neat : (job : Job) → job.status ≡ empty_status → HasIndexTotals job
 empty-neat job e = record {
   none = λ m. ap (λ (s : JobStatus). s.uncounted_succeeded) e;
   size = λ m. ap (λ (s : JobStatus). s.succeeded) e ∙ ap (λ (s : JobStatus). length s.completed) (sym e);
@@ -117,7 +117,7 @@ failures-climb job own uids up = by job.spec.per_index
 abbrev given_status : Job → JobStatus → Job
 given_status job status = record job { status = status }
 
-first-neat : (job : Job) (b : Basis) → IsNeat job → IsNeat (given_status job (first_value job b))
+first-neat : (job : Job) (b : Basis) → HasIndexTotals job → HasIndexTotals (given_status job (first_value job b))
 first-neat job b h = record {
   none = λ m. first-succeeded_list job b ∙ empty-in job b.pods m (h.none m);
   size = λ m. first-succeeded job b ∙ indexed-total job b.pods m ∙ ap length (sym (first-completed job b));
@@ -127,7 +127,7 @@ first-neat job b h = record {
   ascending = subst Climbs (sym (first-index_failures job b)) (failures-climb job (own_pods job b.pods) (counted_in job b.pods).judged_failed h.ascending);
 }
 
-second-size : (job : Job) (b : Basis) → IsNeat job → job.spec.mode ≡ Indexed → (second_value job b).succeeded ≡ length (second_value job b).completed
+second-size : (job : Job) (b : Basis) → HasIndexTotals job → job.spec.mode ≡ Indexed → (second_value job b).succeeded ≡ length (second_value job b).completed
 unfolding counted_out
 second-size job b h m =
     let f = first-neat job b h in
@@ -137,7 +137,7 @@ second-size job b h m =
     let size = f.size m in
     omega (arith, none, out, same, size)
 
-second-neat : (job : Job) (b : Basis) → IsNeat job → IsNeat (given_status job (second_value job b))
+second-neat : (job : Job) (b : Basis) → HasIndexTotals job → HasIndexTotals (given_status job (second_value job b))
 second-neat job b h =
     let f = first-neat job b h in
     record {
@@ -149,11 +149,11 @@ second-neat job b h =
       ascending = subst Climbs (first-index_failures job b ∙ sym (second-index_failures job b)) f.ascending;
     }
 
-module _ (log : List Entry) (legal : Legal log) (neat : AreNeat log) where
+module _ (log : List Entry) (legal : Legal log) (neat : AlwaysHaveIndexTotals log) where
   stored : Stored log
   stored = Stored-from_legal log legal
 
-  neat-now : (k : Key) (job : Job) → job_in k log ≡ Some job → IsNeat job
+  neat-now : (k : Key) (job : Job) → job_in k log ≡ Some job → HasIndexTotals job
   neat-now k job is = neat (length log) k job (ap (job_in k) (upto-all (length log) log (omega arith)) ∙ is)
 
   abbrev pub IsGood : Entry → Type 0
@@ -169,7 +169,7 @@ module _ (log : List Entry) (legal : Legal log) (neat : AreNeat log) where
       still : has_new_status job (job_in job.key log) ≡ false
       still = sym (ap (λ t. t && has_new_status job (job_in job.key log)) (same_key-itself job.key)) ∙ idle job.key
 
-      by : (o : Option Job) → job_in job.key log ≡ o → CanJob log o job → has_new_status job o ≡ false → IsNeat job
+      by : (o : Option Job) → job_in job.key log ≡ o → CanJob log o job → has_new_status job o ≡ false → HasIndexTotals job
       by None is can s = empty-neat job (sym ((status-exact empty_status job.status).0 (not-false (same_status empty_status job.status) s)))
       by (Some old) is can s = same-neat old job can.mode can.per_index (sym ((status-exact old.status job.status).0 (not-false (same_status old.status job.status) s))) (neat-now job.key old is)
 
@@ -212,10 +212,10 @@ module _ (log : List Entry) (legal : Legal log) (neat : AreNeat log) where
         let kept = job_kept_to (Kept seen) (λ old new step e. (step.mode ∙ e.0, step.per_index ∙ e.1)) b.key b.jobs_at.0 (length log) log stored is.jobs_at seen (sym is.job ∙ there) (refl, refl) in
         subst (KeptJob seen.uid (Kept seen)) (ap (job_in b.key) whole ∙ ap (λ k. job_in k log) (sym (seen-key log b is seen there)) ∙ cur) kept (ap (λ u. same_uid u seen.uid) uid ∙ same_uid-itself seen.uid)
 
-    seen-neat : (seen : Job) → b.job ≡ Some seen → IsNeat seen
+    seen-neat : (seen : Job) → b.job ≡ Some seen → HasIndexTotals seen
     seen-neat seen there = neat b.jobs_at.0 b.key seen (sym is.job ∙ there)
 
-    status-good : (seen : Job) → b.job ≡ Some seen → (status : JobStatus) (e : Entry) → Writes log e → IsStatus log seen status e → IsNeat (given_status seen status) → Allowed log e × IsNeatEntry e
+    status-good : (seen : Job) → b.job ≡ Some seen → (status : JobStatus) (e : Entry) → Writes log e → IsStatus log seen status e → HasIndexTotals (given_status seen status) → Allowed log e × IsNeatEntry e
     status-good seen there status e w s good = subst (λ x. Writes log x → Allowed log x × IsNeatEntry x) (sym s.is)
         (λ w. let kept = same-spec seen there s.current s.there s.uid in (record { writes = w; owned = tt }, same-neat (given_status seen status) (with_status log s.current status) kept.0 kept.1 refl good)) w
 
@@ -235,11 +235,11 @@ module _ (log : List Entry) (legal : Legal log) (neat : AreNeat log) where
               tt,
             )) w
         one e w (First seen status a there first s) =
-            status-good seen there status e w s (let v = changed-is seen.status (first_value seen b) status (sym (plan-first b seen there) ∙ first) in subst (λ x. IsNeat (given_status seen x)) v (first-neat seen b (seen-neat seen there)))
+            status-good seen there status e w s (let v = changed-is seen.status (first_value seen b) status (sym (plan-first b seen there) ∙ first) in subst (λ x. HasIndexTotals (given_status seen x)) v (first-neat seen b (seen-neat seen there)))
         one e w (Second seen status a there second s) =
             status-good seen there status e w s (let v = changed-is (first_value seen b) (second_value seen b) status
             (sym (plan-second b seen there) ∙ second) in
-            subst (λ x. IsNeat (given_status seen x)) v (second-neat seen b (seen-neat seen there)))
+            subst (λ x. HasIndexTotals (given_status seen x)) v (second-neat seen b (seen-neat seen there)))
 
         by : (o : Option Entry) → Stored (grown log o) → IfSome o (Appends log (planned b) b.job ask) → IfSome o (λ e. Allowed log e × IsNeatEntry e)
         by None s h = tt
@@ -283,7 +283,7 @@ module _ (log : List Entry) (legal : Legal log) (neat : AreNeat log) where
       by (Some Lose) (ask ∷ left) = ask-good now b (made w old) (bounded.flights w b r).basis ask
       by None (ask ∷ left) = ask-good now b (made w old) (bounded.flights w b r).basis ask
 
-act-good : (shape : Shape) (past : List Deed) → shape.controllers ≡ 1 → (act : Act) → IsOfShape shape act → Legal (log_given shape past) → AreNeat (log_given shape past) → IsBounded (log_given shape past) (notes shape 0 past (log_given shape past))
+act-good : (shape : Shape) (past : List Deed) → shape.controllers ≡ 1 → (act : Act) → IsOfShape shape act → Legal (log_given shape past) → AlwaysHaveIndexTotals (log_given shape past) → IsBounded (log_given shape past) (notes shape 0 past (log_given shape past))
     → IfSome (gives shape past (log_given shape past) act).entry (λ e. Allowed (log_given shape past) e × IsNeatEntry e)
 unfolding gives
 act-good shape past one (does.Create key spec) w l n b = let log = log_given shape past in
@@ -321,34 +321,34 @@ act-good shape past one does.Unknown w l n b = tt
 
 -- ---- every legal history
 
-neat-more : (e : Entry) (log : List Entry) → AreNeat log → IsNeatEntry e → AreNeat (e ∷ log)
+neat-more : (e : Entry) (log : List Entry) → AlwaysHaveIndexTotals log → IsNeatEntry e → AlwaysHaveIndexTotals (e ∷ log)
 neat-more e log h good = λ n k job is. by n k job (nat_lt (length log) n) is
   where
-    now : (e : Entry) → IsNeatEntry e → (k : Key) (job : Job) → job_in k (e ∷ log) ≡ Some job → IsNeat job
+    now : (e : Entry) → IsNeatEntry e → (k : Key) (job : Job) → job_in k (e ∷ log) ≡ Some job → HasIndexTotals job
     now (JobPut put) good k job is = at (same_key put.key k) is
       where
-        at : (t : Bool) → cond t (Some put) (job_in k log) ≡ Some job → IsNeat job
-        at true e = subst IsNeat (some_is put job e) good
+        at : (t : Bool) → cond t (Some put) (job_in k log) ≡ Some job → HasIndexTotals job
+        at true e = subst HasIndexTotals (some_is put job e) good
         at false e = h (length log) k job (ap (job_in k) (upto-all (length log) log (omega arith)) ∙ e)
     now (JobGone gone) good k job is = at (same_key gone.key k) is
       where
-        at : (t : Bool) → cond t None (job_in k log) ≡ Some job → IsNeat job
+        at : (t : Bool) → cond t None (job_in k log) ≡ Some job → HasIndexTotals job
         at true e = absurd (true≢false (sym (ap is_some e)))
         at false e = h (length log) k job (ap (job_in k) (upto-all (length log) log (omega arith)) ∙ e)
     now (PodPut pod) good k job is = h (length log) k job (ap (job_in k) (upto-all (length log) log (omega arith)) ∙ is)
     now (PodGone pod) good k job is = h (length log) k job (ap (job_in k) (upto-all (length log) log (omega arith)) ∙ is)
 
-    by : (n : ℕ) (k : Key) (job : Job) (t : Bool) → job_in k (cond t (e ∷ log) (upto n log)) ≡ Some job → IsNeat job
+    by : (n : ℕ) (k : Key) (job : Job) (t : Bool) → job_in k (cond t (e ∷ log) (upto n log)) ≡ Some job → HasIndexTotals job
     by n k job true is = now e good k job is
     by n k job false is = h n k job is
 
-pub legal-log : (shape : Shape) (deeds : List Deed) → shape.controllers ≡ 1 → IsLegal shape deeds → Legal (log_given shape deeds) × AreNeat (log_given shape deeds)
+pub legal-log : (shape : Shape) (deeds : List Deed) → shape.controllers ≡ 1 → IsLegal shape deeds → Legal (log_given shape deeds) × AlwaysHaveIndexTotals (log_given shape deeds)
 unfolding log_given
 legal-log shape [] one h = (tt, λ n k job is. absurd (true≢false (sym (ap is_some is))))
 legal-log shape (d ∷ past) one h =
     let before = legal-log shape past one h.1 in
     by before (gives shape past (log_given shape past) d.act).entry (act-good shape past one d.act h.0.within before.0 before.1 (legal-bounded shape past one h.1 (Stored-from_legal (log_given shape past) before.0)))
   where
-    by : Legal (log_given shape past) × AreNeat (log_given shape past) → (o : Option Entry) → IfSome o (λ e. Allowed (log_given shape past) e × IsNeatEntry e) → Legal (grown (log_given shape past) o) × AreNeat (grown (log_given shape past) o)
+    by : Legal (log_given shape past) × AlwaysHaveIndexTotals (log_given shape past) → (o : Option Entry) → IfSome o (λ e. Allowed (log_given shape past) e × IsNeatEntry e) → Legal (grown (log_given shape past) o) × AlwaysHaveIndexTotals (grown (log_given shape past) o)
     by before None good = before
     by before (Some e) good = ((good.0, before.0), neat-more e (log_given shape past) before.1 good.1)

@@ -21,7 +21,7 @@ use Rattle.jc_types.specs.Keys.{same_uid}
 use Rattle.jc_states.specs.UidLists.{is_in}
 use Rattle.jc_asks.specs.Readings.{gone_in, gone_of}
 use Rattle.jc_bounds.specs.RequestKinds.{lets_go_of, was_let_go, let_go_asks, asks, next_by_kind}
-use Rattle.jc_bounds.specs.Order.{AreLost, Early, Idle, IsSilent, Late, AtEnd, Progress, Rests, early, late, asks_left, second_writes}
+use Rattle.jc_bounds.specs.Order.{AreLost, Early, Idle, AsksReleasesOnly, Late, AtEnd, Progress, Rests, early, late, asks_left, second_writes}
 
 -- ---- lists
 
@@ -252,7 +252,7 @@ module _ (plan : Planned) (made : List (Request × Answer)) (ask : Ask) (next : 
   tail-of : List Ask
   tail-of = drop (suc (length made)) (asks plan made)
 
-  pub silent-quiet : IsSilent plan made → is_quiet ask ≡ true
+  pub silent-quiet : AsksReleasesOnly plan made → is_quiet ask ≡ true
   silent-quiet (Idle c f s) = each-slice Q (asks plan made) (length made) ask all next
     where
       Q : Ask → Type 0
@@ -273,16 +273,16 @@ module _ (plan : Planned) (made : List (Request × Answer)) (ask : Ask) (next : 
       by [] e = absurd (no-cons ask (drop (suc (length made)) (asks plan made)) e)
       by (u ∷ rest) e = ap is_quiet (sym (cons-head (ReleasePod u) ask (map ReleasePod rest) (drop (suc (length made)) (asks plan made)) e))
 
-  pub silent-step : (given : Answer) → IsSilent plan made → IsSilent plan (more made (as_request ask) given)
+  pub silent-step : (given : Answer) → AsksReleasesOnly plan made → AsksReleasesOnly plan (more made (as_request ask) given)
   silent-step given (Idle c f s) = Idle c f s
   silent-step given (Rests rest is) = by rest (sym is ∙ drop-head (asks plan made) (length made) ask next)
     where
-      by : (rest : List Uid) → map ReleasePod rest ≡ ask ∷ drop (suc (length made)) (asks plan made) → IsSilent plan (more made (as_request ask) given)
+      by : (rest : List Uid) → map ReleasePod rest ≡ ask ∷ drop (suc (length made)) (asks plan made) → AsksReleasesOnly plan (more made (as_request ask) given)
       by [] e = absurd (no-cons ask (drop (suc (length made)) (asks plan made)) e)
       by (u ∷ rest) e =
           let a = cons-head (ReleasePod u) ask (map ReleasePod rest) (drop (suc (length made)) (asks plan made)) e in
           Rests rest (left-same plan made (as_request ask) given (λ v. ap (λ x. lets_go_of v (as_request x)) (sym a)) ∙ sym (cons-tail (ReleasePod u) ask (map ReleasePod rest) (drop (suc (length made)) (asks plan made)) e))
 
   -- Once the last request but for releases was made, the sync is silent.
-  pub silent-after : (given : Answer) → ((u : Uid) → lets_go_of u (as_request ask) ≡ false) → (rest : List Uid) → drop (suc (length made)) (asks plan made) ≡ map ReleasePod rest → IsSilent plan (more made (as_request ask) given)
+  pub silent-after : (given : Answer) → ((u : Uid) → lets_go_of u (as_request ask) ≡ false) → (rest : List Uid) → drop (suc (length made)) (asks plan made) ≡ map ReleasePod rest → AsksReleasesOnly plan (more made (as_request ask) given)
   silent-after given none rest tail = Rests rest (left-same plan made (as_request ask) given none ∙ tail)

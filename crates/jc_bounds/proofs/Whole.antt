@@ -13,10 +13,10 @@ use Rattle.jc_history.specs.Diaries.{notes}
 use Rattle.jc_history.specs.Legal.{IsLegal}
 use Rattle.jc_history.specs.Replies.{log_given}
 use Rattle.jc_bounds.specs.Bounded.{IsBounded}
-use Rattle.jc_bounds.specs.Final.{IsFinal}
+use Rattle.jc_bounds.specs.Final.{KnowsEnds}
 use Rattle.jc_bounds.specs.Fitting.{IsMade}
 use Rattle.jc_bounds.specs.Histories.{HoldsBounds, KeepsBounds}
-use Rattle.jc_bounds.specs.KeptEnds.{IsLeftAlone, IsShut, StatusesStand}
+use Rattle.jc_bounds.specs.KeptEnds.{IsLeftAlone, HasNothingOpen, StatusesStand}
 use Rattle.jc_bounds.proofs.BoundFacts.{legal-bounded}
 use Rattle.jc_bounds.proofs.EndFacts.{legal-final}
 use Rattle.jc_bounds.proofs.FitFacts.{legal-fits}
@@ -27,7 +27,7 @@ module _ (shape : Shape) where
   pub bounded : (deeds : List Deed) → shape.controllers ≡ 1 → IsLegal shape deeds → IsBounded (log_given shape deeds) (notes shape 0 deeds (log_given shape deeds))
   bounded deeds one h = legal-bounded shape deeds one h (Stored-from_legal (log_given shape deeds) (legal-log shape deeds one h).0)
 
-  pub final : (deeds : List Deed) → shape.controllers ≡ 1 → IsLegal shape deeds → IsFinal (log_given shape deeds) (notes shape 0 deeds (log_given shape deeds))
+  pub final : (deeds : List Deed) → shape.controllers ≡ 1 → IsLegal shape deeds → KnowsEnds (log_given shape deeds) (notes shape 0 deeds (log_given shape deeds))
   final deeds one h = let l = legal-log shape deeds one h in legal-final shape deeds one h (Stored-from_legal (log_given shape deeds) l.0) l.1
 
   pub fits : (past : List Deed) (d : Deed) (pod : Pod) → shape.controllers ≡ 1 → IsLegal shape (d ∷ past)
@@ -40,7 +40,7 @@ module _ (shape : Shape) where
       → IsLeftAlone (log_given shape past) (log_given shape (d ∷ past)) k job
   keeps past d one h = let l = legal-log shape (d ∷ past) one h in legal-keeps shape past d one h l.0 l.1
 
-  pub shut : (deeds : List Deed) → shape.controllers ≡ 1 → IsLegal shape deeds → (k : Key) (job : Job) → job_in k (log_given shape deeds) ≡ Some job → has_end job.status.conditions ≡ true → IsShut (log_given shape deeds) job
+  pub shut : (deeds : List Deed) → shape.controllers ≡ 1 → IsLegal shape deeds → (k : Key) (job : Job) → job_in k (log_given shape deeds) ≡ Some job → has_end job.status.conditions ≡ true → HasNothingOpen (log_given shape deeds) job
   shut deeds one h = final-shut (log_given shape deeds) (notes shape 0 deeds (log_given shape deeds)) (legal-log shape deeds one h).0 (final deeds one h)
 
   pub stands : (deeds : List Deed) → shape.controllers ≡ 1 → IsLegal shape deeds → StatusesStand (log_given shape deeds)

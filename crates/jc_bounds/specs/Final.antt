@@ -4,9 +4,9 @@
 --     IsFinished log k job   the Job is at rest, its pods closed from the key's last work on
 --     IsFinishedAt log k     so is the key's Job, where it has ended
 --     IsOverFor ..           what is known of a sync of a Job that is there
---     IsWinding log made b   what is known of a worker's sync
---     IsFinal log notes      what is known of all Jobs and of all syncs
---     AreNeat log            at each version each Job is neat
+--     IsKnownSync log made b   what is known of a worker's sync
+--     KnowsEnds log notes      what is known of all Jobs and of all syncs
+--     AlwaysHaveIndexTotals log            at each version each Job is neat
 use Rattle.std.specs.Prelude.{◌≡◌, ℕ, ◌≤◌, true, false, List, length, Some}
 use Rattle.std.specs.List.{AllByRecursion as Each, list_any}
 use Rattle.jc_types.specs.declared.objects.Entry.{Entry}
@@ -23,8 +23,8 @@ use Rattle.jc_states.specs.Pods.{is_open, is_tracked}
 use Rattle.jc_plan.specs.Plans.{planned}
 use Rattle.jc_history.specs.Notes.{Note}
 use Rattle.jc_history.specs.Registers.{made, register}
-use Rattle.jc_plan.specs.Finishes.{IsAtRest, IsNeat}
-use Rattle.jc_bounds.specs.Order.{IsSilent, Progress}
+use Rattle.jc_plan.specs.Finishes.{IsFinalStatus, HasIndexTotals}
+use Rattle.jc_bounds.specs.Order.{AsksReleasesOnly, Progress}
 use Rattle.jc_bounds.specs.Work.{last_work}
 
 -- None of the pods is open, or has its finalizer.
@@ -34,7 +34,7 @@ pub record IsClosed (own : List Pod) : Type 0 where
 
 -- The Job is at rest, and from the key's last work on its pods are closed.
 pub record IsFinished (log : List Entry) (k : Key) (job : Job) : Type 0 where
-  pub rests : IsAtRest job.status
+  pub rests : IsFinalStatus job.status
   pub closed : (m : ℕ) → m ≤ length log → last_work k log ≤ m
       → IsClosed (own_pods job (pods_under k (upto m log)))
 
@@ -49,22 +49,22 @@ IsFinishedAt log k =
 pub record IsOverFor (log : List Entry) (made : List (Request × Answer)) (b : Basis) (seen job : Job)
     : Type 0 where
   pub ends : has_end seen.status.conditions ≡ true → has_end job.status.conditions ≡ true
-  pub silent : has_end job.status.conditions ≡ true → IsSilent (planned b) made
+  pub silent : has_end job.status.conditions ≡ true → AsksReleasesOnly (planned b) made
 
 -- What is known of a worker's sync: where it stands, that the pods that it releases were made, and
 -- how it goes on where its Job is there.
-pub record IsWinding (log : List Entry) (made : List (Request × Answer)) (b : Basis) : Type 0 where
+pub record IsKnownSync (log : List Entry) (made : List (Request × Answer)) (b : Basis) : Type 0 where
   pub progress : Progress log (planned b) made
   pub known : Each (λ u. is_never (life u log) ≡ false) (planned b).releases
   pub over : (seen job : Job) → b.job ≡ Some seen → job_in b.key log ≡ Some job → job.uid ≡ seen.uid
       → IsOverFor log made b seen job
 
 -- What is known of all Jobs and of all syncs.
-pub record IsFinal (log : List Entry) (notes : List Note) : Type 0 where
+pub record KnowsEnds (log : List Entry) (notes : List Note) : Type 0 where
   pub finished : (k : Key) → IsFinishedAt log k
-  pub flights : (w : ℕ) (b : Basis) → register w notes ≡ Some b → IsWinding log (made w notes) b
+  pub flights : (w : ℕ) (b : Basis) → register w notes ≡ Some b → IsKnownSync log (made w notes) b
 
 -- At each version the total of each Indexed Job is the number of its completed indexes, and what is said of failed
 -- indexes is in order.
-abbrev pub AreNeat : List Entry → Type 0
-AreNeat log = (n : ℕ) (k : Key) (job : Job) → job_in k (upto n log) ≡ Some job → IsNeat job
+abbrev pub AlwaysHaveIndexTotals : List Entry → Type 0
+AlwaysHaveIndexTotals log = (n : ℕ) (k : Key) (job : Job) → job_in k (upto n log) ≡ Some job → HasIndexTotals job

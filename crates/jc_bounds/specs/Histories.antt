@@ -12,7 +12,7 @@ use Rattle.jc_log.specs.Deeds.{Deed}
 use Rattle.jc_log.specs.Log.{Never, job_in, life}
 use Rattle.jc_history.specs.Replies.{diary, log_given}
 use Rattle.jc_bounds.specs.Fitting.{IsMade}
-use Rattle.jc_bounds.specs.KeptEnds.{IsLeftAlone, IsShut, StatusesStand}
+use Rattle.jc_bounds.specs.KeptEnds.{IsLeftAlone, HasNothingOpen, StatusesStand}
 
 -- A pod that comes into the log with the deed fits. A Job that had ended is left alone. After the
 -- deed each Job that has ended is shut, and its status is the one with which it ended.
@@ -24,7 +24,7 @@ pub record KeepsBounds (shape : Shape) (past : List Deed) (d : Deed) : Type 0 wh
       → has_end job.status.conditions ≡ true
       → IsLeftAlone (log_given shape past) (log_given shape (d ∷ past)) k job
   pub shut : (k : Key) (job : Job) → job_in k (log_given shape (d ∷ past)) ≡ Some job
-      → has_end job.status.conditions ≡ true → IsShut (log_given shape (d ∷ past)) job
+      → has_end job.status.conditions ≡ true → HasNothingOpen (log_given shape (d ∷ past)) job
   pub stands : StatusesStand (log_given shape (d ∷ past))
 
 -- Each deed of the history keeps both.

@@ -1,5 +1,5 @@
 -- What a history keeps of a Job that has ended.
---     IsShut log job               nothing is listed, and its pods are closed
+--     HasNothingOpen log job               nothing is listed, and its pods are closed
 --     IsLeftAlone log log' k job   the deed makes no pod of it and does not change its status
 --     StatusesStand log            its status is the same at each later version
 use Rattle.std.specs.Prelude.{◌≡◌, ℕ, true, List, ◌∷◌, Some}
@@ -11,11 +11,11 @@ use Rattle.jc_types.specs.declared.objects.Pod.{Pod}
 use Rattle.jc_states.specs.Conditions.{has_end}
 use Rattle.jc_log.specs.Log.{Never, job_in, life, pods_of, upto}
 use Rattle.jc_bounds.specs.Final.{IsClosed}
-use Rattle.jc_plan.specs.Finishes.{IsAtRest}
+use Rattle.jc_plan.specs.Finishes.{IsFinalStatus}
 
 -- Nothing is listed, and none of its pods is open or has its finalizer.
-pub record IsShut (log : List Entry) (job : Job) : Type 0 where
-  pub rests : IsAtRest job.status
+pub record HasNothingOpen (log : List Entry) (job : Job) : Type 0 where
+  pub rests : IsFinalStatus job.status
   pub closed : IsClosed (pods_of job.uid log)
 
 -- From the one log to the other no pod of the Job is made and its status does not change.

@@ -5,7 +5,7 @@
 --     AreLost log uids           the pods have lost their finalizer
 --     Progress log plan made     before the first status; or among the releases, where the pods of
 --                                those before have lost their finalizer; or at the end
---     IsSilent plan made         the sync makes no pod and writes no status any more
+--     AsksReleasesOnly plan made         the sync makes no pod and writes no status any more
 use Rattle.std.specs.Prelude.{◌≡◌, ◌≤◌, true, List, [], ◌++◌, length, map, drop, None}
 use Rattle.std.specs.List.{AllByRecursion as Each, flat_map}
 use Rattle.std.specs.Option.{option_to_list}
@@ -53,6 +53,6 @@ pub data Progress (log : List Entry) (plan : Planned) (made : List (Request × A
   AtEnd : asks_left plan made ≡ [] → Progress log plan made
 
 -- The plan asks for neither a pod nor a status, or only releases are left.
-pub data IsSilent (plan : Planned) (made : List (Request × Answer)) : Type 0 where
-  Idle : plan.creates ≡ [] → plan.first ≡ None → plan.second ≡ None → IsSilent plan made
-  Rests : (rest : List Uid) → asks_left plan made ≡ map ReleasePod rest → IsSilent plan made
+pub data AsksReleasesOnly (plan : Planned) (made : List (Request × Answer)) : Type 0 where
+  Idle : plan.creates ≡ [] → plan.first ≡ None → plan.second ≡ None → AsksReleasesOnly plan made
+  Rests : (rest : List Uid) → asks_left plan made ≡ map ReleasePod rest → AsksReleasesOnly plan made

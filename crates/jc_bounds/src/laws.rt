@@ -17,10 +17,10 @@ ghost use Rattle.jc_log.specs.Writes.{Legal, Stored};
 ghost use Rattle.jc_history.specs.Legal.{IsLegal};
 ghost use Rattle.jc_history.specs.Replies.{diary, log_given};
 ghost use Rattle.jc_bounds.specs.Bounded.{IsBounded};
-ghost use Rattle.jc_bounds.specs.Final.{AreNeat, IsFinal};
+ghost use Rattle.jc_bounds.specs.Final.{AlwaysHaveIndexTotals, KnowsEnds};
 ghost use Rattle.jc_bounds.specs.Fitting.{IsMade};
 ghost use Rattle.jc_bounds.specs.Histories.{HoldsBounds};
-ghost use Rattle.jc_bounds.specs.KeptEnds.{IsLeftAlone, IsShut, StatusesStand};
+ghost use Rattle.jc_bounds.specs.KeptEnds.{IsLeftAlone, HasNothingOpen, StatusesStand};
 ghost use Rattle.jc_bounds.specs.Work.{count, last_work, pods_made};
 
 /// What a log tells of a key since a version that is not before its last work: no pod was made for
@@ -48,7 +48,7 @@ pub fn legal_histories_have_legal_logs()
     ensures legal { (shape : Shape) (deeds : List Deed)
         → shape.controllers ≡ 1 → IsLegal shape deeds → Legal (log_given shape deeds) }
     ensures neat { (shape : Shape) (deeds : List Deed)
-        → shape.controllers ≡ 1 → IsLegal shape deeds → AreNeat (log_given shape deeds) }
+        → shape.controllers ≡ 1 → IsLegal shape deeds → AlwaysHaveIndexTotals (log_given shape deeds) }
 {}
 
 /// What keeps a single controller from making too many pods: each work of its syncs is seen by each
@@ -76,7 +76,7 @@ pub fn pods_that_are_made_fit()
 /// sync that is under way makes no pod and writes no status of it any more.
 pub fn histories_keep_ends()
     ensures { (shape : Shape) (deeds : List Deed) → shape.controllers ≡ 1 → IsLegal shape deeds
-        → IsFinal (log_given shape deeds) (diary shape 0 deeds) }
+        → KnowsEnds (log_given shape deeds) (diary shape 0 deeds) }
 {}
 
 /// A Job that has ended stays so (batch/v1): from the write that sets Complete or Failed on, while
@@ -85,7 +85,7 @@ pub fn histories_keep_ends()
 pub fn ended_jobs_stay()
     ensures shut { (shape : Shape) (deeds : List Deed) → shape.controllers ≡ 1 → IsLegal shape deeds
         → (k : Key) (job : Job) → job_in k (log_given shape deeds) ≡ Some job
-        → has_end job.status.conditions ≡ true → IsShut (log_given shape deeds) job }
+        → has_end job.status.conditions ≡ true → HasNothingOpen (log_given shape deeds) job }
     ensures kept { (shape : Shape) (past : List Deed) (d : Deed)
         → shape.controllers ≡ 1 → IsLegal shape (d ∷ past)
         → (k : Key) (job : Job) → job_in k (log_given shape past) ≡ Some job

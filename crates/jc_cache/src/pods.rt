@@ -86,13 +86,13 @@ fn take_in(alloc: Global, rows: &mut IndexMap<Key, SharedPods>, entry: &Entry) -
 }
 
 // Makes the changes that wait in the row of the key, if there is one.
-fn settle_row(rows: &mut IndexMap<Key, SharedPods>, key: &Key)
+fn apply_row(rows: &mut IndexMap<Key, SharedPods>, key: &Key)
     ensures { rows.new.entries ≡ rows.old.entries }
 {
     let Some(pods) = rows.get_mut(key) else {
         return;
     };
-    pods.settle();
+    pods.apply_pending();
 }
 
 // Whether each of the pods has the owner of this key.
@@ -224,10 +224,10 @@ impl PodCache {
 
     /// Makes the changes of the pods under the key that wait, where nobody sees the pods any more and there is
     /// memory. It changes nothing that a contract sees: what is seen next is then shared, and not copied.
-    pub fn settle(&mut self, key: &Key)
+    pub fn apply_pending(&mut self, key: &Key)
         ensures { self.new ≡ self.old }
     {
-        settle_row(&mut self.rows, key);
+        apply_row(&mut self.rows, key);
     }
 
     /// Forgets all pods and the number. It takes no memory.

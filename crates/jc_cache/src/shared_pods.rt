@@ -110,7 +110,7 @@ impl SharedPods {
     }
 
     /// Makes the changes that wait, where nobody shares the pods. Where there is no memory for one, all wait on.
-    pub fn settle(&mut self)
+    pub fn apply_pending(&mut self)
         ensures { self.new ≡ self.old }
     {
         if let Some(pods) = sync::Arc::get_mut(&mut self.shared) {
@@ -131,7 +131,7 @@ impl SharedPods {
         ensures makes { OnOk result (self.new ≡ with_change uid change self.old) }
         ensures kept { OnErr result (self.new ≡ self.old) }
     {
-        self.settle();
+        self.apply_pending();
         if !self.waiting.is_empty() {
             return self.wait(uid, change);
         }

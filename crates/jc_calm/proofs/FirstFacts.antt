@@ -27,7 +27,7 @@ use Rattle.jc_settle.proofs.CalmFacts.{Calm, NextIs, Step, next-where-told}
 use Rattle.jc_settle.proofs.ComesFacts.{first-comes}
 use Rattle.jc_settle.proofs.OnFacts.{IsNext, next-is, next-legal, none-next}
 use Rattle.jc_settle.proofs.SerialFacts.{begun-alone, begun-nothing, notes-are}
-use Rattle.jc_calm.specs.Turns.{BeginsAlone}
+use Rattle.jc_calm.specs.SettleTurns.{BeginsAlone}
 use Rattle.jc_calm.proofs.NowFacts.{now-same}
 
 -- What comes first in a calm state.

@@ -16,7 +16,7 @@ use Rattle.jc_settle.specs.Comes.{HaveNoKeys}
 use Rattle.jc_settle.specs.Settles.{IsCalm, next_of_settle}
 use Rattle.jc_settle.proofs.ClockFacts.{ticked-notes, ticked-nothing, ticked-now, ticked-reply}
 use Rattle.jc_settle.proofs.OnFacts.{next-legal}
-use Rattle.jc_calm.specs.Turns.{ClockMoves, MovesTheClock, NodeActs, Rests, Turn}
+use Rattle.jc_calm.specs.SettleTurns.{ClockMoves, MovesTheClock, NodeActs, Rests, Turn}
 use Rattle.jc_calm.proofs.FirstFacts.{Clocks, First, Nodes, Opens, Quiet, first-where-calm}
 use Rattle.jc_calm.proofs.NowFacts.{faults-most}
 use Rattle.jc_calm.proofs.TurnFacts.{begins-turn}

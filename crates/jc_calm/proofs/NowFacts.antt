@@ -16,7 +16,7 @@ use Rattle.jc_history.specs.Replies.{diary}
 use Rattle.jc_settle.specs.Settles.{is_telling}
 use Rattle.jc_settle.specs.Totals.{total}
 use Rattle.jc_settle.proofs.TotalFacts.{total-less, total-most}
-use Rattle.jc_calm.specs.Turns.{faults_pending}
+use Rattle.jc_calm.specs.SettleTurns.{faults_pending}
 
 -- ---- the moment
 

@@ -48,7 +48,7 @@ use Rattle.jc_settle.specs.Settles.{CatchesUp, IsCalm, next_of_settle, settled_o
 use Rattle.jc_settle.proofs.CalmFacts.{caught-legal}
 use Rattle.jc_settle.proofs.CatchFacts.{catches-up}
 use Rattle.jc_settle.proofs.OnFacts.{next-legal, on-adds, on-some}
-use Rattle.jc_calm.specs.Turns.{AsksForAPod, BeginsAlone, EndsAtOnce, MeetsFault, Turn, WritesStatus, WritesNoMore, Asks, Fails, Finds, Writes, WritesAndAsks, asks_for_a_pod, faults_pending}
+use Rattle.jc_calm.specs.SettleTurns.{AsksForAPod, BeginsAlone, EndsAtOnce, MeetsFault, Turn, WritesStatus, WritesNoMore, Asks, Fails, Finds, Writes, WritesAndAsks, asks_for_a_pod, faults_pending}
 use Rattle.jc_calm.proofs.FirstFacts.{StepsNext, alone-steps, begun-begins, begun-caches, begun-is-alone, begun-legal, begun-log, begun-made, begun-notes, begun-now, begun-pending, begun-register, seen}
 use Rattle.jc_calm.proofs.NowFacts.{ended-pending, faults-less, faults-most, now-same, now-told}
 use Rattle.jc_calm.proofs.PlanFacts.{AsksFirst, First, IsLate, Nothing, Pod, asks-first, second-none}

@@ -7,7 +7,7 @@ ghost use Rattle.jc_log.specs.Deeds.{Deed};
 ghost use Rattle.jc_log.specs.Range.{IsMoment};
 ghost use Rattle.jc_history.specs.Legal.{IsLegal};
 ghost use Rattle.jc_settle.specs.Settles.{IsCalm};
-ghost use Rattle.jc_calm.specs.Turns.{Turn};
+ghost use Rattle.jc_calm.specs.SettleTurns.{Turn};
 
 /// **From a calm state a settle goes on by turns**: nothing is available; or the node acts; or the clock moves to the
 /// least delay; or a sync begins, of the key that is first in line, and runs alone. That finds nothing to do, and ends

@@ -18,7 +18,7 @@ use Rattle.jc_types.proofs.ListFacts.{Each-append, Each-both, Each-filter, Each-
 use Rattle.jc_states.specs.Bases.{own_pods}
 use Rattle.jc_states.specs.declared.bases.Basis.{Basis}
 use Rattle.jc_states.specs.Pods.{is_active, is_tracked}
-use Rattle.jc_manage.specs.Backoffs.{is_held_back, opening}
+use Rattle.jc_manage.specs.Backoffs.{is_delayed_until, opening}
 use Rattle.jc_manage.specs.Creations.{creatable, free, is_free, IsIndexFor, job_lacks, job_wants, keepers, new_pods}
 use Rattle.jc_manage.specs.LetGoes.{going, is_doubled, is_let_go, is_needless, is_one_of, is_spare, is_to_mark, remaining, seen, surplus}
 use Rattle.jc_manage.specs.Planned.{backoff_in}
@@ -71,7 +71,7 @@ module _ (basis : Basis) where
     abbrev IsFreeToo : Option ℕ → Type 0
     IsFreeToo index = IfSome index (λ i. is_free counted (keepers job.spec.replacement own) i ≡ true)
 
-    module _ (undecided : is_decided job basis ≡ false) (resumed : job.spec.suspend ≡ false) (due : is_held_back (opening (backoff_in basis counted)) basis.now ≡ false) where
+    module _ (undecided : is_decided job basis ≡ false) (resumed : job.spec.suspend ≡ false) (due : is_delayed_until (opening (backoff_in basis counted)) basis.now ≡ false) where
       abbrev Lacks : Option ℕ → Type 0
       Lacks index = (0 < job_lacks job own counted) × IsFreeToo index
 
@@ -101,7 +101,7 @@ module _ (basis : Basis) where
       }
 
     -- What the Job would make at once, and what of it is not held back.
-    creations : (d s h : Bool) → is_decided job basis ≡ d → job.spec.suspend ≡ s → is_held_back (opening (backoff_in basis counted)) basis.now ≡ h
+    creations : (d s h : Bool) → is_decided job basis ≡ d → job.spec.suspend ≡ s → is_delayed_until (opening (backoff_in basis counted)) basis.now ≡ h
         → Each (IsIndexFor job) (cond (d || s) [] (new_pods job.spec.mode (job_lacks job own counted) frees))
         → Each (MayMake job basis 0) (cond h [] (cond (d || s) [] (new_pods job.spec.mode (job_lacks job own counted) frees)))
     creations d s true p q r fits = tt
@@ -116,7 +116,7 @@ module _ (basis : Basis) where
 
     made-all : Each (MayMake job basis 0) (wants_in job basis).creates
     made-all =
-        creations (is_decided job basis) job.spec.suspend (is_held_back (opening (backoff_in basis counted)) basis.now) refl refl refl
+        creations (is_decided job basis) job.spec.suspend (is_delayed_until (opening (backoff_in basis counted)) basis.now) refl refl refl
         (recursion_from_All (IsIndexFor job) (creatable (is_decided job basis) job own counted) (creatable-numbered (is_decided job basis) job own counted))
 
     -- ---- marks

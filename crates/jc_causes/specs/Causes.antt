@@ -29,19 +29,19 @@ use Rattle.jc_states.specs.declared.bases.Basis.{Basis}
 use Rattle.jc_states.specs.Pods.{is_active, is_tracked, tracked_active_pods}
 use Rattle.jc_log.specs.Acts as does
 use Rattle.jc_log.specs.Deeds.{Deed}
-use Rattle.jc_manage.specs.Backoffs.{is_held_back, opening}
+use Rattle.jc_manage.specs.Backoffs.{is_delayed_until, opening}
 use Rattle.jc_manage.specs.Creations.{is_free, job_lacks, job_wants, keepers}
 use Rattle.jc_manage.specs.LetGoes.{is_doubled, is_needless, is_one_of, remaining}
 use Rattle.jc_manage.specs.Planned.{backoff_in}
 use Rattle.jc_plan.specs.Releases.{due_uids, is_orphan, is_owed}
-use Rattle.jc_plan.specs.Statuses.{accounted, decided_in, first_value, is_settled, second_value}
+use Rattle.jc_plan.specs.Statuses.{accounted, decided_in, first_value, is_end_decided, second_value}
 use Rattle.jc_history.specs.Registers.{made, register}
 use Rattle.jc_history.specs.Replies.{diary}
 
 -- How the Job ends is settled: a target stands, or the sync decides one now, by a policy, a limit, the deadline, or since
 -- enough pods have succeeded.
 abbrev pub is_decided : Job → Basis → Bool
-is_decided job basis = is_settled job (decided_in job basis)
+is_decided job basis = is_end_decided job (decided_in job basis)
 
 -- The Job's own pods that the sync sees active, and with their finalizer.
 abbrev pub tracked_in : Job → Basis → List Pod
@@ -74,7 +74,7 @@ pub record MayMake (job : Job) (basis : Basis) (n : ℕ) (index : Option ℕ) : 
   pub undecided : is_decided job basis ≡ false
   pub resumed : job.spec.suspend ≡ false
   pub lacking : n < job_lacks job (own_pods job basis.pods) (accounted job basis)
-  pub due : is_held_back (opening (backoff_in basis (accounted job basis))) basis.now ≡ false
+  pub due : is_delayed_until (opening (backoff_in basis (accounted job basis))) basis.now ≡ false
   pub numbered : job.spec.mode ≡ Indexed → is_some index ≡ true
   pub free : IfSome index (IsFreeIndex job basis)
 

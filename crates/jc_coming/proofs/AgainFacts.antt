@@ -24,7 +24,7 @@ use Rattle.jc_account.specs.Accounts.{completed_in}
 use Rattle.jc_account.specs.Judged.{candidates, is_to_release, newly}
 use Rattle.jc_account.specs.Modes.{completed_after, succeeded_after}
 use Rattle.jc_plan.specs.Outcome.TheVariants as outcome
-use Rattle.jc_finish.specs.Decisions.{first_line, has_come, is_overdue}
+use Rattle.jc_finish.specs.Decisions.{first_reason, has_come, is_overdue}
 use Rattle.jc_finish.specs.Settled.{end_of, settled, settled_suspended, suspension, with_end, with_last, with_suspension}
 use Rattle.jc_finish.specs.Starts.{begins, deadline_of, end_after, start_of}
 use Rattle.jc_finish.proofs.DecisionFacts.{decided_same}
@@ -32,7 +32,7 @@ use Rattle.jc_finish.proofs.SettledFacts.{settled-ends, settled-keeps, settled-s
 use Rattle.jc_states.specs.UidLists.{uids_of}
 use Rattle.jc_plan.specs.Failures.{failing_by, failing_in, failures_by, failures_in, has_failed, newly_failed, raised}
 use Rattle.jc_plan.specs.Next.{next_counted, next_decided}
-use Rattle.jc_plan.specs.Statuses.{conditions_at, is_over, is_settled, leaves_none}
+use Rattle.jc_plan.specs.Statuses.{conditions_at, is_over, is_end_decided, leaves_none}
 use Rattle.jc_plan.proofs.Targets.{target-kind}
 use Rattle.jc_plan.proofs.ValueFacts.{settled-target as target-settles}
 use Rattle.jc_coming.specs.Drafts.{deadline_is_ahead, is_ahead, next_quiet}
@@ -65,7 +65,7 @@ module _ (now : ℕ) (job new : Job) (own : List Pod) (spec : new.spec ≡ job.s
   target = next_decided now job own
 
   abbrev due : Bool
-  due = is_over (is_settled job target) own counted
+  due = is_over (is_end_decided job target) own counted
 
   abbrev before : List Condition
   before = job.status.conditions
@@ -94,10 +94,10 @@ module _ (now : ℕ) (job new : Job) (own : List Pod) (spec : new.spec ≡ job.s
       by false i false j g = absurd (true≢false (sym g))
 
   -- Where no target stands then, none stood and none was decided.
-  unsettled : has_target after ≡ false → is_settled job target ≡ false
-  unsettled h = by (is_settled job target) refl
+  unsettled : has_target after ≡ false → is_end_decided job target ≡ false
+  unsettled h = by (is_end_decided job target) refl
     where
-      by : (b : Bool) → is_settled job target ≡ b → is_settled job target ≡ false
+      by : (b : Bool) → is_end_decided job target ≡ b → is_end_decided job target ≡ false
       by false e = e
       by true e =
           absurd (true≢false (sym (ap has_target conditions-are ∙ target-settles now job target due (target-kind counted now job own) e) ∙ h))
@@ -160,22 +160,22 @@ module _ (now : ℕ) (job new : Job) (own : List Pod) (spec : new.spec ≡ job.s
           by-target false e = ap (λ b. cond b after (with_suspension (suspension now job.spec.suspend) after)) ((bool-exact job.spec.suspend (stands kind.Suspended after)).1 (sym (suspended-is e)))
 
       ended : again ≡ true → has_end after ≡ true
-      ended e = of-settled (is_settled job target) refl
+      ended e = of-settled (is_end_decided job target) refl
         where
           parts : (has_target after ≡ true) × (not (list_any is_open own) ≡ true)
           parts = and_parts (has_target after) (not (list_any is_open own)) (over e)
 
-          was-due : is_settled job target ≡ true → due ≡ true
+          was-due : is_end_decided job target ≡ true → due ≡ true
           was-due s = (λ i. s i && (parts.1 i && leaves i))
 
-          which : is_settled job target ≡ true → (has_target before ≡ true) ⊎ IsSome target
+          which : is_end_decided job target ≡ true → (has_target before ≡ true) ⊎ IsSome target
           which s = of (has_target before) refl s
             where
               of : (b : Bool) → has_target before ≡ b → (b || is_some target) ≡ true → (has_target before ≡ true) ⊎ IsSome target
               of true i g = inl i
               of false i g = inr g
 
-          of-settled : (b : Bool) → is_settled job target ≡ b → has_end after ≡ true
+          of-settled : (b : Bool) → is_end_decided job target ≡ b → has_end after ≡ true
           of-settled true s =
               ap has_end (conditions-are ∙ ap (conditions_at now job target) (was-due s))
               ∙ settled-ends now job.spec.suspend target before (target-kind counted now job own) (which s)
@@ -355,12 +355,12 @@ module _ (now : ℕ) (job new : Job) (own : List Pod) (spec : new.spec ≡ job.s
   undecided-again : next_decided now new own ≡ None
   undecided-again = by (has_target after) refl
     where
-      by : (t : Bool) → has_target after ≡ t → cond t None (first_line (next_counted new own) now new own) ≡ None
+      by : (t : Bool) → has_target after ≡ t → cond t None (first_reason (next_counted new own) now new own) ≡ None
       by true e = refl
       by false e =
           ap (λ s. decision (next_counted new own) s own (is_overdue now s new.status)) spec
           ∙ ap (decision (next_counted new own) job.spec own) overdue-same
-          ∙ sym (ap (λ b. cond b None (first_line (next_counted new own) now job own)) (untargeted e))
+          ∙ sym (ap (λ b. cond b None (first_reason (next_counted new own) now job own)) (untargeted e))
           ∙ decided_same (next_counted new own) counted now job own failed-count succeeded-count completed-again failing-again
           ∙ undecided e
         where
@@ -369,7 +369,7 @@ module _ (now : ℕ) (job new : Job) (own : List Pod) (spec : new.spec ≡ job.s
 
   -- ---- the status
 
-  over-again : is_over (is_settled new None) own (next_counted new own) ≡ true → (has_target after && not (list_any is_open own)) ≡ true
+  over-again : is_over (is_end_decided new None) own (next_counted new own) ≡ true → (has_target after && not (list_any is_open own)) ≡ true
   over-again h = by (has_target after) (list_any is_open own) (leaves_none (next_counted new own)) h
     where
       by : (t o l : Bool) → ((t || false) && (not o && l)) ≡ true → (t && not o) ≡ true
@@ -377,11 +377,11 @@ module _ (now : ℕ) (job new : Job) (own : List Pod) (spec : new.spec ≡ job.s
       by true false l e = refl
       by false o l e = e
 
-  again-conditions : conditions_at now new (next_decided now new own) (is_over (is_settled new (next_decided now new own)) own (next_counted new own)) ≡ after
+  again-conditions : conditions_at now new (next_decided now new own) (is_over (is_end_decided new (next_decided now new own)) own (next_counted new own)) ≡ after
   again-conditions =
-      ap (λ o. conditions_at now new o (is_over (is_settled new o) own (next_counted new own))) undecided-again
-      ∙ ap (λ s. settled now s.suspend None (is_over (is_settled new None) own (next_counted new own)) after) spec
-      ∙ conditions-again (is_over (is_settled new None) own (next_counted new own)) over-again
+      ap (λ o. conditions_at now new o (is_over (is_end_decided new o) own (next_counted new own))) undecided-again
+      ∙ ap (λ s. settled now s.suspend None (is_over (is_end_decided new None) own (next_counted new own)) after) spec
+      ∙ conditions-again (is_over (is_end_decided new None) own (next_counted new own)) over-again
 
   again-start : start_of now new.spec new.status ≡ new.status.start
   again-start = ap (λ s. start_of now s new.status) spec ∙ start-same
@@ -400,7 +400,7 @@ module _ (now : ℕ) (job new : Job) (own : List Pod) (spec : new.spec ≡ job.s
     uncounted_succeeded = sym listed-succeeded i;
     uncounted_failed = sym listed-failed i;
     start = again-start i;
-    completion = none-completed now new (conditions_at now new (next_decided now new own) (is_over (is_settled new (next_decided now new own)) own (next_counted new own))) again-conditions i;
+    completion = none-completed now new (conditions_at now new (next_decided now new own) (is_over (is_end_decided new (next_decided now new own)) own (next_counted new own))) again-conditions i;
     conditions = again-conditions i;
   }
 

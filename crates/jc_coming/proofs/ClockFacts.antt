@@ -18,7 +18,7 @@ use Rattle.jc_finish.specs.Decisions.{has_come, is_overdue}
 use Rattle.jc_finish.specs.Starts.{begins, deadline_of, end_after, start_of}
 use Rattle.jc_plan.specs.Backoffs.{opening}
 use Rattle.jc_plan.specs.Next.{next_counted, next_decided}
-use Rattle.jc_plan.specs.Statuses.{conditions_at, filled, is_over, is_settled}
+use Rattle.jc_plan.specs.Statuses.{conditions_at, filled, is_over, is_end_decided}
 use Rattle.jc_history.specs.Notes.{Note, Ticked}
 use Rattle.jc_history.specs.Registers.{backoff}
 use Rattle.jc_coming.specs.Drafts.{deadline_is_ahead, is_ahead, is_draft, next_quiet, nothing_wanted, statuses_to_come}
@@ -65,7 +65,7 @@ deadline-before now later le job h = by (job.spec.suspend || has_target job.stat
 module _ (now later : ℕ) (within : later < end_of_moments) (job : Job) (own : List Pod) (next : next_quiet now job own ≡ job.status)
     (on : deadline_is_ahead now job ≡ true → deadline_is_ahead later job ≡ true) where
   abbrev due_at : Option (CondKind × Reason) → Bool
-  due_at target = is_over (is_settled job target) own (next_counted job own)
+  due_at target = is_over (is_end_decided job target) own (next_counted job own)
 
   start-is : start_of now job.spec job.status ≡ job.status.start
   unfolding next_quiet

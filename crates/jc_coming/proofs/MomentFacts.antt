@@ -16,12 +16,12 @@ use Rattle.jc_types.specs.Counts.{counts}
 use Rattle.jc_states.specs.declared.bases.Basis.{Basis}
 use Rattle.jc_states.specs.Bases.{own_pods}
 use Rattle.jc_states.specs.Conditions.{has_target}
-use Rattle.jc_finish.specs.Decisions.{first_line, has_come, is_complete, is_failed_by_indexes, is_failed_by_pod, is_overdue, is_past_limit, is_past_most, is_policy_met}
+use Rattle.jc_finish.specs.Decisions.{first_reason, has_come, is_complete, is_failed_by_indexes, is_failed_by_pod, is_overdue, is_past_limit, is_past_most, is_policy_met}
 use Rattle.jc_finish.specs.Starts.{deadline_of, end_after, start_of}
-use Rattle.jc_plan.specs.Backoffs.{is_held_back, opening}
+use Rattle.jc_plan.specs.Backoffs.{is_delayed_until, opening}
 use Rattle.jc_plan.specs.Creations.{creatable, is_none_of}
 use Rattle.jc_plan.specs.Plans.{earlier_of, planned}
-use Rattle.jc_plan.specs.Statuses.{accounted, conditions_at, decided_in, first_value, is_first_due, is_settled, wants_in}
+use Rattle.jc_plan.specs.Statuses.{accounted, conditions_at, decided_in, first_value, is_first_due, is_end_decided, wants_in}
 use Rattle.jc_plan.proofs.BackoffFacts.{backoff-unneeded, first-unneeded}
 use Rattle.jc_plan.proofs.PartFacts.{planned-here}
 use Rattle.jc_plan.proofs.PlanFacts.{plan-backoff}
@@ -51,7 +51,7 @@ decision counted spec own overdue =
     (cond (is_complete (counts counted).1 spec own) (Some (SuccessCriteriaMet, reason.CompletionsReached)) None))))))
 
 -- Where no target stands and none is decided, no deadline has come.
-pub none-overdue : (counted : CountIn) (now : ℕ) (job : Job) (own : List Pod) → first_line counted now job own ≡ None → is_overdue now job.spec job.status ≡ false
+pub none-overdue : (counted : CountIn) (now : ℕ) (job : Job) (own : List Pod) → first_reason counted now job own ≡ None → is_overdue now job.spec job.status ≡ false
 none-overdue counted now job own e =
     third-line (is_failed_by_pod job.spec own) (is_past_limit (counts counted).0 job.spec own) (is_overdue now job.spec job.status) _ _ _ _ e
 
@@ -75,7 +75,7 @@ is-as-moment (Some second) m e = by (nat_lt second end_of_moments) e
     by false e = absurd (true≢false (sym (ap is_some e)))
 
 -- What holds pods back is the opening, and ahead.
-held : (o : Option ℕ) (now m : ℕ) (some : Bool) → cond (is_held_back o now && some) (as_moment o) None ≡ Some m → (o ≡ Some m) × (nat_lt now m ≡ true)
+held : (o : Option ℕ) (now m : ℕ) (some : Bool) → cond (is_delayed_until o now && some) (as_moment o) None ≡ Some m → (o ≡ Some m) × (nat_lt now m ≡ true)
 held None now m some e = absurd (true≢false (sym (ap is_some e)))
 held (Some second) now m some e = by (nat_lt now second) refl some e
   where
@@ -91,7 +91,7 @@ at-itself o m e = ap (λ p. is_at p m) e ∙ eq-eqb m m refl
 
 module _ (job : Job) (basis : Basis) (this : basis.job ≡ Some job) (unneeded : (planned basis).first ≡ None) where
   abbrev due : Bool
-  due = is_first_due (is_settled job (decided_in job basis)) (own_pods job basis.pods) (accounted job basis)
+  due = is_first_due (is_end_decided job (decided_in job basis)) (own_pods job basis.pods) (accounted job basis)
 
   start-stays : start_of basis.now job.spec job.status ≡ job.status.start
   unfolding first_value
@@ -117,8 +117,8 @@ module _ (job : Job) (basis : Basis) (this : basis.job ≡ Some job) (unneeded :
       by false i true j g = absurd (true≢false (sym (ap is_some g)))
       by false i false j g = (sym by-status ∙ e, ahead)
         where
-          none : first_line (accounted job basis) basis.now job (own_pods job basis.pods) ≡ None
-          none = ap (λ b. cond b None (first_line (accounted job basis) basis.now job (own_pods job basis.pods))) (sym j) ∙ undecided
+          none : first_reason (accounted job basis) basis.now job (own_pods job basis.pods) ≡ None
+          none = ap (λ b. cond b None (first_reason (accounted job basis) basis.now job (own_pods job basis.pods))) (sym j) ∙ undecided
 
           is : end_after job.spec.deadline (start_of basis.now job.spec job.status) ≡ Some m
           is = is-as-moment (end_after job.spec.deadline (start_of basis.now job.spec job.status)) m g
@@ -144,7 +144,7 @@ module _ (job : Job) (basis : Basis) (this : basis.job ≡ Some job) (unneeded :
 
       by : ((wants_in job basis).next ≡ Some m) ⊎ (deadline_of basis.now job.spec job.status ≡ Some m) → (nat_lt basis.now m && is_moment_of basis.backoff m (Some job)) ≡ true
       by (inl h) =
-          let is = held (opening (wants_in job basis).backoff) basis.now m (not (is_none_of (creatable (is_settled job (decided_in job basis)) job (own_pods job basis.pods) (accounted job basis)))) h in
+          let is = held (opening (wants_in job basis).backoff) basis.now m (not (is_none_of (creatable (is_end_decided job (decided_in job basis)) job (own_pods job basis.pods) (accounted job basis)))) h in
           both (nat_lt basis.now m) (is_at (deadline_by_status job) m) (is_at (opening basis.backoff) m) is.1
           (or_right (is_at (deadline_by_status job) m) (is_at (opening basis.backoff) m) (at-itself (opening basis.backoff) m (ap opening (sym same) ∙ is.0)))
       by (inr h) =

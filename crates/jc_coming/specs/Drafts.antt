@@ -21,7 +21,7 @@ use Rattle.jc_finish.specs.Starts.{deadline_of}
 use Rattle.jc_manage.specs.declared.results.Wants.{Wants}
 use Rattle.jc_plan.specs.declared.plans.Planned.{Planned}
 use Rattle.jc_plan.specs.Next.{next_counted, next_decided}
-use Rattle.jc_plan.specs.Statuses.{filled, is_over, is_settled}
+use Rattle.jc_plan.specs.Statuses.{filled, is_over, is_end_decided}
 
 -- No pod is made, marked or let go.
 abbrev pub nothing_wanted : Wants
@@ -37,7 +37,7 @@ nothing_wanted = record {
 unfoldable pub next_quiet : ℕ → Job → List Pod → JobStatus
 next_quiet now job own =
     filled now job own (next_counted job own) (next_decided now job own) nothing_wanted
-    (is_over (is_settled job (next_decided now job own)) own (next_counted job own))
+    (is_over (is_end_decided job (next_decided now job own)) own (next_counted job own))
 
 -- The Job has another status.
 abbrev pub is_draft : ℕ → Job → List Pod → Bool

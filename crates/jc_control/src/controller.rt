@@ -219,11 +219,11 @@ impl Controller {
     /// Makes the changes that wait of the pods of the line's first key, where no sync sees these pods any more
     /// and there is memory. It changes nothing that a contract sees: a member calls it before it begins a
     /// sync, so that the sync shares the pods and copies none.
-    pub fn settle(&mut self)
+    pub fn apply_pending(&mut self)
         ensures { self.new ≡ self.old }
     {
         if let Some(key) = self.queue.first() {
-            self.pods.settle(key);
+            self.pods.apply_pending(key);
         }
     }
 
@@ -402,7 +402,7 @@ impl Controller {
         self.delays.reserve(syncs)?;
         let ending = Ending::of(key)?;
         self.supplies.reserve(1)?;
-        note(&mut self.known, key)?;
+        add_known(&mut self.known, key)?;
         self.supplies.push_reserved(ending);
         self.queue.get();
         Ok(())
@@ -501,7 +501,7 @@ fn known_of(rows: &Table<Key, Known>, key: &Key) -> Known
 // Puts a row for the key, where it has none.
 //
 // `Want` where there is no memory for it; the rows are then as before.
-fn note(rows: &mut Table<Key, Known>, key: &Key) -> Result<(), Want>
+fn add_known(rows: &mut Table<Key, Known>, key: &Key) -> Result<(), Want>
     ensures noted { OnOk result (rows.new ≡ noted rows.old key.now) }
     ensures kept { OnErr result (rows.new ≡ rows.old) }
 {

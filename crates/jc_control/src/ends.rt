@@ -56,7 +56,7 @@ impl Ending {
     }
 
     // Whether they are copies of the key.
-    fn is_of(&self, key: &Key) -> bool
+    fn same_key(&self, key: &Key) -> bool
         ensures { result ≡ same_key key.now self.now }
     {
         *key == self.done
@@ -75,7 +75,7 @@ impl Ending {
 fn place_of(endings: &[Ending], key: &Key) -> Option<usize>
     ensures { result ≡ position (same_key key.now) endings.now }
 {
-    endings.iter().position(|ending| ending.is_of(key))
+    endings.iter().position(|ending| ending.same_key(key))
 }
 
 // Takes the copies of the key out of the list, in which there are as many as syncs: the one that is done, and

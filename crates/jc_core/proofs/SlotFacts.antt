@@ -12,7 +12,7 @@ use Rattle.jc_history.specs.Available.{below}
 use Rattle.jc_history.specs.Registers.{register}
 use Rattle.jc_runs.specs.Seen.{Seen}
 use Rattle.jc_play.specs.DiariesSeen.{diary_seen}
-use Rattle.jc_play.specs.Plays.{IsProper}
+use Rattle.jc_play.specs.Plays.{IsScriptFor}
 use Rattle.jc_play.specs.declared.slots.Slot.{Slot}
 use Rattle.jc_play.specs.Slots.{is_slot_of}
 use Rattle.jc_core.specs.declared.changes.Change.{Change}
@@ -117,7 +117,7 @@ fresh-numbers (r ∷ rs) = ap (λ more. r ∷ more) (fresh-numbers rs)
 -- What a cluster has in which nothing has happened.
 pub new-kept : (script : Script) (shape : Shape) (seen : Seen) (slots : List Slot) → seen
     ≡ record { script = script; shape = shape; pasts = [] } → slots ≡ map fresh_slot (all_registers shape)
-    → IsProper script shape → shape.events ≤ 200000 → KeepsShared seen slots
+    → IsScriptFor script shape → shape.events ≤ 200000 → KeepsShared seen slots
 new-kept script shape seen slots is fresh proper bound = subst (λ (s : Seen). KeepsShared s slots) (sym is) (record {
   registers = ap (map numbers_of) fresh ∙ fresh-numbers (all_registers shape);
   proper = proper;

@@ -28,7 +28,7 @@ use Rattle.jc_history.specs.Available.{below}
 use Rattle.jc_history.specs.Registers.{register}
 use Rattle.jc_runs.specs.Seen.{Seen}
 use Rattle.jc_play.specs.DiariesSeen.{diary_seen}
-use Rattle.jc_play.specs.Plays.{IsProper}
+use Rattle.jc_play.specs.Plays.{IsScriptFor}
 use Rattle.jc_play.specs.declared.actors.Actor.{Actor}
 use Rattle.jc_play.specs.declared.actors.Actor.TheVariants as actor
 use Rattle.jc_play.specs.declared.slots.Slot.{Slot}
@@ -57,7 +57,7 @@ fresh_slot numbers =
 -- history is short.
 pub record KeepsShared (seen : Seen) (slots : List Slot) : Type 0 where
   pub registers : map numbers_of slots ≡ all_registers seen.shape
-  pub proper : IsProper seen.script seen.shape
+  pub proper : IsScriptFor seen.script seen.shape
   pub bound : seen.shape.events ≤ 200000
 
 -- A seat holds one of them.

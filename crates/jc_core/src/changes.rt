@@ -62,11 +62,11 @@ fn is_seat(seat: u32, holder: Option<u32>) -> bool
 pub(crate) fn holds(slot: &Slot, seat: u32, controller: u32, worker: u32) -> bool
     ensures { result ≡ holds_slot seat controller worker slot.now }
 {
-    slot.is_of(controller, worker) && is_seat(seat, slot.holder)
+    slot.is_slot_of(controller, worker) && is_seat(seat, slot.holder)
 }
 
 // The register, once the change was made.
-fn changed(change: Change, slot: Slot) -> Slot
+fn changed_slot(change: Change, slot: Slot) -> Slot
     ensures { result ≡ changed_slot change slot }
 {
     match change {
@@ -75,7 +75,7 @@ fn changed(change: Change, slot: Slot) -> Slot
             controller,
             worker,
         } => {
-            if slot.is_of(controller, worker) {
+            if slot.is_slot_of(controller, worker) {
                 return Slot {
                     holder: Some(seat),
                     ..slot
@@ -99,7 +99,7 @@ fn changed(change: Change, slot: Slot) -> Slot
             controller,
             worker,
         } => {
-            if slot.is_of(controller, worker) {
+            if slot.is_slot_of(controller, worker) {
                 return Slot { wants, ..slot };
             }
         }
@@ -155,7 +155,7 @@ fn change_each(slots: &mut Vec<Slot>, change: Change)
     ensures { slots.new.items ≡ map (changed_slot change) slots.old.items }
 {
     for i in 0..slots.len() {
-        slots[i] = changed(change, slots[i]);
+        slots[i] = changed_slot(change, slots[i]);
     }
 }
 
@@ -167,7 +167,7 @@ fn change_at(slots: &mut Vec<Slot>, shape: &Shape, controller: u32, worker: u32,
 {
     let place = place_of(shape, controller, worker);
     if place < slots.len() {
-        slots[place] = changed(change, slots[place]);
+        slots[place] = changed_slot(change, slots[place]);
     }
 }
 

@@ -5,7 +5,7 @@ ghost use Rattle.std.specs.List.{AllByRecursion as Each};
 ghost use Rattle.jc_types.specs.declared.actions.Command.{Command};
 ghost use Rattle.jc_runs.specs.ValidActions.{IsValidAction};
 ghost use Rattle.jc_runs.specs.Seen.{Admits, act_seen, happened, reply_seen};
-ghost use Rattle.jc_play.specs.Plays.{IsProper};
+ghost use Rattle.jc_play.specs.Plays.{IsScriptFor};
 ghost use Rattle.jc_play.specs.ApplyFault.TheVariants.{HistoryFull};
 ghost use Rattle.jc_core.specs.Shared.{all_registers, fresh_slot, has_holders, slots_after};
 
@@ -48,7 +48,7 @@ impl Cluster {
     /// `Want` where there is no memory for it.
     pub fn new(alloc: Global, script: Script, shape: Shape) -> Result<Cluster, Want>
         requires fine { Each (λ (command : Command). IsValidAction command.action) script.commands }
-        requires proper { IsProper script shape }
+        requires proper { IsScriptFor script shape }
         requires fits { length script.commands < 2 ^ 32 }
         requires bound { shape.events ≤ 200000 }
         ensures seen { IfOk result

@@ -11,9 +11,9 @@ ghost use Rattle.jc_history.specs.Registers.{backoff, register};
 ghost use Rattle.jc_runs.specs.QuietRuns.{IsAtNext};
 ghost use Rattle.jc_runs.specs.Seen.{deeds_seen, happened, log_seen, reply_seen};
 ghost use Rattle.jc_play.specs.DiariesSeen.{diary_seen};
-ghost use Rattle.jc_play.specs.SyncsSeen.{StartsCurrent, IsLast, IsSynced, StepsOn, StepsQuietly, begin_event, next_seen, tells_begin};
+ghost use Rattle.jc_play.specs.SyncsSeen.{StartsCurrent, IsLast, IsSynced, StepsOn, StepsWithoutStatus, begin_event, next_seen, tells_begin};
 ghost use Rattle.jc_play.specs.ApplyFault.TheVariants.{HistoryFull};
-ghost use Rattle.jc_play.specs.Turns.{HasGoneOn, HasGrown, Reaches, has_rest, next_to_settle, playing_of};
+ghost use Rattle.jc_play.specs.Turns.{HasGoneOn, HasGrown, Reaches, is_quiescent_seen, next_to_settle, playing_of};
 ghost use Rattle.jc_core.specs.Shared.{HasKeptUp, all_registers, has_holders, numbers_of, slots_told};
 
 use crate::cluster::Cluster;
@@ -60,7 +60,7 @@ impl Cluster {
     pub fn settle(&mut self) -> Result<(), ApplyFault>
         ensures reaches { Reaches result (settled_down self.old.seen.script self.old.seen.shape
             (playing_of false self.old.seen)) self.new.seen }
-        ensures rests { OnOk result (has_rest self.new.seen ≡ true) }
+        ensures rests { OnOk result (is_quiescent_seen self.new.seen ≡ true) }
         ensures kept { HasGoneOn (next_to_settle self.old.seen.script self.old.seen.shape)
             self.old.seen self.new.seen }
         ensures grown { HasGrown self.old.seen self.new.seen }
@@ -140,7 +140,7 @@ impl Cluster {
         ensures silent { OnOk result ((k : Key) (job : Job)
             → StartsCurrent self.old.seen controller worker k job
             → next_seen self.old.seen controller k job ≡ job.status
-            → StepsQuietly controller worker
+            → StepsWithoutStatus controller worker
             (happened self.old.seen (begin_event controller worker)) self.new.seen) }
         ensures slots { HasKeptUp self.old self.new }
     {

@@ -5,7 +5,7 @@ ghost use Rattle.jc_types.specs.declared.runs.Event.{Event};
 ghost use Rattle.jc_history.specs.Play.{first_event};
 ghost use Rattle.jc_play.specs.Actors.{CanCome, IsOfActor};
 ghost use Rattle.jc_play.specs.Slots.{unheld_seen};
-ghost use Rattle.jc_play.specs.Turns.{has_rest};
+ghost use Rattle.jc_play.specs.Turns.{is_quiescent_seen};
 ghost use Rattle.jc_core.specs.Shared.{is_held_actor};
 
 use crate::cluster::Cluster;
@@ -56,7 +56,7 @@ impl Cluster {
 
     /// Whether nothing is available, whatever is held.
     pub fn is_quiescent(&self) -> bool
-        ensures { result ≡ has_rest self.now.seen }
+        ensures { result ≡ is_quiescent_seen self.now.seen }
     {
         is_quiescent(&self.machine)
     }

@@ -5,12 +5,12 @@ ghost use Rattle.jc_types.specs.declared.objects.Job.{Job};
 ghost use Rattle.jc_types.specs.declared.objects.Key.{Key};
 ghost use Rattle.jc_log.specs.Log.{job_in};
 ghost use Rattle.jc_history.specs.Diaries.{moment};
-ghost use Rattle.jc_history.specs.Legal.{InLanes, IsHistory, IsLegal, next_place};
+ghost use Rattle.jc_history.specs.Legal.{InLanes, IsHistory, IsLegal, next_command};
 ghost use Rattle.jc_bounds.specs.Histories.{HoldsBounds};
 ghost use Rattle.jc_runs.specs.Once.{AllJustified, OnceAtEach};
 ghost use Rattle.jc_runs.specs.Seen.{deeds_seen, log_seen};
 ghost use Rattle.jc_play.specs.Places.{AreUsedUp};
-ghost use Rattle.jc_play.specs.Plays.{IsProper};
+ghost use Rattle.jc_play.specs.Plays.{IsScriptFor};
 
 use crate::cluster::Cluster;
 use jc_play::{Moment, Store};
@@ -20,7 +20,7 @@ impl Cluster {
     /// The script. It can be played on the shape.
     pub fn script(&self) -> &Script
         ensures script { result.now ≡ self.now.seen.script }
-        ensures proper { IsProper self.now.seen.script self.now.seen.shape }
+        ensures proper { IsScriptFor self.now.seen.script self.now.seen.shape }
     {
         self.machine.script()
     }
@@ -84,7 +84,7 @@ impl Cluster {
 
     /// The place in the script of the lane's next command; `None` exactly where the lane is used up.
     pub fn next_command(&self, lane: u8) -> Option<u32>
-        ensures { result ≡ next_place self.now.seen.script.commands lane self.now.seen.pasts }
+        ensures { result ≡ next_command self.now.seen.script.commands lane self.now.seen.pasts }
     {
         self.machine.next_command(lane)
     }

@@ -42,7 +42,7 @@ pub(crate) fn fresh_slots(alloc: Global, shape: &Shape) -> Result<Vec<Slot>, Wan
 }
 
 // Whether the sync of the register has no plan, and nobody holds it.
-fn is_open(machine: &Machine, slot: &Slot) -> bool
+fn is_open_slot(machine: &Machine, slot: &Slot) -> bool
     requires of_shape { slot.now.controller < machine.now.shape.controllers }
     requires worker { slot.now.worker < machine.now.shape.workers }
     ensures { result ≡ is_open_slot machine.now slot.now }
@@ -60,7 +60,7 @@ pub(crate) fn first_open(machine: &Machine, slots: &[Slot]) -> Option<Slot>
         is_some (register slot.worker (diary_seen machine.now slot.controller)) ≡ true) }
 {
     for slot in slots {
-        if is_open(machine, slot) {
+        if is_open_slot(machine, slot) {
             return Some(*slot);
         }
     }
@@ -115,11 +115,11 @@ pub(crate) fn is_held_by(slots: &[Slot], seat: u32, controller: u32, worker: u32
 fn is_held_slot(slot: &Slot, controller: u32, worker: u32) -> bool
     ensures { result ≡ (is_slot_of controller worker slot.now && is_some slot.now.holder) }
 {
-    slot.is_of(controller, worker) && slot.holder.is_some()
+    slot.is_slot_of(controller, worker) && slot.holder.is_some()
 }
 
 // Whether a seat holds the register.
-fn is_held(slots: &[Slot], controller: u32, worker: u32) -> bool
+fn has_holder(slots: &[Slot], controller: u32, worker: u32) -> bool
     ensures { result ≡ has_holder slots.now controller worker }
 {
     slots
@@ -132,7 +132,7 @@ pub(crate) fn is_held_actor(slots: &[Slot], actor: Actor) -> bool
     ensures { result ≡ is_held_actor slots.now actor }
 {
     match actor {
-        Actor::Worker { controller, worker } => is_held(slots, controller, worker),
+        Actor::Worker { controller, worker } => has_holder(slots, controller, worker),
         _ => false,
     }
 }

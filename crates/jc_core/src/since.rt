@@ -13,7 +13,7 @@ use jc_play::Machine;
 use jc_types::{Past, Script};
 
 // Whether the register is among those that are touched so.
-fn is_touched_by(touch: Touch, controller: u32, worker: u32) -> bool
+fn is_touch_of(touch: Touch, controller: u32, worker: u32) -> bool
     ensures { result ≡ is_touch_of controller worker touch }
 {
     match touch {
@@ -31,10 +31,10 @@ fn is_touched_by(touch: Touch, controller: u32, worker: u32) -> bool
 }
 
 // Whether the event is of the register.
-fn is_of_register(script: &Script, past: &Past, controller: u32, worker: u32) -> bool
+fn is_past_of(script: &Script, past: &Past, controller: u32, worker: u32) -> bool
     ensures { result ≡ is_past_of script.now.commands controller worker past.now }
 {
-    is_touched_by(touch_of_event(script, past.event), controller, worker)
+    is_touch_of(touch_of_event(script, past.event), controller, worker)
 }
 
 // Whether one of the events is of the register.
@@ -43,7 +43,7 @@ fn is_touched(script: &Script, events: &[Past], controller: u32, worker: u32) ->
 {
     events
         .iter()
-        .any(|past| is_of_register(script, past, controller, worker))
+        .any(|past| is_past_of(script, past, controller, worker))
 }
 
 // Whether no event is of the register since the history had so many. It is then what it was.

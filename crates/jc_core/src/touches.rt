@@ -70,7 +70,7 @@ pub(crate) fn touch_of_event(script: &Script, event: Event) -> Touch
 }
 
 // Whether the reply says that a sync began.
-fn is_begun(reply: &Reply) -> bool
+fn is_begun_reply(reply: &Reply) -> bool
     ensures { result ≡ is_begun_reply reply.now }
 {
     matches!(reply, Reply::Begun { .. })
@@ -86,7 +86,7 @@ pub(crate) fn touch_all(slots: &mut Vec<Slot>, shape: &Shape, touch: Touch, repl
 {
     match touch {
         Touch::Begin { controller, worker } => {
-            if is_begun(reply) {
+            if is_begun_reply(reply) {
                 let change = Change::Want {
                     wants: true,
                     controller,

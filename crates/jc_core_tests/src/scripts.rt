@@ -8,7 +8,7 @@ ghost use Rattle.jc_history.specs.Available.{IsOrderly};
 ghost use Rattle.jc_history.specs.Legal.{IsOfShape};
 ghost use Rattle.jc_runs.specs.Seen.{deeds_seen};
 ghost use Rattle.jc_runs.specs.ValidActions.{IsValidAction};
-ghost use Rattle.jc_shared.specs.Plays.{IsProper};
+ghost use Rattle.jc_shared.specs.Plays.{IsScriptFor};
 
 use jc_moment::Moment;
 use jc_script::{read_script, scripts_fit_their_shape};
@@ -44,7 +44,7 @@ fn is_within(action: &Action1, shape: &Shape) -> bool
 
 // Whether all commands do, so that the script can be played on the shape.
 fn is_proper(script: &Script, shape: &Shape) -> bool
-    ensures { IsTrue result → IsProper script.now shape.now }
+    ensures { IsTrue result → IsScriptFor script.now shape.now }
 {
     for command in script.commands.as_slice() {
         if !is_within(&command.action, shape) {
@@ -60,7 +60,7 @@ fn is_proper(script: &Script, shape: &Shape) -> bool
 fn script_of(rt: &impl Abort, alloc: Global, text: &str, shape: &Shape) -> Result<Script, Fail>
     ensures fine { IfOk result (λ script.
         Each (λ (command : Command). IsValidAction command.action) script.commands) }
-    ensures proper { IfOk result (λ script. IsProper script shape.now) }
+    ensures proper { IfOk result (λ script. IsScriptFor script shape.now) }
 {
     assert!(rt; text.len() < 1_000_000, "the script is short");
     scripts_fit_their_shape();

@@ -35,7 +35,7 @@ use Rattle.jc_log.proofs.WriteFacts.{Stored-from_legal, job_in-key}
 use Rattle.jc_ledger.specs.declared.flights.Flight.{Flight}
 use Rattle.jc_ledger.specs.Ledger.{Record, ledger_of}
 use Rattle.jc_ledger.specs.Once.{IsJudged}
-use Rattle.jc_ledger.specs.Tied.{HasSoundLists, IsCurrent, IsSound, Tied, TiesJob, made_as}
+use Rattle.jc_ledger.specs.Tied.{HasOrderedLists, IsCurrent, IsTrueRecord, Tied, TiesJob, made_as}
 use Rattle.jc_ledger.proofs.DoneFacts.{done-increases}
 use Rattle.jc_ledger.proofs.FrameFacts.{PodsHaveIndexes-now}
 use Rattle.jc_ledger.proofs.MadeFacts.{WasMade, job_in-was_made}
@@ -80,7 +80,7 @@ module _ (deeds : List Deed) (log : List Entry) (flights : List Flight) (t : Tie
   ties : TiesJob was.made log (ledger_of was.made.uid deeds log)
   ties = ties_of deeds log flights was.made t is-made
 
-  tidy : HasSoundLists job
+  tidy : HasOrderedLists job
   tidy = ties.tidy job.version.0 job entry was.step.uid
 
   current : IsCurrent log (ledger_of was.made.uid deeds log) job
@@ -110,7 +110,7 @@ module _ (deeds : List Deed) (log : List Entry) (flights : List Flight) (t : Tie
   judged-so : (outcome : Outcome) (pod : Pod) → life pod.uid log ≡ Live pod → IsJudged (ledger_of was.made.uid deeds log).records pod.uid outcome job.version.0 → is_active pod ≡ false
   judged-so outcome pod live j = false_from_ne_true (is_active pod) (λ active. true≢false (sym verdict ∙ ap is_verdict (active_alive was.made.spec j.found.pod (was-active j.found.pod pod step active))))
     where
-      sound : IsSound was.made log j.found
+      sound : IsTrueRecord was.made log j.found
       sound = ties.sound pod.uid j.found j.is_found
 
       uid : j.found.pod.uid ≡ pod.uid

@@ -14,7 +14,7 @@ use Rattle.jc_audit.specs.Allowed.{IsAllowedKey, is_allowed_key}
 use Rattle.jc_audit.specs.Proper.{IsProperAction, IsProperCommand}
 use Rattle.jc_single.specs.Legal.{IsHistory}
 use Rattle.jc_single.specs.Play.{whole_play}
-use Rattle.jc_single.specs.Plays.{IsProper}
+use Rattle.jc_single.specs.Plays.{IsScriptFor}
 use Rattle.jc_single.specs.Seen.{Seen}
 use Rattle.jc_single.specs.Finds.{seen_at_end}
 use Rattle.jc_single.specs.ReapedCommands.{Creates, CanBeSaid, IsSmallTtl}
@@ -86,12 +86,12 @@ module _ (shape : Shape) where
 
   -- So are a settle and a reaper's behind them.
   module _ (bound : shape.events ≤ 200000)
-      (plays : (script : Script) → IsProper script shape → IsHistory script shape (history_of script shape))
+      (plays : (script : Script) → IsScriptFor script shape → IsHistory script shape (history_of script shape))
       (gives : (seen : Seen) (ttls : List (Option ℕ)) → Each (λ (command : Command). Creates IsTested command.action) seen.script.commands
       → length seen.pasts < 2 ^ 32 → Each IsSmallTtl ttls
       → Each (λ (command : Command). CanBeSaid IsTested command.action) (reap_list seen ttls))
       (lane : (seen : Seen) (ttls : List (Option ℕ)) → Each (λ (command : Command). command.lane ≡ 0) (reap_list seen ttls)) where
-    last-proper : (commands : List Command) (ttls : List (Option ℕ)) → AreProper commands → IsProper (at_rest commands) shape
+    last-proper : (commands : List Command) (ttls : List (Option ℕ)) → AreProper commands → IsScriptFor (at_rest commands) shape
         → Each IsSmallTtl ttls → IfOk (reaped_of shape (Ok commands) (Ok ttls)) (λ script. AreProper script.commands)
     last-proper commands ttls proper within small =
         let first = at_rest commands in
@@ -104,7 +104,7 @@ module _ (shape : Shape) where
 
     pub reaped-proper : (r : Result (List Command) BadLine) (t : Result (List (Option ℕ)) BadLine)
         → ((commands : List Command) → r ≡ Ok commands → AreProper commands)
-        → ((commands : List Command) → r ≡ Ok commands → IsProper (at_rest commands) shape)
+        → ((commands : List Command) → r ≡ Ok commands → IsScriptFor (at_rest commands) shape)
         → ((ttls : List (Option ℕ)) → t ≡ Ok ttls → Each IsSmallTtl ttls)
         → IfOk (reaped_of shape r t) (λ script. AreProper script.commands)
     reaped-proper (Err bad) t proper within small = tt

@@ -5,7 +5,7 @@ ghost use Rattle.std.specs.List.{AllByRecursion as Each};
 ghost use Rattle.jc_types.specs.declared.actions.Command.{Command};
 ghost use Rattle.jc_single.specs.ValidActions.{IsValidAction};
 ghost use Rattle.jc_single.specs.Available.{IsOrderly};
-ghost use Rattle.jc_single.specs.Plays.{IsProper};
+ghost use Rattle.jc_single.specs.Plays.{IsScriptFor};
 ghost use Rattle.jc_single.specs.Seen.{deeds_seen};
 ghost use Rattle.jc_shared.specs.SharedEnds.{EndsRun, IsEndOfRun};
 ghost use Rattle.jc_shared.specs.Shared.{Shared};
@@ -72,7 +72,7 @@ fn run_locked<R: Threads + Wait + Sync, G: Gate + Sync>(
     play: Play<'_>,
 ) -> Result<Cluster, ThreadsFault>
     requires fine { Each (λ (command : Command). IsValidAction command.action) play.script.now.commands }
-    requires proper { IsProper play.script.now play.shape.now }
+    requires proper { IsScriptFor play.script.now play.shape.now }
     ensures { EndsRun play.entry.script.now play.entry.shape.now result }
 {
     match lock {
@@ -102,7 +102,7 @@ fn run_by<R: Threads + Wait + Sync, G: Gate + Sync>(
     play: Play<'_>,
 ) -> Result<Ended, Want>
     requires fine { Each (λ (command : Command). IsValidAction command.action) play.script.now.commands }
-    requires proper { IsProper play.script.now play.shape.now }
+    requires proper { IsScriptFor play.script.now play.shape.now }
     ensures { IfOk result (λ ended.
         IsEndOfRun play.entry.script.now play.entry.shape.now ended.cluster.seen ended.full) }
 {
@@ -126,7 +126,7 @@ fn threaded_report<R: Threads + Wait + Sync, G: Gate + Sync>(
     play: Play<'_>,
 ) -> Result<Output, Want>
     requires fine { Each (λ (command : Command). IsValidAction command.action) play.script.now.commands }
-    requires proper { IsProper play.script.now play.shape.now }
+    requires proper { IsScriptFor play.script.now play.shape.now }
     requires lanes { Each (λ (command : Command). command.lane < 2 ^ 8) play.script.now.commands }
     requires fit_shape { IsFitShape play.shape.now }
     ensures { IfOk result (λ output.

@@ -7,7 +7,7 @@ use Rattle.jc_log.specs.Log.{job_in, pods_under}
 use Rattle.jc_log.specs.Requests.{with_status}
 use Rattle.jc_log.proofs.LogFacts.{upto-all}
 use Rattle.jc_history.specs.Notes.{Note}
-use Rattle.jc_calm.specs.Turns.{SawAll, notes_of_nothing}
+use Rattle.jc_calm.specs.SettleTurns.{SawAll, notes_of_nothing}
 use Rattle.jc_coming.specs.Drafts.{statuses_to_come}
 use Rattle.jc_coming.specs.Moments.{ShowsAll, keys_to_come, moments_to_come}
 use Rattle.jc_coming.proofs.ClockFacts.{moments-fall, statuses-fall}

@@ -18,7 +18,7 @@ use Rattle.jc_history.specs.Lines.{line}
 use Rattle.jc_history.specs.Notes.{Note, Ticked}
 use Rattle.jc_history.specs.Replies.{diary, log_given}
 use Rattle.jc_settle.specs.Totals.{total}
-use Rattle.jc_calm.specs.Turns.{SawAll, faults_pending, notes_of_nothing}
+use Rattle.jc_calm.specs.SettleTurns.{SawAll, faults_pending, notes_of_nothing}
 use Rattle.jc_ends.proofs.Descent.{Count}
 
 -- What is still to come: statuses by the moment and the log, moments and keys by a controller's notes too.

@@ -24,7 +24,7 @@ use Rattle.jc_settle.proofs.CalmFacts.{calms-down}
 use Rattle.jc_settle.proofs.ClockFacts.{moments-are}
 use Rattle.jc_settle.proofs.OnFacts.{next-is, next-legal, on-adds, on-legal, on-some, rest-earlier}
 use Rattle.jc_settle.proofs.TotalFacts.{total-less, total-most}
-use Rattle.jc_calm.specs.Turns.{Asks, AsksForAPod, BeginsAlone, ClockMoves, Fails, Finds, EndsAtOnce, MeetsFault, MovesTheClock, NodeActs, Rests, Turn, Writes, WritesAndAsks, WritesStatus, WritesNoMore, asks_for_a_pod, is_node, notes_of_nothing}
+use Rattle.jc_calm.specs.SettleTurns.{Asks, AsksForAPod, BeginsAlone, ClockMoves, Fails, Finds, EndsAtOnce, MeetsFault, MovesTheClock, NodeActs, Rests, Turn, Writes, WritesAndAsks, WritesStatus, WritesNoMore, asks_for_a_pod, is_node, notes_of_nothing}
 use Rattle.jc_calm.proofs.GoFacts.{goes-on}
 use Rattle.jc_ends.specs.Podless.{LeavesPods}
 use Rattle.jc_ends.proofs.Descent.{Falls, InFaults, InKeys, InMoments, InStatuses, Lowers, holds-of-all}

@@ -4,7 +4,7 @@ use Rattle.std.specs.Prelude.{◌≡◌, ℕ, false, List, Some}
 use Rattle.jc_types.specs.declared.runs.Shape.{Shape}
 use Rattle.jc_log.specs.Deeds.{Deed}
 use Rattle.jc_settle.specs.Settles.{next_of_settle, settled_on}
-use Rattle.jc_calm.specs.Turns.{is_of_pods}
+use Rattle.jc_calm.specs.SettleTurns.{is_of_pods}
 
 -- No deed of the settle that goes on from here is the node's, and none asks for a pod.
 abbrev pub LeavesPods : Shape → List Deed → Type 0

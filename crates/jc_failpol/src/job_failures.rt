@@ -4,16 +4,16 @@ ghost use Rattle.std.specs.Prelude.{◌≡◌};
 ghost use Rattle.jc_failpol.specs.FailJob.{fails_job, policy_fails_job};
 
 use crate::judgements::has_failed;
-use crate::rules::decided_action;
+use crate::rules::action_of;
 use jc_types::{Action, FailurePolicy, JobSpec, Pod};
 
 // Whether the failure policy, where there is one, fails the Job for the failed pod.
-fn does_policy_fail_job(policy: &Option<FailurePolicy>, pod: &Pod) -> bool
+fn policy_fails_job(policy: &Option<FailurePolicy>, pod: &Pod) -> bool
     ensures { result ≡ policy_fails_job policy.now pod.now }
 {
     match policy {
         None => false,
-        Some(policy) => match decided_action(policy, pod) {
+        Some(policy) => match action_of(policy, pod) {
             Action::FailJob => true,
             Action::Ignore | Action::Count | Action::FailIndex => false,
         },
@@ -26,5 +26,5 @@ pub fn fails_job(spec: &JobSpec, pod: &Pod) -> bool
     ensures { result ≡ fails_job spec.now pod.now }
 {
     // A pod whose failure is ignored fails no Job: the policy is asked once.
-    has_failed(spec, pod) && does_policy_fail_job(&spec.failure, pod)
+    has_failed(spec, pod) && policy_fails_job(&spec.failure, pod)
 }

@@ -5,12 +5,12 @@ ghost use Rattle.jc_failpol.specs.declared.outcomes.Outcome.TheVariants.{Alive};
 ghost use Rattle.jc_failpol.specs.Outcomes.{counts_marked, failure_of, has_ended_badly, is_succeeded, outcome_of, same_outcome};
 
 use crate::outcomes::Outcome;
-use crate::rules::decided_action;
+use crate::rules::action_of;
 use jc_states::is_marked;
 use jc_types::{Action, FailurePolicy, JobSpec, Phase, Pod, Replacement};
 
 // Whether a pod that is marked for deletion counts as failed at once.
-fn is_counted_when_marked(replacement: Replacement) -> bool
+fn counts_marked(replacement: Replacement) -> bool
     ensures { result ≡ counts_marked replacement }
 {
     match replacement {
@@ -25,7 +25,7 @@ fn failure(policy: &Option<FailurePolicy>, pod: &Pod) -> Outcome
 {
     match policy {
         None => Outcome::Failed,
-        Some(policy) => match decided_action(policy, pod) {
+        Some(policy) => match action_of(policy, pod) {
             Action::Ignore => Outcome::Ignored,
             Action::FailJob | Action::Count | Action::FailIndex => Outcome::Failed,
         },
@@ -39,7 +39,7 @@ fn has_ended_badly(replacement: Replacement, pod: &Pod) -> bool
     match pod.phase {
         Phase::Failed => true,
         Phase::Pending | Phase::Running | Phase::Succeeded => {
-            is_counted_when_marked(replacement) && is_marked(pod)
+            counts_marked(replacement) && is_marked(pod)
         }
     }
 }

@@ -38,7 +38,7 @@ pub fn outcomes_are_told_apart()
 /// a failure: a pod that was marked may still exit with 0. Where a pod is replaced only once it has
 /// ended, its outcome, containers and conditions then stay as they are, and so does what a failure
 /// policy says of it. A pod is ignored only by a failure policy, and stays so.
-pub fn outcomes_settle()
+pub fn outcomes_stay()
     ensures valid { (spec : JobSpec) → IsValidSpec spec → WaitsForEnd spec }
     ensures same { (spec other : JobSpec) (pod : Pod)
         → SamePolicies spec other → outcome_of other pod ≡ outcome_of spec pod }

@@ -10,6 +10,6 @@ mod rules;
 
 pub use job_failures::fails_job;
 pub use judgements::{has_ended, outcome};
-pub use laws::{first_match_decides, outcomes_are_told_apart, outcomes_settle};
-pub use outcomes::{Outcome, is_same_outcome, is_verdict};
-pub use rules::{action, decided_action};
+pub use laws::{first_match_decides, outcomes_are_told_apart, outcomes_stay};
+pub use outcomes::{Outcome, same_outcome, is_verdict};
+pub use rules::{action, action_of};

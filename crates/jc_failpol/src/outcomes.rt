@@ -17,7 +17,7 @@ pub enum Outcome {
 }
 
 /// Whether the outcomes are the same.
-pub fn is_same_outcome(left: Outcome, right: Outcome) -> bool
+pub fn same_outcome(left: Outcome, right: Outcome) -> bool
     ensures { result ≡ same_outcome left right }
 {
     left == right

@@ -9,7 +9,7 @@ use jc_types::{
 };
 
 // Whether an exit code is one of the values, or none of them.
-fn is_met(operator: Operator, values: &Codes, code: i32) -> bool
+fn meets(operator: Operator, values: &Codes, code: i32) -> bool
     ensures { result ≡ meets operator values.now code }
 {
     let is_value = values.as_slice().contains(&code);
@@ -21,7 +21,7 @@ fn is_met(operator: Operator, values: &Codes, code: i32) -> bool
 
 // Whether a rule on exit codes looks at the container: it has ended with a code that is not 0, and the
 // rule names it or none.
-fn is_looked_at(only: &Option<Name>, container: &Container) -> bool
+fn looks_at(only: &Option<Name>, container: &Container) -> bool
     ensures { result ≡ looks_at only.now container.now }
 {
     match container.exit {
@@ -35,39 +35,39 @@ fn is_looked_at(only: &Option<Name>, container: &Container) -> bool
 }
 
 // Whether the exit code of a container meets the operator.
-fn is_code_met(operator: Operator, values: &Codes, container: &Container) -> bool
+fn code_meets(operator: Operator, values: &Codes, container: &Container) -> bool
     ensures { result ≡ code_meets operator values.now container.now.exit }
 {
     match container.exit {
         None => false,
-        Some(code) => is_met(operator, values, code),
+        Some(code) => meets(operator, values, code),
     }
 }
 
 // Whether the pattern looks for the condition: the same type and the same status. Types are compared
 // last, as they are long.
-fn is_found(pattern: &Pattern, condition: &Pattern) -> bool
+fn finds(pattern: &Pattern, condition: &Pattern) -> bool
     ensures { result ≡ finds pattern.now condition.now }
 {
     condition.truth == pattern.truth && condition.kind.is_same(&pattern.kind)
 }
 
 // Whether a container that the rule looks at has an exit code that meets the operator.
-fn shows_code(pod: &Pod, only: &Option<Name>, operator: Operator, values: &Codes) -> bool
+fn has_code(pod: &Pod, only: &Option<Name>, operator: Operator, values: &Codes) -> bool
     ensures { result ≡ has_code only.now operator values.now pod.now.containers }
 {
-    pod.containers.as_slice().iter().any(|one| is_looked_at(only, one)
-        && is_code_met(operator, values, one))
+    pod.containers.as_slice().iter().any(|one| looks_at(only, one)
+        && code_meets(operator, values, one))
 }
 
 // Whether one of the pod's conditions is what the pattern looks for.
-fn shows_condition(pod: &Pod, pattern: &Pattern) -> bool
+fn has_condition(pod: &Pod, pattern: &Pattern) -> bool
     ensures { result ≡ has_condition pattern.now pod.now.conditions }
 {
     pod.conditions
         .as_slice()
         .iter()
-        .any(|condition| is_found(pattern, condition))
+        .any(|condition| finds(pattern, condition))
 }
 
 // Whether one of the patterns looks for one of the pod's conditions.
@@ -81,11 +81,11 @@ fn shows_one_of(pod: &Pod, patterns: &Patterns) -> bool
     patterns
         .as_slice()
         .iter()
-        .any(|pattern| shows_condition(pod, pattern))
+        .any(|pattern| has_condition(pod, pattern))
 }
 
 // Whether the pod shows what the rule asks for.
-fn is_match(rule: &FailureRule, pod: &Pod) -> bool
+fn matches(rule: &FailureRule, pod: &Pod) -> bool
     ensures { result ≡ matches rule.now pod.now }
 {
     match &rule.requirement {
@@ -93,20 +93,20 @@ fn is_match(rule: &FailureRule, pod: &Pod) -> bool
             container,
             operator,
             values,
-        } => shows_code(pod, container, *operator, values),
+        } => has_code(pod, container, *operator, values),
         Requirement::Conditions { patterns } => shows_one_of(pod, patterns),
     }
 }
 
 // The place of the first rule that matches.
-fn first_match(policy: &FailurePolicy, pod: &Pod) -> Option<usize>
+fn matching_place(policy: &FailurePolicy, pod: &Pod) -> Option<usize>
     ensures { result ≡ matching_place policy.now pod.now }
 {
     policy
         .rules
         .as_slice()
         .iter()
-        .position(|rule| is_match(rule, pod))
+        .position(|rule| matches(rule, pod))
 }
 
 // The action of the rule at the place, and `Count` where there is none.
@@ -129,20 +129,20 @@ fn action_at(policy: &FailurePolicy, place: Option<usize>) -> Action
 /// 0, and of these at the named one alone where it names one. It matches where one of those codes
 /// meets the operator. A rule on conditions matches where one of its patterns has the type and the
 /// status of one of the pod's conditions.
-pub fn decided_action(policy: &FailurePolicy, pod: &Pod) -> Action
+pub fn action_of(policy: &FailurePolicy, pod: &Pod) -> Action
     ensures { result ≡ action_of policy.now pod.now }
 {
-    action_at(policy, first_match(policy, pod))
+    action_at(policy, matching_place(policy, pod))
 }
 
-/// The same action as `decided_action`, with the place of the first rule that matches among the
+/// The same action as `action_of`, with the place of the first rule that matches among the
 /// policy's rules, counted from 0; none where no rule matches.
 pub fn action(policy: &FailurePolicy, pod: &Pod) -> (Action, Option<u32>)
     requires few { length policy.now.rules < 2 ^ 32 }
     ensures action { result.0 ≡ action_of policy.now pod.now }
     ensures place { result.1 ≡ matching_place policy.now pod.now }
 {
-    let place = first_match(policy, pod);
+    let place = matching_place(policy, pod);
     let action = action_at(policy, place);
     match place {
         None => (action, None),

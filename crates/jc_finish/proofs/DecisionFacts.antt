@@ -21,7 +21,7 @@ use Rattle.jc_failpol.specs.declared.outcomes.Outcome.TheVariants as outcome
 use Rattle.jc_failpol.specs.Outcomes.{outcome_of}
 use Rattle.jc_failpol.specs.Rules.{action_at, action_of, matching_place}
 use Rattle.jc_failpol.specs.FailJob.{is_failure, is_fail_job, policy_fails_job, fails_job}
-use Rattle.jc_finish.specs.Decisions.{is_failed_by_indexes, is_failed_by_pod, is_past_limit, is_past_most, is_overdue, is_policy_met, is_complete, first_line, decided}
+use Rattle.jc_finish.specs.Decisions.{is_failed_by_indexes, is_failed_by_pod, is_past_limit, is_past_most, is_overdue, is_policy_met, is_complete, first_reason, decided}
 use Rattle.jc_finish.specs.Settled.{is_target_kind}
 
 -- Where the failure policy fails the Job for no pod, none fails it.
@@ -78,13 +78,13 @@ chosen-kind false false false false false false false target h = cc
 module _ (counted : CountIn) (now : ℕ) (job : Job) (own : List Pod) where
   -- Nothing is decided where a target stands.
   pub decided_once : has_target job.status.conditions ≡ true → decided counted now job own ≡ None
-  decided_once h = ap (λ b. cond b None (first_line counted now job own)) h
+  decided_once h = ap (λ b. cond b None (first_reason counted now job own)) h
 
   -- What is decided is a target, and none stood.
   pub decided_target : (target : CondKind × Reason) → decided counted now job own ≡ Some target → (is_target_kind target.0 ≡ true) × (has_target job.status.conditions ≡ false)
   decided_target target h = by (has_target job.status.conditions) refl h
     where
-      by : (b : Bool) → has_target job.status.conditions ≡ b → cond b None (first_line counted now job own) ≡ Some target → (is_target_kind target.0 ≡ true) × (has_target job.status.conditions ≡ false)
+      by : (b : Bool) → has_target job.status.conditions ≡ b → cond b None (first_reason counted now job own) ≡ Some target → (is_target_kind target.0 ≡ true) × (has_target job.status.conditions ≡ false)
       by true t g = cc
       by false t g = (
         chosen-kind (is_failed_by_pod job.spec own) (is_past_limit (counts counted).0 job.spec own)
@@ -98,7 +98,7 @@ module _ (counted : CountIn) (now : ℕ) (job : Job) (own : List Pod) where
   pub failure_decides : is_failed_by_pod job.spec own ≡ true → (has_target job.status.conditions ≡ true) ⊎ (decided counted now job own ≡ Some (FailureTarget, reason.PodFailurePolicy))
   failure_decides h = by (has_target job.status.conditions)
     where
-      by : (b : Bool) → (b ≡ true) ⊎ (cond b None (first_line counted now job own) ≡ Some (FailureTarget, reason.PodFailurePolicy))
+      by : (b : Bool) → (b ≡ true) ⊎ (cond b None (first_reason counted now job own) ≡ Some (FailureTarget, reason.PodFailurePolicy))
       by true = inl refl
       by false = inr (ap (λ b. chosen b (is_past_limit (counts counted).0 job.spec own)
           (is_overdue now job.spec job.status) (is_past_most job.spec.max_failed counted.failed_indexes)

@@ -3,7 +3,7 @@
 --     exceeds limit restarts           so many restarts are too many under the limit
 --     is_failed_by_pod, is_past_limit, is_overdue, is_past_most, is_failed_by_indexes, is_policy_met, is_complete
 --                                      the seven reasons, in their order
---     first_line counted now job own   the first of them that holds, as a condition with its reason
+--     first_reason counted now job own   the first of them that holds, as a condition with its reason
 --     decided counted now job own      the same, unless how the Job will end is settled
 --     decision_of basis counted        what is decided of the Job of a basis
 use Rattle.std.specs.Prelude.{ℕ, ◌+◌, ◌==◌, nat_lt, nat_le, length, unwrap_or, Bool, true, false, not, ◌&&◌, ◌||◌, List, if◌then◌else◌, Option, Some, None, is_some, option_and_then}
@@ -92,8 +92,8 @@ is_complete succeeded spec own = not (list_any is_active own) && is_enough spec.
 -- ---- the decision
 
 -- The first of the reasons that holds.
-abbrev pub first_line : CountIn → ℕ → Job → List Pod → Option (CondKind × Reason)
-first_line counted now job own =
+abbrev pub first_reason : CountIn → ℕ → Job → List Pod → Option (CondKind × Reason)
+first_reason counted now job own =
     if is_failed_by_pod job.spec own then Some (FailureTarget, reason.PodFailurePolicy)
     else if is_past_limit (counts counted).0 job.spec own then Some (FailureTarget, reason.BackoffLimitExceeded)
     else if is_overdue now job.spec job.status then Some (FailureTarget, reason.DeadlineExceeded)
@@ -107,7 +107,7 @@ first_line counted now job own =
 
 -- Nothing is decided anew where how the Job will end is settled.
 abbrev pub decided : CountIn → ℕ → Job → List Pod → Option (CondKind × Reason)
-decided counted now job own = if has_target job.status.conditions then None else first_line counted now job own
+decided counted now job own = if has_target job.status.conditions then None else first_reason counted now job own
 
 -- What a sync decides of its basis's Job.
 abbrev pub decision_of : Basis → CountIn → Option (CondKind × Reason)

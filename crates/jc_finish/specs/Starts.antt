@@ -36,9 +36,9 @@ deadline_of now spec status =
     else as_moment (end_after spec.deadline (start_of now spec status))
 
 -- The start time in force of the basis's Job.
-abbrev pub start_of_basis : Basis → Option ℕ
-start_of_basis basis = option_and_then (λ job. start_of basis.now job.spec job.status) basis.job
+abbrev pub start_in_force : Basis → Option ℕ
+start_in_force basis = option_and_then (λ job. start_of basis.now job.spec job.status) basis.job
 
 -- The moment of the deadline of the basis's Job.
-abbrev pub deadline_of_basis : Basis → Option ℕ
-deadline_of_basis basis = option_and_then (λ job. deadline_of basis.now job.spec job.status) basis.job
+abbrev pub next_deadline : Basis → Option ℕ
+next_deadline basis = option_and_then (λ job. deadline_of basis.now job.spec job.status) basis.job

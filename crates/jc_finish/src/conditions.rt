@@ -42,7 +42,7 @@ fn suspension(since: Moment, suspend: bool) -> Condition
 }
 
 // Whether the kinds are the same.
-fn is_same_kind(left: CondKind, right: CondKind) -> bool
+fn same_kind(left: CondKind, right: CondKind) -> bool
     ensures { result ≡ same_kind left right }
 {
     left == right
@@ -52,7 +52,7 @@ fn is_same_kind(left: CondKind, right: CondKind) -> bool
 fn has_suspension(conditions: &Conditions) -> bool
     ensures { result ≡ list_any is_suspension conditions.now }
 {
-    conditions.as_slice().iter().any(|condition| is_same_kind(condition.kind, CondKind::Suspended))
+    conditions.as_slice().iter().any(|condition| same_kind(condition.kind, CondKind::Suspended))
 }
 
 // The conditions with another at the end.
@@ -68,7 +68,7 @@ fn with_one_more(conditions: Conditions, last: Condition) -> Result<Conditions, 
 fn in_place(new: &Condition, condition: &Condition) -> Condition
     ensures { result ≡ in_place new.now condition.now }
 {
-    if is_same_kind(condition.kind, CondKind::Suspended) {
+    if same_kind(condition.kind, CondKind::Suspended) {
         *new
     } else {
         *condition
@@ -107,7 +107,7 @@ fn with_suspension(
 
 // The conditions with a Suspended condition that is true just where the Job is suspended, while how the
 // Job will end is open.
-fn settled_suspended(
+fn with_suspended(
     alloc: Global,
     now: Moment,
     suspend: bool,
@@ -224,7 +224,7 @@ pub fn settle_conditions(
         return Ok(Conditions::new(alloc));
     };
     let conditions = &job.status.conditions;
-    let settled = settled_suspended(alloc, now, job.spec.suspend, target.is_some(), conditions)?;
+    let settled = with_suspended(alloc, now, job.spec.suspend, target.is_some(), conditions)?;
     let settled = with_target(now, target, settled)?;
     with_end(now, end, settled)
 }

@@ -5,9 +5,9 @@ ghost use Rattle.std.specs.List.{list_any};
 ghost use Rattle.jc_states.specs.Bases.{own_pods};
 ghost use Rattle.jc_types.specs.Counts.{counts as counts_of};
 ghost use Rattle.jc_failpol.specs.FailJob.{is_fail_job};
-ghost use Rattle.jc_finish.specs.Decisions.{decided, decision_of, first_line, is_complete, is_enough, is_failed_by_indexes, is_failed_by_pod, is_overdue, is_past_limit, is_past_most, is_policy_met, restarts_on_failure};
+ghost use Rattle.jc_finish.specs.Decisions.{decided, decision_of, first_reason, is_complete, is_enough, is_failed_by_indexes, is_failed_by_pod, is_overdue, is_past_limit, is_past_most, is_policy_met, restarts_on_failure};
 
-use crate::restarts::is_exceeded;
+use crate::restarts::exceeds;
 use crate::start::start_of;
 use jc_failpol::fails_job;
 use jc_moment::Moment;
@@ -28,7 +28,7 @@ fn finds_failing(job: &Job, pods: &[Arc<Pod>]) -> bool
 }
 
 // Whether the rule fails the Job.
-fn is_fatal(rule: &FailureRule) -> bool
+fn is_fail_job(rule: &FailureRule) -> bool
     ensures { result ≡ is_fail_job rule.now.action }
 {
     match rule.action {
@@ -41,12 +41,12 @@ fn is_fatal(rule: &FailureRule) -> bool
 fn has_fatal_rule(policy: &FailurePolicy) -> bool
     ensures { result ≡ list_any (λ rule. is_fail_job rule.action) policy.now.rules }
 {
-    policy.rules.as_slice().iter().any(|rule| is_fatal(rule))
+    policy.rules.as_slice().iter().any(|rule| is_fail_job(rule))
 }
 
 // Whether a tracked pod has failed, and the failure policy then fails the Job. Where no rule of it fails the
 // Job, or there is no policy, it goes over no pod.
-fn is_failed_by_a_pod(job: &Job, pods: &[Arc<Pod>]) -> bool
+fn is_failed_by_pod(job: &Job, pods: &[Arc<Pod>]) -> bool
     ensures { result ≡ is_failed_by_pod job.now.spec (own_pods job.now pods.now) }
 {
     match &job.spec.failure {
@@ -56,7 +56,7 @@ fn is_failed_by_a_pod(job: &Job, pods: &[Arc<Pod>]) -> bool
 }
 
 // Whether the containers of the pods start anew after a failure.
-fn does_restart(restart: Restart) -> bool
+fn restarts_on_failure(restart: Restart) -> bool
     ensures { result ≡ restarts_on_failure restart }
 {
     match restart {
@@ -67,12 +67,12 @@ fn does_restart(restart: Restart) -> bool
 
 // Whether more pods have failed than the backoff limit, or containers that start anew have done so too
 // often.
-fn is_limit_passed(job: &Job, pods: &Pods, failed: u64) -> bool
+fn is_past_limit(job: &Job, pods: &Pods, failed: u64) -> bool
     ensures { result ≡ is_past_limit failed job.now.spec (own_pods job.now pods.now) }
 {
     let limit = job.spec.backoff_limit;
     failed > u64::from(limit)
-        || does_restart(job.spec.template.restart) && is_exceeded(limit, count_restarts(job, pods))
+        || restarts_on_failure(job.spec.template.restart) && exceeds(limit, count_restarts(job, pods))
 }
 
 // Whether so many seconds have passed since the start.
@@ -83,7 +83,7 @@ fn have_passed(now: Moment, seconds: u32, start: Moment) -> bool
 }
 
 // Whether the Job is not suspended and its deadline has come.
-fn is_deadline_over(now: Moment, spec: &JobSpec, status: &JobStatus) -> bool
+fn is_overdue(now: Moment, spec: &JobSpec, status: &JobStatus) -> bool
     ensures { result ≡ is_overdue now spec.now status.now }
 {
     if spec.suspend {
@@ -117,7 +117,7 @@ fn is_failed_by_indexes(job: &Job, pods: &Pods, counted: &CountIn) -> bool
 }
 
 // Whether the completed indexes meet a rule of the success policy.
-fn is_success_policy_met(policy: &Option<SuccessPolicy>, completed: &Ranges) -> bool
+fn is_policy_met(policy: &Option<SuccessPolicy>, completed: &Ranges) -> bool
     ensures { result ≡ is_policy_met policy.now completed.now }
 {
     match policy {
@@ -127,7 +127,7 @@ fn is_success_policy_met(policy: &Option<SuccessPolicy>, completed: &Ranges) -> 
 }
 
 // Whether there are as many successes as completions are wanted; where none are, one is enough.
-fn has_enough(completions: Option<u32>, succeeded: u64) -> bool
+fn is_enough(completions: Option<u32>, succeeded: u64) -> bool
     ensures { result ≡ is_enough completions succeeded }
 {
     match completions {
@@ -145,22 +145,22 @@ fn first_reason(
 ) -> Option<(CondKind, Reason)>
     requires failed { (counts_of counted.now).0 < 2 ^ 64 }
     requires succeeded { (counts_of counted.now).1 < 2 ^ 64 }
-    ensures { result ≡ first_line counted.now now job.now (own_pods job.now pods.now) }
+    ensures { result ≡ first_reason counted.now now job.now (own_pods job.now pods.now) }
 {
     let (failed, succeeded) = counts(counted);
-    if is_failed_by_a_pod(job, pods.as_slice()) {
+    if is_failed_by_pod(job, pods.as_slice()) {
         Some((CondKind::FailureTarget, Reason::PodFailurePolicy))
-    } else if is_limit_passed(job, pods, failed) {
+    } else if is_past_limit(job, pods, failed) {
         Some((CondKind::FailureTarget, Reason::BackoffLimitExceeded))
-    } else if is_deadline_over(now, &*job.spec, &job.status) {
+    } else if is_overdue(now, &*job.spec, &job.status) {
         Some((CondKind::FailureTarget, Reason::DeadlineExceeded))
     } else if is_past_most(job.spec.max_failed, &counted.failed_indexes) {
         Some((CondKind::FailureTarget, Reason::MaxFailedIndexesExceeded))
     } else if is_failed_by_indexes(job, pods, counted) {
         Some((CondKind::FailureTarget, Reason::FailedIndexes))
-    } else if is_success_policy_met(&job.spec.success, &counted.completed) {
+    } else if is_policy_met(&job.spec.success, &counted.completed) {
         Some((CondKind::SuccessCriteriaMet, Reason::SuccessPolicy))
-    } else if !has_active(job, pods) && has_enough(job.spec.completions, succeeded) {
+    } else if !has_active(job, pods) && is_enough(job.spec.completions, succeeded) {
         Some((CondKind::SuccessCriteriaMet, Reason::CompletionsReached))
     } else {
         None
@@ -168,7 +168,7 @@ fn first_reason(
 }
 
 // What is decided of the Job among the pods.
-fn decide_job(now: Moment, job: &Job, pods: &Pods, counted: &CountIn) -> Option<(CondKind, Reason)>
+fn decided(now: Moment, job: &Job, pods: &Pods, counted: &CountIn) -> Option<(CondKind, Reason)>
     requires failed { (counts_of counted.now).0 < 2 ^ 64 }
     requires succeeded { (counts_of counted.now).1 < 2 ^ 64 }
     ensures { result ≡ decided counted.now now job.now (own_pods job.now pods.now) }
@@ -202,5 +202,5 @@ pub fn decide(basis: &Basis, counted: &CountIn) -> Option<(CondKind, Reason)>
     ensures { result ≡ decision_of basis.entry.now counted.now }
 {
     let job = basis.job.as_ref()?;
-    decide_job(basis.now, job, &*basis.pods, counted)
+    decided(basis.now, job, &*basis.pods, counted)
 }

@@ -26,7 +26,7 @@ ghost use Rattle.jc_finish.specs.Settled.{is_target_kind, settled};
 /// How a Job will end is settled once, and what settles it is a target. A tracked pod of the Job's for
 /// which the failure policy fails the Job settles it at once: such a pod has failed, and the policy's
 /// action for it is FailJob.
-pub fn ends_are_settled_once()
+pub fn ends_are_decided_once()
     ensures once { (counted : CountIn) (now : ℕ) (job : Job) (own : List Pod)
         → has_target job.status.conditions ≡ true → decided counted now job own ≡ None }
     ensures target { (counted : CountIn) (now : ℕ) (job : Job) (own : List Pod)
@@ -48,7 +48,7 @@ pub fn ends_are_settled_once()
 /// does. Without a decided target none is new, and where no end is due none is new. While how the Job
 /// will end is open, its Suspended condition is true just where it is suspended. An end that is due
 /// stands.
-pub fn conditions_settle()
+pub fn conditions_stand()
     ensures kept { (now : ℕ) (suspend : Bool) (target : Option (CondKind × Reason)) (due : Bool)
         → (conditions : List Condition) (kind : CondKind)
         → kind ≢ Suspended → stands kind conditions ≡ true

@@ -10,5 +10,5 @@ mod start;
 
 pub use conditions::settle_conditions;
 pub use decision::decide;
-pub use laws::{conditions_settle, ends_are_settled_once};
+pub use laws::{conditions_stand, ends_are_decided_once};
 pub use start::{next_deadline, start_in_force};

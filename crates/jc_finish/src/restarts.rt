@@ -5,7 +5,7 @@ ghost use Rattle.jc_finish.specs.Decisions.{exceeds};
 
 /// Whether so many restarts are too many under the limit: as many as the limit are, but under the limit
 /// 0 the first is.
-pub fn is_exceeded(limit: u32, restarts: u128) -> bool
+pub fn exceeds(limit: u32, restarts: u128) -> bool
     ensures { result ≡ exceeds limit restarts }
 {
     if limit == 0 {

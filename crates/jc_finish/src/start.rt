@@ -2,14 +2,14 @@
 
 ghost use Rattle.std.specs.Prelude.{◌≡◌};
 ghost use Rattle.jc_moment.specs.Range.{as_moment};
-ghost use Rattle.jc_finish.specs.Starts.{begins, deadline_of, deadline_of_basis, end_after, start_of, start_of_basis};
+ghost use Rattle.jc_finish.specs.Starts.{begins, deadline_of, next_deadline, end_after, start_of, start_in_force};
 
 use jc_moment::Moment;
 use jc_states::{Basis, has_end, has_target, stands};
 use jc_types::{CondKind, JobSpec, JobStatus};
 
 // Whether the Job starts now: for the first time, or since it is resumed.
-fn begins_now(suspend: bool, status: &JobStatus) -> bool
+fn begins(suspend: bool, status: &JobStatus) -> bool
     ensures { result ≡ begins suspend status.now.start status.now.conditions }
 {
     !suspend
@@ -21,7 +21,7 @@ fn begins_now(suspend: bool, status: &JobStatus) -> bool
 pub fn start_of(now: Moment, spec: &JobSpec, status: &JobStatus) -> Option<Moment>
     ensures { result ≡ start_of now spec.now status.now }
 {
-    if begins_now(spec.suspend, status) {
+    if begins(spec.suspend, status) {
         Some(now)
     } else {
         status.start
@@ -52,7 +52,7 @@ fn deadline(now: Moment, spec: &JobSpec, status: &JobStatus) -> Option<Moment>
 /// sync where the Job is not suspended, no target and no end stands, and it either has no start time or
 /// was suspended until now; else it is the status's own.
 pub fn start_in_force(basis: &Basis) -> Option<Moment>
-    ensures { result ≡ start_of_basis basis.entry.now }
+    ensures { result ≡ start_in_force basis.entry.now }
 {
     let job = basis.job.as_ref()?;
     start_of(basis.now, &*job.spec, &job.status)
@@ -63,7 +63,7 @@ pub fn start_in_force(basis: &Basis) -> Option<Moment>
 /// deadline or no start, where it is suspended, where a target stands, and where that is past the last
 /// moment.
 pub fn next_deadline(basis: &Basis) -> Option<Moment>
-    ensures { result ≡ deadline_of_basis basis.entry.now }
+    ensures { result ≡ next_deadline basis.entry.now }
 {
     let job = basis.job.as_ref()?;
     deadline(basis.now, &*job.spec, &job.status)

@@ -32,7 +32,7 @@ use Rattle.jc_sync.specs.Flights.{Flies}
 use Rattle.jc_sync.specs.SyncPlaces.{IfGoesOn, IsAt}
 use Rattle.jc_sync.specs.Steps.{SyncEnd, answered_to, as_answer, end_given, flight_after, next_unless, stepped_at}
 use Rattle.jc_sync.proofs.StepFacts.{after_basis}
-use Rattle.jc_granted.specs.Done.{HasItsPlan, HasStatus, IsAmong, IsDoing, IsDoneOrLeft, IsMarked, IsStopped, IsUntracked, makes, status_after}
+use Rattle.jc_granted.specs.SyncsDone.{HasItsPlan, HasStatus, IsAmong, IsDoing, IsDoneOrLeft, IsMarked, IsStopped, IsUntracked, makes, status_after}
 use Rattle.jc_granted.specs.Granted.{grants}
 use Rattle.jc_granted.specs.Ready.{AreReady, IsOther, IsThere, NoneTwice, pod_asked}
 use Rattle.jc_granted.proofs.GrantFacts.{Counts, Does, DoesTo, Marks, counts-well, does-well, is-granted}

@@ -36,7 +36,7 @@ use Rattle.jc_sync.proofs.ApiFacts.{StatusCases, Accepted, Same, Conflicts, Abse
 use Rattle.jc_sync.proofs.ConflictFacts.{status_changes}
 use Rattle.jc_sync.proofs.EntryFacts.{pod_entry-pod}
 use Rattle.jc_sync.proofs.PlaceFacts.{IsFirstAsk, IsSecondAsk, at_first, at_second}
-use Rattle.jc_granted.specs.Done.{ComesToSecond, IsUntracked, makes, status_after}
+use Rattle.jc_granted.specs.SyncsDone.{ComesToSecond, IsUntracked, makes, status_after}
 use Rattle.jc_granted.specs.Ready.{NoneTwice, AreReady, Grants, IsOther, IsReady, IsThere, JobIsAt, IsActiveAt, StayReady}
 
 -- ---- what a write of a pod leaves

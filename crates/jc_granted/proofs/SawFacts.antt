@@ -42,7 +42,7 @@ use Rattle.jc_plan.specs.SeenPods.{IsSeen}
 use Rattle.jc_plan.specs.declared.plans.Planned.{Planned}
 use Rattle.jc_plan.specs.Plans.{planned, planned_for}
 use Rattle.jc_plan.specs.Releases.{ReleasedPod, is_orphan}
-use Rattle.jc_plan.specs.Statuses.{accounted, decided_in, is_settled, wants_in}
+use Rattle.jc_plan.specs.Statuses.{accounted, decided_in, is_end_decided, wants_in}
 use Rattle.jc_plan.proofs.ListedFacts.{each_in}
 use Rattle.jc_plan.proofs.OneWay.{goes-seen}
 use Rattle.jc_plan.proofs.OrderFacts.{let_goes-ascend, marks-ascend, released-seen, releases-ascend}
@@ -89,7 +89,7 @@ module _ (job : Job) (basis : Basis) (rising : IsRising basis.pods) where
   own = own_pods job basis.pods
 
   abbrev target : Bool
-  target = is_settled job (decided_in job basis)
+  target = is_end_decided job (decided_in job basis)
 
   own-found : Each (λ pod. (pod_among pod.uid basis.pods ≡ Some pod) × (is_own job pod ≡ true)) own
   own-found =

@@ -45,7 +45,7 @@ use Rattle.jc_settle.specs.Comes.{AreUpToDate, Comes, NoSyncIsUnderWay, Lists, D
 use Rattle.jc_settle.specs.Serial.{IsOldOrAlone, IsSettling, NoneBegan, RunsAlone, is_begin_of_any}
 use Rattle.jc_settle.proofs.ComesFacts.{first-comes}
 use Rattle.jc_settle.proofs.SerialFacts.{begun-nothing, first-of-act, listed-nothing, only, register-kept, reply-is, serial, told-nothing}
-use Rattle.jc_granted.specs.Done.{HasItsPlan, IsDoing}
+use Rattle.jc_granted.specs.SyncsDone.{HasItsPlan, IsDoing}
 use Rattle.jc_granted.specs.Granted.{IsGranted}
 use Rattle.jc_granted.specs.Ready.{AreReady}
 use Rattle.jc_granted.proofs.DoingFacts.{doing-all}

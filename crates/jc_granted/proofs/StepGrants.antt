@@ -45,7 +45,7 @@ use Rattle.jc_runs.specs.Teams.{registers_of}
 use Rattle.jc_runs.proofs.LegalRuns.{Given, Machine, given}
 use Rattle.jc_runs.proofs.QuietSteps.{put-same}
 use Rattle.jc_runs.proofs.StepRuns.{step_gives-at}
-use Rattle.jc_granted.specs.Done.{HasItsPlan, HasStatus, IsDoing}
+use Rattle.jc_granted.specs.SyncsDone.{HasItsPlan, HasStatus, IsDoing}
 use Rattle.jc_granted.specs.Granted.{Granted, IsGranted, NoneLeft, grants}
 use Rattle.jc_granted.specs.Ready.{AreReady, Grants}
 use Rattle.jc_granted.proofs.DoingFacts.{done-all, step-doing}

@@ -28,7 +28,7 @@ use Rattle.jc_runs.specs.Machines.{IsTeam}
 use Rattle.jc_runs.specs.Teams.{Team, registers_of}
 use Rattle.jc_runs.proofs.LegalRuns.{Machine}
 use Rattle.jc_runs.proofs.ListFacts.{missing, register_there}
-use Rattle.jc_granted.specs.Done.{IsDoing}
+use Rattle.jc_granted.specs.SyncsDone.{IsDoing}
 use Rattle.jc_granted.specs.Ready.{AreReady, IsReady, NoneTwice}
 
 -- ---- what is left is told by the steps

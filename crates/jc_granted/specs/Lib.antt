@@ -1,3 +1,3 @@
 pub mod Granted
 pub mod Ready
-pub mod Done
+pub mod SyncsDone

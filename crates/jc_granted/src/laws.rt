@@ -27,7 +27,7 @@ ghost use Rattle.jc_sync.specs.Sends.{sent_first};
 ghost use Rattle.jc_sync.specs.Steps.{answered_to, stepped_at};
 ghost use Rattle.jc_runs.specs.Machines.{AllAskValid};
 ghost use Rattle.jc_settle.specs.Serial.{IsSettling, RunsAlone};
-ghost use Rattle.jc_granted.specs.Done.{HasItsPlan};
+ghost use Rattle.jc_granted.specs.SyncsDone.{HasItsPlan};
 ghost use Rattle.jc_granted.specs.Granted.{IsGranted, grants};
 ghost use Rattle.jc_granted.specs.Ready.{AreReady, Grants, StayReady};
 

@@ -19,7 +19,7 @@ use Rattle.jc_log.specs.Deeds.{Deed}
 use Rattle.jc_ledger.proofs.SyncFacts.{sync_of-other as skipped}
 use Rattle.jc_queue.specs.Queued.{has_key}
 use Rattle.jc_history.specs.ActsAlone.{SameActs}
-use Rattle.jc_history.specs.Agrees.{IsHeld}
+use Rattle.jc_history.specs.Agrees.{IsScheduleOf}
 use Rattle.jc_history.specs.Diaries.{end_by, moment, notes_taken, notes, on_begin, on_clock, on_delivery, on_list, on_step, restarts, on_lag}
 use Rattle.jc_history.specs.Fresh.{basis as basis_of}
 use Rattle.jc_history.specs.Legal.{IsLegal, IsLegalNext}
@@ -49,7 +49,7 @@ acts-determine shape (d ∷ xs) (e ∷ ys) h g s = one-more shape xs ys d e h.0 
 
 -- ---- who waits is in line
 
-pub line-has : (notes : List Note) (schedule : Schedule) → IsHeld notes schedule → (k : Key) → has_key k (line notes) ≡ waits k notes
+pub line-has : (notes : List Note) (schedule : Schedule) → IsScheduleOf notes schedule → (k : Key) → has_key k (line notes) ≡ waits k notes
 line-has notes schedule h k =
     ap (has_key k) (sym h.queued.line_is) ∙ h.queue.waiting k ∙ (λ i. h.queued.dirty_is k i && not (h.queued.processing_is k i))
 

@@ -23,7 +23,7 @@ use Rattle.jc_log.proofs.TableFacts.{Sets-puts}
 use Rattle.jc_queue.proofs.QueueFacts.{got_first_is}
 use Rattle.jc_queue.proofs.BackFacts.{sent_back_is}
 use Rattle.jc_queue.specs.Queued.{got, sent_back as queue_back}
-use Rattle.jc_history.specs.Agrees.{IsHeld}
+use Rattle.jc_history.specs.Agrees.{IsScheduleOf}
 use Rattle.jc_history.specs.Diaries.{on_begin, on_lag}
 use Rattle.jc_history.specs.Fresh.{basis, begin, begin_at, begin_first, begin_unless, cache_lag}
 use Rattle.jc_history.specs.Lines.{line}
@@ -45,8 +45,8 @@ noted-same schedule k j = by (at same_key schedule.known k) refl
         at_test false s = refl
 
 pub held-began : (older : List Note) (schedule : Schedule) (worker : ℕ) (basis : Basis) (rest : List Key)
-    → IsHeld older schedule → line older ≡ basis.key ∷ rest
-    → IsHeld (Began worker basis ∷ older) (record schedule
+    → IsScheduleOf older schedule → line older ≡ basis.key ∷ rest
+    → IsScheduleOf (Began worker basis ∷ older) (record schedule
     { queue = got schedule.queue; known = noted schedule.known basis.key })
 held-began older schedule worker basis rest h first = record {
   number_is = numbers;
@@ -63,7 +63,7 @@ held-began older schedule worker basis rest h first = record {
     numbers Jobs = h.number_is Jobs
     numbers Pods = h.number_is Pods
 
-pub held-sent : (older : List Note) (schedule : Schedule) (k : Key) (rest : List Key) → IsHeld older schedule → line older ≡ k ∷ rest → IsHeld (SentBack k ∷ older) (record schedule { queue = queue_back schedule.queue })
+pub held-sent : (older : List Note) (schedule : Schedule) (k : Key) (rest : List Key) → IsScheduleOf older schedule → line older ≡ k ∷ rest → IsScheduleOf (SentBack k ∷ older) (record schedule { queue = queue_back schedule.queue })
 held-sent older schedule k rest h first = record {
   number_is = numbers;
   queued = queued-sent older schedule _ k rest h.queue h.queued first refl;
@@ -79,7 +79,7 @@ held-sent older schedule k rest h first = record {
     numbers Jobs = h.number_is Jobs
     numbers Pods = h.number_is Pods
 
-module _ (notes : List Note) (log : List Entry) (now : ℕ) (c : ControllerView) (worker : ℕ) (h : IsHeld notes c.schedule) (g : MirrorsLog log c) where
+module _ (notes : List Note) (log : List Entry) (now : ℕ) (c : ControllerView) (worker : ℕ) (h : IsScheduleOf notes c.schedule) (g : MirrorsLog log c) where
   module _ (j p : Version) (jobs : c.schedule.jobs_at ≡ Some j) (pods : c.schedule.pods_at ≡ Some p) (k : Key) where
     job_is : at same_key c.jobs k ≡ job_in k (upto j.0 log)
     job_is = ap (λ table. at same_key table k) (subst (λ o. MirrorsJobs log o c.jobs) jobs g.jobs).1 ∙ jobs_in-at k (upto j.0 log)
@@ -97,9 +97,9 @@ module _ (notes : List Note) (log : List Entry) (now : ℕ) (c : ControllerView)
     answer-unless None = ap (λ b. answer.Begun b) basis_is
     answer-unless (Some l) = refl
 
-    held-unless : (rest : List Key) → line notes ≡ k ∷ rest → (o : Option Lag) → IsHeld (on_begin worker now log notes (reply_of_begin (begin_unless (basis notes log now k j p) o)) ++ notes) (begun_unless now c j p k o).schedule
+    held-unless : (rest : List Key) → line notes ≡ k ∷ rest → (o : Option Lag) → IsScheduleOf (on_begin worker now log notes (reply_of_begin (begin_unless (basis notes log now k j p) o)) ++ notes) (begun_unless now c j p k o).schedule
     held-unless rest first None = held-began notes c.schedule worker (basis notes log now k j p) rest h first
-    held-unless rest first (Some l) = subst (λ some. IsHeld (on_lag some ++ notes) (begun_unless now c j p k (Some l)).schedule) (sym first) (held-sent notes c.schedule k rest h first)
+    held-unless rest first (Some l) = subst (λ some. IsScheduleOf (on_lag some ++ notes) (begun_unless now c j p k (Some l)).schedule) (sym first) (held-sent notes c.schedule k rest h first)
 
   answer-at : (a b : Option Version) → c.schedule.jobs_at ≡ a → c.schedule.pods_at ≡ b → (begun_at now c a b).answer ≡ begin_at notes log now a b
   answer-at None b x y = refl
@@ -110,15 +110,15 @@ module _ (notes : List Note) (log : List Entry) (now : ℕ) (c : ControllerView)
       by [] = refl
       by (k ∷ rest) = answer-unless j p x y k (lag_of k c j p) ∙ ap (begin_unless (basis notes log now k j p)) (lag_is j p x y k)
 
-  held-at : (a b : Option Version) → c.schedule.jobs_at ≡ a → c.schedule.pods_at ≡ b → IsHeld (on_begin worker now log notes (reply_of_begin (begin_at notes log now a b)) ++ notes) (begun_at now c a b).schedule
+  held-at : (a b : Option Version) → c.schedule.jobs_at ≡ a → c.schedule.pods_at ≡ b → IsScheduleOf (on_begin worker now log notes (reply_of_begin (begin_at notes log now a b)) ++ notes) (begun_at now c a b).schedule
   held-at None b x y = h
   held-at (Some j) None x y = h
-  held-at (Some j) (Some p) x y = subst (λ some. IsHeld (on_begin worker now log notes (reply_of_begin (begin_first notes log now j p (line notes))) ++ notes) (begun_first now c j p some).schedule) (sym h.queued.line_is) (by (line notes) refl)
+  held-at (Some j) (Some p) x y = subst (λ some. IsScheduleOf (on_begin worker now log notes (reply_of_begin (begin_first notes log now j p (line notes))) ++ notes) (begun_first now c j p some).schedule) (sym h.queued.line_is) (by (line notes) refl)
     where
-      by : (some : List Key) → line notes ≡ some → IsHeld (on_begin worker now log notes (reply_of_begin (begin_first notes log now j p some)) ++ notes) (begun_first now c j p some).schedule
+      by : (some : List Key) → line notes ≡ some → IsScheduleOf (on_begin worker now log notes (reply_of_begin (begin_first notes log now j p some)) ++ notes) (begun_first now c j p some).schedule
       by [] first = h
       by (k ∷ rest) first =
-          subst (λ o. IsHeld (on_begin worker now log notes (reply_of_begin (begin_unless (basis notes log now k j p) o)) ++ notes) (begun_unless now c j p k (lag_of k c j p)).schedule) (lag_is j p x y k)
+          subst (λ o. IsScheduleOf (on_begin worker now log notes (reply_of_begin (begin_unless (basis notes log now k j p) o)) ++ notes) (begun_unless now c j p k (lag_of k c j p)).schedule) (lag_is j p x y k)
           (held-unless j p x y k rest first (lag_of k c j p))
 
   -- A begin of a free worker is answered as the notes say.
@@ -126,7 +126,7 @@ module _ (notes : List Note) (log : List Entry) (now : ℕ) (c : ControllerView)
   begun-answer_is = answer-at c.schedule.jobs_at c.schedule.pods_at refl refl ∙ (λ i. begin_at notes log now (h.number_is Jobs i) (h.number_is Pods i))
 
   -- What it leaves is what the note of it says.
-  pub begun-held_is : IsHeld (on_begin worker now log notes (reply_of_begin (begin notes log now)) ++ notes) (begun now c).schedule
+  pub begun-held_is : IsScheduleOf (on_begin worker now log notes (reply_of_begin (begin notes log now)) ++ notes) (begun now c).schedule
   begun-held_is =
-      subst (λ (answer : Begin). IsHeld (on_begin worker now log notes (reply_of_begin answer) ++ notes) (begun now c).schedule) (λ i. begin_at notes log now (h.number_is Jobs i) (h.number_is Pods i))
+      subst (λ (answer : Begin). IsScheduleOf (on_begin worker now log notes (reply_of_begin answer) ++ notes) (begun now c).schedule) (λ i. begin_at notes log now (h.number_is Jobs i) (h.number_is Pods i))
       (held-at c.schedule.jobs_at c.schedule.pods_at refl refl)

@@ -29,7 +29,7 @@ use Rattle.jc_log.proofs.TableFacts.{Apart, Apart-puts, Apart-takes, Sets-puts}
 use Rattle.jc_queue.proofs.QueueFacts.{added_is, empty_is, finished_is}
 use Rattle.jc_queue.specs.Delayed.{Delayed, delayed, due_keys, failed, is_due}
 use Rattle.jc_queue.specs.Queued.{IsQueue, Queued, added, has_key}
-use Rattle.jc_history.specs.Agrees.{AreDelayed, IsHeld}
+use Rattle.jc_history.specs.Agrees.{AreDelayed, IsScheduleOf}
 use Rattle.jc_history.specs.Delays.{keys_due}
 use Rattle.jc_history.specs.Notes.{Note, Listed, Told, Expired, Asked, Ended, Faulted, Ticked, newest}
 use Rattle.jc_history.specs.Numbers.{number, number_told}
@@ -40,7 +40,7 @@ use Rattle.jc_queue.proofs.OrderFacts.{apart, distinct}
 
 -- ---- at the start
 
-pub held-idle : IsHeld [] idle
+pub held-idle : IsScheduleOf [] idle
 unfolding IsDistinct
 held-idle = record {
   number_is = none;
@@ -64,7 +64,7 @@ pub all_added_is : (q : Queued) (keys : List Key) → IsQueue q → IsQueue (all
 all_added_is q [] s = s
 all_added_is q (k ∷ keys) s = all_added_is (added q k) keys (added_is q k s)
 
-pub held-listed_jobs : (older : List Note) (schedule : Schedule) (jobs : List Job) (at : Version) → IsHeld older schedule → IsHeld (Listed Jobs at (map (λ job. job.key) jobs) ∷ older) (listed_jobs schedule jobs at)
+pub held-listed_jobs : (older : List Note) (schedule : Schedule) (jobs : List Job) (at : Version) → IsScheduleOf older schedule → IsScheduleOf (Listed Jobs at (map (λ job. job.key) jobs) ∷ older) (listed_jobs schedule jobs at)
 held-listed_jobs older schedule jobs at h = record {
   number_is = numbers;
   queued = queued-added _ older (map (λ job. job.key) jobs) schedule _ (record { added = refl; got = λ k. refl; neither = λ k. refl; ended = refl }) h.queued refl;
@@ -80,7 +80,7 @@ held-listed_jobs older schedule jobs at h = record {
     numbers Jobs = refl
     numbers Pods = h.number_is Pods
 
-pub held-listed_pods : (older : List Note) (schedule : Schedule) (pods : List Pod) (at : Version) → IsHeld older schedule → IsHeld (Listed Pods at (map (λ pod. pod.owner) pods) ∷ older) (listed_pods schedule pods at)
+pub held-listed_pods : (older : List Note) (schedule : Schedule) (pods : List Pod) (at : Version) → IsScheduleOf older schedule → IsScheduleOf (Listed Pods at (map (λ pod. pod.owner) pods) ∷ older) (listed_pods schedule pods at)
 held-listed_pods older schedule pods at h = record {
   number_is = numbers;
   queued = queued-added _ older (map (λ pod. pod.owner) pods) schedule _ (record { added = refl; got = λ k. refl; neither = λ k. refl; ended = refl }) h.queued refl;
@@ -101,7 +101,7 @@ if_added : (q : Queued) (o : Option Key) → added_if q o ≡ all_added q (optio
 if_added q None = refl
 if_added q (Some k) = refl
 
-pub held-told : (older : List Note) (schedule : Schedule) (kind : Kind) (entry : Entry) (version : Version) → IsHeld older schedule → IsHeld (Told kind version (told kind entry) ∷ older) (delivered schedule kind entry version)
+pub held-told : (older : List Note) (schedule : Schedule) (kind : Kind) (entry : Entry) (version : Version) → IsScheduleOf older schedule → IsScheduleOf (Told kind version (told kind entry) ∷ older) (delivered schedule kind entry version)
 held-told older schedule kind entry version h = record {
   number_is = numbers kind;
   queued = queued-added _ older (option_to_list (told kind entry)) schedule _ (record { added = refl; got = λ k. refl; neither = λ k. refl; ended = refl }) h.queued (if_added schedule.queue (told kind entry));
@@ -139,7 +139,7 @@ held-told older schedule kind entry version h = record {
     counts Jobs = h.failures_once
     counts Pods = h.failures_once
 
-pub held-expired : (older : List Note) (schedule : Schedule) (kind : Kind) → IsHeld older schedule → IsHeld (Expired kind ∷ older) (forgot schedule kind)
+pub held-expired : (older : List Note) (schedule : Schedule) (kind : Kind) → IsScheduleOf older schedule → IsScheduleOf (Expired kind ∷ older) (forgot schedule kind)
 held-expired older schedule Jobs h = record {
   number_is = numbers;
   queued = queued-added _ older [] schedule _ (record { added = refl; got = λ k. refl; neither = λ k. refl; ended = refl }) h.queued refl;
@@ -171,7 +171,7 @@ held-expired older schedule Pods h = record {
 
 -- ---- the clock
 
-pub held-ticked : (older : List Note) (schedule : Schedule) (now : ℕ) → IsHeld older schedule → IsHeld (Ticked now ∷ older) (clocked schedule now)
+pub held-ticked : (older : List Note) (schedule : Schedule) (now : ℕ) → IsScheduleOf older schedule → IsScheduleOf (Ticked now ∷ older) (clocked schedule now)
 held-ticked older schedule now h = record {
   number_is = numbers;
   queued = queued-added _ older (keys_due now older) schedule _ (record { added = refl; got = λ k. refl; neither = λ k. refl; ended = refl }) h.queued (ap (all_added schedule.queue) (sym keys));
@@ -192,7 +192,7 @@ held-ticked older schedule now h = record {
 
 -- ---- faults
 
-pub held-faulted : (older : List Note) (schedule : Schedule) (worker : ℕ) (fault : Fault) → IsHeld older schedule → IsHeld (Faulted worker fault ∷ older) schedule
+pub held-faulted : (older : List Note) (schedule : Schedule) (worker : ℕ) (fault : Fault) → IsScheduleOf older schedule → IsScheduleOf (Faulted worker fault ∷ older) schedule
 held-faulted older schedule worker fault h = record {
   number_is = h.number_is;
   queued = queued-added _ older [] schedule _ (record { added = refl; got = λ k. refl; neither = λ k. refl; ended = refl }) h.queued refl;
@@ -215,7 +215,7 @@ known-by key k schedule known =
     by true = refl
     by false = refl
 
-module _ (older : List Note) (schedule : Schedule) (worker : ℕ) (basis : Basis) (request : Request) (answer : Answer) (h : IsHeld older schedule) where
+module _ (older : List Note) (schedule : Schedule) (worker : ℕ) (basis : Basis) (request : Request) (answer : Answer) (h : IsScheduleOf older schedule) where
   -- The note keeps the backoff of its sync.
   abbrev pub is_kept : Bool
   is_kept = asks_status request && tells_written answer && is_first worker basis older
@@ -230,7 +230,7 @@ module _ (older : List Note) (schedule : Schedule) (worker : ℕ) (basis : Basis
   -- What is known of the key is what the note leaves of it; all else is as it was.
   pub held-asked : (rows : List (Key × Known)) (known : Known) → ((k : Key) → known_of k (record schedule { known = rows }) ≡ cond (same_key basis.key k) known (known_of k schedule))
       → known.floor ≡ later_if (floor basis.key older) (floor_given answer) → known.backoff ≡ cond is_kept (planned basis).backoff (backoff basis.key older)
-      → IsHeld (Asked worker basis request answer ∷ older) (record schedule { known = rows })
+      → IsScheduleOf (Asked worker basis request answer ∷ older) (record schedule { known = rows })
   held-asked rows known e f b = record {
     number_is = numbers;
     queued = queued-added _ older [] schedule _ (record { added = refl; got = λ k. refl; neither = λ k. refl; ended = refl }) h.queued refl;
@@ -255,7 +255,7 @@ module _ (older : List Note) (schedule : Schedule) (worker : ℕ) (basis : Basis
       backoffs k false t = h.backoff_is k
 
   -- An answer with no version.
-  pub held-unversioned : floor_given answer ≡ None → is_kept ≡ false → IsHeld (Asked worker basis request answer ∷ older) schedule
+  pub held-unversioned : floor_given answer ≡ None → is_kept ≡ false → IsScheduleOf (Asked worker basis request answer ∷ older) schedule
   held-unversioned none unkept =
       held-asked schedule.known (known_of basis.key schedule) (λ k. by k (same_key basis.key k) refl)
       (h.floor_is basis.key ∙ sym (ap (later_if (floor basis.key older)) none))
@@ -266,14 +266,14 @@ module _ (older : List Note) (schedule : Schedule) (worker : ℕ) (basis : Basis
       by k false t = refl
 
   -- An answer with a version, but to the first status.
-  pub held-answered : (version : Version) → floor_given answer ≡ Some version → is_kept ≡ false → IsHeld (Asked worker basis request answer ∷ older) (answered schedule basis.key version)
+  pub held-answered : (version : Version) → floor_given answer ≡ Some version → is_kept ≡ false → IsScheduleOf (Asked worker basis request answer ∷ older) (answered schedule basis.key version)
   held-answered version some unkept =
       held-asked _ (record { floor = later (floor_of basis.key schedule) version; backoff = backoff_of basis.key schedule }) (λ k. known-by basis.key k schedule _)
       (ap (λ f. later f version) (h.floor_is basis.key) ∙ sym (ap (later_if (floor basis.key older)) some))
       (h.backoff_is basis.key ∙ sym (ap (λ b. cond b (planned basis).backoff (backoff basis.key older)) unkept))
 
   -- The first status was written.
-  pub held-first : (version : Version) → floor_given answer ≡ Some version → is_kept ≡ true → IsHeld (Asked worker basis request answer ∷ older) (kept_backoff (answered schedule basis.key version) basis.key (planned basis).backoff)
+  pub held-first : (version : Version) → floor_given answer ≡ Some version → is_kept ≡ true → IsScheduleOf (Asked worker basis request answer ∷ older) (kept_backoff (answered schedule basis.key version) basis.key (planned basis).backoff)
   held-first version some kept =
       held-asked _ (record { floor = later (floor_of basis.key schedule) version; backoff = (planned basis).backoff }) twice
       (ap (λ f. later f version) (h.floor_is basis.key) ∙ sym (ap (later_if (floor basis.key older)) some))
@@ -312,8 +312,8 @@ module _ (older : List Note) (schedule : Schedule) (worker : ℕ) (basis : Basis
 -- ---- the end of a sync
 
 pub held-ended : (older : List Note) (schedule : Schedule) (worker : ℕ) (basis : Basis) (end : SyncEnd) (now : ℕ)
-    → IsHeld older schedule → has_key basis.key schedule.queue.processing ≡ true
-    → IsHeld (Ended worker basis end now ∷ older) (ended schedule basis.key end now)
+    → IsScheduleOf older schedule → has_key basis.key schedule.queue.processing ≡ true
+    → IsScheduleOf (Ended worker basis end now ∷ older) (ended schedule basis.key end now)
 held-ended older schedule worker basis end now h busy = record {
   number_is = numbers;
   queued = queued-ended older schedule _ worker basis end now h.queue h.queued busy refl;

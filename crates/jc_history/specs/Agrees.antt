@@ -1,5 +1,5 @@
 -- What a controller has is what its notes say.
---     IsHeld notes schedule    its numbers, its line as a list, and all else key by key
+--     IsScheduleOf notes schedule    its numbers, its line as a list, and all else key by key
 use Rattle.std.specs.Prelude.{◌≡◌, List}
 use Rattle.std.specs.Option.{unwrap_or}
 use Rattle.jc_control.specs.Schedules.{Schedule, backoff_of, floor_of, number_of}
@@ -28,7 +28,7 @@ pub record AreDelayed (notes : List Note) (schedule : Schedule) : Type 0 where
   pub failures_are : (k : Key) → unwrap_or (at same_key schedule.delays.failures k) 0 ≡ failures k notes
 
 -- All that a controller has is what its notes say. What the containers keep of themselves goes with it.
-pub record IsHeld (notes : List Note) (schedule : Schedule) : Type 0 where
+pub record IsScheduleOf (notes : List Note) (schedule : Schedule) : Type 0 where
   pub number_is : (kind : Kind) → number_of kind schedule ≡ number kind notes
   pub queued : IsQueued notes schedule
   pub delayed : AreDelayed notes schedule

@@ -8,14 +8,14 @@ use Rattle.jc_control.specs.Schedules.{ControllerView, MirrorsLog}
 use Rattle.jc_types.specs.declared.objects.Entry.{Entry}
 use Rattle.jc_types.specs.declared.runs.Shape.{Shape}
 use Rattle.jc_log.specs.Deeds.{Deed}
-use Rattle.jc_history.specs.Agrees.{IsHeld}
+use Rattle.jc_history.specs.Agrees.{IsScheduleOf}
 use Rattle.jc_history.specs.Diaries.{moment, notes_taken, notes, restarts}
 use Rattle.jc_history.specs.Legal.{IsLegal}
 use Rattle.jc_history.specs.Replies.{diary, log_given}
 
 -- The controller of the number has what the deeds and the log say.
 pub record Agrees (shape : Shape) (deeds : List Deed) (log : List Entry) (c : ℕ) (con : ControllerView) : Type 0 where
-  pub schedule : IsHeld (notes shape c deeds log) con.schedule
+  pub schedule : IsScheduleOf (notes shape c deeds log) con.schedule
   pub holds : MirrorsLog log con
 
 -- So has each of these, in their order.

@@ -3,7 +3,7 @@
 --     MaySettle act quiescent      a settle comes only where nothing is available
 --     IsLegalNext shape past d     the deed is what the table of events gives after the past
 --     IsLegal shape deeds          each deed is
---     lane_places, next_place      the places of a lane's commands in the script, and that of the next
+--     lane_places, next_command      the places of a lane's commands in the script, and that of the next
 --     InLanes script events        each command came as its lane's next one
 --     AreUsed script events        no lane has a command left
 --     IsHistory script shape h     all together
@@ -76,12 +76,12 @@ abbrev pub lane_count : ℕ → List Past → ℕ
 lane_count lane events = length (filter (is_of_lane lane) events)
 
 -- The place of its next one.
-abbrev pub next_place : List Command → ℕ → List Past → Option ℕ
-next_place commands lane events = slice_get (lane_places lane commands) (lane_count lane events)
+abbrev pub next_command : List Command → ℕ → List Past → Option ℕ
+next_command commands lane events = slice_get (lane_places lane commands) (lane_count lane events)
 
 -- The event, if it is a command, is its lane's next one; the events before it are newest first.
 abbrev pub ComesNext : List Command → List Past → Event → Type 0
-ComesNext commands before (event.Command lane number) = next_place commands lane before ≡ Some number
+ComesNext commands before (event.Command lane number) = next_command commands lane before ≡ Some number
 ComesNext commands before (event.System system) = Unit {0}
 
 -- Each command came as its lane's next one.
@@ -91,7 +91,7 @@ InLanes commands (past ∷ before) = ComesNext commands before past.event × InL
 
 -- No lane has a command left.
 abbrev pub AreUsed : List Command → List Past → Type 0
-AreUsed commands events = (lane : ℕ) → next_place commands lane events ≡ None
+AreUsed commands events = (lane : ℕ) → next_command commands lane events ≡ None
 
 -- ---- histories
 

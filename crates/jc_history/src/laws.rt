@@ -32,7 +32,7 @@ ghost use Rattle.jc_types.specs.declared.replies.Request.{Request};
 ghost use Rattle.jc_types.specs.declared.runs.Shape.{Shape};
 ghost use Rattle.jc_states.specs.declared.bases.Basis.{Basis};
 ghost use Rattle.jc_history.specs.ActsAlone.{SameActs};
-ghost use Rattle.jc_history.specs.Agrees.{IsHeld, IsQueued};
+ghost use Rattle.jc_history.specs.Agrees.{IsScheduleOf, IsQueued};
 ghost use Rattle.jc_history.specs.Available.{IsOrderly};
 ghost use Rattle.jc_history.specs.Bounds.{AreTold};
 ghost use Rattle.jc_history.specs.Diaries.{all_jobs, end_by, moment, notes, on_step};
@@ -61,8 +61,8 @@ pub fn notes_say()
 {}
 
 /// What a controller has at first is what no notes say.
-pub fn idle_is_held()
-    ensures { IsHeld [] idle }
+pub fn idle_has_no_notes()
+    ensures { IsScheduleOf [] idle }
 {}
 
 /// A note that adds keys, as they are listed, told or due, that gets one, sends one back or ends a sync: what a
@@ -88,40 +88,40 @@ pub fn queue_follows_the_notes()
 /// What a controller has goes over from note to note, by the turns of a controller.
 pub fn notes_are_kept()
     ensures listed_jobs { (older : List Note) (schedule : Schedule) (jobs : List Job) (at : Version)
-        → IsHeld older schedule
-        → IsHeld (Listed Jobs at (job_keys jobs) ∷ older) (listed_jobs schedule jobs at) }
+        → IsScheduleOf older schedule
+        → IsScheduleOf (Listed Jobs at (job_keys jobs) ∷ older) (listed_jobs schedule jobs at) }
     ensures listed_pods { (older : List Note) (schedule : Schedule) (pods : List Pod) (at : Version)
-        → IsHeld older schedule
-        → IsHeld (Listed Pods at (pod_owners pods) ∷ older) (listed_pods schedule pods at) }
+        → IsScheduleOf older schedule
+        → IsScheduleOf (Listed Pods at (pod_owners pods) ∷ older) (listed_pods schedule pods at) }
     ensures told { (older : List Note) (schedule : Schedule) (kind : Kind) (entry : Entry)
-        (version : Version) → IsHeld older schedule
-        → IsHeld (Told kind version (told kind entry) ∷ older)
+        (version : Version) → IsScheduleOf older schedule
+        → IsScheduleOf (Told kind version (told kind entry) ∷ older)
         (delivered schedule kind entry version) }
     ensures expired { (older : List Note) (schedule : Schedule) (kind : Kind)
-        → IsHeld older schedule → IsHeld (Expired kind ∷ older) (forgot schedule kind) }
+        → IsScheduleOf older schedule → IsScheduleOf (Expired kind ∷ older) (forgot schedule kind) }
     ensures ticked { (older : List Note) (schedule : Schedule) (now : ℕ)
-        → IsHeld older schedule → IsHeld (Ticked now ∷ older) (clocked schedule now) }
+        → IsScheduleOf older schedule → IsScheduleOf (Ticked now ∷ older) (clocked schedule now) }
     ensures faulted { (older : List Note) (schedule : Schedule) (worker : ℕ) (fault : Fault)
-        → IsHeld older schedule → IsHeld (Faulted worker fault ∷ older) schedule }
+        → IsScheduleOf older schedule → IsScheduleOf (Faulted worker fault ∷ older) schedule }
     ensures ended { (older : List Note) (schedule : Schedule) (worker : ℕ) (basis : Basis)
-        (end : SyncEnd) (now : ℕ) → IsHeld older schedule
+        (end : SyncEnd) (now : ℕ) → IsScheduleOf older schedule
         → has_key basis.key schedule.queue.processing ≡ true
-        → IsHeld (Ended worker basis end now ∷ older) (ended schedule basis.key end now) }
+        → IsScheduleOf (Ended worker basis end now ∷ older) (ended schedule basis.key end now) }
 {}
 
 /// A begin is answered as the notes say, and what it leaves is what they then say.
 pub fn begins_follow_the_notes()
     ensures answer { (notes : List Note) (log : List Entry) (now : ℕ) (con : ControllerView)
-        (worker : ℕ) → IsHeld notes con.schedule → MirrorsLog log con
+        (worker : ℕ) → IsScheduleOf notes con.schedule → MirrorsLog log con
         → (begun now con).answer ≡ begin notes log now }
     ensures schedule { (notes : List Note) (log : List Entry) (now : ℕ) (con : ControllerView)
-        (worker : ℕ) → IsHeld notes con.schedule → MirrorsLog log con
-        → IsHeld (notes_with_begin worker now log notes) (begun now con).schedule }
+        (worker : ℕ) → IsScheduleOf notes con.schedule → MirrorsLog log con
+        → IsScheduleOf (notes_with_begin worker now log notes) (begun now con).schedule }
 {}
 
 /// In line are just the keys that are dirty and not processing.
 pub fn who_waits_is_in_line()
-    ensures { (notes : List Note) (schedule : Schedule) → IsHeld notes schedule
+    ensures { (notes : List Note) (schedule : Schedule) → IsScheduleOf notes schedule
         → (k : Key) → has_key k (line notes) ≡ waits k notes }
 {}
 
@@ -156,65 +156,65 @@ pub fn legal_notes_fit()
 pub fn deeds_are_kept()
     ensures untouched { (shape : Shape) (c : ℕ) (past : List Deed) (d : Deed) → IsLegal shape past
         → (schedule : Schedule) → TakesNoNote shape past d c
-        → IsHeld (diary shape c past) schedule → IsHeld (diary shape c (d ∷ past)) schedule }
+        → IsScheduleOf (diary shape c past) schedule → IsScheduleOf (diary shape c (d ∷ past)) schedule }
     ensures restarted { (shape : Shape) (c : ℕ) (past : List Deed) (d : Deed) → IsLegal shape past
-        → d.act ≡ does.Restart c → IsHeld (diary shape c (d ∷ past)) idle }
+        → d.act ≡ does.Restart c → IsScheduleOf (diary shape c (d ∷ past)) idle }
     ensures listed_jobs { (shape : Shape) (c : ℕ) (past : List Deed) (d : Deed)
         → IsLegal shape past → (schedule : Schedule)
         → d.act ≡ does.List c Jobs → d.reply ≡ reply.Listed (log_end (log_given shape past))
-        → AppendsNothing shape past d → IsHeld (diary shape c past) schedule
-        → IsHeld (diary shape c (d ∷ past))
+        → AppendsNothing shape past d → IsScheduleOf (diary shape c past) schedule
+        → IsScheduleOf (diary shape c (d ∷ past))
         (listed_jobs schedule (all_jobs (log_given shape past))
         (log_end (log_given shape past))) }
     ensures listed_pods { (shape : Shape) (c : ℕ) (past : List Deed) (d : Deed)
         → IsLegal shape past → (schedule : Schedule)
         → d.act ≡ does.List c Pods → d.reply ≡ reply.Listed (log_end (log_given shape past))
-        → AppendsNothing shape past d → IsHeld (diary shape c past) schedule
-        → IsHeld (diary shape c (d ∷ past))
+        → AppendsNothing shape past d → IsScheduleOf (diary shape c past) schedule
+        → IsScheduleOf (diary shape c (d ∷ past))
         (listed_pods schedule (pods_in (log_given shape past))
         (log_end (log_given shape past))) }
     ensures told { (shape : Shape) (c : ℕ) (past : List Deed) (d : Deed) → IsLegal shape past
         → (schedule : Schedule) (kind : Kind) (version : Version) (entry : Entry)
         → d.act ≡ does.Deliver c kind → d.reply ≡ reply.Delivered version
         → entry_at version.0 (log_given shape (d ∷ past)) ≡ Some entry
-        → IsHeld (diary shape c past) schedule
-        → IsHeld (diary shape c (d ∷ past)) (delivered schedule kind entry version) }
+        → IsScheduleOf (diary shape c past) schedule
+        → IsScheduleOf (diary shape c (d ∷ past)) (delivered schedule kind entry version) }
     ensures expired { (shape : Shape) (c : ℕ) (past : List Deed) (d : Deed) → IsLegal shape past
         → (schedule : Schedule) (kind : Kind) (floor : Version)
         → d.act ≡ does.Deliver c kind → d.reply ≡ reply.Expired floor
-        → IsHeld (diary shape c past) schedule
-        → IsHeld (diary shape c (d ∷ past)) (forgot schedule kind) }
+        → IsScheduleOf (diary shape c past) schedule
+        → IsScheduleOf (diary shape c (d ∷ past)) (forgot schedule kind) }
     ensures began { (shape : Shape) (c : ℕ) (past : List Deed) (d : Deed) → IsLegal shape past
         → (con : ControllerView) (worker : ℕ) → d.act ≡ does.Begin c worker
         → d.reply ≡ reply_of_begin (begin_now shape c past) → AppendsNothing shape past d
-        → IsHeld (diary shape c past) con.schedule → MirrorsLog (log_given shape past) con
-        → IsHeld (diary shape c (d ∷ past)) (begun (moment shape past) con).schedule }
+        → IsScheduleOf (diary shape c past) con.schedule → MirrorsLog (log_given shape past) con
+        → IsScheduleOf (diary shape c (d ∷ past)) (begun (moment shape past) con).schedule }
     ensures ticked { (shape : Shape) (c : ℕ) (past : List Deed) (d : Deed) → IsLegal shape past
         → (schedule : Schedule) (add now : ℕ) → d.act ≡ does.Clock add → d.reply ≡ reply.Now now
-        → IsHeld (diary shape c past) schedule
-        → IsHeld (diary shape c (d ∷ past)) (clocked schedule now) }
+        → IsScheduleOf (diary shape c past) schedule
+        → IsScheduleOf (diary shape c (d ∷ past)) (clocked schedule now) }
     ensures finished { (shape : Shape) (c : ℕ) (past : List Deed) (d : Deed) → IsLegal shape past
         → (schedule : Schedule) (worker : ℕ) (basis : Basis)
         → d.act ≡ does.Step c worker → d.reply ≡ reply.Ended
         → register worker (diary shape c past) ≡ Some basis
-        → IsHeld (diary shape c past) schedule
-        → IsHeld (diary shape c (d ∷ past)) (ended schedule basis.key
+        → IsScheduleOf (diary shape c past) schedule
+        → IsScheduleOf (diary shape c (d ∷ past)) (ended schedule basis.key
         (how.Ended (planned basis).next) (moment shape past)) }
     ensures goes_on { (shape : Shape) (c : ℕ) (past : List Deed) (d : Deed) → IsLegal shape past
         → (schedule : Schedule) (worker : ℕ) (basis : Basis) (asked : Request) (given : Answer)
         → d.act ≡ does.Step c worker → d.reply ≡ reply.Stepped asked given
         → register worker (diary shape c past) ≡ Some basis
         → end_by (asks_status asked) given ≡ None
-        → IsHeld (Asked worker basis asked given ∷ diary shape c past) schedule
-        → IsHeld (diary shape c (d ∷ past)) schedule }
+        → IsScheduleOf (Asked worker basis asked given ∷ diary shape c past) schedule
+        → IsScheduleOf (diary shape c (d ∷ past)) schedule }
     ensures breaks_off { (shape : Shape) (c : ℕ) (past : List Deed) (d : Deed) → IsLegal shape past
         → (schedule : Schedule) (worker : ℕ) (basis : Basis) (asked : Request) (given : Answer)
         (end : SyncEnd) → d.act ≡ does.Step c worker → d.reply ≡ reply.Stepped asked given
         → register worker (diary shape c past) ≡ Some basis
         → end_by (asks_status asked) given ≡ Some end
-        → IsHeld (Asked worker basis asked given ∷ diary shape c past) schedule
+        → IsScheduleOf (Asked worker basis asked given ∷ diary shape c past) schedule
         → has_key basis.key schedule.queue.processing ≡ true
-        → IsHeld (diary shape c (d ∷ past)) (ended schedule basis.key end (moment shape past)) }
+        → IsScheduleOf (diary shape c (d ∷ past)) (ended schedule basis.key end (moment shape past)) }
 {}
 
 /// A cluster follows its history: one law for the events of which no controller takes note, one for those of

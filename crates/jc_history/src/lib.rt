@@ -6,7 +6,7 @@ mod samples;
 
 pub use laws::{
     acts_determine_a_history, begins_follow_the_notes, clusters_follow_their_history,
-    deeds_are_kept, idle_is_held, legal_notes_fit, notes_are_kept, notes_say,
+    deeds_are_kept, idle_has_no_notes, legal_notes_fit, notes_are_kept, notes_say,
     notes_stay_as_the_log_grows, nothing_is_played, queue_follows_the_notes,
     registers_are_the_ledgers_syncs, steps_are_those_of_the_table, syncs_have_their_own_keys,
     who_waits_is_in_line,

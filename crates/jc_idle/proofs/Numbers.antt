@@ -6,7 +6,7 @@ use Rattle.jc_ranges.specs.Sets.{has}
 use Rattle.jc_types.specs.declared.objects.Pod.{Pod}
 use Rattle.jc_types.specs.declared.syncs.CountIn.{CountIn}
 use Rattle.jc_states.specs.Indexes.{has_index}
-use Rattle.jc_manage.specs.Creations.{free, holds, is_free, is_settled_index}
+use Rattle.jc_manage.specs.Creations.{free, holds, is_free, is_done_index}
 
 above-none : (x a n : ℕ) → x < a → length (filter (λ m. x == m) (range_with_len a n)) ≡ 0
 above-none x a zero lt = refl
@@ -80,8 +80,8 @@ held-few (p ∷ pods) a n =
 pub none-free : (completions : ℕ) (counted : CountIn) (kept : List Pod) → free completions counted kept ≡ []
     → completions ≤ length counted.completed + length counted.failed_indexes + length kept
 none-free n counted kept e =
-    let all = all-in (is_free counted kept) (λ m. is_settled_index counted m || holds kept m) (λ m. nor (is_settled_index counted m) (holds kept m)) 0 n e in
-    let both = either-few (is_settled_index counted) (holds kept) (range_with_len 0 n) in
+    let all = all-in (is_free counted kept) (λ m. is_done_index counted m || holds kept m) (λ m. nor (is_done_index counted m) (holds kept m)) 0 n e in
+    let both = either-few (is_done_index counted) (holds kept) (range_with_len 0 n) in
     let settled = either-few (λ m. has m counted.completed) (λ m. has m counted.failed_indexes) (range_with_len 0 n) in
     let completed = members-few counted.completed 0 n in
     let failed = members-few counted.failed_indexes 0 n in

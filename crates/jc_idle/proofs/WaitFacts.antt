@@ -27,14 +27,14 @@ use Rattle.jc_account.proofs.AccountFacts.{empty-in, indexed-total, left-failed,
 use Rattle.jc_failpol.specs.declared.outcomes.Outcome.{Outcome}
 use Rattle.jc_failpol.specs.declared.outcomes.Outcome.TheVariants as outcome
 use Rattle.jc_failpol.specs.Outcomes.{outcome_of, same_outcome}
-use Rattle.jc_finish.specs.Decisions.{first_line, is_complete, is_enough, is_failed_by_indexes, is_failed_by_pod, is_overdue, is_past_limit, is_past_most, is_policy_met}
+use Rattle.jc_finish.specs.Decisions.{first_reason, is_complete, is_enough, is_failed_by_indexes, is_failed_by_pod, is_overdue, is_past_limit, is_past_most, is_policy_met}
 use Rattle.jc_finish.proofs.SettledFacts.{settled-ends}
 use Rattle.jc_manage.specs.Backoffs.{opening}
 use Rattle.jc_manage.specs.Creations.{creatable, creates, free, is_none_of, job_lacks, job_wants, keepers, keeps, lacking, new_pods, next, wanted}
 use Rattle.jc_manage.specs.LetGoes.{is_to_mark}
 use Rattle.jc_perindex.specs.Failures.{failing_by, failing_in, newly_failed}
 use Rattle.jc_plan.specs.Plans.{earlier_of, planned}
-use Rattle.jc_plan.specs.Statuses.{accounted, conditions_at, decided_in, first_status_of, first_value, is_second_due, is_settled, leaves_none, second_value, wants_in}
+use Rattle.jc_plan.specs.Statuses.{accounted, conditions_at, decided_in, first_status_of, first_value, is_second_due, is_end_decided, leaves_none, second_value, wants_in}
 use Rattle.jc_plan.specs.Statuses.{is_none as is_none_listed}
 use Rattle.jc_plan.proofs.BackoffFacts.{backoff-unneeded, first-unneeded}
 use Rattle.jc_plan.proofs.LeftFacts.{none-left}
@@ -152,18 +152,18 @@ module _ (job : Job) (basis : Basis) (this : basis.job ≡ Some job) (rises : Is
   failed-stay = ap (λ (s : JobStatus). s.failed_indexes) first-stays
 
   -- No pod is marked.
-  none-marked : list_any (is_to_mark (is_settled job (decided_in job basis))) (own_pods job basis.pods) ≡ false
+  none-marked : list_any (is_to_mark (is_end_decided job (decided_in job basis))) (own_pods job basis.pods) ≡ false
   none-marked =
-      none-mapped (λ (p : Pod). p.uid) (is_to_mark (is_settled job (decided_in job basis))) (own_pods job basis.pods) (sym (plan-marks basis job this) ∙ asks.idles.marks)
+      none-mapped (λ (p : Pod). p.uid) (is_to_mark (is_end_decided job (decided_in job basis))) (own_pods job basis.pods) (sym (plan-marks basis job this) ∙ asks.idles.marks)
 
   module _ (none-ending : list_any is_ending (own_pods job basis.pods) ≡ false) where
     -- ---- how it will end is not settled
 
     -- Where it is, no pod is active, since it would be marked; so none is open.
-    settled-open : is_settled job (decided_in job basis) ≡ true → list_any is_open (own_pods job basis.pods) ≡ false
+    settled-open : is_end_decided job (decided_in job basis) ≡ true → list_any is_open (own_pods job basis.pods) ≡ false
     settled-open s =
-        none-either (is_to_mark (is_settled job (decided_in job basis))) is_ending is_open
-        (λ p h. of (is_open p) (is_marked p) (is_tracked p) (is_settled job (decided_in job basis)) s h) (own_pods job basis.pods) none-marked none-ending
+        none-either (is_to_mark (is_end_decided job (decided_in job basis))) is_ending is_open
+        (λ p h. of (is_open p) (is_marked p) (is_tracked p) (is_end_decided job (decided_in job basis)) s h) (own_pods job basis.pods) none-marked none-ending
       where
         of : (o m t s : Bool) → s ≡ true → o ≡ true → (((o && not m) && (s || not t)) || (o && m)) ≡ true
         of true true t s e h = refl
@@ -179,10 +179,10 @@ module _ (job : Job) (basis : Basis) (this : basis.job ≡ Some job) (rises : Is
     unfolding second_value
     out-none = second-lists_none job basis
 
-    due : is_settled job (decided_in job basis) ≡ true → is_second_due (is_settled job (decided_in job basis)) (own_pods job basis.pods) (accounted job basis) out ≡ true
+    due : is_end_decided job (decided_in job basis) ≡ true → is_second_due (is_end_decided job (decided_in job basis)) (own_pods job basis.pods) (accounted job basis) out ≡ true
     due s = λ i. (s i && (not (settled-open s i) && leaves i)) && (is_none_listed (out-none.1 i) && is_none_listed (out-none.0 i))
 
-    second-ends : is_settled job (decided_in job basis) ≡ true → has_end (second_value job basis).conditions ≡ true
+    second-ends : is_end_decided job (decided_in job basis) ≡ true → has_end (second_value job basis).conditions ≡ true
     unfolding second_value first_value
     second-ends s =
         ap (λ d. has_end (conditions_at basis.now job (decided_in job basis) d)) (due s)
@@ -195,10 +195,10 @@ module _ (job : Job) (basis : Basis) (this : basis.job ≡ Some job) (rises : Is
         settles false e None i h = absurd (true≢false (sym h))
 
     -- How the Job ends is not settled, since else it would have its end.
-    unsettled : is_settled job (decided_in job basis) ≡ false
-    unsettled = by (is_settled job (decided_in job basis)) refl
+    unsettled : is_end_decided job (decided_in job basis) ≡ false
+    unsettled = by (is_end_decided job (decided_in job basis)) refl
       where
-        by : (b : Bool) → is_settled job (decided_in job basis) ≡ b → is_settled job (decided_in job basis) ≡ false
+        by : (b : Bool) → is_end_decided job (decided_in job basis) ≡ b → is_end_decided job (decided_in job basis) ≡ false
         by false e = e
         by true e = absurd (true≢false (sym (second-ends e) ∙ ap (λ (s : JobStatus). has_end s.conditions) stays ∙ unended))
 
@@ -227,8 +227,8 @@ module _ (job : Job) (basis : Basis) (this : basis.job ≡ Some job) (rises : Is
     module _ (none-running : list_any is_tracked_active (own_pods job basis.pods) ≡ false) where
       none-active : list_any is_active (own_pods job basis.pods) ≡ false
       none-active =
-          none-either is_tracked_active (is_to_mark (is_settled job (decided_in job basis))) is_active
-          (λ p h. of (is_active p) (is_tracked p) (is_settled job (decided_in job basis)) h) (own_pods job basis.pods) none-running none-marked
+          none-either is_tracked_active (is_to_mark (is_end_decided job (decided_in job basis))) is_active
+          (λ p h. of (is_active p) (is_tracked p) (is_end_decided job (decided_in job basis)) h) (own_pods job basis.pods) none-running none-marked
         where
           of : (a t s : Bool) → a ≡ true → ((a && t) || (a && (s || not t))) ≡ true
           of true true s h = refl
@@ -245,7 +245,7 @@ module _ (job : Job) (basis : Basis) (this : basis.job ≡ Some job) (rises : Is
           (is_policy_met job.spec.success (accounted job basis).completed) (is_complete (counts (accounted job basis)).1 job.spec (own_pods job basis.pods))
           (FailureTarget, reason.PodFailurePolicy) (FailureTarget, reason.BackoffLimitExceeded) (FailureTarget, reason.DeadlineExceeded) (FailureTarget, reason.MaxFailedIndexesExceeded)
           (FailureTarget, reason.FailedIndexes) (SuccessCriteriaMet, reason.SuccessPolicy) (SuccessCriteriaMet, reason.CompletionsReached)
-          (ap (λ b. cond b None (first_line (accounted job basis) basis.now job (own_pods job basis.pods))) (sym untargeted) ∙ undecided)
+          (ap (λ b. cond b None (first_reason (accounted job basis) basis.now job (own_pods job basis.pods))) (sym untargeted) ∙ undecided)
 
       incomplete : is_enough job.spec.completions (counts (accounted job basis)).1 ≡ false
       incomplete = ap (λ b. not b && is_enough job.spec.completions (counts (accounted job basis)).1) (sym none-active) ∙ none-line.1
@@ -298,8 +298,8 @@ module _ (job : Job) (basis : Basis) (this : basis.job ≡ Some job) (rises : Is
     -- The pods that keep their indexes are active and tracked.
     kept-few : length (keepers job.spec.replacement (own_pods job basis.pods)) ≤ length (tracked_active_pods (own_pods job basis.pods))
     kept-few =
-        no-more is_tracked_active (is_to_mark (is_settled job (decided_in job basis))) is_ending (keeps job.spec.replacement)
-        (λ p h. of job.spec.replacement p (is_settled job (decided_in job basis)) h) (own_pods job basis.pods) none-marked none-ending
+        no-more is_tracked_active (is_to_mark (is_end_decided job (decided_in job basis))) is_ending (keeps job.spec.replacement)
+        (λ p h. of job.spec.replacement p (is_end_decided job (decided_in job basis)) h) (own_pods job basis.pods) none-marked none-ending
       where
         two : (o m t s : Bool) → ((o && not m) || (o && m)) ≡ true → (((o && not m) && t) || (((o && not m) && (s || not t)) || (o && m))) ≡ true
         two true true t s h = refl
@@ -319,7 +319,7 @@ module _ (job : Job) (basis : Basis) (this : basis.job ≡ Some job) (rises : Is
         of TerminatingOrFailed p s h = one (is_open p) (is_marked p) (is_tracked p) s h
         of FailedOnly p s h = two (is_open p) (is_marked p) (is_tracked p) s h
 
-    none-made : job.spec.suspend ≡ false → creatable (is_settled job (decided_in job basis)) job (own_pods job basis.pods) (accounted job basis) ≡ [] → HasEnough job (own_pods job basis.pods)
+    none-made : job.spec.suspend ≡ false → creatable (is_end_decided job (decided_in job basis)) job (own_pods job basis.pods) (accounted job basis) ≡ [] → HasEnough job (own_pods job basis.pods)
     none-made awake e =
         subst (λ n. wanted job.spec.parallelism job.spec.completions n (length job.status.failed_indexes) (length (tracked_active_pods (own_pods job basis.pods))) ≤ length (tracked_active_pods (own_pods job basis.pods))) counts-stay
         (subst (λ (l : List ℕ). wanted job.spec.parallelism job.spec.completions (counts (accounted job basis)).1
@@ -327,7 +327,7 @@ module _ (job : Job) (basis : Basis) (this : basis.job ≡ Some job) (rises : Is
         (tracked_active_pods (own_pods job basis.pods))) failed-stay
         (by job.spec.mode refl (sym shape ∙ e)))
       where
-        shape : creatable (is_settled job (decided_in job basis)) job (own_pods job basis.pods) (accounted job basis)
+        shape : creatable (is_end_decided job (decided_in job basis)) job (own_pods job basis.pods) (accounted job basis)
             ≡ new_pods job.spec.mode (job_lacks job (own_pods job basis.pods) (accounted job basis)) (free (unwrap_or job.spec.completions 0) (accounted job basis) (keepers job.spec.replacement (own_pods job basis.pods)))
         shape = (λ i. cond (unsettled i || awake i) []
             (new_pods job.spec.mode (job_lacks job (own_pods job basis.pods) (accounted job basis))
@@ -371,7 +371,7 @@ module _ (job : Job) (basis : Basis) (this : basis.job ≡ Some job) (rises : Is
 
     waits-on : job.spec.suspend ≡ false → 0 < job.spec.parallelism → Waits job basis
     waits-on awake wide =
-        by (held (opening (wants_in job basis).backoff) basis.now (creatable (is_settled job (decided_in job basis)) job (own_pods job basis.pods) (accounted job basis))
+        by (held (opening (wants_in job basis).backoff) basis.now (creatable (is_end_decided job (decided_in job basis)) job (own_pods job basis.pods) (accounted job basis))
         (sym (plan-creates basis job this) ∙ asks.idles.creates) (no-earlier (wants_in job basis).next _ (ap (λ p. p.next) (planned-here basis (Some job) this) ∙ asks.next)))
       where
         same : (wants_in job basis).backoff ≡ basis.backoff
@@ -381,7 +381,7 @@ module _ (job : Job) (basis : Basis) (this : basis.job ≡ Some job) (rises : Is
         enough has true e = ForActive untargeted has e
         enough has false e = absurd (some-wanted e wide has)
 
-        by : (creatable (is_settled job (decided_in job basis)) job (own_pods job basis.pods) (accounted job basis) ≡ []) ⊎ ((second : ℕ) × (opening (wants_in job basis).backoff ≡ Some second) × (end_of_moments ≤ second)) → Waits job basis
+        by : (creatable (is_end_decided job (decided_in job basis)) job (own_pods job basis.pods) (accounted job basis) ≡ []) ⊎ ((second : ℕ) × (opening (wants_in job basis).backoff ≡ Some second) × (end_of_moments ≤ second)) → Waits job basis
         by (inl e) = enough (none-made awake e) (list_any is_tracked_active (own_pods job basis.pods)) refl
         by (inr h) = ForEver untargeted h.0 (ap opening (sym same) ∙ h.1) h.2
 

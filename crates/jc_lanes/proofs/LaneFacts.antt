@@ -5,7 +5,7 @@ use Rattle.std.specs.Option.{unwrap_or}
 use Rattle.jc_types.specs.declared.actions.Command.{Command}
 use Rattle.jc_types.specs.declared.runs.Event.TheVariants as event
 use Rattle.jc_types.specs.declared.runs.Past.{Past}
-use Rattle.jc_history.specs.Legal.{is_of_lane, lane_count, lane_places, next_place, places_from}
+use Rattle.jc_history.specs.Legal.{is_of_lane, lane_count, lane_places, next_command, places_from}
 use Rattle.jc_lanes.specs.Places.{AreNone, AreUsedUp, HasPlaces, most_lanes, next_from}
 
 -- Places from one on are not below it.
@@ -38,8 +38,8 @@ after lane p (c ∷ cs) k n (suc m) far e = by (λ k e. after lane (p + 1) cs k 
 
 -- Its next command once this one was played.
 pub next_after : (commands : List Command) (before : List Past) (lane number : ℕ) (past : Past)
-    → next_place commands lane before ≡ Some number → past.event ≡ event.Command lane number
-    → next_place commands lane (past ∷ before) ≡ next_from lane (number + 1) commands
+    → next_command commands lane before ≡ Some number → past.event ≡ event.Command lane number
+    → next_command commands lane (past ∷ before) ≡ next_from lane (number + 1) commands
 next_after commands before lane number past next is =
     ap (slice_get (lane_places lane commands)) count ∙ after lane 0 commands (lane_count lane before) number (number + 1) (omega arith) next
   where
@@ -50,7 +50,7 @@ next_after commands before lane number past next is =
     count = ap (λ b. length (cond b (past ∷ filter (is_of_lane lane) before) (filter (is_of_lane lane) before))) mine
 
 -- Another lane's next command stays.
-pub other_after : (commands : List Command) (before : List Past) (lane other number : ℕ) (past : Past) → (other ≡ lane → ⊥) → past.event ≡ event.Command other number → next_place commands lane (past ∷ before) ≡ next_place commands lane before
+pub other_after : (commands : List Command) (before : List Past) (lane other number : ℕ) (past : Past) → (other ≡ lane → ⊥) → past.event ≡ event.Command other number → next_command commands lane (past ∷ before) ≡ next_command commands lane before
 other_after commands before lane other number past apart is =
     ap (λ b. slice_get (lane_places lane commands) (length (cond b (past ∷ filter (is_of_lane lane) before) (filter (is_of_lane lane) before)))) (ap (λ event. is_of_lane lane (record past { event = event })) is ∙ ne_eqb other lane apart)
 
@@ -71,7 +71,7 @@ set_apart (y ∷ xs) (suc i) (suc j) x apart = set_apart xs i j x (λ e. apart (
 -- A command of the lane was played, and its next one is put in its place.
 pub advanced : (commands : List Command) (before : List Past) (old : List (Option ℕ)) (mine number : ℕ)
     (next : Option ℕ) (past : Past) → length old ≡ most_lanes → HasPlaces commands before old
-    → next_place commands mine before ≡ Some number → past.event ≡ event.Command mine number
+    → next_command commands mine before ≡ Some number → past.event ≡ event.Command mine number
     → next ≡ next_from mine (number + 1) commands → HasPlaces commands (past ∷ before) (set old mine next)
 advanced commands before old mine number next past count has comes is found lane inside = by (decide (mine == lane) refl)
   where
@@ -79,10 +79,10 @@ advanced commands before old mine number next past count has comes is found lane
     decide true e = inl (grind (arith, nat_tests, e))
     decide false e = inr (λ f. true≢false (sym (eq-eqb mine lane f) ∙ e))
 
-    by : (mine ≡ lane) ⊎ (mine ≡ lane → ⊥) → slice_get (set old mine next) lane ≡ Some (next_place commands lane (past ∷ before))
+    by : (mine ≡ lane) ⊎ (mine ≡ lane → ⊥) → slice_get (set old mine next) lane ≡ Some (next_command commands lane (past ∷ before))
     by (inl e) =
         ap (λ i. slice_get (set old i next) lane) e ∙ set_same old lane next (subst (λ n. lane < n) (sym count) inside)
-        ∙ ap (λ o. Some o) (found ∙ sym (next_after commands before mine number past comes is) ∙ ap (λ l. next_place commands l (past ∷ before)) e)
+        ∙ ap (λ o. Some o) (found ∙ sym (next_after commands before mine number past comes is) ∙ ap (λ l. next_command commands l (past ∷ before)) e)
     by (inr apart) = set_apart old mine lane next apart ∙ has lane inside ∙ ap (λ o. Some o) (sym (other_after commands before lane mine number past apart is))
 
 -- Each place is none just where no lane has a command left.

@@ -7,7 +7,7 @@ use Rattle.jc_types.specs.declared.runs.Event.{Event}
 use Rattle.jc_types.specs.declared.runs.Event.TheVariants as event
 use Rattle.jc_types.specs.declared.runs.Past.{Past}
 use Rattle.jc_log.specs.Deeds.{act_of_command, act_of_event, deed}
-use Rattle.jc_history.specs.Legal.{ComesNext, InLanes, is_of_lane, lane_count, lane_places, next_place, places_from}
+use Rattle.jc_history.specs.Legal.{ComesNext, InLanes, is_of_lane, lane_count, lane_places, next_command, places_from}
 use Rattle.jc_lanes.specs.LongerScripts.{longer, longer_place}
 use Rattle.std.proofs.lemmas.Option.{slice_get_within as get_within}
 
@@ -50,7 +50,7 @@ module _ (commands : List Command) (command : Command) where
   abbrev more : List Command
   more = commands ++ command ∷ []
 
-  stays : (lane n : ℕ) (before : List Past) → next_place commands lane before ≡ Some n → next_place more lane before ≡ Some n
+  stays : (lane n : ℕ) (before : List Past) → next_command commands lane before ≡ Some n → next_command more lane before ≡ Some n
   stays lane n before e =
       ap (λ l. slice_get l (lane_count lane before)) (places_more lane 0 commands command)
       ∙ get_more (lane_places lane commands) _ (lane_count lane before) n e
@@ -100,16 +100,16 @@ module _ (commands : List Command) (command : Command) where
           decide : (b : Bool) → (other == lane) ≡ b → lane_count lane (past ∷ before) ≤ length (lane_places lane commands)
           decide true same =
               let mine : is_of_lane lane past ≡ true = ap (λ e. is_of_lane lane (record past { event = e })) is ∙ same in
-              let less : lane_count lane before < length (lane_places lane commands) = get_within (lane_places lane commands) (lane_count lane before) number (subst (λ l. next_place commands l before ≡ Some number) (eqb-true other lane same) next) in
+              let less : lane_count lane before < length (lane_places lane commands) = get_within (lane_places lane commands) (lane_count lane before) number (subst (λ l. next_command commands l before ≡ Some number) (eqb-true other lane same) next) in
               subst (λ b. length (cond b (past ∷ filter (is_of_lane lane) before) (filter (is_of_lane lane) before)) ≤ length (lane_places lane commands)) (sym mine) (omega (arith, less))
           decide false apart =
               let mine : is_of_lane lane past ≡ false = ap (λ e. is_of_lane lane (record past { event = e })) is ∙ apart in
               subst (λ b. length (cond b (past ∷ filter (is_of_lane lane) before) (filter (is_of_lane lane) before)) ≤ length (lane_places lane commands)) (sym mine) rest
 
-  pub longer_next : (lane : ℕ) (events : List Past) → InLanes commands events → next_place more lane events ≡ longer_place commands command lane events
+  pub longer_next : (lane : ℕ) (events : List Past) → InLanes commands events → next_command more lane events ≡ longer_place commands command lane events
   longer_next lane events lanes = ap (λ l. slice_get l (lane_count lane events)) (places_more lane 0 commands command) ∙ by (command.lane == lane)
     where
-      by : (b : Bool) → slice_get (lane_places lane commands ++ place_if b (0 + length commands)) (lane_count lane events) ≡ cond b (option_or (next_place commands lane events) (Some (length commands))) (next_place commands lane events)
+      by : (b : Bool) → slice_get (lane_places lane commands ++ place_if b (0 + length commands)) (lane_count lane events) ≡ cond b (option_or (next_command commands lane events) (Some (length commands))) (next_command commands lane events)
       by true =
           let same : 0 + length commands ≡ length commands = omega arith in
           ap (λ n. slice_get (lane_places lane commands ++ n ∷ []) (lane_count lane events)) same

@@ -7,7 +7,7 @@ use Rattle.std.specs.Option.{option_or}
 use Rattle.jc_types.specs.declared.actions.Command.{Command}
 use Rattle.jc_types.specs.declared.actions.Script.{Script}
 use Rattle.jc_types.specs.declared.runs.Past.{Past}
-use Rattle.jc_history.specs.Legal.{InLanes, next_place}
+use Rattle.jc_history.specs.Legal.{InLanes, next_command}
 use Rattle.jc_lanes.specs.Places.{HasPlaces}
 
 -- The script with the command at its end.
@@ -18,8 +18,8 @@ longer script command = record { commands = script.commands ++ command ∷ [] }
 -- else that of the new command, where it is of the lane.
 abbrev pub longer_place : List Command → Command → ℕ → List Past → Option ℕ
 longer_place commands command lane before =
-    if command.lane == lane then option_or (next_place commands lane before) (Some (length commands))
-    else next_place commands lane before
+    if command.lane == lane then option_or (next_command commands lane before) (Some (length commands))
+    else next_command commands lane before
 
 -- Each lane's next command is known again, once a command of the lane is put at that place.
 abbrev pub HasMore : ℕ → ℕ → List (Option ℕ) → List (Option ℕ) → Type 0

@@ -9,7 +9,7 @@ use Rattle.std.specs.Prelude.{◌≡◌, ℕ, ◌<◌, List, ◌∷◌, length, 
 use Rattle.jc_types.specs.declared.actions.Command.{Command}
 use Rattle.jc_types.specs.declared.runs.Event.{Event}
 use Rattle.jc_types.specs.declared.runs.Past.{Past}
-use Rattle.jc_history.specs.Legal.{ComesNext, next_place, places_from}
+use Rattle.jc_history.specs.Legal.{ComesNext, next_command, places_from}
 
 -- A lane is a byte.
 abbrev pub most_lanes : ℕ
@@ -22,7 +22,7 @@ next_from lane place commands = slice_get (places_from lane place (drop place co
 -- Each lane's next command stands where it is kept.
 abbrev pub HasPlaces : List Command → List Past → List (Option ℕ) → Type 0
 HasPlaces commands before next =
-    (lane : ℕ) → lane < most_lanes → slice_get next lane ≡ Some (next_place commands lane before)
+    (lane : ℕ) → lane < most_lanes → slice_get next lane ≡ Some (next_command commands lane before)
 
 -- Each place is none.
 abbrev pub AreNone : List (Option ℕ) → Type 0
@@ -31,7 +31,7 @@ AreNone next = (i : ℕ) → i < length next → slice_get next i ≡ Some None
 -- No lane has a command left.
 abbrev pub AreUsedUp : List Command → List Past → Type 0
 AreUsedUp commands before =
-    (lane : ℕ) → lane < most_lanes → next_place commands lane before ≡ None
+    (lane : ℕ) → lane < most_lanes → next_command commands lane before ≡ None
 
 -- So it is again once the event has come, where it was its lane's next one.
 abbrev pub MovesOn : List Command → Event → List (Option ℕ) → List (Option ℕ) → Type 0

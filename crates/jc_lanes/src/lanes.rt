@@ -3,7 +3,7 @@
 ghost use Rattle.std.specs.Prelude.{◌≡◌, ◌<◌, ◌^◌, ◌↔◌, [], IfOk, IsTrue, List, length};
 ghost use Rattle.jc_types.specs.declared.actions.Command.{Command};
 ghost use Rattle.jc_types.specs.declared.runs.Past.{Past};
-ghost use Rattle.jc_history.specs.Legal.{ComesNext, next_place};
+ghost use Rattle.jc_history.specs.Legal.{ComesNext, next_command};
 ghost use Rattle.jc_lanes.specs.LongerScripts.{HasMore};
 ghost use Rattle.jc_lanes.specs.Places.{AreNone, AreUsedUp, HasPlaces, MovesOn, next_from};
 
@@ -121,7 +121,7 @@ impl Lanes {
     /// The place of the lane's next command; none where the lane is used up.
     pub fn next_of(&self, lane: u8) -> Option<u32>
         ensures { (commands : List Command) (before : List Past)
-            → HasPlaces commands before self.now → result ≡ next_place commands lane before }
+            → HasPlaces commands before self.now → result ≡ next_command commands lane before }
     {
         self.next[lane as usize]
     }

@@ -5,7 +5,7 @@ ghost use Rattle.jc_types.specs.declared.actions.Command.{Command};
 ghost use Rattle.jc_types.specs.declared.actions.Script.{Script};
 ghost use Rattle.jc_types.specs.declared.runs.Past.{Past};
 ghost use Rattle.jc_log.specs.Deeds.{deed};
-ghost use Rattle.jc_history.specs.Legal.{InLanes, next_place};
+ghost use Rattle.jc_history.specs.Legal.{InLanes, next_command};
 ghost use Rattle.jc_lanes.specs.LongerScripts.{longer, longer_place};
 
 /// A history of a script is one of the script with a command more at its end: each command came as its lane's next one,
@@ -19,6 +19,6 @@ pub fn longer_scripts_keep_histories()
         → map (deed (longer script command)) events ≡ map (deed script) events }
     ensures next { (script : Script) (command : Command) (lane : ℕ) (events : List Past)
         → InLanes script.commands events
-        → next_place (longer script command).commands lane events
+        → next_command (longer script command).commands lane events
         ≡ longer_place script.commands command lane events }
 {}

@@ -34,7 +34,7 @@ use Rattle.jc_states.specs.Listed.{is_listed}
 use Rattle.jc_account.specs.Judged.{candidates, has_come_to, is_candidate, is_fresh, is_new, is_staying, newly, room}
 use Rattle.jc_ledger.specs.Ledger.{Record, record_of, was_judged_failed, has_record, is_held, is_success, space, fresh, chosen, successes, Ledger}
 use Rattle.jc_account.specs.Rooms.{joins_list, takes_room}
-use Rattle.jc_ledger.specs.Tied.{HasSoundLists, IsListing, IsCurrent, TiesJob}
+use Rattle.jc_ledger.specs.Tied.{HasOrderedLists, IsListing, IsCurrent, TiesJob}
 use Rattle.jc_ledger.proofs.MadeFacts.{outcome-step}
 use Rattle.jc_ledger.proofs.OwnFacts.{own-live}
 use Rattle.jc_ledger.proofs.RoomFacts.{judged-joining, newly-free}
@@ -53,7 +53,7 @@ module _ (made : Job) (log : List Entry) (ledger : Ledger) (job : Job) (y : ℕ)
   pub now_of : IsCurrent log ledger job
   now_of = a.ties.now job a.there a.uid
 
-  pub tidy_of : HasSoundLists job
+  pub tidy_of : HasOrderedLists job
   tidy_of = a.ties.tidy job.version.0 job (job_in-entry made.key log job a.stored a.there) a.uid
 
   pub listing_of : IsListing ledger.records job.version.0 job.status

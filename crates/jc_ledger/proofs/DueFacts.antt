@@ -46,7 +46,7 @@ use Rattle.jc_ledger.specs.EventKinds.{FinalizerWrite, Releases, Orphans, LetsGo
 use Rattle.jc_ledger.specs.Flights.{IsSent, Flies}
 use Rattle.jc_ledger.specs.Ledger.{is_within, Record, record_of, ledger_of}
 use Rattle.jc_ledger.specs.Once.{IsJudged, PutBefore, Cause, WasJudged, IsIgnored, WasActive, NeedsNone, needs_none}
-use Rattle.jc_ledger.specs.Tied.{made_as, IsListing, IsSound, TiesJob, Tied}
+use Rattle.jc_ledger.specs.Tied.{made_as, IsListing, IsTrueRecord, TiesJob, Tied}
 use Rattle.jc_ledger.proofs.DuePods.{IsDue, due_from}
 use Rattle.jc_ledger.proofs.FrameFacts.{AllFly-one, PodsHaveIndexes-now}
 use Rattle.jc_ledger.proofs.MadeFacts.{outcome-step, fails_job-step, made_as-uid, made_as-upto, made_as-born, WasMadeUnder, has_job-was_made, put-step}
@@ -163,7 +163,7 @@ listed_ended past log flight job seen now made due h =
     (ap (λ u. life u (upto h.found.seen log)) (sym same) ∙ sound.stood) due.stood)
     (λ alive. absurd (true≢false (sym sound.verdict ∙ ap is_verdict (sym sound.judged ∙ alive))))
   where
-    sound : IsSound made log h.found
+    sound : IsTrueRecord made log h.found
     sound = due.ties.sound seen.uid h.found h.is_found
 
     same : h.found.pod.uid ≡ seen.uid

@@ -41,7 +41,7 @@ use Rattle.jc_ledger.specs.Ledger.{failed_after, failed_pods, fails_of, kept, wi
 use Rattle.jc_account.specs.Rooms.{has_room, joins_list}
 use Rattle.jc_perindex.specs.Failures.{failed_set, failing_by, failures_by, has_failed as fails_index, newly_failed, raised}
 use Rattle.jc_ledger.specs.Once.{IsJudged, SaysFails}
-use Rattle.jc_ledger.specs.Tied.{made_as, HasSoundLists}
+use Rattle.jc_ledger.specs.Tied.{made_as, HasOrderedLists}
 use Rattle.jc_ledger.proofs.AgreementFacts.{Agreeing, now_of, tidy_of, listing_of, seen_before, stood_of, failed-chosen, succeeded-chosen, successes-new}
 use Rattle.jc_ledger.proofs.MadeFacts.{outcome-step}
 use Rattle.jc_ledger.proofs.OwnFacts.{own-live, untracked-lost}
@@ -373,7 +373,7 @@ module _ (made : Job) (log : List Entry) (ledger : Ledger) (job : Job) (pods : L
                 ∙ ap (λ o. failed_after o job after.done (fails_of job.spec.failure after.records) ledger.failed) (sym e),
           )
 
-  tidy_new : HasSoundLists new
+  tidy_new : HasOrderedLists new
   tidy_new =
       let tidy = tidy_of made log ledger job y h.agrees in
       record {

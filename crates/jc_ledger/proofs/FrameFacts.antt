@@ -29,7 +29,7 @@ use Rattle.jc_ledger.specs.Flights.{IsBasisOf, IsSent, Flies}
 use Rattle.jc_ledger.specs.Ledger.{Record, Ledger, ledger_of}
 use Rattle.jc_ledger.specs.Once.{Taking, taking_of, PutBefore, Cause, WasJudged, IsIgnored, WasActive, NeedsNone, needs_none, IsJustified}
 use Rattle.jc_ledger.specs.Syncs.{reach, request_of, appends}
-use Rattle.jc_ledger.specs.Tied.{made_as, made_after, IsSound, IsCurrent, TiesJob, Ties, HasIndexIn, PodsHaveIndexes, TakesWell, AllWell, IsWithin, IsReached, Tied}
+use Rattle.jc_ledger.specs.Tied.{made_as, made_after, IsTrueRecord, IsCurrent, TiesJob, Ties, HasIndexIn, PodsHaveIndexes, TakesWell, AllWell, IsWithin, IsReached, Tied}
 use Rattle.jc_ledger.proofs.LedgerFacts.{AllWithin, AllWithin-more, reach-is, ledger_of-more}
 use Rattle.jc_ledger.proofs.MadeFacts.{made_as-uid, made_as-more, made_as-upto, WasMadeUnder, has_job-was_made}
 
@@ -96,8 +96,8 @@ AllFly-drop log front dropped back h =
 -- ---- what ties a ledger
 
 -- A record stays sound.
-pub IsSound-more : (made : Job) (e : Entry) (log : List Entry) (r : Record) → IsSound made log r → IsSound made (e ∷ log) r
-IsSound-more made e log r s = record {
+pub IsTrueRecord-more : (made : Job) (e : Entry) (log : List Entry) (r : Record) → IsTrueRecord made log r → IsTrueRecord made (e ∷ log) r
+IsTrueRecord-more made e log r s = record {
   before = s.before;
   within = let le = s.within in omega (arith, le);
   stood = ap (life r.pod.uid) (upto-fixed r.seen e log (let lt = s.before in let le = s.within in omega (arith, lt, le))) ∙ s.stood;
@@ -168,7 +168,7 @@ pub TiesJob-more : (made : Job) (e : Entry) (log : List Entry) (ledger : Ledger)
 TiesJob-more made e log ledger legal other t = record {
   waits = t.waits;
   limited = t.limited;
-  sound = λ u r found. IsSound-more made e log r (t.sound u r found);
+  sound = λ u r found. IsTrueRecord-more made e log r (t.sound u r found);
   tidy = λ v job is uid. t.tidy v job (put_older made.uid v e log job other is uid) uid;
   listed = λ v job is uid. t.listed v job (put_older made.uid v e log job other is uid) uid;
   now = λ job is uid.

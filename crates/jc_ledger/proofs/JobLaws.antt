@@ -32,7 +32,7 @@ use Rattle.jc_ledger.specs.Ledger.{fails_of, Record, record_of, Ledger, ledger_o
 use Rattle.jc_account.specs.Rooms.{joins_list}
 use Rattle.jc_ledger.specs.Once.{SaysFails, taking_of}
 use Rattle.jc_ledger.specs.Syncs.{request_of}
-use Rattle.jc_ledger.specs.Tied.{made_as, made_after, HasSoundLists, IsListing, IsCurrent, TiesJob, Ties, PodsHaveIndexes, TakesWell, Tied}
+use Rattle.jc_ledger.specs.Tied.{made_as, made_after, HasOrderedLists, IsListing, IsCurrent, TiesJob, Ties, PodsHaveIndexes, TakesWell, Tied}
 use Rattle.jc_ledger.proofs.FrameFacts.{AllFly-more, puts_other, Ties-more, PodsHaveIndexes-job, PodsHaveIndexes-pod, PodsHaveIndexes-more, PodsHaveIndexes-now, grow}
 use Rattle.jc_ledger.proofs.LedgerFacts.{ledger_of-more, ledger_of-other}
 use Rattle.jc_states.proofs.ObjectChangeFacts.{JobStep-itself}
@@ -97,8 +97,8 @@ in_empty : (u : Uid) (uids : List Uid) → uids ≡ [] → is_in u uids ≡ fals
 in_empty u uids empty = ap (is_in u) empty
 
 -- The lists of a new status are sound.
-HasSoundLists-new : (job : Job) → IsEmpty job.status → HasSoundLists job
-HasSoundLists-new job e = record {
+HasOrderedLists-new : (job : Job) → IsEmpty job.status → HasOrderedLists job
+HasOrderedLists-new job e = record {
   failed = subst Ascends (sym e.uncounted_failed) tt;
   succeeded = subst Ascends (sym e.uncounted_succeeded) tt;
   apart = λ u. ap (λ b. b && is_in u job.status.uncounted_failed) (in_empty u job.status.uncounted_succeeded e.uncounted_succeeded);
@@ -155,8 +155,8 @@ TiesJob-new log job stored none waits limited empty = record {
   now = λ other there uid. subst (IsCurrent (JobPut job ∷ log) blank) (job_in-put log job other there) (IsCurrent-new (JobPut job ∷ log) job empty);
 }
   where
-    tidy_at : (v : ℕ) (other : Job) → other.uid ≡ job.uid → Placed v log job other → HasSoundLists other
-    tidy_at v other uid (Here place is) = subst HasSoundLists is (HasSoundLists-new job empty)
+    tidy_at : (v : ℕ) (other : Job) → other.uid ≡ job.uid → Placed v log job other → HasOrderedLists other
+    tidy_at v other uid (Here place is) = subst HasOrderedLists is (HasOrderedLists-new job empty)
     tidy_at v other uid (Below put) = absurd (unmade_unput v log job.uid other stored none uid put)
 
     listed_at : (v : ℕ) (other : Job) → other.uid ≡ job.uid → Placed v log job other → IsListing [] v other.status
@@ -190,8 +190,8 @@ tied_created d past log flights job t c = tied_job d past log flights job t c.wr
 -- ---- a Job is updated
 
 -- Sound lists stay so.
-HasSoundLists-same : (old job : Job) → job.status ≡ old.status → job.spec.mode ≡ old.spec.mode → HasSoundLists old → HasSoundLists job
-HasSoundLists-same old job status mode t = record {
+HasOrderedLists-same : (old job : Job) → job.status ≡ old.status → job.spec.mode ≡ old.spec.mode → HasOrderedLists old → HasOrderedLists job
+HasOrderedLists-same old job status mode t = record {
   failed = subst (λ (st : JobStatus). Ascends st.uncounted_failed) (sym status) t.failed;
   succeeded = subst (λ (st : JobStatus). Ascends st.uncounted_succeeded) (sym status) t.succeeded;
   apart = subst (λ (st : JobStatus). (u : Uid) → (is_in u st.uncounted_succeeded && is_in u st.uncounted_failed) ≡ false) (sym status) t.apart;
@@ -216,7 +216,7 @@ Puts-updated made log ledger old job legal is_made ties there was step status = 
   step = JobStep-itself made;
   records = sym (append-nil ledger.records);
   each = tt;
-  tidy = HasSoundLists-same old job status step.mode (ties.tidy old.version.0 old place was.uid);
+  tidy = HasOrderedLists-same old job status step.mode (ties.tidy old.version.0 old place was.uid);
   listed = record {
     failed = λ u h. IsJudged-later u ledger.records Failed old.version.0 (suc (length log)) before (listing.failed u (subst (λ (st : JobStatus). is_in u st.uncounted_failed ≡ true) status h));
     succeeded = λ u h. IsJudged-later u ledger.records Succeeded old.version.0 (suc (length log)) before (listing.succeeded u (subst (λ (st : JobStatus). is_in u st.uncounted_succeeded ≡ true) status h));

@@ -20,7 +20,7 @@ use Rattle.jc_ledger.specs.declared.flights.Flight.{Flight}
 use Rattle.jc_ledger.specs.Ledger.{Record, ledger_of}
 use Rattle.jc_ledger.specs.Once.{taking_of, PutBefore, Cause, WasJudged, IsIgnored, WasActive, NeedsNone, IsJustified, TakesJustly, AllJustified, CountsOnce, Once, OnceAtEach}
 use Rattle.jc_ledger.specs.Syncs.{reach, request_of}
-use Rattle.jc_ledger.specs.Tied.{made_as, HasSoundLists, IsListing, IsCurrent, TiesJob, TakesWell, AllWell, IsReached, Tied}
+use Rattle.jc_ledger.specs.Tied.{made_as, HasOrderedLists, IsListing, IsCurrent, TiesJob, TakesWell, AllWell, IsReached, Tied}
 use Rattle.jc_ledger.proofs.DistinctFacts.{ascends_distinct}
 use Rattle.jc_ledger.proofs.FrameFacts.{owner_made}
 use Rattle.jc_ledger.proofs.MadeFacts.{outcome-step, fails_job-step, job_in-was_made, made_as-born}
@@ -121,7 +121,7 @@ counts_once deeds log flights made job t a = record {
     now : IsCurrent log (ledger_of job.uid deeds log) job
     now = ties.now job a.there a.step.uid
 
-    tidy : HasSoundLists job
+    tidy : HasOrderedLists job
     tidy = ties.tidy job.version.0 job place a.step.uid
 
     listing : IsListing (ledger_of job.uid deeds log).records job.version.0 job.status

@@ -32,8 +32,8 @@ use Rattle.jc_ledger.specs.declared.flights.Flight.{Flight}
 use Rattle.jc_ledger.specs.Ledger.{Record, record_of, recorded, chosen, judged_as, Ledger, ledger_of}
 use Rattle.jc_account.specs.Rooms.{joins_list}
 use Rattle.jc_ledger.specs.Once.{IsJudged, SaysFails}
-use Rattle.jc_ledger.specs.Tied.{made_as, HasSoundLists, IsSound, IsListing, IsCurrent, TiesJob, Ties, Tied}
-use Rattle.jc_ledger.proofs.FrameFacts.{IsSound-more}
+use Rattle.jc_ledger.specs.Tied.{made_as, HasOrderedLists, IsTrueRecord, IsListing, IsCurrent, TiesJob, Ties, Tied}
+use Rattle.jc_ledger.proofs.FrameFacts.{IsTrueRecord-more}
 use Rattle.jc_ledger.proofs.MadeFacts.{outcome-step}
 use Rattle.jc_ledger.proofs.RecordFacts.{Found, Old, New, record_of-found, IsJudged-more}
 
@@ -58,7 +58,7 @@ pub record Puts (made : Job) (log : List Entry) (ledger after : Ledger) (job : J
   pub step : JobStep made job
   pub records : after.records ≡ ledger.records ++ map (recorded job seen_at (suc (length log))) (chosen job ledger.records pods)
   pub each : Each (IsChosen made log ledger.records seen_at) (chosen job ledger.records pods)
-  pub tidy : HasSoundLists new
+  pub tidy : HasOrderedLists new
   pub listed : IsListing after.records (suc (length log)) new.status
   pub lost : (u : Uid) (r : Record) → record_of u after.records ≡ Some r → joins_list new.spec.mode r.outcome ≡ true
       → is_listed new.status u ≡ false → is_lost (life u log) ≡ true
@@ -143,7 +143,7 @@ module _ (made : Job) (log : List Entry) (ledger after : Ledger) (job : Job) (po
       (IsJudged-more u ledger.records (map (recorded job seen (suc (length log))) judges) outcome v v (omega arith) j)
 
   -- The record of a pod that the write judges is sound.
-  sound_new : (pod : Pod) → IsChosen made log ledger.records seen pod → IsSound made (JobPut new ∷ log) (recorded job seen (suc (length log)) pod)
+  sound_new : (pod : Pod) → IsChosen made log ledger.records seen pod → IsTrueRecord made (JobPut new ∷ log) (recorded job seen (suc (length log)) pod)
   sound_new pod c =
       let within = p.seen in
       let same = outcome-step made job pod p.step in
@@ -158,9 +158,9 @@ module _ (made : Job) (log : List Entry) (ledger after : Ledger) (job : Job) (po
       }
 
   -- Each record is sound.
-  sound_found : (u : Uid) (r : Record) → Found (IsChosen made log ledger.records seen) u ledger.records job seen (suc (length log)) r → IsSound made (JobPut new ∷ log) r
-  sound_found u r (Old e) = IsSound-more made (JobPut new) log r (p.ties.sound u r e)
-  sound_found u r (New none pod uid has is) = subst (IsSound made (JobPut new ∷ log)) (sym is) (sound_new pod has)
+  sound_found : (u : Uid) (r : Record) → Found (IsChosen made log ledger.records seen) u ledger.records job seen (suc (length log)) r → IsTrueRecord made (JobPut new ∷ log) r
+  sound_found u r (Old e) = IsTrueRecord-more made (JobPut new) log r (p.ties.sound u r e)
+  sound_found u r (New none pod uid has is) = subst (IsTrueRecord made (JobPut new ∷ log)) (sym is) (sound_new pod has)
 
   -- Of the Job as it is put all is known.
   current_new : IsCurrent (JobPut new ∷ log) after new
@@ -182,8 +182,8 @@ module _ (made : Job) (log : List Entry) (ledger after : Ledger) (job : Job) (po
       subst (IsCurrent (JobPut new ∷ log) after) (same_Some new other (sym (job_in-newest made.key log new p.key) ∙ h)) current_new
 
   -- The Jobs that were put are tidy.
-  tidy_placed : (v : ℕ) (other : Job) → other.uid ≡ made.uid → Placed v log new other → HasSoundLists other
-  tidy_placed v other uid (Here at is) = subst HasSoundLists is p.tidy
+  tidy_placed : (v : ℕ) (other : Job) → other.uid ≡ made.uid → Placed v log new other → HasOrderedLists other
+  tidy_placed v other uid (Here at is) = subst HasOrderedLists is p.tidy
   tidy_placed v other uid (Below e) = p.ties.tidy v other e uid
 
   -- What they list was judged by then.

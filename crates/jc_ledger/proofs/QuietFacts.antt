@@ -22,7 +22,7 @@ use Rattle.jc_log.proofs.LogFacts.{length-upto, entry_at-upto}
 use Rattle.jc_log.proofs.PlaceFacts.{job_in-entry, job_in-within}
 use Rattle.jc_log.proofs.WriteFacts.{Follows-upto, Stored-from_legal}
 use Rattle.jc_ledger.specs.declared.flights.Flight.{Flight}
-use Rattle.jc_ledger.specs.EventKinds.{IsQuiet, Begins, FindsNothing, with_released}
+use Rattle.jc_ledger.specs.EventKinds.{AppendsNoEntry, Begins, FindsNothing, with_released}
 use Rattle.jc_ledger.specs.Flights.{IsSent, Flies}
 use Rattle.jc_ledger.specs.Once.{taking_of}
 use Rattle.jc_ledger.specs.Syncs.{reach, request_of, appends}
@@ -89,7 +89,7 @@ TakesWell-still d past log still =
     IfSome-each (taking_of (request_of d.reply)) _ (λ taking grown pod there made is_made is_there. absurd (true≢false (sym grown ∙ still)))
 
 -- Nothing that ties changes where a deed appends nothing.
-pub tied_quiet : (d : Deed) (past : List Deed) (log : List Entry) (flights : List Flight) → Tied past log flights → IsQuiet d log → Tied (d ∷ past) log flights
+pub tied_quiet : (d : Deed) (past : List Deed) (log : List Entry) (flights : List Flight) → Tied past log flights → AppendsNoEntry d log → Tied (d ∷ past) log flights
 tied_quiet d past log flights t q =
     let still = appends-still d past log t.reached q.still in
     record {

@@ -43,7 +43,7 @@ use Rattle.jc_ledger.specs.Ledger.{failed_after, failed_pods, fails_of, is_withi
 use Rattle.jc_account.specs.Rooms.{has_room, joins_list, takes_room}
 use Rattle.jc_perindex.specs.Failures.{failed_set, failing_by, failures_by, has_failed as fails_index, newly_failed, raised}
 use Rattle.jc_ledger.specs.Once.{SaysFails}
-use Rattle.jc_ledger.specs.Tied.{made_as, HasSoundLists, IsListing, IsCurrent, TiesJob}
+use Rattle.jc_ledger.specs.Tied.{made_as, HasOrderedLists, IsListing, IsCurrent, TiesJob}
 use Rattle.jc_ledger.proofs.AgreementFacts.{failed_joins, has_joined, listed_joined}
 use Rattle.jc_ledger.proofs.DoneFacts.{indexes-each, join-known}
 use Rattle.jc_ledger.proofs.FailFacts.{failing-in, failures-in, says-counts}
@@ -86,7 +86,7 @@ module _ (made : Job) (log : List Entry) (ledger : Ledger) (job : Job) (pods : L
   listing : IsListing ledger.records current.version.0 current.status
   listing = h.ties.listed current.version.0 current h.stands h.current_step.uid
 
-  tidy : HasSoundLists current
+  tidy : HasOrderedLists current
   tidy = h.ties.tidy current.version.0 current h.stands h.current_step.uid
 
   now : IsCurrent log ledger current
@@ -516,7 +516,7 @@ module _ (made : Job) (log : List Entry) (ledger : Ledger) (job : Job) (pods : L
       absurd (true≢false (sym (ap (λ m. joins_list m (outcome_of job.spec pod)) (sym mode_of_new) ∙ ap (λ (x : Record). joins_list new.spec.mode x.outcome) (sym is) ∙ l) ∙ j.3))
 
   -- The new status is tidy.
-  tidy_new : HasSoundLists new
+  tidy_new : HasOrderedLists new
   tidy_new = record {
     failed = subst Ascends (sym none_failed) tt;
     succeeded = subst Ascends (sym none_succeeded) tt;

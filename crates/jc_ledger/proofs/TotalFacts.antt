@@ -18,7 +18,7 @@ use Rattle.jc_failpol.specs.declared.outcomes.Outcome.{Outcome}
 use Rattle.jc_failpol.specs.declared.outcomes.Outcome.TheVariants.{Succeeded, Failed}
 use Rattle.jc_failpol.specs.Outcomes.{same_outcome}
 use Rattle.jc_ledger.specs.Ledger.{Record, judged_as, Ledger, ledger_of}
-use Rattle.jc_ledger.specs.Tied.{made_as, HasSoundLists, IsCurrent, TiesJob, Ties, TotalsWithin, TotalsAreWithin}
+use Rattle.jc_ledger.specs.Tied.{made_as, HasOrderedLists, IsCurrent, TiesJob, Ties, TotalsWithin, TotalsAreWithin}
 use Rattle.jc_ledger.proofs.FailFacts.{says-few}
 use Rattle.jc_ledger.proofs.DistinctFacts.{ledger_of-distinct}
 use Rattle.jc_ledger.proofs.MadeFacts.{WasMade, put-was_made}
@@ -45,7 +45,7 @@ few_judged outcome records =
     omega (arith, both)
 
 -- So it is of the Job as it is now.
-totals_now : (log : List Entry) (ledger : Ledger) (job : Job) (n : ℕ) → HasSoundLists job → IsCurrent log ledger job → length ledger.records ≤ n → length ledger.done ≤ n → TotalsWithin n job
+totals_now : (log : List Entry) (ledger : Ledger) (job : Job) (n : ℕ) → HasOrderedLists job → IsCurrent log ledger job → length ledger.records ≤ n → length ledger.done ≤ n → TotalsWithin n job
 totals_now log ledger job n lists now records few = record {
   failed = failed;
   succeeded = by job.spec.mode refl;

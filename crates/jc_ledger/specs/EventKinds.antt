@@ -2,7 +2,7 @@
 -- step it is. `flight` is that sync, as it was before the event.
 --     StatusWrite                 a sync writes a status: what goes with it
 --     FinalizerWrite              a sync takes the finalizer of a pod: what goes with it
---     IsQuiet d log               the deed appended nothing, and what began is within the log
+--     AppendsNoEntry d log               the deed appended nothing, and what began is within the log
 --     IsWritten d log             the deed appended one entry, and nothing began
 --     IsPlain d                   the deed is no write of a status and takes no finalizer
 --     IsEmpty status              the status of a new Job
@@ -52,7 +52,7 @@ use Rattle.jc_ledger.specs.Tied.{HasIndexIn, IsWithin}
 -- ---- deeds
 
 -- The deed appended nothing, and a sync that it began is within the log.
-pub record IsQuiet (d : Deed) (log : List Entry) : Type 0 where
+pub record AppendsNoEntry (d : Deed) (log : List Entry) : Type 0 where
   pub still : d.length.0 ≡ length log
   pub within : IfSome (began_of d.reply) (IsWithin (length log))
 
@@ -123,7 +123,7 @@ began basis = record { key = basis.key; jobs_at = basis.jobs_at.0; pods_at = bas
 
 -- A sync begins: its basis is what the log held, and its pod cache is not older than the Job that it sees.
 pub record Begins (d : Deed) (log : List Entry) (flight : Flight) : Type 0 where
-  pub quiet : IsQuiet d log
+  pub quiet : AppendsNoEntry d log
   pub basis : IsBasisOf log flight.basis
   pub reached : IfSome flight.basis.job (λ job. job.version.0 ≤ flight.basis.pods_at.0)
   pub written : flight.written ≡ None
@@ -132,7 +132,7 @@ pub record Begins (d : Deed) (log : List Entry) (flight : Flight) : Type 0 where
 
 -- A release finds no pod that has the finalizer: it was there and is lost. The sync has the pod released.
 pub record FindsNothing (d : Deed) (log : List Entry) (u : Uid) : Type 0 where
-  pub quiet : IsQuiet d log
+  pub quiet : AppendsNoEntry d log
   pub lost : is_lost (life u log) ≡ true
 
 -- The sync with one more pod whose release was answered.

@@ -14,7 +14,7 @@ use Rattle.jc_types.specs.declared.objects.Job.{Job}
 use Rattle.jc_types.specs.declared.objects.Pod.{Pod}
 use Rattle.jc_log.specs.Deeds.{Deed}
 use Rattle.jc_ledger.specs.declared.flights.Flight.{Flight}
-use Rattle.jc_ledger.specs.EventKinds.{StatusWrite, FinalizerWrite, IsQuiet, CreatesJob, UpdatesJob, DeletesJob, WritesPod, Begins as BeginsSync, FindsNothing, with_released, WritesFirst, with_written, WritesSecond, Releases, Orphans, LetsGo}
+use Rattle.jc_ledger.specs.EventKinds.{StatusWrite, FinalizerWrite, AppendsNoEntry, CreatesJob, UpdatesJob, DeletesJob, WritesPod, Begins as BeginsSync, FindsNothing, with_released, WritesFirst, with_written, WritesSecond, Releases, Orphans, LetsGo}
 use Rattle.jc_ledger.specs.Tied.{Tied}
 
 -- A history so far: its deeds, its log, both newest first, and the syncs under way.
@@ -64,7 +64,7 @@ pub record Drops (flights next : List Flight) : Type 0 where
 -- One event, or syncs that come to their end. Each constructor names what the event is, by its facts, and what
 -- it makes of the world.
 pub data Step (w next : World) : Type 0 where
-  Quiet : (d : Deed) → IsQuiet d w.log → next ≡ world_after d w w.log w.flights → Step w next
+  Quiet : (d : Deed) → AppendsNoEntry d w.log → next ≡ world_after d w w.log w.flights → Step w next
   Dropped : Drops w.flights next.flights → next ≡ flying w next.flights → Step w next
   Created : (d : Deed) (job : Job) → CreatesJob d w.log job
       → next ≡ world_after d w (JobPut job ∷ w.log) w.flights → Step w next

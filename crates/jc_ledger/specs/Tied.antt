@@ -1,8 +1,8 @@
 -- What ties the ledger to the log, from event to event: the invariant of counting once. It speaks of a flat
 -- list of syncs under way, and of no controller, worker, queue or moment.
 --     made_as j log                  the Job of the UID as it was made, with what never changes of it
---     HasSoundLists job              the two lists ascend, are apart and short, and fit the completion mode
---     IsSound made log r             a record is what the log says of its pod
+--     HasOrderedLists job              the two lists ascend, are apart and short, and fit the completion mode
+--     IsTrueRecord made log r             a record is what the log says of its pod
 --     IsListing records v status     what the status of version v lists was judged by then
 --     IsCurrent ..                   what is known of the Job as it is now
 --     TiesJob made log ledger        all that ties the ledger of a Job
@@ -60,7 +60,7 @@ made_as j (PodGone pod ∷ older) = made_as j older
 
 -- The lists of the status ascend, are apart, and are short together; its counts ascend by index. An Indexed
 -- Job lists no success, and its total is the number of its completed indexes; another Job completes none.
-pub record HasSoundLists (job : Job) : Type 0 where
+pub record HasOrderedLists (job : Job) : Type 0 where
   pub failed : Ascends job.status.uncounted_failed
   pub succeeded : Ascends job.status.uncounted_succeeded
   pub apart : (u : Uid)
@@ -73,7 +73,7 @@ pub record HasSoundLists (job : Job) : Type 0 where
 
 -- A record is what the log says of its pod: it stood so among the first `seen` entries, which are fewer than
 -- those up to the write that judged it.
-pub record IsSound (made : Job) (log : List Entry) (r : Record) : Type 0 where
+pub record IsTrueRecord (made : Job) (log : List Entry) (r : Record) : Type 0 where
   pub before : r.seen < r.at
   pub within : r.at ≤ length log
   pub stood : life r.pod.uid (upto r.seen log) ≡ Live r.pod
@@ -109,9 +109,9 @@ pub record IsCurrent (log : List Entry) (ledger : Ledger) (job : Job) : Type 0 w
 pub record TiesJob (made : Job) (log : List Entry) (ledger : Ledger) : Type 0 where
   pub waits : WaitsForEnd made.spec
   pub limited : IsSome made.spec.per_index → made.spec.mode ≡ Indexed
-  pub sound : (u : Uid) (r : Record) → record_of u ledger.records ≡ Some r → IsSound made log r
+  pub sound : (u : Uid) (r : Record) → record_of u ledger.records ≡ Some r → IsTrueRecord made log r
   pub tidy : (v : ℕ) (job : Job) → entry_at v log ≡ Some (JobPut job) → job.uid ≡ made.uid
-      → HasSoundLists job
+      → HasOrderedLists job
   pub listed : (v : ℕ) (job : Job) → entry_at v log ≡ Some (JobPut job) → job.uid ≡ made.uid
       → IsListing ledger.records v job.status
   pub now : (job : Job) → job_in made.key log ≡ Some job → job.uid ≡ made.uid

@@ -2,7 +2,7 @@
 use Rattle.std.proofs.Common.{◌≡◌, ℕ, List, [], ◌∷◌, ◌++◌, length, map, reverse, Option, Some, None, refl, sym, ap, subst, ◌∙◌, append_assoc}
 use Rattle.std.proofs.lemmas.Grind.{reverse_onto}
 use Rattle.std.proofs.lemmas.List.{append-nil}
-use Rattle.jc_history.specs.Legal.{ComesNext, InLanes, IsHistory, IsLegal, IsLegalNext, next_place}
+use Rattle.jc_history.specs.Legal.{ComesNext, InLanes, IsHistory, IsLegal, IsLegalNext, next_command}
 use Rattle.jc_history.specs.Replies.{log_after, log_given, reply_given}
 use Rattle.jc_lines.specs.Told.{Follow, Glimpse, OfLane, OfSystem, glimpse}
 use Rattle.jc_log.specs.Deeds.{Deed, act_of_event, deed}
@@ -22,7 +22,7 @@ number_in (Some n) = n
 
 -- The event that is glimpsed behind the events before.
 abbrev event_given : List Command → List Past → Glimpse → Event
-event_given commands before (OfLane lane) = event.Command lane (number_in (next_place commands lane before))
+event_given commands before (OfLane lane) = event.Command lane (number_in (next_command commands lane before))
 event_given commands before (OfSystem system) = event.System system
 
 event_is_given : (commands : List Command) (before : List Past) (e : Event) → ComesNext commands before e

@@ -51,7 +51,7 @@ pub fn in_order(alloc: Global, jobs: &Table<Key, Arc<Job>>) -> Result<Jobs, Want
 }
 
 // The verdicts in the row of a Job; none where it has no row.
-fn verdicts_of(rows: &Table<Uid, Verdicts>, job: Uid) -> Verdicts
+fn verdicts_at(rows: &Table<Uid, Verdicts>, job: Uid) -> Verdicts
     ensures { result ≡ verdicts_at job rows.now }
 {
     match rows.get(&job) {
@@ -74,7 +74,7 @@ fn print_lines(
     ensures { OnOk result (string_bytes out.new
         ≡ string_bytes out.old ++ job_lines (λ j. verdicts_at j rows.now) job.now) }
 {
-    let found = verdicts_of(rows, job.uid);
+    let found = verdicts_at(rows, job.uid);
     print_job(out, alloc, job)?;
     print_verdicts(
         out,

@@ -7,7 +7,7 @@ ghost use Rattle.jc_types.specs.declared.replies.Request.TheVariants as request;
 ghost use Rattle.jc_lines.specs.ReplyTexts.{TellsThree, answer_text, index_text, reply_text, request_text};
 
 use crate::keys::{print_key, print_pod, print_version};
-use crate::words::{field_word, kind_word, phase_word};
+use crate::words::{field_word, objects_word, phase_word};
 use jc_moment::Moment;
 use jc_print::put_decimal;
 use jc_types::{Answer, Key, Kind, Name, Phase, Reply, Request, Uid, Version, Want};
@@ -76,7 +76,7 @@ fn print_behind(out: &mut String, kind: Kind, need: Version, have: Version) -> R
     ensures { OnOk result (string_bytes out.new
         ≡ string_bytes out.old ++ reply_text (reply.Behind kind need have)) }
 {
-    print_pair(out, "behind ", kind_word(kind))?;
+    print_pair(out, "behind ", objects_word(kind))?;
     print_version(out, " need v", need)?;
     print_version(out, " have v", have)
 }

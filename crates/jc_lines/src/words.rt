@@ -19,7 +19,7 @@ pub fn phase_word(phase: Phase) -> &'static str
 }
 
 /// The word of a kind of objects.
-pub fn kind_word(kind: Kind) -> &'static str
+pub fn objects_word(kind: Kind) -> &'static str
     ensures { result.now ≡ objects_word kind }
 {
     match kind {

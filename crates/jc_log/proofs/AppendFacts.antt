@@ -15,8 +15,8 @@ use Rattle.jc_log.proofs.WriteFacts.{job_in-born}
 -- ---- Jobs
 
 -- The place of the next entry.
-next_place : (log : List Entry) (e : Entry) (v : ℕ) → v ≡ length log + 1 → v ≡ length (e ∷ log)
-next_place log e v h = omega (arith, h)
+next_command : (log : List Entry) (e : Entry) (v : ℕ) → v ≡ length log + 1 → v ≡ length (e ∷ log)
+next_command log e v h = omega (arith, h)
 
 -- A Job that is made has one more birth.
 pub made_job-births : (log : List Entry) (job : Job) → Stored log → IsNewJob log job → births (JobPut job ∷ log) ≡ births log + 1
@@ -26,7 +26,7 @@ made_job-births log job all new =
 -- A Job that is made is a write of the store.
 pub made_job-writes : (log : List Entry) (job : Job) → job.version ≡ next_version log → IsNewJob log job → job_in job.key log ≡ None → Writes log (JobPut job)
 made_job-writes log job at new none = record {
-  version = next_place log (JobPut job) job.version.0 (ap (λ v. v.0) at);
+  version = next_command log (JobPut job) job.version.0 (ap (λ v. v.0) at);
   can = by (job_in job.key log) none;
 }
   where
@@ -45,7 +45,7 @@ put_job-births log job step =
 
 pub put_job-writes : (log : List Entry) (job : Job) → job.version ≡ next_version log → StepsFrom (job_in job.key log) job → Writes log (JobPut job)
 put_job-writes log job at step = record {
-  version = next_place log (JobPut job) job.version.0 (ap (λ v. v.0) at);
+  version = next_command log (JobPut job) job.version.0 (ap (λ v. v.0) at);
   can = by (job_in job.key log) step;
 }
   where
@@ -55,7 +55,7 @@ put_job-writes log job at step = record {
 
 pub end_job-writes : (log : List Entry) (job : Job) → job.version ≡ next_version log → CanEnd (job_in job.key log) job → Writes log (JobGone job)
 end_job-writes log job at end = record {
-  version = next_place log (JobGone job) job.version.0 (ap (λ v. v.0) at);
+  version = next_command log (JobGone job) job.version.0 (ap (λ v. v.0) at);
   can = end;
 }
 
@@ -71,7 +71,7 @@ made_pod-births log pod all new =
 
 pub made_pod-writes : (log : List Entry) (pod : Pod) → Stored log → pod.version ≡ next_version log → IsNewPod log pod → Writes log (PodPut pod)
 made_pod-writes log pod all at new = record {
-  version = next_place log (PodPut pod) pod.version.0 (ap (λ v. v.0) at);
+  version = next_command log (PodPut pod) pod.version.0 (ap (λ v. v.0) at);
   can = (by (life pod.uid log) (new_never log pod all new), stays pod new.marked);
 }
   where
@@ -95,7 +95,7 @@ write_pod-births log pod step =
 
 pub write_pod-writes : (log : List Entry) (pod : Pod) → pod.version ≡ next_version log → CanGo (life pod.uid log) pod → goes pod ≡ false → Writes log (PodPut pod)
 write_pod-writes log pod at step stays = record {
-  version = next_place log (PodPut pod) pod.version.0 (ap (λ v. v.0) at);
+  version = next_command log (PodPut pod) pod.version.0 (ap (λ v. v.0) at);
   can = (over (life pod.uid log) step, stays);
 }
   where
@@ -106,6 +106,6 @@ write_pod-writes log pod at step stays = record {
 
 pub end_pod-writes : (log : List Entry) (pod : Pod) → pod.version ≡ next_version log → CanGo (life pod.uid log) pod → goes pod ≡ true → Writes log (PodGone pod)
 end_pod-writes log pod at step going = record {
-  version = next_place log (PodGone pod) pod.version.0 (ap (λ v. v.0) at);
+  version = next_command log (PodGone pod) pod.version.0 (ap (λ v. v.0) at);
   can = (step, going);
 }

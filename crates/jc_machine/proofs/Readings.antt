@@ -20,7 +20,7 @@ use Rattle.jc_team.proofs.DueFacts.{in_turn-first}
 use Rattle.jc_team.specs.Schedules.{MirrorsLog, number_of}
 use Rattle.jc_team.specs.ControllerCalls.{can_begin, is_begun}
 use Rattle.jc_team.proofs.LawFacts.{begun-ready}
-use Rattle.jc_history.specs.Agrees.{IsHeld}
+use Rattle.jc_history.specs.Agrees.{IsScheduleOf}
 use Rattle.jc_history.specs.Delays.{delays, least_delay}
 use Rattle.jc_history.specs.Diaries.{notes}
 use Rattle.jc_history.specs.Fresh.{may_begin}
@@ -63,7 +63,7 @@ none-mapped : {A B : Type 0} (f : A → B) (o : Option A) → is_none (option_ma
 none-mapped f None = refl
 none-mapped f (Some x) = refl
 
-module _ (older : List Note) (team : Team) (held : IsHeld older team.con.schedule) where
+module _ (older : List Note) (team : Team) (held : IsScheduleOf older team.con.schedule) where
   least_is : option_map (λ (row : Key × ℕ). row.1) (first_of team.con.schedule.delays.moments) ≡ least_delay older
   least_is = ap (option_map (λ (row : Key × ℕ). row.1)) (first-same team.con.schedule.delays.moments (delays older) held.moments_once (distinct (delays older) (apart-delays older)) (λ k. held.delayed.moment_is k ∙ sym (at-delays older k)))
 

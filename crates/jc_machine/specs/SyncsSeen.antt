@@ -6,7 +6,7 @@
 --     tells_begin reply                   a sync began
 --     StartsCurrent seen c w k job            nothing keeps a sync of the worker from the key's next status
 --     next_seen seen c k job              that status
---     StepsQuietly c w old new            steps that wrote no status
+--     StepsWithoutStatus c w old new            steps that wrote no status
 use Rattle.std.specs.Prelude.{◌≡◌, ℕ, Bool, true, false, List, ◌++◌, None, Some, map, slice_get}
 use Rattle.std.specs.List.{AllByRecursion as Each}
 use Rattle.jc_types.specs.declared.replies.Reply.{Reply}
@@ -77,6 +77,6 @@ next_seen seen c k job =
     (own_pods job (pods_under k (log_seen seen)))
 
 -- The new is the old and steps of the worker alone, of which none asked for a status.
-pub record StepsQuietly (c w : ℕ) (old new : Seen) : Type 0 where
+pub record StepsWithoutStatus (c w : ℕ) (old new : Seen) : Type 0 where
   pub on : StepsOn c w old new
   pub silent : Each (λ (past : Past). WritesNoStatus past.reply) on.run

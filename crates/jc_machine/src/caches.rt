@@ -4,7 +4,7 @@ ghost use Rattle.std.specs.Prelude.{length};
 ghost use Rattle.jc_log.specs.Acts as does;
 ghost use Rattle.jc_machine.specs.Calls.{HappensOrKeeps, MayCome};
 
-use crate::keeping::keep;
+use crate::keeping::record;
 use crate::machine::Machine;
 use jc_team::Member;
 use jc_types::{Event, Kind, Reply, Want};
@@ -22,7 +22,7 @@ impl Machine {
         let reply = member.list(self.alloc, &self.store, kind)?;
         let length = self.store.log_len();
         let events = &mut self.history.events;
-        let reply = keep(events, &mut self.lanes, &self.script, event, reply, length);
+        let reply = record(events, &mut self.lanes, &self.script, event, reply, length);
         Ok(reply)
     }
 
@@ -43,7 +43,7 @@ impl Machine {
         let reply = member.deliver(&self.store, self.shape.window, kind)?;
         let length = self.store.log_len();
         let events = &mut self.history.events;
-        let reply = keep(events, &mut self.lanes, &self.script, event, reply, length);
+        let reply = record(events, &mut self.lanes, &self.script, event, reply, length);
         Ok(reply)
     }
 
@@ -61,7 +61,7 @@ impl Machine {
         let reply = Reply::Done;
         let length = self.store.log_len();
         let events = &mut self.history.events;
-        let reply = keep(events, &mut self.lanes, &self.script, event, reply, length);
+        let reply = record(events, &mut self.lanes, &self.script, event, reply, length);
         Ok(reply)
     }
 }

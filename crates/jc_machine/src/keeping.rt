@@ -10,7 +10,7 @@ use jc_types::{Event, Past, Pasts, Reply, Script, Version};
 
 // Keeps the event with one of its replies, in the room that there is, goes on in its lane, and gives the other. It
 // takes no memory.
-pub(crate) fn keep_twice(
+pub(crate) fn record_twice(
     history: &mut Pasts,
     lanes: &mut Lanes,
     script: &Script,
@@ -36,7 +36,7 @@ pub(crate) fn keep_twice(
 }
 
 // Keeps the event with its reply, and gives the reply. It takes no memory.
-pub(crate) fn keep(
+pub(crate) fn record(
     history: &mut Pasts,
     lanes: &mut Lanes,
     script: &Script,
@@ -53,5 +53,5 @@ pub(crate) fn keep(
     ensures reply { result ≡ reply }
 {
     let replies = Twice::of(reply);
-    keep_twice(history, lanes, script, event, replies, end)
+    record_twice(history, lanes, script, event, replies, end)
 }

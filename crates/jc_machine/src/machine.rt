@@ -9,7 +9,7 @@ ghost use Rattle.jc_runs.specs.ValidActions.{IsValidAction};
 ghost use Rattle.jc_log.specs.Log.{job_in};
 ghost use Rattle.jc_runs.specs.Once.{AllJustified, OnceAtEach};
 ghost use Rattle.jc_history.specs.Diaries.{moment};
-ghost use Rattle.jc_history.specs.Legal.{InLanes, IsHistory, IsLegal, next_place};
+ghost use Rattle.jc_history.specs.Legal.{InLanes, IsHistory, IsLegal, next_command};
 ghost use Rattle.jc_history.specs.Delays.{least_delay};
 ghost use Rattle.jc_history.specs.Fresh.{may_begin};
 ghost use Rattle.jc_history.specs.Nodes.{fate, node_step};
@@ -205,7 +205,7 @@ impl Machine {
 
     /// The place in the script of the lane's next command; `None` exactly where the lane is used up.
     pub fn next_command(&self, lane: u8) -> Option<u32>
-        ensures { result ≡ next_place self.now.script.commands lane self.now.pasts }
+        ensures { result ≡ next_command self.now.script.commands lane self.now.pasts }
     {
         self.lanes.next_of(lane)
     }

@@ -11,7 +11,7 @@ ghost use Rattle.jc_runs.specs.TextlessReplies.{HasNoText};
 ghost use Rattle.jc_runs.specs.Teams.{clocked_team};
 ghost use Rattle.jc_machine.specs.Calls.{HappensOrKeeps, MayCome};
 
-use crate::keeping::keep;
+use crate::keeping::record;
 use crate::machine::Machine;
 use jc_node::{Fates, NodeStep, change, node_step};
 use jc_store::Store;
@@ -101,7 +101,7 @@ impl Machine {
         let length = self.store.log_len();
         let _log = self.store.log();
         let events = &mut self.history.events;
-        let reply = keep(events, &mut self.lanes, &self.script, event, reply, length);
+        let reply = record(events, &mut self.lanes, &self.script, event, reply, length);
         Ok(reply)
     }
 
@@ -118,14 +118,14 @@ impl Machine {
         match self.clock.plus(add) {
             None => {
                 let reply = Reply::ClockEnd;
-                let reply = keep(events, &mut self.lanes, &self.script, event, reply, length);
+                let reply = record(events, &mut self.lanes, &self.script, event, reply, length);
                 Ok(reply)
             }
             Some(moment) => {
                 clock_all(&mut self.members, moment);
                 self.clock = moment;
                 let reply = Reply::Now { moment };
-                let reply = keep(events, &mut self.lanes, &self.script, event, reply, length);
+                let reply = record(events, &mut self.lanes, &self.script, event, reply, length);
                 Ok(reply)
             }
         }
@@ -145,7 +145,7 @@ impl Machine {
         let reply = Reply::Done;
         let length = self.store.log_len();
         let events = &mut self.history.events;
-        let reply = keep(events, &mut self.lanes, &self.script, event, reply, length);
+        let reply = record(events, &mut self.lanes, &self.script, event, reply, length);
         Ok(reply)
     }
 }

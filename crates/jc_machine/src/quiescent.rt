@@ -10,7 +10,7 @@ ghost use Rattle.jc_machine.specs.DiariesSeen.{diary_seen};
 ghost use Rattle.jc_machine.specs.Idle.{AreIdle, HaveNoSyncs, IsTeamIdle, has_seen};
 ghost use Rattle.jc_machine.specs.Calls.{HappensOrKeeps, MayCome};
 
-use crate::keeping::keep;
+use crate::keeping::record;
 use crate::machine::Machine;
 use jc_types::{Event, Kind, Reply, Want};
 
@@ -111,7 +111,7 @@ impl Machine {
         let reply = Reply::Done;
         let length = self.store.log_len();
         let events = &mut self.history.events;
-        let reply = keep(events, &mut self.lanes, &self.script, event, reply, length);
+        let reply = record(events, &mut self.lanes, &self.script, event, reply, length);
         Ok(reply)
     }
 }

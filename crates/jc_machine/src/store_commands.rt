@@ -7,7 +7,7 @@ ghost use Rattle.jc_log.specs.Requests.{grown, report_phase_gives};
 ghost use Rattle.jc_machine.specs.FinishedPods.{finished_gives};
 ghost use Rattle.jc_machine.specs.Calls.{HappensOrKeeps, MayCome};
 
-use crate::keeping::{keep, keep_twice};
+use crate::keeping::{record, record_twice};
 use crate::machine::Machine;
 use jc_node::finish_change;
 use jc_runs::allowed_updates_stay_valid;
@@ -70,7 +70,7 @@ impl Machine {
         let length = self.store.log_len();
         let _log = self.store.log();
         let events = &mut self.history.events;
-        let reply = keep(events, &mut self.lanes, &self.script, event, reply, length);
+        let reply = record(events, &mut self.lanes, &self.script, event, reply, length);
         Ok(reply)
     }
 
@@ -93,7 +93,7 @@ impl Machine {
         let length = self.store.log_len();
         let _log = self.store.log();
         let events = &mut self.history.events;
-        let reply = keep(events, &mut self.lanes, &self.script, event, reply, length);
+        let reply = record(events, &mut self.lanes, &self.script, event, reply, length);
         Ok(reply)
     }
 
@@ -109,7 +109,7 @@ impl Machine {
         let length = self.store.log_len();
         let _log = self.store.log();
         let events = &mut self.history.events;
-        let reply = keep(events, &mut self.lanes, &self.script, event, reply, length);
+        let reply = record(events, &mut self.lanes, &self.script, event, reply, length);
         Ok(reply)
     }
 
@@ -125,7 +125,7 @@ impl Machine {
         let length = self.store.log_len();
         let _log = self.store.log();
         let events = &mut self.history.events;
-        let reply = keep(events, &mut self.lanes, &self.script, event, reply, length);
+        let reply = record(events, &mut self.lanes, &self.script, event, reply, length);
         Ok(reply)
     }
 
@@ -141,7 +141,7 @@ impl Machine {
         let length = self.store.log_len();
         let _log = self.store.log();
         let events = &mut self.history.events;
-        let reply = keep(events, &mut self.lanes, &self.script, event, reply, length);
+        let reply = record(events, &mut self.lanes, &self.script, event, reply, length);
         Ok(reply)
     }
 
@@ -162,7 +162,7 @@ impl Machine {
         let length = self.store.log_len();
         let _log = self.store.log();
         let events = &mut self.history.events;
-        let reply = keep_twice(
+        let reply = record_twice(
             events,
             &mut self.lanes,
             &self.script,
@@ -185,7 +185,7 @@ impl Machine {
         let length = self.store.log_len();
         let _log = self.store.log();
         let events = &mut self.history.events;
-        let reply = keep_twice(
+        let reply = record_twice(
             events,
             &mut self.lanes,
             &self.script,

@@ -12,7 +12,7 @@ ghost use Rattle.jc_runs.specs.QuietRuns.{IsAtNext};
 ghost use Rattle.jc_runs.specs.Machines.{AllAskValid};
 ghost use Rattle.jc_runs.specs.Seen.{deeds_seen, happened, log_seen, reply_seen};
 ghost use Rattle.jc_machine.specs.DiariesSeen.{diary_seen};
-ghost use Rattle.jc_machine.specs.SyncsSeen.{StartsCurrent, IsLast, IsSynced, StepsOn, StepsQuietly, begin_event, next_seen, tells_begin};
+ghost use Rattle.jc_machine.specs.SyncsSeen.{StartsCurrent, IsLast, IsSynced, StepsOn, StepsWithoutStatus, begin_event, next_seen, tells_begin};
 
 use crate::apply::ApplyFault;
 use crate::machine::Machine;
@@ -108,7 +108,7 @@ impl Machine {
         ensures silent { OnOk result ((k : Key) (job : Job)
             → StartsCurrent self.old controller worker k job
             → next_seen self.old controller k job ≡ job.status
-            → StepsQuietly controller worker
+            → StepsWithoutStatus controller worker
             (happened self.old (begin_event controller worker)) self.new) }
     {
         quiet_syncs_reach_the_next_status();

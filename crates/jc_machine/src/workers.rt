@@ -8,7 +8,7 @@ ghost use Rattle.jc_history.specs.Registers.{register};
 ghost use Rattle.jc_machine.specs.DiariesSeen.{diary_seen};
 ghost use Rattle.jc_machine.specs.Calls.{HappensOrKeeps, MayCome};
 
-use crate::keeping::{keep, keep_twice};
+use crate::keeping::{record, record_twice};
 use crate::machine::Machine;
 use jc_team::{Basis, Plan};
 use jc_types::{Arc, Event, Fault, Reply, Want};
@@ -31,7 +31,7 @@ impl Machine {
         let begins = member.begin(worker as usize, self.clock)?;
         let length = self.store.log_len();
         let events = &mut self.history.events;
-        let reply = keep_twice(events, &mut self.lanes, &self.script, event, begins, length);
+        let reply = record_twice(events, &mut self.lanes, &self.script, event, begins, length);
         Ok(reply)
     }
 
@@ -48,7 +48,7 @@ impl Machine {
         let length = self.store.log_len();
         let _log = self.store.log();
         let events = &mut self.history.events;
-        let reply = keep(events, &mut self.lanes, &self.script, event, reply, length);
+        let reply = record(events, &mut self.lanes, &self.script, event, reply, length);
         Ok(reply)
     }
 
@@ -71,7 +71,7 @@ impl Machine {
         let reply = Reply::Done;
         let length = self.store.log_len();
         let events = &mut self.history.events;
-        let reply = keep(events, &mut self.lanes, &self.script, event, reply, length);
+        let reply = record(events, &mut self.lanes, &self.script, event, reply, length);
         Ok(reply)
     }
 

@@ -23,7 +23,7 @@ use Rattle.jc_manage.specs.LetGoes.{is_let_go, is_needless, is_one_of, is_spare,
 use Rattle.jc_manage.proofs.Bounds.{creatable-few, creates-few, lacks-few}
 use Rattle.jc_history.specs.Nodes.{last_end}
 use Rattle.jc_plan.specs.Plans.{planned}
-use Rattle.jc_plan.specs.Statuses.{accounted, decided_in, is_settled}
+use Rattle.jc_plan.specs.Statuses.{accounted, decided_in, is_end_decided}
 use Rattle.jc_plan.proofs.PlanFacts.{plan-creates}
 use Rattle.jc_making.specs.Grants.{AllGranted, AreNew}
 use Rattle.jc_making.specs.Making.{IsCounted, fails, is_closed, may_be_made, misses, open_indexes, places, places_of, pods_succeeded, will_fail}
@@ -44,7 +44,7 @@ all-active made (index ∷ indexes) (p ∷ pods) h = (h.0.active, all-active (su
 module _ (ends : List End) (made : ℕ) (job : Job) (basis : Basis) (this : basis.job ≡ Some job) (rises : IsRising basis.pods)
     (counted : IsCounted job (own_pods job basis.pods)) (last : IfSome (last_end ends) (λ end. fails end ≡ false))
     (now : List Pod) (is : AllGranted (planned basis) made (own_pods job basis.pods) now)
-    (undecided : is_settled job (decided_in job basis) ≡ false) (running : job.spec.suspend ≡ false) where
+    (undecided : is_end_decided job (decided_in job basis) ≡ false) (running : job.spec.suspend ≡ false) where
   abbrev pub own : List Pod
   own = own_pods job basis.pods
 
@@ -80,7 +80,7 @@ module _ (ends : List End) (made : ℕ) (job : Job) (basis : Basis) (this : basi
       lets : Pod → Bool
       lets p = is_let_go job.spec.mode needless wants tracked p
 
-      each : (p : Pod) → (is_tracked_active p && not (is_tracked_active p && (not (is_settled job (decided_in job basis)) && (job.spec.suspend || lets p)))) ≡ (is_tracked_active p && not (lets p))
+      each : (p : Pod) → (is_tracked_active p && not (is_tracked_active p && (not (is_end_decided job (decided_in job basis)) && (job.spec.suspend || lets p)))) ≡ (is_tracked_active p && not (lets p))
       each p = (λ i. is_tracked_active p && not (is_tracked_active p && (not (undecided i) && (running i || lets p)))) ∙ by (is_tracked_active p)
         where
           by : (b : Bool) → (b && not (b && (true && (false || lets p)))) ≡ (b && not (lets p))
@@ -105,8 +105,8 @@ module _ (ends : List End) (made : ℕ) (job : Job) (basis : Basis) (this : basi
       let counts_in = accounted job basis in
       let same = ap length (plan-creates basis job this) in
       let less = lacks-few job own counts_in in
-      let few = creatable-few (is_settled job (decided_in job basis)) job own counts_in in
-      let fewest = creates-few (Rattle.jc_manage.specs.Backoffs.opening (Rattle.jc_manage.specs.Backoffs.backoff_after basis.backoff counts_in basis.now)) basis.now (creatable (is_settled job (decided_in job basis)) job own counts_in) in
+      let few = creatable-few (is_end_decided job (decided_in job basis)) job own counts_in in
+      let fewest = creates-few (Rattle.jc_manage.specs.Backoffs.opening (Rattle.jc_manage.specs.Backoffs.backoff_after basis.backoff counts_in basis.now)) basis.now (creatable (is_end_decided job (decided_in job basis)) job own counts_in) in
       omega (arith, same, less, few, fewest)
 
   -- As many are kept as are of use, or as are wanted.

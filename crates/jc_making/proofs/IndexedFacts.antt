@@ -34,13 +34,13 @@ use Rattle.jc_account.proofs.Owned.{filter-least}
 use Rattle.jc_perindex.specs.Failures.{failing_by, failing_in, failures_by, failures_in, has_failed, newly_failed, raised}
 use Rattle.jc_perindex.proofs.Raised.{raised-ascends}
 use Rattle.jc_perindex.proofs.Sets.{increasing-filter, increasing-join, up-kept}
-use Rattle.jc_manage.specs.Backoffs.{backoff_after, is_held_back, opening}
+use Rattle.jc_manage.specs.Backoffs.{backoff_after, is_delayed_until, opening}
 use Rattle.jc_manage.specs.Creations.{creatable, creates, free, holds, is_free, job_lacks, keepers, keeps, new_pods, wanted}
 use Rattle.jc_manage.specs.LetGoes.{is_earlier, is_needless, is_one_of, is_spare, remaining}
 use Rattle.jc_manage.proofs.Bounds.{free-new, free-unkept}
 use Rattle.jc_history.specs.Nodes.{last_end}
 use Rattle.jc_plan.specs.Plans.{planned}
-use Rattle.jc_plan.specs.Statuses.{accounted, decided_in, is_settled}
+use Rattle.jc_plan.specs.Statuses.{accounted, decided_in, is_end_decided}
 use Rattle.jc_plan.proofs.PlanFacts.{plan-creates}
 use Rattle.jc_plan.proofs.ValueFacts.{second-index_failures}
 use Rattle.jc_making.specs.Grants.{AllGranted, AreNew}
@@ -109,13 +109,13 @@ numbers-of job own counted settled k held = by held (settled || job.spec.suspend
           up = increasing-take k all (increasing-filter (is_free counted (keepers job.spec.replacement own)) (range_with_len 0 (unwrap_or job.spec.completions 0)) (range_set 0 (unwrap_or job.spec.completions 0)).0);
           opened =
               Each-take (λ n. (is_needless (unwrap_or job.spec.completions 0) counted n ≡ false) × Each (λ p. has_index n p ≡ false) (tracked_active_pods own)) k all
-              (Each-weaker (λ n. (n < 0 + unwrap_or job.spec.completions 0) × ((Rattle.jc_manage.specs.Creations.is_settled_index counted n ≡ false) × (holds (keepers job.spec.replacement own) n ≡ false)))
+              (Each-weaker (λ n. (n < 0 + unwrap_or job.spec.completions 0) × ((Rattle.jc_manage.specs.Creations.is_done_index counted n ≡ false) × (holds (keepers job.spec.replacement own) n ≡ false)))
               (λ n. (is_needless (unwrap_or job.spec.completions 0) counted n ≡ false) × Each (λ p. has_index n p ≡ false) (tracked_active_pods own))
               (λ n h. ((λ i. h.1.0 i || lt-leb (unwrap_or job.spec.completions 0) n (omega (arith, h.0)) i), unheld job.spec.replacement own n h.1.1)) all
-              (Each-both (λ n. n < 0 + unwrap_or job.spec.completions 0) (λ n. (Rattle.jc_manage.specs.Creations.is_settled_index counted n ≡ false) × (holds (keepers job.spec.replacement own) n ≡ false)) all
+              (Each-both (λ n. n < 0 + unwrap_or job.spec.completions 0) (λ n. (Rattle.jc_manage.specs.Creations.is_done_index counted n ≡ false) × (holds (keepers job.spec.replacement own) n ≡ false)) all
               (Each-filter (λ n. n < 0 + unwrap_or job.spec.completions 0) (is_free counted (keepers job.spec.replacement own)) (range_with_len 0 (unwrap_or job.spec.completions 0)) (range_set 0 (unwrap_or job.spec.completions 0)).2)
-              (Each-both (λ n. Rattle.jc_manage.specs.Creations.is_settled_index counted n ≡ false) (λ n. holds (keepers job.spec.replacement own) n ≡ false) all
-              (recursion_from_All (λ n. Rattle.jc_manage.specs.Creations.is_settled_index counted n ≡ false) all (free-new (unwrap_or job.spec.completions 0) counted (keepers job.spec.replacement own)))
+              (Each-both (λ n. Rattle.jc_manage.specs.Creations.is_done_index counted n ≡ false) (λ n. holds (keepers job.spec.replacement own) n ≡ false) all
+              (recursion_from_All (λ n. Rattle.jc_manage.specs.Creations.is_done_index counted n ≡ false) all (free-new (unwrap_or job.spec.completions 0) counted (keepers job.spec.replacement own)))
               (recursion_from_All (λ n. holds (keepers job.spec.replacement own) n ≡ false) all (free-unkept (unwrap_or job.spec.completions 0) counted (keepers job.spec.replacement own))))));
         }
 
@@ -152,7 +152,7 @@ module _ (completions : ℕ) (completed : List ℕ) (job : Job) (pods : List Pod
 module _ (ends : List End) (made : ℕ) (job : Job) (basis : Basis) (this : basis.job ≡ Some job) (rises : IsRising basis.pods)
     (counted : IsCounted job (own_pods job basis.pods)) (last : IfSome (last_end ends) (λ end. fails end ≡ false))
     (now : List Pod) (is : AllGranted (planned basis) made (own_pods job basis.pods) now)
-    (undecided : is_settled job (decided_in job basis) ≡ false) (running : job.spec.suspend ≡ false)
+    (undecided : is_end_decided job (decided_in job basis) ≡ false) (running : job.spec.suspend ≡ false)
     (indexed : job.spec.mode ≡ Indexed) where
   abbrev own : List Pod
   own = own_pods job basis.pods
@@ -281,15 +281,15 @@ module _ (ends : List End) (made : ℕ) (job : Job) (basis : Basis) (this : basi
       (Each-filter (λ p. IsSome p.index) (is_of_use useless active) active numbered) (one-of-use useless active up))
 
   made-as : (planned basis).creates
-      ≡ cond (is_held_back (opening (backoff_after basis.backoff (accounted job basis) basis.now)) basis.now) []
-      (cond (is_settled job (decided_in job basis) || job.spec.suspend) [] (new_pods Indexed (job_lacks job own (accounted job basis)) (free completions (accounted job basis) (keepers job.spec.replacement own))))
+      ≡ cond (is_delayed_until (opening (backoff_after basis.backoff (accounted job basis) basis.now)) basis.now) []
+      (cond (is_end_decided job (decided_in job basis) || job.spec.suspend) [] (new_pods Indexed (job_lacks job own (accounted job basis)) (free completions (accounted job basis) (keepers job.spec.replacement own))))
   made-as =
       plan-creates basis job this
-      ∙ ap (λ m. cond (is_held_back (opening (backoff_after basis.backoff (accounted job basis) basis.now)) basis.now) []
-      (cond (is_settled job (decided_in job basis) || job.spec.suspend) [] (new_pods m (job_lacks job own (accounted job basis)) (free completions (accounted job basis) (keepers job.spec.replacement own))))) indexed
+      ∙ ap (λ m. cond (is_delayed_until (opening (backoff_after basis.backoff (accounted job basis) basis.now)) basis.now) []
+      (cond (is_end_decided job (decided_in job basis) || job.spec.suspend) [] (new_pods m (job_lacks job own (accounted job basis)) (free completions (accounted job basis) (keepers job.spec.replacement own))))) indexed
 
   of-use-then : length (remaining Indexed useless (stay ++ is.fresh)) ≡ length stay + length is.fresh
-  of-use-then = with-numbers (numbers-of job own (accounted job basis) (is_settled job (decided_in job basis)) (job_lacks job own (accounted job basis)) (is_held_back (opening (backoff_after basis.backoff (accounted job basis) basis.now)) basis.now))
+  of-use-then = with-numbers (numbers-of job own (accounted job basis) (is_end_decided job (decided_in job basis)) (job_lacks job own (accounted job basis)) (is_delayed_until (opening (backoff_after basis.backoff (accounted job basis) basis.now)) basis.now))
     where
       in-stay : (P : Pod → Type 0) → Each P active → Each P stay
       in-stay P h =
@@ -308,8 +308,8 @@ module _ (ends : List End) (made : ℕ) (job : Job) (basis : Basis) (this : basi
           (Each-passes (λ p. not (is_spare job.spec.mode useless active p)) active))
 
       with-numbers : Numbers useless active
-          (cond (is_held_back (opening (backoff_after basis.backoff (accounted job basis) basis.now)) basis.now) []
-          (cond (is_settled job (decided_in job basis) || job.spec.suspend) [] (new_pods Indexed (job_lacks job own (accounted job basis)) (free completions (accounted job basis) (keepers job.spec.replacement own)))))
+          (cond (is_delayed_until (opening (backoff_after basis.backoff (accounted job basis) basis.now)) basis.now) []
+          (cond (is_end_decided job (decided_in job basis) || job.spec.suspend) [] (new_pods Indexed (job_lacks job own (accounted job basis)) (free completions (accounted job basis) (keepers job.spec.replacement own)))))
           → length (remaining Indexed useless (stay ++ is.fresh)) ≡ length stay + length is.fresh
       with-numbers numbers =
           all-of-use useless active stay is.fresh made numbers.set (subst (λ cs. AreNew made cs is.fresh) (made-as ∙ numbers.are) is.new) numbers.up

@@ -12,11 +12,11 @@ use Rattle.jc_states.specs.Bases.{own_pods}
 use Rattle.jc_states.specs.Conditions.{has_target}
 use Rattle.jc_states.specs.PodLists.{IsRising}
 use Rattle.jc_account.specs.Accounts.{counted_out}
-use Rattle.jc_manage.specs.Backoffs.{backoff_after, is_held_back, opening}
+use Rattle.jc_manage.specs.Backoffs.{backoff_after, is_delayed_until, opening}
 use Rattle.jc_manage.specs.Creations.{free, job_lacks, keepers, new_pods}
 use Rattle.jc_history.specs.Nodes.{last_end}
 use Rattle.jc_plan.specs.Plans.{planned}
-use Rattle.jc_plan.specs.Statuses.{accounted, decided_in, first_status_of, is_second_due, is_settled, second_value, wants_in}
+use Rattle.jc_plan.specs.Statuses.{accounted, decided_in, first_status_of, is_second_due, is_end_decided, second_value, wants_in}
 use Rattle.jc_plan.proofs.PlanFacts.{plan-creates}
 use Rattle.jc_plan.proofs.Targets.{target-kind}
 use Rattle.jc_plan.proofs.ValueFacts.{settled-target}
@@ -50,12 +50,12 @@ module _ (ends : List End) (made : ℕ) (job : Job) (basis : Basis) (this : basi
   Lower = creations_left ends (made + new) later now + new ≤ creations_left ends made job own
 
   -- A plan makes none where how the Job ends is settled, or it is suspended.
-  none-made : (is_settled job (decided_in job basis) || job.spec.suspend) ≡ true → new ≡ 0
+  none-made : (is_end_decided job (decided_in job basis) || job.spec.suspend) ≡ true → new ≡ 0
   none-made h =
       ap length (plan-creates basis job this)
-      ∙ ap (λ b. length (cond (is_held_back (opening (backoff_after basis.backoff (accounted job basis) basis.now)) basis.now) []
+      ∙ ap (λ b. length (cond (is_delayed_until (opening (backoff_after basis.backoff (accounted job basis) basis.now)) basis.now) []
       (cond b [] (new_pods job.spec.mode (job_lacks job own (accounted job basis)) (free (Rattle.std.specs.Prelude.unwrap_or job.spec.completions 0) (accounted job basis) (keepers job.spec.replacement own)))))) h
-      ∙ by (is_held_back (opening (backoff_after basis.backoff (accounted job basis) basis.now)) basis.now)
+      ∙ by (is_delayed_until (opening (backoff_after basis.backoff (accounted job basis) basis.now)) basis.now)
     where
       by : (b : Bool) → length (cond b [] (cond true []
           (new_pods job.spec.mode (job_lacks job own (accounted job basis))
@@ -64,12 +64,12 @@ module _ (ends : List End) (made : ℕ) (job : Job) (basis : Basis) (this : basi
       by true = refl
       by false = refl
 
-  target-then : is_settled job (decided_in job basis) ≡ true → has_target later.status.conditions ≡ true
+  target-then : is_end_decided job (decided_in job basis) ≡ true → has_target later.status.conditions ≡ true
   unfolding second_value counted_out
   target-then h =
       ap (λ (s : JobStatus). has_target s.conditions) (left-is job basis this rises counted.none)
       ∙ settled-target basis.now job (decided_in job basis)
-      (is_second_due (is_settled job (decided_in job basis)) own (accounted job basis) (counted_out (first_status_of basis.now job own (accounted job basis) (decided_in job basis) (wants_in job basis)) (accounted job basis).releases))
+      (is_second_due (is_end_decided job (decided_in job basis)) own (accounted job basis) (counted_out (first_status_of basis.now job own (accounted job basis) (decided_in job basis) (wants_in job basis)) (accounted job basis).releases))
       (target-kind (accounted job basis) basis.now job own) h
 
   -- None is left, and none is made.
@@ -85,22 +85,22 @@ module _ (ends : List End) (made : ℕ) (job : Job) (basis : Basis) (this : basi
       omega (arith, left, was, less)
 
   pub lowers : Lower
-  lowers = by (is_settled job (decided_in job basis)) refl job.spec.suspend refl
+  lowers = by (is_end_decided job (decided_in job basis)) refl job.spec.suspend refl
     where
       first : (a b : Bool) → (a || b) ≡ false → a ≡ false
       first true b e = absurd (true≢false e)
       first false b e = refl
 
-      by-mode : is_settled job (decided_in job basis) ≡ false → job.spec.suspend ≡ false → (mode : Mode) → job.spec.mode ≡ mode → may_be_made ends (made + new) later now + new ≤ may_be_made ends made job own
+      by-mode : is_end_decided job (decided_in job basis) ≡ false → job.spec.suspend ≡ false → (mode : Mode) → job.spec.mode ≡ mode → may_be_made ends (made + new) later now + new ≤ may_be_made ends made job own
       by-mode undecided running NonIndexed at = plain-lowers ends made job basis this rises counted last now is undecided running at
       by-mode undecided running Indexed at = indexed-lowers ends made job basis this rises counted last now is undecided running at
 
-      by : (b : Bool) → is_settled job (decided_in job basis) ≡ b → (s : Bool) → job.spec.suspend ≡ s → Lower
+      by : (b : Bool) → is_end_decided job (decided_in job basis) ≡ b → (s : Bool) → job.spec.suspend ≡ s → Lower
       by true e s f =
           quiet (or_left (has_target later.status.conditions) job.spec.suspend (target-then e))
-          (none-made (or_left (is_settled job (decided_in job basis)) job.spec.suspend e))
+          (none-made (or_left (is_end_decided job (decided_in job basis)) job.spec.suspend e))
       by false e true f =
           quiet (or_right (has_target later.status.conditions) job.spec.suspend f)
-          (none-made (or_right (is_settled job (decided_in job basis)) job.spec.suspend f))
+          (none-made (or_right (is_end_decided job (decided_in job basis)) job.spec.suspend f))
       by false e false f =
           busy ((λ i. first (has_target job.status.conditions) (is_some (decided_in job basis)) e i || f i)) (by-mode e f job.spec.mode refl)

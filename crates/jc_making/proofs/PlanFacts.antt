@@ -32,7 +32,7 @@ use Rattle.jc_plan.specs.declared.plans.Planned.{Planned}
 use Rattle.jc_plan.specs.PodNumbers.{is_let_go_of}
 use Rattle.jc_plan.specs.Plans.{planned}
 use Rattle.jc_plan.specs.Releases.{is_orphan, is_owed, is_released, due_uids}
-use Rattle.jc_plan.specs.Statuses.{accounted, decided_in, is_settled}
+use Rattle.jc_plan.specs.Statuses.{accounted, decided_in, is_end_decided}
 use Rattle.jc_plan.proofs.PlanFacts.{plan-let_goes, plan-marks, plan-releases}
 use Rattle.jc_making.specs.Grants.{Becomes, AllBecome, Nothing, Stays, Goes, frees}
 use Rattle.jc_making.proofs.Lists.{passes-in}
@@ -118,7 +118,7 @@ module _ (job : Job) (basis : Basis) (this : basis.job ≡ Some job) (rises : Is
   own-rises = rises_filter 0 (is_own job) basis.pods rises
 
   abbrev pub settled : Bool
-  settled = is_settled job (decided_in job basis)
+  settled = is_end_decided job (decided_in job basis)
 
   -- The pod is let go.
   abbrev pub goes_now : Pod → Bool

@@ -12,8 +12,8 @@ use Rattle.jc_types.specs.declared.specifications.Replacement.TheVariants.{Termi
 use Rattle.jc_types.specs.declared.syncs.CountIn.{CountIn}
 use Rattle.jc_types.specs.Counts.{counts}
 use Rattle.jc_types.proofs.ListFacts.{Each-passes, Each-weaker}
-use Rattle.jc_manage.specs.Backoffs.{is_held_back}
-use Rattle.jc_manage.specs.Creations.{creatable, creates, free, holds, is_free, is_settled_index, job_lacks, job_wants, keepers, lacking, new_pods, wanted}
+use Rattle.jc_manage.specs.Backoffs.{is_delayed_until}
+use Rattle.jc_manage.specs.Creations.{creatable, creates, free, holds, is_free, is_done_index, job_lacks, job_wants, keepers, lacking, new_pods, wanted}
 use Rattle.jc_states.specs.Pods.{ending_pods, tracked_active_pods}
 
 new-few : (mode : Mode) (n : ℕ) (ms : List ℕ) → length (new_pods mode n ms) ≤ n
@@ -30,7 +30,7 @@ creatable-few target job own counted =
     by n made false false h = h
 
 pub creates-few : (opening : Option ℕ) (now : ℕ) (made : List (Option ℕ)) → length (creates opening now made) ≤ length made
-creates-few opening now made = by (is_held_back opening now)
+creates-few opening now made = by (is_delayed_until opening now)
   where
     by : (b : Bool) → length (cond b [] made) ≤ length made
     by true = omega arith
@@ -98,12 +98,12 @@ module _ (completions : ℕ) (counted : CountIn) (kept : List Pod) where
   passes : Each (λ n. is_free counted kept n ≡ true) (free completions counted kept)
   passes = Each-passes (is_free counted kept) (range_with_len 0 completions)
 
-  pub free-new : All (λ n. is_settled_index counted n ≡ false) (free completions counted kept)
+  pub free-new : All (λ n. is_done_index counted n ≡ false) (free completions counted kept)
   free-new =
-      All-from_recursion (λ n. is_settled_index counted n ≡ false) (free completions counted kept)
-      (Each-weaker (λ n. is_free counted kept n ≡ true) (λ n. is_settled_index counted n ≡ false) (λ n. left-false (is_settled_index counted n) (holds kept n)) (free completions counted kept) passes)
+      All-from_recursion (λ n. is_done_index counted n ≡ false) (free completions counted kept)
+      (Each-weaker (λ n. is_free counted kept n ≡ true) (λ n. is_done_index counted n ≡ false) (λ n. left-false (is_done_index counted n) (holds kept n)) (free completions counted kept) passes)
 
   pub free-unkept : All (λ n. holds kept n ≡ false) (free completions counted kept)
   free-unkept =
       All-from_recursion (λ n. holds kept n ≡ false) (free completions counted kept)
-      (Each-weaker (λ n. is_free counted kept n ≡ true) (λ n. holds kept n ≡ false) (λ n. right-false (is_settled_index counted n) (holds kept n)) (free completions counted kept) passes)
+      (Each-weaker (λ n. is_free counted kept n ≡ true) (λ n. holds kept n ≡ false) (λ n. right-false (is_done_index counted n) (holds kept n)) (free completions counted kept) passes)

@@ -2,7 +2,7 @@
 use Rattle.std.proofs.Common.{◌≡◌, ℕ, zero, suc, nat_lt, Bool, true, false, if◌then◌else◌, List, [], ◌∷◌, Option, refl, sym, ap, arith, ◌∙◌, lt-ltb}
 use Rattle.jc_types.specs.declared.specifications.Mode.{Mode}
 use Rattle.jc_types.specs.declared.specifications.Mode.TheVariants.{NonIndexed, Indexed}
-use Rattle.jc_manage.specs.Backoffs.{is_held_back}
+use Rattle.jc_manage.specs.Backoffs.{is_delayed_until}
 use Rattle.jc_manage.specs.Creations.{creates, front, looked_for, new_pods, next}
 
 pub front_pods : (one : Bool) → (mode : Mode) → (n : ℕ) → (free : List ℕ) → new_pods mode (looked_for one n) free ≡ front one (new_pods mode n free)
@@ -18,7 +18,7 @@ next_front false opening now made = refl
 next_front true opening now [] = refl
 next_front true opening now (m ∷ ms) = refl
 
-pub creates_front : (one : Bool) → (opening : Option ℕ) → (now : ℕ) → (made : List (Option ℕ)) → is_held_back opening now ≡ one → creates opening now (front one made) ≡ creates opening now made
+pub creates_front : (one : Bool) → (opening : Option ℕ) → (now : ℕ) → (made : List (Option ℕ)) → is_delayed_until opening now ≡ one → creates opening now (front one made) ≡ creates opening now made
 creates_front false opening now made h = refl
 creates_front true opening now made h =
     ap (λ b. if b then [] else front true made) h ∙ sym (ap (λ b. if b then [] else made) h)

@@ -8,7 +8,7 @@ use Rattle.jc_types.specs.declared.specifications.Mode.{Mode}
 use Rattle.jc_types.specs.declared.specifications.Mode.TheVariants.{NonIndexed, Indexed}
 use Rattle.jc_types.specs.declared.syncs.CountIn.{CountIn}
 use Rattle.jc_types.proofs.ListFacts.{Each-filter, Each-take, Each-weaker}
-use Rattle.jc_manage.specs.Backoffs.{is_held_back}
+use Rattle.jc_manage.specs.Backoffs.{is_delayed_until}
 use Rattle.jc_manage.specs.Creations.{creatable, creates, free, is_free, IsIndexFor, job_lacks, keepers, new_pods}
 
 -- New pods have indexes as they should.
@@ -57,7 +57,7 @@ creatable-numbered target job own counted =
 -- What is held back keeps what holds of each.
 pub creates-numbered : (job : Job) (opening : Option ℕ) (now : ℕ) (made : List (Option ℕ)) → All (IsIndexFor job) made → All (IsIndexFor job) (creates opening now made)
 creates-numbered job opening now made h =
-    All-from_recursion (IsIndexFor job) (creates opening now made) (by (is_held_back opening now) (recursion_from_All (IsIndexFor job) made h))
+    All-from_recursion (IsIndexFor job) (creates opening now made) (by (is_delayed_until opening now) (recursion_from_All (IsIndexFor job) made h))
   where
     by : (b : Bool) → Each (IsIndexFor job) made → Each (IsIndexFor job) (cond b [] made)
     by true g = tt

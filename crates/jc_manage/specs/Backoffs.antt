@@ -3,7 +3,7 @@
 --     backoff_after backoff counted now   both
 --     pause n                             the seconds to wait after n failures in a row
 --     opening backoff                     the second before which no pod is made, if there is one
---     is_held_back opening now            it has not come
+--     is_delayed_until opening now            it has not come
 use Rattle.std.specs.Prelude.{ℕ, ◌+◌, ◌*◌, ◌-◌, ◌^◌, ◌==◌, nat_lt, min, Bool, false, if◌then◌else◌, Option, Some, None}
 use Rattle.std.specs.Option.{option_map}
 use Rattle.jc_types.specs.declared.syncs.Backoff.{Backoff}
@@ -37,6 +37,6 @@ opening backoff =
     else option_map (λ last. last + pause backoff.failures) backoff.last
 
 -- The opening has not come yet.
-abbrev pub is_held_back : Option ℕ → ℕ → Bool
-is_held_back None now = false
-is_held_back (Some second) now = nat_lt now second
+abbrev pub is_delayed_until : Option ℕ → ℕ → Bool
+is_delayed_until None now = false
+is_delayed_until (Some second) now = nat_lt now second

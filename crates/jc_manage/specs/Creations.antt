@@ -4,7 +4,7 @@
 --     holds pods n                        one of the pods has the index n
 --     keeps_own job n pod                 the pod is the Job's own, and keeps the index n
 --     keepers replacement own             the pods that keep their index from new ones
---     is_settled_index counted n          the index is completed, or it has failed
+--     is_done_index counted n          the index is completed, or it has failed
 --     free completions counted kept       the indexes that a new pod may have, in order
 --     new_pods mode n free                the indexes of n new pods; none for pods without one
 --     IsIndexFor job index                a new pod of the Job may have the index
@@ -27,7 +27,7 @@ use Rattle.jc_states.specs.Bases.{is_own}
 use Rattle.jc_states.specs.Indexes.{has_index}
 use Rattle.jc_states.specs.Pods.{is_active, is_ending, ending_pods, tracked_active_pods}
 use Rattle.jc_moment.specs.Range.{as_moment}
-use Rattle.jc_manage.specs.Backoffs.{is_held_back}
+use Rattle.jc_manage.specs.Backoffs.{is_delayed_until}
 
 -- How many active pods there should be, where a are active. With completions: as many as may run at once, and no
 -- more than are left to succeed, without the indexes that have failed. Without: as many as may run at once, and once
@@ -72,12 +72,12 @@ abbrev pub keepers : Replacement → List Pod → List Pod
 keepers replacement own = filter (keeps replacement) own
 
 -- The index is settled: it is completed, or it has failed.
-abbrev pub is_settled_index : CountIn → ℕ → Bool
-is_settled_index counted n = has n counted.completed || has n counted.failed_indexes
+abbrev pub is_done_index : CountIn → ℕ → Bool
+is_done_index counted n = has n counted.completed || has n counted.failed_indexes
 
 -- A new pod may have the index: it is not settled, and no pod keeps it.
 abbrev pub is_free : CountIn → List Pod → ℕ → Bool
-is_free counted kept n = not (is_settled_index counted n) && not (holds kept n)
+is_free counted kept n = not (is_done_index counted n) && not (holds kept n)
 
 -- The indexes below `completions` that a new pod may have, in order.
 abbrev pub free : ℕ → CountIn → List Pod → List ℕ
@@ -111,7 +111,7 @@ front one made = if one then take 1 made else made
 
 -- Of what would be made at once, nothing before the opening.
 abbrev pub creates : Option ℕ → ℕ → List (Option ℕ) → List (Option ℕ)
-creates opening now creatable = if is_held_back opening now then [] else creatable
+creates opening now creatable = if is_delayed_until opening now then [] else creatable
 
 -- There is none.
 abbrev pub is_none_of : List (Option ℕ) → Bool
@@ -121,4 +121,4 @@ is_none_of (index ∷ indexes) = false
 -- The moment of the opening, where it held pods back.
 abbrev pub next : Option ℕ → ℕ → List (Option ℕ) → Option ℕ
 next opening now creatable =
-    if is_held_back opening now && not (is_none_of creatable) then as_moment opening else None
+    if is_delayed_until opening now && not (is_none_of creatable) then as_moment opening else None

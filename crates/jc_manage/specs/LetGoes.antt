@@ -25,7 +25,7 @@ use Rattle.jc_states.specs.Pods.{is_active, is_tracked, is_pending, tracked_acti
 use Rattle.jc_types.specs.Equality.{same_bool}
 use Rattle.jc_states.specs.UidLists.{uids_of}
 use Rattle.jc_states.specs.Indexes.{has_index}
-use Rattle.jc_manage.specs.Creations.{is_settled_index, job_wants}
+use Rattle.jc_manage.specs.Creations.{is_done_index, job_wants}
 
 -- The Job's own pods that are active and tracked.
 abbrev pub own_tracked : Job → List Pod → List Pod
@@ -48,7 +48,7 @@ is_doubled tracked p = option_map_or (λ index. list_any (is_earlier index p.uid
 
 -- No pod of the index is of use: it is completed or has failed, or it is not below the completions.
 abbrev pub is_needless : ℕ → CountIn → ℕ → Bool
-is_needless completions counted n = is_settled_index counted n || nat_le completions n
+is_needless completions counted n = is_done_index counted n || nat_le completions n
 
 -- The pod of an Indexed Job is of no use: none of its index is, or an older pod holds it.
 abbrev pub is_spare : Mode → (ℕ → Bool) → List Pod → Pod → Bool

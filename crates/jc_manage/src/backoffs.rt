@@ -2,7 +2,7 @@
 
 ghost use Rattle.std.specs.Prelude.{◌≡◌, ◌+◌, ◌<◌, ◌≤◌, ◌^◌};
 ghost use Rattle.jc_moment.specs.Range.{as_moment};
-ghost use Rattle.jc_manage.specs.Backoffs.{backoff_after, is_held_back, opening, pause};
+ghost use Rattle.jc_manage.specs.Backoffs.{backoff_after, is_delayed_until, opening, pause};
 
 use jc_moment::Moment;
 use jc_types::{Backoff, CountIn};
@@ -62,8 +62,8 @@ pub(crate) fn opening(backoff: &Backoff) -> Option<u64>
 }
 
 // Whether the opening has not come yet.
-pub(crate) fn is_held_back(opening: Option<u64>, now: Moment) -> bool
-    ensures { result ≡ is_held_back opening now }
+pub(crate) fn is_delayed_until(opening: Option<u64>, now: Moment) -> bool
+    ensures { result ≡ is_delayed_until opening now }
 {
     match opening {
         None => false,

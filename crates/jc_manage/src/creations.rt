@@ -5,9 +5,9 @@ ghost use Rattle.std.specs.List.{range_with_len};
 ghost use Rattle.jc_states.specs.Indexes.{has_index};
 ghost use Rattle.jc_states.specs.Bases.{is_own, own_pods};
 ghost use Rattle.jc_types.specs.Counts.{counts as counts_of};
-ghost use Rattle.jc_manage.specs.Creations.{creatable, free, front, holds, is_settled_index, job_lacks, job_wants, keepers, keeps, keeps_own, lacking, looked_for, wanted};
+ghost use Rattle.jc_manage.specs.Creations.{creatable, free, front, holds, is_done_index, job_lacks, job_wants, keepers, keeps, keeps_own, lacking, looked_for, wanted};
 
-use crate::unheld::{are_kept_as_held, unheld_indexes};
+use crate::unheld::{are_kept_as_taken, untaken_indexes};
 use jc_states::{Pods, count_tracked_active, is_active, is_ending, is_own};
 use jc_types::{Arc, CountIn, Indexes, Job, JobSpec, Mode, Pod, Replacement, Want, counts};
 use std::alloc::Global;
@@ -108,7 +108,7 @@ fn is_set(flags: &[bool], index: u32) -> bool
 }
 
 // Sets the flag of the pod's index, where the pod is the Job's own and keeps it.
-fn keep_index(kept: &mut [bool], job: &Job, pod: &Pod)
+fn flag_index(kept: &mut [bool], job: &Job, pod: &Pod)
     ensures count { length kept.new ≡ length kept.old }
     ensures flags { (n : ℕ) → n < length kept.old
         → get_or kept.new n false
@@ -136,14 +136,14 @@ fn kept_indexes(
 {
     let mut kept = vec![in alloc; false; completions as usize]?;
     for pod in pods {
-        keep_index(kept.as_mut_slice(), job, pod);
+        flag_index(kept.as_mut_slice(), job, pod);
     }
     Ok(kept)
 }
 
 // Whether the index is completed or has failed.
-pub(crate) fn is_settled_index(counted: &CountIn, index: u32) -> bool
-    ensures { result ≡ is_settled_index counted.now index }
+pub(crate) fn is_done_index(counted: &CountIn, index: u32) -> bool
+    ensures { result ≡ is_done_index counted.now index }
 {
     counted.completed.contains(index) || counted.failed_indexes.contains(index)
 }
@@ -157,12 +157,12 @@ fn offer(
     most: u64,
 ) -> Result<(), Want>
     ensures { OnOk result (indexes.new ≡ (
-        if not (is_settled_index counted.now index) && not (get_or kept.now index false)
+        if not (is_done_index counted.now index) && not (get_or kept.now index false)
         then (if nat_lt (length indexes.old) most
         then indexes.old ++ Some index ∷ [] else indexes.old)
         else indexes.old)) }
 {
-    if is_settled_index(counted, index) || is_set(kept, index) {
+    if is_done_index(counted, index) || is_set(kept, index) {
         return Ok(());
     }
     if (indexes.len() as u64) < most {
@@ -180,7 +180,7 @@ fn free_indexes(
     most: u64,
 ) -> Result<Indexes, Want>
     ensures { IfOk result (λ indexes. indexes ≡ map (λ n. Some n) (take most
-        (filter (λ n. not (is_settled_index counted.now n) && not (get_or kept.now n false))
+        (filter (λ n. not (is_done_index counted.now n) && not (get_or kept.now n false))
         (range_with_len 0 completions)))) }
 {
     let mut indexes = Indexes::new(alloc);
@@ -238,9 +238,9 @@ fn first_free(
         (free (unwrap_or job.now.spec.completions 0) counted.now
         (keepers job.now.spec.replacement (own_pods job.now pods.now))))) }
 {
-    if are_kept_as_held(job, pods) {
+    if are_kept_as_taken(job, pods) {
         let completions = job.spec.completions.unwrap_or(0);
-        return unheld_indexes(alloc, completions, job.uid, pods, counted, most);
+        return untaken_indexes(alloc, completions, job.uid, pods, counted, most);
     }
     least_free(alloc, job, pods.as_slice(), counted, most)
 }

@@ -11,7 +11,7 @@ ghost use Rattle.jc_states.specs.PodLists.{IsRising};
 ghost use Rattle.jc_states.specs.Pods.{ending_pods, tracked_active_pods};
 ghost use Rattle.jc_states.specs.UidLists.{Ascends, is_in};
 ghost use Rattle.jc_manage.specs.Backoffs.{backoff_after};
-ghost use Rattle.jc_manage.specs.Creations.{creatable, creates, free, holds, is_settled_index, IsIndexFor, job_lacks, job_wants, wanted};
+ghost use Rattle.jc_manage.specs.Creations.{creatable, creates, free, holds, is_done_index, IsIndexFor, job_lacks, job_wants, wanted};
 ghost use Rattle.jc_manage.specs.LetGoes.{let_goes, marks, seen_uids};
 ghost use Rattle.jc_manage.specs.SeenPods.{IsSeen};
 
@@ -58,7 +58,7 @@ pub fn creations_are_numbered()
 /// An index that is free is neither completed nor has it failed, and no pod keeps it.
 pub fn free_indexes_are_free()
     ensures settled { (completions : ℕ) (counted : CountIn) (kept : List Pod)
-        → All (λ n. is_settled_index counted n ≡ false) (free completions counted kept) }
+        → All (λ n. is_done_index counted n ≡ false) (free completions counted kept) }
     ensures kept { (completions : ℕ) (counted : CountIn) (kept : List Pod)
         → All (λ n. holds kept n ≡ false) (free completions counted kept) }
 {}

@@ -11,7 +11,7 @@ ghost use Rattle.jc_manage.specs.Creations.{job_wants};
 ghost use Rattle.jc_manage.specs.LetGoes.{is_earlier, is_needless, is_to_mark, let_goes, marks, own_tracked, seen, surplus};
 ghost use Rattle.jc_manage.specs.Ranks.{AreOldest, goes_by, gone_by, has_older, is_spare_by, ranks_in};
 
-use crate::creations::{is_settled_index, job_wants};
+use crate::creations::{is_done_index, job_wants};
 use crate::lists::list_of;
 use crate::ranks::{Rank, is_below, least_to_go, rank_of};
 use crate::spares::may_go;
@@ -98,7 +98,7 @@ fn claim_own(holders: &mut HashMap<u32, Uid>, job: &Job, pod: &Pod) -> Result<()
 }
 
 // Of each index the active tracked pod of smallest UID that holds it.
-fn oldest_holders(alloc: Global, job: &Job, pods: &[Arc<Pod>]) -> Result<HashMap<u32, Uid>, Want>
+fn oldest_takers(alloc: Global, job: &Job, pods: &[Arc<Pod>]) -> Result<HashMap<u32, Uid>, Want>
     ensures { IfOk result (λ holders.
         AreOldest (own_tracked job.now pods.now) (λ index. get nat_eq holders index)) }
 {
@@ -110,13 +110,13 @@ fn oldest_holders(alloc: Global, job: &Job, pods: &[Arc<Pod>]) -> Result<HashMap
 }
 
 // Of each index of an Indexed Job the active tracked pod of smallest UID that holds it.
-fn holders_of(alloc: Global, job: &Job, pods: &[Arc<Pod>]) -> Result<HashMap<u32, Uid>, Want>
+fn takers_of(alloc: Global, job: &Job, pods: &[Arc<Pod>]) -> Result<HashMap<u32, Uid>, Want>
     ensures { IfOk result (λ holders. job.now.spec.mode ≡ Indexed
         → AreOldest (own_tracked job.now pods.now) (λ index. get nat_eq holders index)) }
 {
     match job.spec.mode {
         Mode::NonIndexed => Ok(HashMap::new(alloc)),
-        Mode::Indexed => oldest_holders(alloc, job, pods),
+        Mode::Indexed => oldest_takers(alloc, job, pods),
     }
 }
 
@@ -138,7 +138,7 @@ fn is_doubled(holders: &HashMap<u32, Uid>, pod: &Pod) -> bool
 fn is_needless(completions: u32, counted: &CountIn, index: u32) -> bool
     ensures { result ≡ is_needless completions counted.now index }
 {
-    is_settled_index(counted, index) || completions <= index
+    is_done_index(counted, index) || completions <= index
 }
 
 // Whether the pod has an index of which none is of use.
@@ -257,7 +257,7 @@ fn surplus(
         return Ok(Vec::new(alloc));
     }
     let listed = pods.as_slice();
-    let holders = holders_of(alloc, job, listed)?;
+    let holders = takers_of(alloc, job, listed)?;
     let ranks = ranks_of(alloc, job, listed, counted, &holders)?;
     let least = least_to_go(ranks, job_wants(job, pods, counted));
     going(alloc, job, listed, counted, &holders, least)

@@ -5,7 +5,7 @@ ghost use Rattle.jc_types.specs.Counts.{counts as counts_of};
 ghost use Rattle.jc_manage.specs.Creations.{creates, next};
 ghost use Rattle.jc_manage.specs.Planned.{backoff_in, creatable_in, creates_in, let_goes_in, marks_in, next_in};
 
-use crate::backoffs::{as_moment, backoff_after, is_held_back, opening};
+use crate::backoffs::{as_moment, backoff_after, is_delayed_until, opening};
 use crate::creations::creatable;
 use crate::let_goes::{let_goes, marks};
 use crate::results::Wants;
@@ -18,7 +18,7 @@ use std::alloc::Global;
 fn creates(alloc: Global, opening: Option<u64>, now: Moment, creatable: Indexes) -> Indexes
     ensures { result ≡ creates opening now creatable }
 {
-    if is_held_back(opening, now) {
+    if is_delayed_until(opening, now) {
         return Indexes::new(alloc);
     }
     creatable
@@ -28,7 +28,7 @@ fn creates(alloc: Global, opening: Option<u64>, now: Moment, creatable: Indexes)
 fn next(opening: Option<u64>, now: Moment, creatable: &Indexes) -> Option<Moment>
     ensures { result ≡ next opening now creatable.now }
 {
-    if is_held_back(opening, now) && !creatable.is_empty() {
+    if is_delayed_until(opening, now) && !creatable.is_empty() {
         return as_moment(opening);
     }
     None
@@ -55,7 +55,7 @@ fn made_and_next(
     ensures next { IfOk result (λ r. r.1 ≡ next opening basis.entry.now.now
         (creatable_in target job.now basis.entry.now counted.now)) }
 {
-    let held_back = is_held_back(opening, basis.now);
+    let held_back = is_delayed_until(opening, basis.now);
     let found = creatable(alloc, held_back, target, job, &*basis.pods, counted)?;
     let next = next(opening, basis.now, &found);
     Ok((creates(alloc, opening, basis.now, found), next))

@@ -9,7 +9,7 @@ ghost use Rattle.jc_states.specs.Bases.{own_pods};
 ghost use Rattle.jc_states.specs.Holders.{has_index_in};
 ghost use Rattle.jc_states.specs.Pods.{tracked_active_pods};
 ghost use Rattle.jc_states.specs.Tallies.{pods_for};
-ghost use Rattle.jc_manage.specs.Creations.{is_settled_index, job_wants};
+ghost use Rattle.jc_manage.specs.Creations.{is_done_index, job_wants};
 ghost use Rattle.jc_manage.specs.LetGoes.{is_needless, is_spare, own_tracked, surplus};
 
 use crate::creations::wanted_beside;
@@ -18,41 +18,41 @@ use jc_states::{Pods, count_tracked_active};
 use jc_types::{CountIn, Job, Mode, Uid};
 
 // Whether an active tracked pod of the owner has an index in one of the runs.
-fn holds_run(owner: Uid, pods: &Pods, runs: &[Run]) -> bool
+fn has_pod_in_run(owner: Uid, pods: &Pods, runs: &[Run]) -> bool
     ensures { result ≡ list_any (λ run. list_any (has_index_in run.first run.last)
         (tracked_active_pods (pods_for owner pods.now))) runs.now }
 {
     runs.iter()
-        .any(|run| pods.holds_between(owner, run.first, run.last))
+        .any(|run| pods.takes_between(owner, run.first, run.last))
 }
 
 // Whether an active tracked pod of the owner has one of the indexes.
-fn holds_one_of(owner: Uid, pods: &Pods, indexes: &Ranges) -> bool
+fn has_one_of(owner: Uid, pods: &Pods, indexes: &Ranges) -> bool
     ensures { result
         ≡ list_any (λ pod. option_map_or (λ index. has index indexes.now) pod.index false)
         (tracked_active_pods (pods_for owner pods.now)) }
 {
-    holds_run(owner, pods, indexes.runs())
+    has_pod_in_run(owner, pods, indexes.runs())
 }
 
 // Whether an active tracked pod of the owner has an index that is completed or has failed.
-fn holds_settled(owner: Uid, pods: &Pods, counted: &CountIn) -> bool
+fn has_done(owner: Uid, pods: &Pods, counted: &CountIn) -> bool
     ensures { result
-        ≡ list_any (λ pod. option_map_or (is_settled_index counted.now) pod.index false)
+        ≡ list_any (λ pod. option_map_or (is_done_index counted.now) pod.index false)
         (tracked_active_pods (pods_for owner pods.now)) }
 {
-    holds_one_of(owner, pods, &counted.completed)
-        || holds_one_of(owner, pods, &counted.failed_indexes)
+    has_one_of(owner, pods, &counted.completed)
+        || has_one_of(owner, pods, &counted.failed_indexes)
 }
 
 // Whether an active tracked pod of the Job has an index of which none is of use.
-fn holds_needless(job: &Job, pods: &Pods, counted: &CountIn) -> bool
+fn has_needless(job: &Job, pods: &Pods, counted: &CountIn) -> bool
     ensures { result ≡ list_any (λ pod. option_map_or
         (is_needless (unwrap_or job.now.spec.completions 0) counted.now) pod.index false)
         (own_tracked job.now pods.now) }
 {
     let completions = job.spec.completions.unwrap_or(0);
-    holds_settled(job.uid, pods, counted) || pods.holds_from(job.uid, completions)
+    has_done(job.uid, pods, counted) || pods.takes_from(job.uid, completions)
 }
 
 // Whether a pod of the Job may be spare.
@@ -63,7 +63,7 @@ fn may_be_spare(job: &Job, pods: &Pods, counted: &CountIn) -> bool
 {
     match job.spec.mode {
         Mode::NonIndexed => false,
-        Mode::Indexed => pods.shares_index(job.uid) || holds_needless(job, pods, counted),
+        Mode::Indexed => pods.shares_index(job.uid) || has_needless(job, pods, counted),
     }
 }
 

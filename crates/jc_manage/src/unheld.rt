@@ -7,9 +7,9 @@ ghost use Rattle.jc_states.specs.Bases.{own_pods};
 ghost use Rattle.jc_states.specs.Holders.{has_index_in};
 ghost use Rattle.jc_states.specs.Pods.{active_pods, tracked_active_pods};
 ghost use Rattle.jc_states.specs.Tallies.{pods_for};
-ghost use Rattle.jc_manage.specs.Creations.{holds, is_settled_index, keepers};
+ghost use Rattle.jc_manage.specs.Creations.{holds, is_done_index, keepers};
 
-use crate::creations::is_settled_index;
+use crate::creations::is_done_index;
 use jc_ranges::{GREATEST_INDEX, Ranges};
 use jc_states::{Pods, count_active, count_ending, count_tracked_active};
 use jc_types::{CountIn, Indexes, Job, Replacement, Uid, Want};
@@ -27,7 +27,7 @@ fn keep_active_only(job: &Job, pods: &Pods) -> bool
 }
 
 // Whether an index is kept from new pods just where an active tracked pod of the Job has it.
-pub(crate) fn are_kept_as_held(job: &Job, pods: &Pods) -> bool
+pub(crate) fn are_kept_as_taken(job: &Job, pods: &Pods) -> bool
     ensures { result ≡ true → (n : ℕ)
         → holds (keepers job.now.spec.replacement (own_pods job.now pods.now)) n
         ≡ list_any (has_index_in n n) (tracked_active_pods (own_pods job.now pods.now)) }
@@ -36,11 +36,11 @@ pub(crate) fn are_kept_as_held(job: &Job, pods: &Pods) -> bool
 }
 
 // Whether the index is not settled, and no active tracked pod of the owner has it.
-fn is_unheld(owner: Uid, pods: &Pods, counted: &CountIn, index: u32) -> bool
-    ensures { result ≡ (not (is_settled_index counted.now index) && not (list_any
+fn is_untaken(owner: Uid, pods: &Pods, counted: &CountIn, index: u32) -> bool
+    ensures { result ≡ (not (is_done_index counted.now index) && not (list_any
         (has_index_in index index) (tracked_active_pods (pods_for owner pods.now)))) }
 {
-    !is_settled_index(counted, index) && !pods.holds_between(owner, index, index)
+    !is_done_index(counted, index) && !pods.takes_between(owner, index, index)
 }
 
 // Adds the index, where it is not settled, no active tracked pod has it and there are not so many yet.
@@ -53,13 +53,13 @@ fn offer(
     most: u64,
 ) -> Result<(), Want>
     ensures { OnOk result (indexes.new ≡ (
-        if not (is_settled_index counted.now index) && not (list_any
+        if not (is_done_index counted.now index) && not (list_any
         (has_index_in index index) (tracked_active_pods (pods_for owner pods.now)))
         then (if nat_lt (length indexes.old) most
         then indexes.old ++ Some index ∷ [] else indexes.old)
         else indexes.old)) }
 {
-    if !is_unheld(owner, pods, counted, index) {
+    if !is_untaken(owner, pods, counted, index) {
         return Ok(());
     }
     if (indexes.len() as u64) < most {
@@ -82,11 +82,11 @@ fn past_members(set: &Ranges, from: u32, end: u32) -> u32
 }
 
 // Where one comes from this index by going past completed ones, and then past failed ones; at most the end.
-fn past_settled(counted: &CountIn, from: u32, end: u32) -> u32
+fn past_done(counted: &CountIn, from: u32, end: u32) -> u32
     requires { from ≤ end }
     ensures above { from ≤ result }
     ensures within { result ≤ end }
-    ensures between { (n : ℕ) → from ≤ n → n < result → is_settled_index counted.now n ≡ true }
+    ensures between { (n : ℕ) → from ≤ n → n < result → is_done_index counted.now n ≡ true }
 {
     let from = past_members(&counted.completed, from, end);
     past_members(&counted.failed_indexes, from, end)
@@ -94,21 +94,21 @@ fn past_settled(counted: &CountIn, from: u32, end: u32) -> u32
 
 // Where one comes from this index by going past settled ones, and then past those that active tracked pods
 // of the owner have; at most the end.
-fn past_settled_and_held(owner: Uid, pods: &Pods, counted: &CountIn, from: u32, end: u32) -> u32
+fn past_done_and_taken(owner: Uid, pods: &Pods, counted: &CountIn, from: u32, end: u32) -> u32
     requires { from ≤ end }
     ensures above { from ≤ result }
     ensures within { result ≤ end }
     ensures between { (n : ℕ) → from ≤ n → n < result
-        → (not (is_settled_index counted.now n) && not (list_any
+        → (not (is_done_index counted.now n) && not (list_any
         (has_index_in n n) (tracked_active_pods (pods_for owner pods.now)))) ≡ false }
 {
-    let from = past_settled(counted, from, end);
-    pods.first_unheld(owner, from, end)
+    let from = past_done(counted, from, end);
+    pods.first_free_from(owner, from, end)
 }
 
 // The least indexes below `completions` that are not settled and that no active tracked pod of the owner
 // has, and at most so many.
-pub(crate) fn unheld_indexes(
+pub(crate) fn untaken_indexes(
     alloc: Global,
     completions: u32,
     owner: Uid,
@@ -117,7 +117,7 @@ pub(crate) fn unheld_indexes(
     most: u64,
 ) -> Result<Indexes, Want>
     ensures { IfOk result (λ indexes. indexes ≡ map (λ n. Some n) (take most
-        (filter (λ n. not (is_settled_index counted.now n) && not (list_any
+        (filter (λ n. not (is_done_index counted.now n) && not (list_any
         (has_index_in n n) (tracked_active_pods (pods_for owner pods.now))))
         (range_with_len 0 completions)))) }
 {
@@ -129,7 +129,7 @@ pub(crate) fn unheld_indexes(
             return Ok(indexes);
         }
         offer(&mut indexes, index, owner, pods, counted, most)?;
-        index = past_settled_and_held(owner, pods, counted, index + 1, completions);
+        index = past_done_and_taken(owner, pods, counted, index + 1, completions);
     }
     Ok(indexes)
 }

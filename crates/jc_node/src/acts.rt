@@ -34,7 +34,7 @@ pub struct NodeStep {
 }
 
 // Whether the containers of a pod start anew after a failure.
-fn is_restarted(restart: Restart) -> bool
+fn restarts_on_failure(restart: Restart) -> bool
     ensures { result ≡ restarts_on_failure restart }
 {
     match restart {
@@ -58,7 +58,7 @@ fn is_below(containers: &[Container], restarts: u32) -> bool
 fn is_again(pod: &Pod, end: &End) -> bool
     ensures { result ≡ is_again pod.now end.now }
 {
-    is_restarted(pod.restart)
+    restarts_on_failure(pod.restart)
         && (is_below(pod.containers.as_slice(), end.restarts) || end.exit != 0)
 }
 

@@ -26,10 +26,10 @@ use Rattle.jc_states.specs.Bases.{own_pods}
 use Rattle.jc_states.specs.Conditions.{has_target}
 use Rattle.jc_states.specs.declared.bases.Basis.{Basis}
 use Rattle.jc_finish.specs.Starts.{deadline_of, end_after, start_of}
-use Rattle.jc_plan.specs.Backoffs.{backoff_after, is_held_back, opening}
+use Rattle.jc_plan.specs.Backoffs.{backoff_after, is_delayed_until, opening}
 use Rattle.jc_plan.specs.Creations.{creatable, is_none_of}
 use Rattle.jc_plan.specs.Plans.{earlier_of, planned, planned_for}
-use Rattle.jc_plan.specs.Statuses.{accounted, decided_in, is_settled, wants_at, wants_in}
+use Rattle.jc_plan.specs.Statuses.{accounted, decided_in, is_end_decided, wants_at, wants_in}
 use Rattle.jc_queue.specs.Delayed.{first_of, is_before, seconds_after, sooner}
 use Rattle.jc_control.specs.declared.ends.SyncEnd.{SyncEnd}
 use Rattle.jc_control.specs.declared.ends.SyncEnd.TheVariants as end
@@ -86,12 +86,12 @@ wants-timely : (now : ℕ) (backoff : Backoff) (settled : Bool) (job : Job) (own
     → Timely (wants_at now backoff settled job own counted).next
 wants-timely now backoff settled job own counted =
     let opens = opening (backoff_after backoff counted now) in
-    timely-if (is_held_back opens now && not (is_none_of (creatable settled job own counted))) opens
+    timely-if (is_delayed_until opens now && not (is_none_of (creatable settled job own counted))) opens
 
 next-timely : (basis : Basis) (o : Option Job) → Timely (planned_for basis o).next
 next-timely basis None = record { in_time = tt }
 next-timely basis (Some job) =
-    let settled = is_settled job (decided_in job basis) in
+    let settled = is_end_decided job (decided_in job basis) in
     let counted = accounted job basis in
     timely-both (wants_in job basis).next (deadline_of basis.now job.spec job.status)
     (wants-timely basis.now basis.backoff settled job (own_pods job basis.pods) counted)

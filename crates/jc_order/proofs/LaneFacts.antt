@@ -7,7 +7,7 @@ use Rattle.jc_types.specs.declared.actions.Command.{Command}
 use Rattle.jc_types.specs.declared.runs.Event.{Event}
 use Rattle.jc_types.specs.declared.runs.Event.TheVariants as event
 use Rattle.jc_types.specs.declared.runs.Past.{Past}
-use Rattle.jc_history.specs.Legal.{AreUsed, ComesNext, InLanes, is_of_lane, lane_places, next_place, places_from, lane_count}
+use Rattle.jc_history.specs.Legal.{AreUsed, ComesNext, InLanes, is_of_lane, lane_places, next_command, places_from, lane_count}
 use Rattle.jc_history.specs.Play.{is_command}
 use Rattle.std.proofs.lemmas.Option.{none-some, same_Some as some-same}
 
@@ -170,7 +170,7 @@ AllPlayed place pasts = (n : ℕ) → n < place → list_any (is_command n) past
 
 -- The first command that was not played is its lane's next one.
 pub comes-next : (commands : List Command) (pasts : List Past) → InLanes commands pasts → (place : ℕ) (command : Command) → slice_get commands place ≡ Some command
-    → AllPlayed place pasts → list_any (is_command place) pasts ≡ false → next_place commands command.lane pasts ≡ Some place
+    → AllPlayed place pasts → list_any (is_command place) pasts ≡ false → next_command commands command.lane pasts ≡ Some place
 comes-next commands pasts h place command e all not-yet = by (nat_lt (lane_count command.lane pasts) ranked.rank) refl
   where
     ranked : HasRank command.lane 0 commands (0 + place)
@@ -188,7 +188,7 @@ comes-next commands pasts h place command e all not-yet = by (nat_lt (lane_count
     itself : (n : ℕ) → nat_lt n n ≡ true → ⊥
     itself n s = let lt = ltb-true n n s in omega (arith, lt)
 
-    by : (b : Bool) → nat_lt (lane_count command.lane pasts) ranked.rank ≡ b → next_place commands command.lane pasts ≡ Some place
+    by : (b : Bool) → nat_lt (lane_count command.lane pasts) ranked.rank ≡ b → next_command commands command.lane pasts ≡ Some place
     by true s =
         let less = ltb-true (lane_count command.lane pasts) ranked.rank s in
         let before = ranks-rise command.lane 0 commands (lane_count command.lane pasts) ranked.rank place is less in
@@ -197,12 +197,12 @@ comes-next commands pasts h place command e all not-yet = by (nat_lt (lane_count
 
 -- Where all commands were played the lanes are used up.
 pub all-used : (commands : List Command) (pasts : List Past) → InLanes commands pasts → ((n : ℕ) (command : Command) → slice_get commands n ≡ Some command → list_any (is_command n) pasts ≡ true) → AreUsed commands pasts
-all-used commands pasts h all lane = by (next_place commands lane pasts) refl
+all-used commands pasts h all lane = by (next_command commands lane pasts) refl
   where
     itself : (n : ℕ) → nat_lt n n ≡ true → ⊥
     itself n s = let lt = ltb-true n n s in omega (arith, lt)
 
-    by : (o : Option ℕ) → next_place commands lane pasts ≡ o → o ≡ None
+    by : (o : Option ℕ) → next_command commands lane pasts ≡ o → o ≡ None
     by None e = refl
     by (Some n) e =
         let there = place-of lane 0 commands (lane_count lane pasts) n e in

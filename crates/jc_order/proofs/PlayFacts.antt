@@ -26,12 +26,12 @@ use Rattle.jc_log.specs.Deeds.{Deed, act_of_action, act_of_event, act_of_system,
 use Rattle.jc_history.specs.Available.{IsOrderly, WasAvailable, available, but_clock, clock_events, is_empty, is_quiescent, least_of_all, or_clock}
 use Rattle.jc_order.specs.Ends.{IsAtMost}
 use Rattle.jc_history.specs.Diaries.{moment, notes}
-use Rattle.jc_history.specs.Legal.{AreUsed, ComesNext, IsHistory, InLanes, IsLegal, IsOfShape, MaySettle, next_place, lane_count}
+use Rattle.jc_history.specs.Legal.{AreUsed, ComesNext, IsHistory, InLanes, IsLegal, IsOfShape, MaySettle, next_command, lane_count}
 use Rattle.jc_history.specs.Numbers.{number}
 use Rattle.jc_history.specs.Play.{Playing, has_just_begun, brings, brought_up, commanded, deeds_played, event_played, does_if, first_event, is_command, notes_in, nothing, on_and_on, play_of, rest_played, settled_down, stepped_through, stepped_if, next_step, with_answer, whole_play as all_played}
 use Rattle.jc_history.specs.Registers.{register}
 use Rattle.jc_history.specs.Replies.{gives, log_after, log_given, reply_given}
-use Rattle.jc_order.specs.Plays.{AreWithin, IsPlayed, IsProper, ends_in_settle, is_settle_action}
+use Rattle.jc_order.specs.Plays.{AreWithin, IsPlayed, IsScriptFor, ends_in_settle, is_settle_action}
 use Rattle.jc_order.proofs.AvailFacts.{Is, IsOf, all-within, any-here, delivery-in, list-in, step-in}
 use Rattle.jc_order.proofs.EndFacts.{numbers-within}
 use Rattle.jc_order.proofs.LaneFacts.{AllPlayed, all-used, comes-next}
@@ -301,7 +301,7 @@ module _ (script : Script) (shape : Shape) (start : List Deed) where
           done (inr e) = inr ((more f).adds.commands place ∙ e)
 
   module _ (lane place : ℕ) (command : Command) (stands : slice_get script.commands place ≡ Some command) (within : IsOfShape shape (act_of_action command.action)) (p : Playing) (h : IsPlayed script shape start p)
-      (comes : next_place script.commands lane p.pasts ≡ Some place) where
+      (comes : next_command script.commands lane p.pasts ≡ Some place) where
     own-comes : (q : Playing) → Adds p q → MaySettle (act_of_action command.action) (is_quiescent shape (deeds_played script q) q.log) → MayCome (Commands lane place) q
     own-comes q a m = record {
       within = subst (λ o. IsOfShape shape (act_of_command o)) (sym stands) within;
@@ -539,14 +539,14 @@ module _ (script : Script) (shape : Shape) (start : List Deed) where
 -- ---- the play
 
 -- The play of the rest of a script.
-pub plays-on : (script : Script) (shape : Shape) (start : List Deed) (p : Playing) → IsProper script shape → IsPlayed script shape start p → Ends script shape start (rest_played script shape 0 script.commands p)
+pub plays-on : (script : Script) (shape : Shape) (start : List Deed) (p : Playing) → IsScriptFor script shape → IsPlayed script shape start p → Ends script shape start (rest_played script shape 0 script.commands p)
 plays-on script shape start p proper h =
     rest-plays script shape start 0 script.commands p (λ i. let same : 0 + i ≡ i = omega arith in ap (slice_get script.commands) same) proper h (λ f n lt. absurd (omega (arith, lt)))
 
 pub used-up : (script : Script) (shape : Shape) (start : List Deed) (p : Playing) → Ends script shape start p → p.full ≡ false → AreUsed script.commands p.pasts
 used-up script shape start p h f = all-used script.commands p.pasts h.plays.lanes (h.all f)
 
-pub plays-whole : (script : Script) (shape : Shape) → IsProper script shape → Ends script shape [] (all_played script shape)
+pub plays-whole : (script : Script) (shape : Shape) → IsScriptFor script shape → Ends script shape [] (all_played script shape)
 unfolding all_played log_given
 plays-whole script shape proper = plays-on script shape [] nothing proper (record {
   log_is = refl;
@@ -580,23 +580,23 @@ history-is script shape start p h history e = record {
   legal = subst (IsLegal shape) (history-deeds script p.pasts history e) h.legal;
 }
 
-pub play-is : (script : Script) (shape : Shape) → IsProper script shape → (history : History) → history.events.items ≡ play_of script shape → IsHistory script shape history
+pub play-is : (script : Script) (shape : Shape) → IsScriptFor script shape → (history : History) → history.events.items ≡ play_of script shape → IsHistory script shape history
 play-is script shape proper = history-is script shape [] (all_played script shape) (plays-whole script shape proper).plays
 
-pub play-orderly : (script : Script) (shape : Shape) → IsProper script shape → (history : History) → history.events.items ≡ play_of script shape → IsOrderly shape (deeds script history)
+pub play-orderly : (script : Script) (shape : Shape) → IsScriptFor script shape → (history : History) → history.events.items ≡ play_of script shape → IsOrderly shape (deeds script history)
 play-orderly script shape proper history e = subst (IsOrderly shape) (history-deeds script (all_played script shape).pasts history e) ((plays-whole script shape proper).plays.orderly tt)
 
-pub play-log : (script : Script) (shape : Shape) → IsProper script shape → (history : History) → history.events.items ≡ play_of script shape → (all_played script shape).log ≡ log_given shape (deeds script history)
+pub play-log : (script : Script) (shape : Shape) → IsScriptFor script shape → (history : History) → history.events.items ≡ play_of script shape → (all_played script shape).log ≡ log_given shape (deeds script history)
 play-log script shape proper history e = (plays-whole script shape proper).plays.log_is ∙ ap (log_given shape) (history-deeds script (all_played script shape).pasts history e)
 
-pub play-full : (script : Script) (shape : Shape) → IsProper script shape → (all_played script shape).full ≡ true → length (play_of script shape) ≡ shape.events
+pub play-full : (script : Script) (shape : Shape) → IsScriptFor script shape → (all_played script shape).full ≡ true → length (play_of script shape) ≡ shape.events
 play-full script shape proper f = length-reverse (all_played script shape).pasts ∙ (plays-whole script shape proper).plays.filled f
 
-pub play-used : (script : Script) (shape : Shape) → IsProper script shape → (all_played script shape).full ≡ false → AreUsed script.commands (reverse (play_of script shape))
+pub play-used : (script : Script) (shape : Shape) → IsScriptFor script shape → (all_played script shape).full ≡ false → AreUsed script.commands (reverse (play_of script shape))
 play-used script shape proper f = subst (AreUsed script.commands) (sym (reverse-reverse (all_played script shape).pasts)) (used-up script shape [] (all_played script shape) (plays-whole script shape proper) f)
 
 -- A script that ends in a settle is played to rest.
-pub play-rests : (script : Script) (shape : Shape) → IsProper script shape → (all_played script shape).full ≡ false → ends_in_settle script.commands ≡ true
+pub play-rests : (script : Script) (shape : Shape) → IsScriptFor script shape → (all_played script shape).full ≡ false → ends_in_settle script.commands ≡ true
     → is_quiescent shape (deeds_played script (all_played script shape)) (all_played script shape).log ≡ true
 unfolding all_played log_given
 play-rests script shape proper f e =
@@ -604,7 +604,7 @@ play-rests script shape proper f e =
     (record { log_is = refl; few = omega arith; filled = λ f. absurd (true≢false (sym f)); lanes = tt; legal = tt; orderly = λ o. o })
     (λ f n lt. absurd (omega (arith, lt))) (λ f n le. refl) e f
 
-pub history-rests : (script : Script) (shape : Shape) → IsProper script shape → (history : History) → history.events.items ≡ play_of script shape → (all_played script shape).full ≡ false → ends_in_settle script.commands ≡ true
+pub history-rests : (script : Script) (shape : Shape) → IsScriptFor script shape → (history : History) → history.events.items ≡ play_of script shape → (all_played script shape).full ≡ false → ends_in_settle script.commands ≡ true
     → is_quiescent shape (deeds script history) (log_given shape (deeds script history)) ≡ true
 history-rests script shape proper history is f e =
     subst (λ past. is_quiescent shape past (log_given shape past) ≡ true) (history-deeds script (all_played script shape).pasts history is)
@@ -612,10 +612,10 @@ history-rests script shape proper history is f e =
 
 -- ---- the rest of a script, and what is left to do
 
-pub rest-is : (script : Script) (shape : Shape) (start : List Deed) (p : Playing) → IsProper script shape → IsPlayed script shape start p → IsPlayed script shape start (rest_played script shape 0 script.commands p)
+pub rest-is : (script : Script) (shape : Shape) (start : List Deed) (p : Playing) → IsScriptFor script shape → IsPlayed script shape start p → IsPlayed script shape start (rest_played script shape 0 script.commands p)
 rest-is script shape start p proper h = (plays-on script shape start p proper h).plays
 
-pub rest-used : (script : Script) (shape : Shape) (start : List Deed) (p : Playing) → IsProper script shape
+pub rest-used : (script : Script) (shape : Shape) (start : List Deed) (p : Playing) → IsScriptFor script shape
     → IsPlayed script shape start p → (rest_played script shape 0 script.commands p).full ≡ false
     → AreUsed script.commands (rest_played script shape 0 script.commands p).pasts
 rest-used script shape start p proper h f = used-up script shape start _ (plays-on script shape start p proper h) f

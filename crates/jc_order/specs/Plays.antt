@@ -1,5 +1,5 @@
 -- Plays that are histories.
---     IsProper script shape        each command names a controller and a worker of the shape
+--     IsScriptFor script shape        each command names a controller and a worker of the shape
 --     IsPlayed script shape start p    the play is a legal history of the script, after the start
 --     ends_in_settle commands          the last command is a settle
 use Rattle.std.specs.Prelude.{◌≡◌, ◌≤◌, Bool, true, false, List, [], ◌∷◌, length}
@@ -20,8 +20,8 @@ abbrev pub AreWithin : Shape → List Command → Type 0
 AreWithin shape commands =
     Each (λ (command : Command). IsOfShape shape (act_of_action command.action)) commands
 
-abbrev pub IsProper : Script → Shape → Type 0
-IsProper script shape = AreWithin shape script.commands
+abbrev pub IsScriptFor : Script → Shape → Type 0
+IsScriptFor script shape = AreWithin shape script.commands
 
 -- The play is a legal history of the script and the shape, orderly where the deeds were from which
 -- it went on. It is full only where it has all its events.

@@ -24,9 +24,9 @@ ghost use Rattle.jc_history.specs.Play.{Playing, deeds_played, is_full, play_of,
 ghost use Rattle.jc_history.specs.Registers.{AllFit, floor};
 ghost use Rattle.jc_history.specs.Replies.{diary, log_given};
 ghost use Rattle.jc_order.specs.Ends.{IsAtMost, IsUpToDate, Placed};
-ghost use Rattle.jc_order.specs.Plays.{IsPlayed, IsProper, ends_in_settle};
+ghost use Rattle.jc_order.specs.Plays.{IsPlayed, IsScriptFor, ends_in_settle};
 ghost use Rattle.jc_order.specs.Rest.{IsSystemAtRest};
-ghost use Rattle.jc_order.specs.Restless.{AreHonest, EndWell, FailsIf, HasCacheSeen, IsBusy, StandTogether, Stands, has_forgotten, has_job_of};
+ghost use Rattle.jc_order.specs.Restless.{AreToldInOrder, EndWell, FailsIf, HasCacheSeen, IsBusy, StandTogether, Stands, has_forgotten, has_job_of};
 
 /// Floors and the numbers of caches are places of the log. So where both caches of a controller
 /// have seen the whole log no cache is behind for any key, and a begin starts a sync of the first
@@ -62,25 +62,25 @@ pub fn quiescent_is_at_rest()
 /// The play of a script is a legal and orderly history of it. It is full only where it has all its
 /// events, and where it is not the commands of each lane are used up.
 pub fn plays_are_orderly_histories()
-    ensures history { (script : Script) (shape : Shape) → IsProper script shape
+    ensures history { (script : Script) (shape : Shape) → IsScriptFor script shape
         → (history : History) → history.events.items ≡ play_of script shape
         → IsHistory script shape history }
-    ensures orderly { (script : Script) (shape : Shape) → IsProper script shape
+    ensures orderly { (script : Script) (shape : Shape) → IsScriptFor script shape
         → (history : History) → history.events.items ≡ play_of script shape
         → IsOrderly shape (deeds script history) }
-    ensures log { (script : Script) (shape : Shape) → IsProper script shape
+    ensures log { (script : Script) (shape : Shape) → IsScriptFor script shape
         → (history : History) → history.events.items ≡ play_of script shape
         → (whole_play script shape).log ≡ log_given shape (deeds script history) }
-    ensures full { (script : Script) (shape : Shape) → IsProper script shape
+    ensures full { (script : Script) (shape : Shape) → IsScriptFor script shape
         → is_full script shape ≡ true → length (play_of script shape) ≡ shape.events }
-    ensures used { (script : Script) (shape : Shape) → IsProper script shape
+    ensures used { (script : Script) (shape : Shape) → IsScriptFor script shape
         → is_full script shape ≡ false
         → AreUsed script.commands (reverse (play_of script shape)) }
 {}
 
 /// The play of a script that ends in a settle ends at rest, where it is not full.
 pub fn settled_plays_are_at_rest()
-    ensures { (script : Script) (shape : Shape) → IsProper script shape
+    ensures { (script : Script) (shape : Shape) → IsScriptFor script shape
         → (history : History) → history.events.items ≡ play_of script shape
         → is_full script shape ≡ false → ends_in_settle script.commands ≡ true
         → is_quiescent shape (deeds script history)
@@ -91,10 +91,10 @@ pub fn settled_plays_are_at_rest()
 /// still.
 pub fn the_rest_is_played()
     ensures played { (script : Script) (shape : Shape) (start : List Deed) (p : Playing)
-        → IsProper script shape → IsPlayed script shape start p
+        → IsScriptFor script shape → IsPlayed script shape start p
         → IsPlayed script shape start (rest_played script shape 0 script.commands p) }
     ensures used { (script : Script) (shape : Shape) (start : List Deed) (p : Playing)
-        → IsProper script shape → IsPlayed script shape start p
+        → IsScriptFor script shape → IsPlayed script shape start p
         → (rest_played script shape 0 script.commands p).full ≡ false
         → AreUsed script.commands (rest_played script shape 0 script.commands p).pasts }
     ensures history { (script : Script) (shape : Shape) (start : List Deed) (p : Playing)
@@ -121,12 +121,12 @@ pub fn histories_settle()
 pub fn no_ended_pod_is_forgotten()
     ensures since { (k : Key) (j u : Uid) (log : List Entry) → has_job_of k log ≡ true
         → has_forgotten k j u log ≡ true → StandTogether k j u log }
-    ensures busy { (k : Key) (a b : ℕ) (notes : List Note) → AllFit notes → AreHonest k a b notes
+    ensures busy { (k : Key) (a b : ℕ) (notes : List Note) → AllFit notes → AreToldInOrder k a b notes
         → HasCacheSeen (number Jobs notes) a → HasCacheSeen (number Pods notes) b
         → IsBusy k a b notes }
     ensures honest { (k : Key) (a b : ℕ) (shape : Shape) (c : ℕ) (deeds : List Deed)
         → IsLegal shape deeds → Stands k a b (log_given shape deeds)
-        → EndWell k a b (diary shape c deeds) → AreHonest k a b (diary shape c deeds) }
+        → EndWell k a b (diary shape c deeds) → AreToldInOrder k a b (diary shape c deeds) }
     ensures rest { (shape : Shape) (deeds : List Deed) → IsLegal shape deeds → 0 < shape.workers
         → is_quiescent shape deeds (log_given shape deeds) ≡ true
         → (c : ℕ) → c < shape.controllers

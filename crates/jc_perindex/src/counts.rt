@@ -25,12 +25,12 @@ ghost use Rattle.jc_states.specs.UidLists.{is_in};
 ghost use Rattle.jc_perindex.specs.Failures.{is_fail_index_action, newly_failed, policy_fails_index};
 ghost use Rattle.jc_perindex.specs.FillingSteps.{one_failure, raise, raise_each, raise_for, with_failure};
 
-use jc_failpol::decided_action;
-use jc_states::{is_among, is_own};
+use jc_failpol::action_of;
+use jc_states::{is_in, is_own};
 use jc_types::{Action, Arc, Copied, FailurePolicy, IndexCount, IndexCounts, Job, Pod, Uid, Want};
 
 // Whether the action fails the index.
-fn is_fail_index(action: Action) -> bool
+fn is_fail_index_action(action: Action) -> bool
     ensures { result ≡ is_fail_index_action action }
 {
     match action {
@@ -45,7 +45,7 @@ fn policy_fails_index(failure: &Option<FailurePolicy>, pod: &Pod) -> bool
 {
     match failure {
         None => false,
-        Some(policy) => is_fail_index(decided_action(policy, pod)),
+        Some(policy) => is_fail_index_action(action_of(policy, pod)),
     }
 }
 
@@ -154,7 +154,7 @@ fn raise_for(
 fn is_newly_failed(job: &Job, uids: &[Uid], pod: &Pod) -> bool
     ensures { result ≡ is_own job.now pod.now && is_in pod.now.uid uids.now }
 {
-    is_own(job, pod) && is_among(pod.uid, uids)
+    is_own(job, pod) && is_in(pod.uid, uids)
 }
 
 // The Job's counts with the failure of each of its pods of these UIDs, the last of them first. They share

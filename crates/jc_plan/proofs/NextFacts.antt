@@ -38,7 +38,7 @@ use Rattle.jc_perindex.specs.Failures.{filled_counts}
 use Rattle.jc_plan.specs.Next.{next_counted, next_decided, next_status, next_wants}
 use Rattle.jc_plan.specs.PodNumbers.{active_after, ending_after, ready_after}
 use Rattle.jc_plan.specs.Plans.{changed, planned, planned_for}
-use Rattle.jc_plan.specs.Statuses.{accounted, completed_at, conditions_at, first_status_of, first_value, decided_in, is_first_due, is_none, is_over, is_second_due, is_settled, leaves_none, lists_none, second_value, wants_at, wants_in}
+use Rattle.jc_plan.specs.Statuses.{accounted, completed_at, conditions_at, first_status_of, first_value, decided_in, is_first_due, is_none, is_over, is_second_due, is_end_decided, leaves_none, lists_none, second_value, wants_at, wants_in}
 use Rattle.jc_plan.proofs.Targets.{IsTarget, target-kind}
 
 and-true : (b : Bool) → (b && true) ≡ b
@@ -138,7 +138,7 @@ module _ (job : Job) (basis : Basis) (rises : IsRising basis.pods) (tidy : job.s
 
   wants-are : wants_in job basis ≡ next_wants basis.now basis.backoff job (own_pods job basis.pods)
   wants-are =
-      λ i. wants_by basis.now basis.backoff job (own_pods job basis.pods) (is_settled job (target-is i))
+      λ i. wants_by basis.now basis.backoff job (own_pods job basis.pods) (is_end_decided job (target-is i))
       (succeeded-is job basis.pods rises tidy i) (completed-is job basis.pods rises tidy i)
       (failing-is job basis.pods rises tidy i) (new-failed job basis.pods i) (gain-is job basis.pods rises tidy i)
 
@@ -157,10 +157,10 @@ module _ (job : Job) (basis : Basis) (rises : IsRising basis.pods) (tidy : job.s
       omega (arith, succeeded-all-out job basis.pods first refl, succeeded-is job basis.pods rises tidy, left_s) in
       let e_f : out.failed ≡ (next_counted job own).failed =
       omega (arith, failed-all-out job basis.pods first refl, failed-is job basis.pods rises tidy, left_f) in
-      let e_due : is_second_due (is_settled job (decided_in job basis)) own counted out ≡ is_over (is_settled job (next_decided basis.now job own)) own (next_counted job own) =
-      second-over (is_over (is_settled job (decided_in job basis)) own counted) out.uncounted_succeeded out.uncounted_failed e_us e_uf
-      ∙ ap (λ (g : Option (CondKind × Reason)). is_over (is_settled job g) own counted) target-is
-      ∙ ap (λ (b : Bool). is_settled job (next_decided basis.now job own) && (not (list_any is_open own) && b)) (leaves-is job basis.pods rises tidy) in
+      let e_due : is_second_due (is_end_decided job (decided_in job basis)) own counted out ≡ is_over (is_end_decided job (next_decided basis.now job own)) own (next_counted job own) =
+      second-over (is_over (is_end_decided job (decided_in job basis)) own counted) out.uncounted_succeeded out.uncounted_failed e_us e_uf
+      ∙ ap (λ (g : Option (CondKind × Reason)). is_over (is_end_decided job g) own counted) target-is
+      ∙ ap (λ (b : Bool). is_end_decided job (next_decided basis.now job own) && (not (list_any is_open own) && b)) (leaves-is job basis.pods rises tidy) in
       λ i. record {
         active = active_after (wants-are i) own;
         ready = ready_after (wants-are i) own;
@@ -200,14 +200,14 @@ module _ (job : Job) (basis : Basis) (this : basis.job ≡ Some job) where
 -- Where both statuses differ by their ends alone, and the second is that of the Job, the end stood.
 same-conditions : (now : ℕ) (job : Job) (target : Option (CondKind × Reason)) (over d1 d2 : Bool)
     → IsTarget target
-    → (over ≡ true → is_settled job target ≡ true)
+    → (over ≡ true → is_end_decided job target ≡ true)
     → d2 ≡ over
     → (d1 ≡ true → over ≡ true)
     → conditions_at now job target d2 ≡ job.status.conditions
     → conditions_at now job target d1 ≡ conditions_at now job target d2
 same-conditions now job target over d1 d2 is_kind settles e imp stood = by d1 over refl refl
   where
-    parts : is_settled job target ≡ true → (has_target job.status.conditions ≡ true) ⊎ IsSome target
+    parts : is_end_decided job target ≡ true → (has_target job.status.conditions ≡ true) ⊎ IsSome target
     parts h = one (has_target job.status.conditions) refl h
       where
         one : (b : Bool) → has_target job.status.conditions ≡ b → (b || is_some target) ≡ true → (has_target job.status.conditions ≡ true) ⊎ IsSome target
@@ -267,15 +267,15 @@ module _ (job : Job) (basis : Basis) (tidy : job.spec.mode ≡ Indexed → job.s
       let target = decided_in job basis in
       let first = first_status_of basis.now job own counted target (wants_in job basis) in
       let out = counted_out first counted.releases in
-      let over = is_over (is_settled job target) own counted in
+      let over = is_over (is_end_decided job target) own counted in
       let e_us : out.uncounted_succeeded ≡ [] = succeeded-list-empty job basis.pods first refl in
       let e_uf : out.uncounted_failed ≡ [] = failed-list-empty job basis.pods first refl in
       let e_s : first.succeeded ≡ out.succeeded = omega (arith, succeeded-all-out job basis.pods first refl, ap length succeeded-none) in
       let e_f : first.failed ≡ out.failed = omega (arith, failed-all-out job basis.pods first refl, ap length failed-none) in
-      let e_c : conditions_at basis.now job target (is_first_due (is_settled job target) own counted) ≡ conditions_at basis.now job target (is_second_due (is_settled job target) own counted out) =
-      same-conditions basis.now job target over (is_first_due (is_settled job target) own counted) (is_second_due (is_settled job target) own counted out)
+      let e_c : conditions_at basis.now job target (is_first_due (is_end_decided job target) own counted) ≡ conditions_at basis.now job target (is_second_due (is_end_decided job target) own counted out) =
+      same-conditions basis.now job target over (is_first_due (is_end_decided job target) own counted) (is_second_due (is_end_decided job target) own counted out)
       (target-kind counted basis.now job own)
-      (λ h. (and_parts (is_settled job target) (not (list_any is_open own) && leaves_none counted) h).0)
+      (λ h. (and_parts (is_end_decided job target) (not (list_any is_open own) && leaves_none counted) h).0)
       (second-over over out.uncounted_succeeded out.uncounted_failed e_us e_uf)
       (λ h. (and_parts over (is_none counted.releases && lists_none counted.uncounted_succeeded counted.uncounted_failed) h).0)
       (ap (λ (s : JobStatus). s.conditions) stays) in

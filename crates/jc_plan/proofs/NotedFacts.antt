@@ -10,7 +10,7 @@ use Rattle.jc_types.specs.declared.objects.Pod.{Pod}
 use Rattle.jc_types.proofs.ListFacts.{filter_within}
 use Rattle.jc_states.specs.declared.bases.Basis.{Basis}
 use Rattle.jc_states.specs.Bases.{is_own}
-use Rattle.jc_states.specs.Noted.{is_noted}
+use Rattle.jc_states.specs.Noted.{needs_look}
 use Rattle.jc_states.specs.Owners.{is_foreign}
 use Rattle.jc_states.specs.Pods.{is_tracked}
 use Rattle.jc_states.specs.PodLists.{IsRising}
@@ -22,7 +22,7 @@ use Rattle.jc_plan.specs.Releases.{due_uids, is_orphan, is_owed, is_released, re
 
 module _ (basis : Basis) (job : Job) (due more : List Uid) (this : basis.job ≡ Some job) (are : due ≡ due_uids basis.job basis.pods) where
   -- One that the Job is to release is noted by its UID, and an orphan as another owner's.
-  released-noted : (pod : Pod) → is_released basis pod ≡ true → is_noted job.uid due more pod ≡ true
+  released-noted : (pod : Pod) → is_released basis pod ≡ true → needs_look job.uid due more pod ≡ true
   released-noted pod h =
       elim (or_cases (is_owed (due_uids basis.job basis.pods) pod) (is_orphan basis pod) h) [
         | inl o ↦ noted-in job.uid due more pod (ap (is_in pod.uid) are ∙ (and_parts (is_tracked pod) (is_in pod.uid (due_uids basis.job basis.pods)) o).1)
@@ -32,8 +32,8 @@ module _ (basis : Basis) (job : Job) (due more : List Uid) (this : basis.job ≡
       ]
 
   -- So they are the same of the noted pods as of all.
-  pub releases-noted : uids_of (filter (is_released basis) (filter (is_noted job.uid due more) basis.pods)) ≡ releases_of basis
-  releases-noted = ap uids_of (filter_within (is_released basis) (is_noted job.uid due more) released-noted basis.pods)
+  pub releases-noted : uids_of (filter (is_released basis) (filter (needs_look job.uid due more) basis.pods)) ≡ releases_of basis
+  releases-noted = ap uids_of (filter_within (is_released basis) (needs_look job.uid due more) released-noted basis.pods)
 
 -- The UIDs that the Job is to release ascend.
 pub due-ascends : (job : Option Job) (pods : List Pod) → IsRising pods → Ascends (due_uids job pods)

@@ -24,7 +24,7 @@ use Rattle.jc_manage.specs.LetGoes.{seen_uids}
 use Rattle.jc_manage.proofs.Ordered.{let_goes-rise, marks-rise}
 use Rattle.jc_plan.specs.Plans.{planned}
 use Rattle.jc_plan.specs.Releases.{ReleasedPod, due_uids, is_owed, is_orphan, is_released}
-use Rattle.jc_plan.specs.Statuses.{accounted, decided_in, is_settled}
+use Rattle.jc_plan.specs.Statuses.{accounted, decided_in, is_end_decided}
 use Rattle.jc_plan.proofs.PlanFacts.{plan-let_goes, plan-marks, plan-releases}
 use Rattle.jc_plan.proofs.PartFacts.{planned-here}
 use Rattle.jc_plan.proofs.ValueFacts.{released-member}
@@ -48,7 +48,7 @@ module _ (basis : Basis) (rising : IsRising basis.pods) where
       by None this = subst (λ p. Ascends p.marks) (planned-here basis None this) tt
       by (Some job) this =
           subst (λ (us : List Uid). Ascends us) (sym (plan-marks basis job this))
-          (marks-rise (is_settled job (decided_in job basis)) (own_pods job basis.pods) (own-rises job))
+          (marks-rise (is_end_decided job (decided_in job basis)) (own_pods job basis.pods) (own-rises job))
 
   pub let_goes-ascend : Ascends (seen_uids (planned basis).let_goes)
   let_goes-ascend = by basis.job refl
@@ -57,7 +57,7 @@ module _ (basis : Basis) (rising : IsRising basis.pods) where
       by None this = subst (λ p. Ascends (seen_uids p.let_goes)) (planned-here basis None this) tt
       by (Some job) this =
           subst (λ (us : List Uid). Ascends us) (sym (ap seen_uids (plan-let_goes basis job this)))
-          (let_goes-rise (is_settled job (decided_in job basis)) job (own_pods job basis.pods) (accounted job basis) (own-rises job))
+          (let_goes-rise (is_end_decided job (decided_in job basis)) job (own_pods job basis.pods) (accounted job basis) (own-rises job))
 
   pub releases-ascend : Ascends (planned basis).releases
   releases-ascend =

@@ -13,14 +13,14 @@ use Rattle.jc_types.specs.declared.syncs.CountIn.{CountIn}
 use Rattle.jc_states.specs.Bases.{CanPlan, own_pods}
 use Rattle.jc_types.specs.ValidSpecs.{IsValidSpec}
 use Rattle.jc_account.specs.Accounts.{counted_out}
-use Rattle.jc_finish.specs.Starts.{deadline_of, deadline_of_basis}
+use Rattle.jc_finish.specs.Starts.{deadline_of, next_deadline}
 use Rattle.jc_manage.specs.declared.results.Wants.{Wants}
 use Rattle.jc_manage.specs.Backoffs.{backoff_after, opening}
 use Rattle.jc_states.specs.Pods.{active_pods}
 use Rattle.jc_perindex.specs.Failures.{filled_counts}
 use Rattle.jc_plan.specs.Plans.{changed, earlier_of, planned, planned_for}
 use Rattle.jc_plan.specs.Releases.{releases_of}
-use Rattle.jc_plan.specs.Statuses.{accounted, first_status_of, first_value, decided_in, is_settled, second_after, second_value, wants_in}
+use Rattle.jc_plan.specs.Statuses.{accounted, first_status_of, first_value, decided_in, is_end_decided, second_after, second_value, wants_in}
 use Rattle.jc_plan.proofs.Going.{creates-bounded, going-active}
 
 -- The specification of the Job that is there is valid.
@@ -31,13 +31,13 @@ valid-at basis job this can = subst (λ (o : Option Job). IfSome o (λ j. IsVali
 pub wants-created : (job : Job) (basis : Basis) (wants : Wants) → basis.job ≡ Some job → CanPlan basis → wants ≡ wants_in job basis → length wants.creates ≤ GREATEST_PARALLELISM
 wants-created job basis wants this can e =
     subst (λ (w : Wants). length w.creates ≤ GREATEST_PARALLELISM) (sym e)
-    (creates-bounded (opening (backoff_after basis.backoff (accounted job basis) basis.now)) basis.now (is_settled job (decided_in job basis)) job (own_pods job basis.pods) (accounted job basis) (valid-at basis job this can).parallelism)
+    (creates-bounded (opening (backoff_after basis.backoff (accounted job basis) basis.now)) basis.now (is_end_decided job (decided_in job basis)) job (own_pods job basis.pods) (accounted job basis) (valid-at basis job this can).parallelism)
 
 -- No more pods are marked and let go than are active.
 pub wants-going : (job : Job) (basis : Basis) (wants : Wants) → wants ≡ wants_in job basis → length wants.marks + length wants.let_goes ≤ length (active_pods (own_pods job basis.pods))
 wants-going job basis wants e =
     subst (λ (w : Wants). length w.marks + length w.let_goes ≤ length (active_pods (own_pods job basis.pods))) (sym e)
-    (going-active (is_settled job (decided_in job basis)) job (own_pods job basis.pods) (accounted job basis))
+    (going-active (is_end_decided job (decided_in job basis)) job (own_pods job basis.pods) (accounted job basis))
 
 -- What is computed is the first status.
 pub first-is : (job : Job) (basis : Basis) (counted : CountIn) (target : Option (CondKind × Reason)) (wants : Wants) (first : JobStatus)
@@ -65,7 +65,7 @@ second-is job basis counted target first second is_counted is_decided is_first i
 pub planned-is : (job : Job) (basis : Basis) (wants : Wants) → wants ≡ wants_in job basis
     → (deadline : Option ℕ) (f s : Option JobStatus) (r : List Uid) (next : Option ℕ)
     → basis.job ≡ Some job
-    → deadline ≡ deadline_of_basis basis
+    → deadline ≡ next_deadline basis
     → f ≡ changed job.status (first_value job basis)
     → s ≡ changed (first_value job basis) (second_value job basis)
     → r ≡ releases_of basis
@@ -104,4 +104,4 @@ plan-going job basis = wants-going job basis (wants_in job basis) refl
 -- No more pods are made than may run at once.
 pub plan-created : (job : Job) (basis : Basis) → job.spec.parallelism ≤ GREATEST_PARALLELISM → length (wants_in job basis).creates ≤ GREATEST_PARALLELISM
 plan-created job basis few =
-    creates-bounded (opening (backoff_after basis.backoff (accounted job basis) basis.now)) basis.now (is_settled job (decided_in job basis)) job (own_pods job basis.pods) (accounted job basis) few
+    creates-bounded (opening (backoff_after basis.backoff (accounted job basis) basis.now)) basis.now (is_end_decided job (decided_in job basis)) job (own_pods job basis.pods) (accounted job basis) few

@@ -32,7 +32,7 @@ use Rattle.jc_finish.proofs.DecisionFacts.{decided_once}
 use Rattle.jc_finish.specs.Starts.{start_of}
 use Rattle.jc_finish.specs.Settled.{end_of, settled_suspended, suspension, with_end, with_last, with_suspension}
 use Rattle.jc_manage.specs.declared.results.Wants.{Wants}
-use Rattle.jc_manage.specs.Backoffs.{backoff_after, is_held_back, opening}
+use Rattle.jc_manage.specs.Backoffs.{backoff_after, is_delayed_until, opening}
 use Rattle.jc_manage.specs.Creations.{IsIndexFor, creatable}
 use Rattle.jc_manage.proofs.Bounds.{creatable-fit, creatable-fit_ending, creates-few}
 use Rattle.jc_manage.proofs.Numbered.{creatable-numbered, creates-numbered}
@@ -41,27 +41,27 @@ use Rattle.jc_perindex.proofs.Raised.{none-raised}
 use Rattle.jc_plan.specs.PodNumbers.{active_after, ending_after, keeps_on, ready_after}
 use Rattle.jc_plan.specs.Plans.{planned, planned_for}
 use Rattle.jc_plan.specs.declared.plans.Planned.{Planned}
-use Rattle.jc_plan.specs.Statuses.{accounted, completed_at, conditions_at, first_value, decided_in, is_first_due, is_none, is_over, is_second_due, is_settled, leaves_none, lists_none, second_value, wants_in, first_status_of}
+use Rattle.jc_plan.specs.Statuses.{accounted, completed_at, conditions_at, first_value, decided_in, is_first_due, is_none, is_over, is_second_due, is_end_decided, leaves_none, lists_none, second_value, wants_in, first_status_of}
 use Rattle.jc_plan.proofs.Targets.{target-kind}
 use Rattle.jc_plan.proofs.Going.{going-active}
 use Rattle.jc_plan.proofs.NextFacts.{changed-none}
 use Rattle.jc_plan.proofs.ValueFacts.{first-closed, new-due, second-closed, second-lists_none, settled-target, values-same}
-use Rattle.jc_plan.specs.Finishes.{HasFinished, Idles, IsAtRest, IsIdle, IsNeat, IsWound}
+use Rattle.jc_plan.specs.Finishes.{HasFinished, Idles, IsFinalStatus, IsIdle, HasIndexTotals, LeavesNoPod}
 
 -- ---- creations fit
 
 module _ (job : Job) (basis : Basis) where
-  few : length (wants_in job basis).creates ≤ length (creatable (is_settled job (decided_in job basis)) job (own_pods job basis.pods) (accounted job basis))
+  few : length (wants_in job basis).creates ≤ length (creatable (is_end_decided job (decided_in job basis)) job (own_pods job basis.pods) (accounted job basis))
   few =
       creates-few (opening (backoff_after basis.backoff (accounted job basis) basis.now)) basis.now
-      (creatable (is_settled job (decided_in job basis)) job (own_pods job basis.pods) (accounted job basis))
+      (creatable (is_end_decided job (decided_in job basis)) job (own_pods job basis.pods) (accounted job basis))
 
   pub creates-fit : 0 < length (wants_in job basis).creates → length (wants_in job basis).creates + length (tracked_active_pods (own_pods job basis.pods)) ≤ job.spec.parallelism
   creates-fit some =
       omega (
         arith,
         few,
-        creatable-fit (is_settled job (decided_in job basis)) job (own_pods job basis.pods) (accounted job basis) (omega (arith, some, few)),
+        creatable-fit (is_end_decided job (decided_in job basis)) job (own_pods job basis.pods) (accounted job basis) (omega (arith, some, few)),
       )
 
   pub creates-fit_ending : 0 < length (wants_in job basis).creates → job.spec.replacement ≡ FailedOnly
@@ -71,14 +71,14 @@ module _ (job : Job) (basis : Basis) where
       omega (
         arith,
         few,
-        creatable-fit_ending (is_settled job (decided_in job basis)) job (own_pods job basis.pods) (accounted job basis) only (omega (arith, some, few)),
+        creatable-fit_ending (is_end_decided job (decided_in job basis)) job (own_pods job basis.pods) (accounted job basis) only (omega (arith, some, few)),
       )
 
   pub plan-numbered : All (IsIndexFor job) (wants_in job basis).creates
   plan-numbered =
       creates-numbered job (opening (backoff_after basis.backoff (accounted job basis) basis.now)) basis.now
-      (creatable (is_settled job (decided_in job basis)) job (own_pods job basis.pods) (accounted job basis))
-      (creatable-numbered (is_settled job (decided_in job basis)) job (own_pods job basis.pods) (accounted job basis))
+      (creatable (is_end_decided job (decided_in job basis)) job (own_pods job basis.pods) (accounted job basis))
+      (creatable-numbered (is_end_decided job (decided_in job basis)) job (own_pods job basis.pods) (accounted job basis))
 
 -- ---- no pod is open
 
@@ -110,7 +110,7 @@ module _ (own : List Pod) (closed : list_any is_open own ≡ false) where
 
 module _ (job : Job) (basis : Basis) (closed : list_any is_open (own_pods job basis.pods) ≡ false) where
   going : length (wants_in job basis).marks + length (wants_in job basis).let_goes ≤ length (active_pods (own_pods job basis.pods))
-  going = going-active (is_settled job (decided_in job basis)) job (own_pods job basis.pods) (accounted job basis)
+  going = going-active (is_end_decided job (decided_in job basis)) job (own_pods job basis.pods) (accounted job basis)
 
   no-active : length (active_pods (own_pods job basis.pods)) ≡ 0
   no-active = ap length (active-none (own_pods job basis.pods) closed)
@@ -135,8 +135,8 @@ module _ (job : Job) (basis : Basis) (closed : list_any is_open (own_pods job ba
 
 -- ---- a settled Job makes no pod
 
-settled-creates : (job : Job) (basis : Basis) → is_settled job (decided_in job basis) ≡ true → (wants_in job basis).creates ≡ []
-settled-creates job basis target = by (is_held_back (opening (backoff_after basis.backoff (accounted job basis) basis.now)) basis.now) (is_settled job (decided_in job basis)) target
+settled-creates : (job : Job) (basis : Basis) → is_end_decided job (decided_in job basis) ≡ true → (wants_in job basis).creates ≡ []
+settled-creates job basis target = by (is_delayed_until (opening (backoff_after basis.backoff (accounted job basis) basis.now)) basis.now) (is_end_decided job (decided_in job basis)) target
   where
     by : (b t : Bool) → t ≡ true → cond b [] (creatable t job (own_pods job basis.pods) (accounted job basis)) ≡ []
     by true t h = refl
@@ -154,30 +154,30 @@ over-left settled own counted over = (and_parts (not (list_any is_open own)) (le
 
 module _ (job : Job) (basis : Basis) (none : has_end job.status.conditions ≡ false) where
   module _ (new : has_end (first_value job basis).conditions ≡ true) where
-    first-due : is_first_due (is_settled job (decided_in job basis)) (own_pods job basis.pods) (accounted job basis) ≡ true
+    first-due : is_first_due (is_end_decided job (decided_in job basis)) (own_pods job basis.pods) (accounted job basis) ≡ true
     unfolding first_value
     first-due = new-due basis.now job (decided_in job basis) _ (target-kind (accounted job basis) basis.now job (own_pods job basis.pods)) none new
 
-    first-over : is_over (is_settled job (decided_in job basis)) (own_pods job basis.pods) (accounted job basis) ≡ true
-    first-over = (and_parts (is_over (is_settled job (decided_in job basis)) (own_pods job basis.pods) (accounted job basis)) _ first-due).0
+    first-over : is_over (is_end_decided job (decided_in job basis)) (own_pods job basis.pods) (accounted job basis) ≡ true
+    first-over = (and_parts (is_over (is_end_decided job (decided_in job basis)) (own_pods job basis.pods) (accounted job basis)) _ first-due).0
 
-    first-settled : is_settled job (decided_in job basis) ≡ true
+    first-settled : is_end_decided job (decided_in job basis) ≡ true
     first-settled = (and_parts _ _ first-over).0
 
     first-clear : (is_none (accounted job basis).releases && lists_none (accounted job basis).uncounted_succeeded (accounted job basis).uncounted_failed) ≡ true
-    first-clear = (and_parts (is_over (is_settled job (decided_in job basis)) (own_pods job basis.pods) (accounted job basis)) _ first-due).1
+    first-clear = (and_parts (is_over (is_end_decided job (decided_in job basis)) (own_pods job basis.pods) (accounted job basis)) _ first-due).1
 
     pub first-released : (accounted job basis).releases ≡ []
     first-released = is-none _ (and_parts _ _ first-clear).0
 
-    pub first-wound : IsWound job basis
+    pub first-wound : LeavesNoPod job basis
     first-wound = record {
       closed = first-closed job basis none new;
-      left = over-left (is_settled job (decided_in job basis)) (own_pods job basis.pods) (accounted job basis) first-over;
+      left = over-left (is_end_decided job (decided_in job basis)) (own_pods job basis.pods) (accounted job basis) first-over;
       creates = settled-creates job basis first-settled;
     }
 
-    pub first-rests : IsAtRest (first_value job basis)
+    pub first-rests : IsFinalStatus (first_value job basis)
     unfolding first_value
     first-rests = record {
       target = settled-target basis.now job (decided_in job basis) _ (target-kind (accounted job basis) basis.now job (own_pods job basis.pods)) first-settled;
@@ -195,22 +195,22 @@ module _ (job : Job) (basis : Basis) (none : has_end job.status.conditions ≡ f
     out : JobStatus
     out = counted_out (first_status_of basis.now job (own_pods job basis.pods) (accounted job basis) (decided_in job basis) (wants_in job basis)) (accounted job basis).releases
 
-    second-due : is_second_due (is_settled job (decided_in job basis)) (own_pods job basis.pods) (accounted job basis)
+    second-due : is_second_due (is_end_decided job (decided_in job basis)) (own_pods job basis.pods) (accounted job basis)
         (counted_out (first_status_of basis.now job (own_pods job basis.pods) (accounted job basis)
         (decided_in job basis) (wants_in job basis)) (accounted job basis).releases) ≡ true
     unfolding second_value
     second-due = new-due basis.now job (decided_in job basis) _ (target-kind (accounted job basis) basis.now job (own_pods job basis.pods)) none new
 
-    second-over : is_over (is_settled job (decided_in job basis)) (own_pods job basis.pods) (accounted job basis) ≡ true
-    second-over = (and_parts (is_over (is_settled job (decided_in job basis)) (own_pods job basis.pods) (accounted job basis)) _ second-due).0
+    second-over : is_over (is_end_decided job (decided_in job basis)) (own_pods job basis.pods) (accounted job basis) ≡ true
+    second-over = (and_parts (is_over (is_end_decided job (decided_in job basis)) (own_pods job basis.pods) (accounted job basis)) _ second-due).0
 
-    second-settled : is_settled job (decided_in job basis) ≡ true
+    second-settled : is_end_decided job (decided_in job basis) ≡ true
     second-settled = (and_parts _ _ second-over).0
 
-    pub second-wound : IsWound job basis
+    pub second-wound : LeavesNoPod job basis
     second-wound = record {
       closed = second-closed job basis none new;
-      left = over-left (is_settled job (decided_in job basis)) (own_pods job basis.pods) (accounted job basis) second-over;
+      left = over-left (is_end_decided job (decided_in job basis)) (own_pods job basis.pods) (accounted job basis) second-over;
       creates = settled-creates job basis second-settled;
     }
 
@@ -222,7 +222,7 @@ module _ (job : Job) (basis : Basis) (none : has_end job.status.conditions ≡ f
     unfolding second_value counted_out
     second-numbers = (active-zero job basis second-wound.closed second-wound.creates, ready-none (own_pods job basis.pods) second-wound.closed (wants_in job basis), ending-zero job basis second-wound.closed)
 
-    pub second-rests : IsAtRest (second_value job basis)
+    pub second-rests : IsFinalStatus (second_value job basis)
     second-rests = record {
       target = second-target;
       failed_list = (second-lists_none job basis).0;
@@ -248,7 +248,7 @@ stays-empty own uids h = ap (stayed own) h
 leaves-none : (own : List Pod) (uids : List Uid) → uids ≡ [] → left own uids ≡ 0
 leaves-none own uids h = ap (left own) h
 
-module _ (job : Job) (basis : Basis) (rests : IsAtRest job.status) (neat : IsNeat job) (closed : list_any is_open (own_pods job basis.pods) ≡ false) (untracked : list_any is_tracked (own_pods job basis.pods) ≡ false)
+module _ (job : Job) (basis : Basis) (rests : IsFinalStatus job.status) (neat : HasIndexTotals job) (closed : list_any is_open (own_pods job basis.pods) ≡ false) (untracked : list_any is_tracked (own_pods job basis.pods) ≡ false)
     (end : has_end job.status.conditions ≡ true) where
   idle-completed : completed_in job (own_pods job basis.pods) ≡ job.status.completed
   idle-completed =
@@ -319,7 +319,7 @@ module _ (job : Job) (basis : Basis) (rests : IsAtRest job.status) (neat : IsNea
           by NonIndexed e = omega (arith, leaves-none (own_pods job basis.pods) job.status.uncounted_succeeded rests.succeeded_list)
           by Indexed e = ap length idle-completed ∙ sym (neat.size e)
 
-  settled : is_settled job (decided_in job basis) ≡ true
+  settled : is_end_decided job (decided_in job basis) ≡ true
   settled = or_left (has_target job.status.conditions) (is_some (decided_in job basis)) rests.target
 
   idle-judged : (counted_in job basis.pods).judged_failed ≡ []
@@ -411,8 +411,8 @@ module _ (job : Job) (basis : Basis) (rests : IsAtRest job.status) (neat : IsNea
     uncounted_succeeded = (ap (λ (c : CountIn). c.uncounted_succeeded) idle-counted ∙ sym rests.succeeded_list) i;
     uncounted_failed = (ap (λ (c : CountIn). c.uncounted_failed) idle-counted ∙ sym rests.failed_list) i;
     start = same-start i;
-    completion = same-completion (conditions_at basis.now job (decided_in job basis) (is_first_due (is_settled job (decided_in job basis)) (own_pods job basis.pods) (accounted job basis))) i;
-    conditions = same-conditions (is_first_due (is_settled job (decided_in job basis)) (own_pods job basis.pods) (accounted job basis)) i;
+    completion = same-completion (conditions_at basis.now job (decided_in job basis) (is_first_due (is_end_decided job (decided_in job basis)) (own_pods job basis.pods) (accounted job basis))) i;
+    conditions = same-conditions (is_first_due (is_end_decided job (decided_in job basis)) (own_pods job basis.pods) (accounted job basis)) i;
   }
 
   pub idle-second : second_value job basis ≡ first_value job basis

@@ -31,7 +31,7 @@ use Rattle.jc_finish.proofs.DecisionFacts.{failing_pod, failure_decides, found_b
 use Rattle.jc_finish.proofs.SettledFacts.{settled-decided, settled-keeps, settled-not_due}
 use Rattle.jc_manage.specs.declared.results.Wants.{Wants}
 use Rattle.jc_plan.specs.Releases.{is_released, releases_of}
-use Rattle.jc_plan.specs.Statuses.{accounted, completed_at, conditions_at, first_status_of, first_value, decided_in, is_first_due, is_none, is_over, is_second_due, is_settled, leaves_none, lists_none, second_status_of, second_value, wants_in}
+use Rattle.jc_plan.specs.Statuses.{accounted, completed_at, conditions_at, first_status_of, first_value, decided_in, is_first_due, is_none, is_over, is_second_due, is_end_decided, leaves_none, lists_none, second_status_of, second_value, wants_in}
 use Rattle.jc_plan.proofs.Targets.{IsTarget, target-kind}
 
 -- ---- what is counted
@@ -126,7 +126,7 @@ second-same now job own counted target wants none =
     ap (λ (r : List Uid). counted.succeeded + released_of r us) none ∙ released-none counted.succeeded us in
     let e_f : counted.failed + released_of counted.releases uf ≡ counted.failed =
     ap (λ (r : List Uid). counted.failed + released_of r uf) none ∙ released-none counted.failed uf in
-    let over = is_over (is_settled job target) own counted in
+    let over = is_over (is_end_decided job target) own counted in
     let e_due : (over && lists_none (unreleased counted.releases us) (unreleased counted.releases uf)) ≡ (over && (is_none counted.releases && lists_none us uf)) =
     ap (λ (vs : List Uid). over && lists_none vs (unreleased counted.releases uf)) e_us
     ∙ ap (λ (vs : List Uid). over && lists_none us vs) e_uf
@@ -156,13 +156,13 @@ module _ (job : Job) (basis : Basis) (kind : CondKind) (proper : kind ≢ Suspen
   pub first-keeps : stands kind (first_value job basis).conditions ≡ true
   unfolding first_value
   first-keeps =
-      settled-keeps basis.now job.spec.suspend (decided_in job basis) (is_first_due (is_settled job (decided_in job basis)) (own_pods job basis.pods) (accounted job basis)) job.status.conditions kind proper stood
+      settled-keeps basis.now job.spec.suspend (decided_in job basis) (is_first_due (is_end_decided job (decided_in job basis)) (own_pods job basis.pods) (accounted job basis)) job.status.conditions kind proper stood
 
   pub second-keeps : stands kind (second_value job basis).conditions ≡ true
   unfolding second_value
   second-keeps =
       settled-keeps basis.now job.spec.suspend (decided_in job basis)
-      (is_second_due (is_settled job (decided_in job basis)) (own_pods job basis.pods) (accounted job basis)
+      (is_second_due (is_end_decided job (decided_in job basis)) (own_pods job basis.pods) (accounted job basis)
       (counted_out (first_status_of basis.now job (own_pods job basis.pods) (accounted job basis) (decided_in job basis)
       (wants_in job basis)) (accounted job basis).releases))
       job.status.conditions kind proper stood
@@ -185,8 +185,8 @@ module _ (job : Job) (basis : Basis) (none : has_end job.status.conditions ≡ f
   first-closed new =
       let own = own_pods job basis.pods in
       let counted = accounted job basis in
-      over-closed (is_settled job (decided_in job basis)) (list_any is_open own) (leaves_none counted) (is_none counted.releases && lists_none counted.uncounted_succeeded counted.uncounted_failed)
-      (new-due basis.now job (decided_in job basis) (is_first_due (is_settled job (decided_in job basis)) own counted) (target-kind counted basis.now job own) none new)
+      over-closed (is_end_decided job (decided_in job basis)) (list_any is_open own) (leaves_none counted) (is_none counted.releases && lists_none counted.uncounted_succeeded counted.uncounted_failed)
+      (new-due basis.now job (decided_in job basis) (is_first_due (is_end_decided job (decided_in job basis)) own counted) (target-kind counted basis.now job own) none new)
 
   pub second-closed : has_end (second_value job basis).conditions ≡ true → list_any is_open (own_pods job basis.pods) ≡ false
   unfolding second_value
@@ -194,8 +194,8 @@ module _ (job : Job) (basis : Basis) (none : has_end job.status.conditions ≡ f
       let own = own_pods job basis.pods in
       let counted = accounted job basis in
       let out = counted_out (first_status_of basis.now job own counted (decided_in job basis) (wants_in job basis)) counted.releases in
-      over-closed (is_settled job (decided_in job basis)) (list_any is_open own) (leaves_none counted) (lists_none out.uncounted_succeeded out.uncounted_failed)
-      (new-due basis.now job (decided_in job basis) (is_second_due (is_settled job (decided_in job basis)) own counted out) (target-kind counted basis.now job own) none new)
+      over-closed (is_end_decided job (decided_in job basis)) (list_any is_open own) (leaves_none counted) (lists_none out.uncounted_succeeded out.uncounted_failed)
+      (new-due basis.now job (decided_in job basis) (is_second_due (is_end_decided job (decided_in job basis)) own counted out) (target-kind counted basis.now job own) none new)
 
 -- ---- the failure policy
 
@@ -220,7 +220,7 @@ target-kept now job target due h = by (stands FailureTarget job.status.condition
     by false e false i g = absurd (true≢false (sym g))
 
 -- Where how the Job ends is settled, a target stands.
-pub settled-target : (now : ℕ) (job : Job) (target : Option (CondKind × Reason)) (due : Bool) → IsTarget target → is_settled job target ≡ true → has_target (conditions_at now job target due) ≡ true
+pub settled-target : (now : ℕ) (job : Job) (target : Option (CondKind × Reason)) (due : Bool) → IsTarget target → is_end_decided job target ≡ true → has_target (conditions_at now job target due) ≡ true
 settled-target now job (Some target) due t h =
     kind-target target.0 (conditions_at now job (Some target) due) t (settled-decided now job.spec.suspend target due job.status.conditions)
 settled-target now job None due t h = by (has_target job.status.conditions) refl h
@@ -234,10 +234,10 @@ unfolding first_value
 first-fails job basis pod there tracked fails =
     let own = own_pods job basis.pods in
     let counted = accounted job basis in
-    settled-target basis.now job (decided_in job basis) (is_first_due (is_settled job (decided_in job basis)) own counted)
+    settled-target basis.now job (decided_in job basis) (is_first_due (is_end_decided job (decided_in job basis)) own counted)
     (target-kind counted basis.now job own) (settles (failure_decides counted basis.now job own (found_by_pod job.spec own pod there tracked fails)))
   where
-    settles : (has_target job.status.conditions ≡ true) ⊎ (decided_in job basis ≡ Some (FailureTarget, PodFailurePolicy)) → is_settled job (decided_in job basis) ≡ true
+    settles : (has_target job.status.conditions ≡ true) ⊎ (decided_in job basis ≡ Some (FailureTarget, PodFailurePolicy)) → is_end_decided job (decided_in job basis) ≡ true
     settles (inl e) = or_left (has_target job.status.conditions) (is_some (decided_in job basis)) e
     settles (inr e) = or_right (has_target job.status.conditions) (is_some (decided_in job basis)) (ap (λ (o : Option (CondKind × Reason)). is_some o) e)
 

@@ -1,8 +1,8 @@
 -- What a plan does where its Job ends, and where it has ended.
 --     GainsEnd job status     an end is new in the status
---     IsAtRest status         a status with an end: nothing is listed, and no pod is counted
---     IsNeat job              the total of an Indexed Job is the number of its completed indexes; failures by index ascend
---     IsWound job basis       no own pod is open or left over, and none is made
+--     IsFinalStatus status         a status with an end: nothing is listed, and no pod is counted
+--     HasIndexTotals job              the total of an Indexed Job is the number of its completed indexes; failures by index ascend
+--     LeavesNoPod job basis       no own pod is open or left over, and none is made
 --     HasFinished job basis   the Job has ended, and nothing is left to do for it
 --     IsIdle basis            the plan asks for nothing and writes nothing
 use Rattle.std.specs.Prelude.{◌≡◌, true, false, [], map, length, None}
@@ -28,7 +28,7 @@ pub record GainsEnd (job : Job) (status : JobStatus) : Type 0 where
   pub new : has_end status.conditions ≡ true
 
 -- A status with an end: a target stands, nothing is listed and no pod is counted.
-pub record IsAtRest (status : JobStatus) : Type 0 where
+pub record IsFinalStatus (status : JobStatus) : Type 0 where
   pub target : has_target status.conditions ≡ true
   pub failed_list : status.uncounted_failed ≡ []
   pub succeeded_list : status.uncounted_succeeded ≡ []
@@ -38,7 +38,7 @@ pub record IsAtRest (status : JobStatus) : Type 0 where
 
 -- Of an Indexed Job no success is listed, and its total is the number of its completed indexes. Of a Job without a limit
 -- for each index nothing is said of failed indexes; the failures of each index ascend by index.
-pub record IsNeat (job : Job) : Type 0 where
+pub record HasIndexTotals (job : Job) : Type 0 where
   pub none : ListsNoSuccess job
   pub size : job.spec.mode ≡ Indexed → job.status.succeeded ≡ length job.status.completed
   pub failing : job.spec.per_index ≡ None
@@ -46,7 +46,7 @@ pub record IsNeat (job : Job) : Type 0 where
   pub ascending : IsIncreasing (map (λ (count : IndexCount). count.index) job.status.index_failures)
 
 -- No own pod is open or left over for a later sync, and none is made.
-pub record IsWound (job : Job) (basis : Basis) : Type 0 where
+pub record LeavesNoPod (job : Job) (basis : Basis) : Type 0 where
   pub closed : list_any is_open (own_pods job basis.pods) ≡ false
   pub left : leaves_none (counted_in job basis.pods) ≡ true
   pub creates : (wants_in job basis).creates ≡ []
@@ -54,8 +54,8 @@ pub record IsWound (job : Job) (basis : Basis) : Type 0 where
 -- The Job has ended and its status is at rest, and none of its own pods is open or has the finalizer.
 pub record HasFinished (job : Job) (basis : Basis) : Type 0 where
   pub ended : has_end job.status.conditions ≡ true
-  pub rests : IsAtRest job.status
-  pub neat : IsNeat job
+  pub rests : IsFinalStatus job.status
+  pub neat : HasIndexTotals job
   pub closed : list_any is_open (own_pods job basis.pods) ≡ false
   pub untracked : list_any is_tracked (own_pods job basis.pods) ≡ false
 

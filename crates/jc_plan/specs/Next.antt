@@ -24,7 +24,7 @@ use Rattle.jc_failpol.specs.declared.outcomes.Outcome.TheVariants.{Failed, Succe
 use Rattle.jc_finish.specs.Decisions.{decided}
 use Rattle.jc_manage.specs.declared.results.Wants.{Wants}
 use Rattle.jc_perindex.specs.Failures.{filled_counts}
-use Rattle.jc_plan.specs.Statuses.{filled, is_over, is_settled, wants_at}
+use Rattle.jc_plan.specs.Statuses.{filled, is_over, is_end_decided, wants_at}
 
 -- What is counted: each total with its list and with the pods that are judged now, and of an Indexed Job the
 -- completed indexes with those of the new successes. Nothing stays uncounted but the pods that are left over. Of failed
@@ -59,13 +59,13 @@ next_decided now job own = decided (next_counted job own) now job own
 -- What is wanted of the pods with these counts.
 abbrev pub next_wants : ℕ → Backoff → Job → List Pod → Wants
 next_wants now backoff job own =
-    wants_at now backoff (is_settled job (next_decided now job own)) job own (next_counted job own)
+    wants_at now backoff (is_end_decided job (next_decided now job own)) job own (next_counted job own)
 
 -- The status: its end is due where a target stands or is decided, and no pod is open or left over.
 unfoldable pub next_status : ℕ → Backoff → Job → List Pod → JobStatus
 next_status now backoff job own =
     filled now job own (next_counted job own) (next_decided now job own) (next_wants now backoff job own)
-    (is_over (is_settled job (next_decided now job own)) own (next_counted job own))
+    (is_over (is_end_decided job (next_decided now job own)) own (next_counted job own))
 
 -- That of the basis's Job.
 abbrev pub next_value : Job → Basis → JobStatus

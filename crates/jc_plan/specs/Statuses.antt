@@ -1,7 +1,7 @@
 -- The two statuses of a sync as values, whether they are written or not (batch/v1, KEP-2307, KEP-3998). `own` are
 -- the Job's own pods, `counted` what the sync counts in, `target` the target that it decides, `settled` says that how
 -- the Job ends is settled, and `wants` is what the sync wants of the pods.
---     is_settled job target         how the Job ends is settled, before the sync or by it
+--     is_end_decided job target         how the Job ends is settled, before the sync or by it
 --     wants_at ..                   what the sync wants
 --     completed_at ..               when the Job completed
 --     filled .. due                 the status with all these; `due` says that its end is due
@@ -40,8 +40,8 @@ use Rattle.jc_perindex.specs.Failures.{filled_counts}
 use Rattle.jc_plan.specs.PodNumbers.{active_after, ending_after, ready_after}
 
 -- How the Job ends is settled: a target stands, or is decided now.
-abbrev pub is_settled : Job → Option (CondKind × Reason) → Bool
-is_settled job target = has_target job.status.conditions || is_some target
+abbrev pub is_end_decided : Job → Option (CondKind × Reason) → Bool
+is_end_decided job target = has_target job.status.conditions || is_some target
 
 -- What the sync wants of the pods.
 abbrev pub wants_at : ℕ → Backoff → Bool → Job → List Pod → CountIn → Wants
@@ -105,7 +105,7 @@ is_first_due settled own counted =
 -- The first status: what is counted in, and the end where it is due.
 abbrev pub first_status_of : ℕ → Job → List Pod → CountIn → Option (CondKind × Reason) → Wants → JobStatus
 first_status_of now job own counted target wants =
-    filled now job own counted target wants (is_first_due (is_settled job target) own counted)
+    filled now job own counted target wants (is_first_due (is_end_decided job target) own counted)
 
 -- The status with its end where that is due.
 abbrev pub with_due_end : ℕ → Job → Option (CondKind × Reason) → Bool → JobStatus → JobStatus
@@ -122,7 +122,7 @@ is_second_due settled own counted status =
 -- The status with its end where that is due.
 abbrev pub second_after : ℕ → Job → List Pod → CountIn → Option (CondKind × Reason) → JobStatus → JobStatus
 second_after now job own counted target status =
-    with_due_end now job target (is_second_due (is_settled job target) own counted status) status
+    with_due_end now job target (is_second_due (is_end_decided job target) own counted status) status
 
 -- The second status: the first with the released UIDs counted out, and the end where it is due.
 abbrev pub second_status_of : ℕ → Job → List Pod → CountIn → Option (CondKind × Reason) → Wants → JobStatus
@@ -142,7 +142,7 @@ decided_in job basis = decided (accounted job basis) basis.now job (own_pods job
 -- What the sync wants of the Job's pods.
 abbrev pub wants_in : Job → Basis → Wants
 wants_in job basis =
-    wants_at basis.now basis.backoff (is_settled job (decided_in job basis)) job (own_pods job basis.pods)
+    wants_at basis.now basis.backoff (is_end_decided job (decided_in job basis)) job (own_pods job basis.pods)
     (accounted job basis)
 
 -- The first status of the Job.

@@ -28,7 +28,7 @@ ghost use Rattle.jc_failpol.specs.Rules.{action_of};
 ghost use Rattle.jc_manage.specs.Creations.{IsIndexFor};
 ghost use Rattle.jc_manage.specs.LetGoes.{seen_uids};
 ghost use Rattle.jc_plan.specs.PodCounts.{created_for, running_of, stopping_of};
-ghost use Rattle.jc_plan.specs.Finishes.{GainsEnd, HasFinished, IsAtRest, IsIdle, IsWound};
+ghost use Rattle.jc_plan.specs.Finishes.{GainsEnd, HasFinished, IsFinalStatus, IsIdle, LeavesNoPod};
 ghost use Rattle.jc_plan.specs.Next.{ListsNoSuccess, next_value};
 ghost use Rattle.jc_plan.specs.Plans.{IsDated, WritesNothing, last_status, planned, planned_for};
 ghost use Rattle.jc_plan.specs.PodNumbers.{stopped_by};
@@ -156,17 +156,17 @@ pub fn ends_are_final()
 /// released, and the second status is the first.
 pub fn ends_leave_nothing()
     ensures first_wound { (job : Job) (basis : Basis)
-        → GainsEnd job (first_value job basis) → IsWound job basis }
+        → GainsEnd job (first_value job basis) → LeavesNoPod job basis }
     ensures first_rests { (job : Job) (basis : Basis)
-        → GainsEnd job (first_value job basis) → IsAtRest (first_value job basis) }
+        → GainsEnd job (first_value job basis) → IsFinalStatus (first_value job basis) }
     ensures first_released { (job : Job) (basis : Basis)
         → GainsEnd job (first_value job basis) → (counted_in job basis.pods).releases ≡ [] }
     ensures first_same { (job : Job) (basis : Basis)
         → GainsEnd job (first_value job basis) → second_value job basis ≡ first_value job basis }
     ensures second_wound { (job : Job) (basis : Basis)
-        → GainsEnd job (second_value job basis) → IsWound job basis }
+        → GainsEnd job (second_value job basis) → LeavesNoPod job basis }
     ensures second_rests { (job : Job) (basis : Basis)
-        → GainsEnd job (second_value job basis) → IsAtRest (second_value job basis) }
+        → GainsEnd job (second_value job basis) → IsFinalStatus (second_value job basis) }
 {}
 
 /// Over a Job that has ended, with nothing listed, no pod told of, and all own pods closed and released, a

@@ -7,7 +7,7 @@ ghost use Rattle.jc_states.specs.Pods.{active_pods, is_ready};
 ghost use Rattle.jc_plan.specs.PodNumbers.{active_after, ending_after, is_let_go_of, keeps_on, ready_after, stopped_by};
 
 use jc_manage::Wants;
-use jc_states::{Pods, is_among, is_own, is_ready};
+use jc_states::{Pods, is_in, is_own, is_ready};
 use jc_types::{Arc, Job, Pod, PodVersions, Uid};
 
 /// How many pods are active, ready and terminating once the requests of a sync are made.
@@ -19,7 +19,7 @@ pub struct Numbers {
 }
 
 // Whether the pod of the UID is let go.
-fn is_let_go(uid: Uid, rows: &PodVersions) -> bool
+fn is_let_go_of(uid: Uid, rows: &PodVersions) -> bool
     ensures { result ≡ is_let_go_of uid rows.now }
 {
     rows.as_slice().iter().any(|row| row.0.0 == uid.0)
@@ -29,7 +29,7 @@ fn is_let_go(uid: Uid, rows: &PodVersions) -> bool
 fn keeps_on(wants: &Wants, pod: &Pod) -> bool
     ensures { result ≡ keeps_on wants.now pod.now }
 {
-    !is_among(pod.uid, wants.marks.as_slice()) && !is_let_go(pod.uid, &wants.let_goes)
+    !is_in(pod.uid, wants.marks.as_slice()) && !is_let_go_of(pod.uid, &wants.let_goes)
 }
 
 // Whether no pod is marked or let go.

@@ -15,7 +15,7 @@ ghost use Rattle.jc_plan.specs.Statuses.{accounted, first_value, decided_in, sec
 
 use crate::plans::{Plan, Planned};
 use crate::releases::released;
-use crate::statuses::{first_status, is_settled, second_status};
+use crate::statuses::{first_status, is_end_decided, second_status};
 use jc_account::count_in;
 use jc_finish::{decide, next_deadline};
 use jc_manage::{Wants, wants};
@@ -28,7 +28,7 @@ use jc_types::{
 use std::alloc::Global;
 
 // Whether both statuses are equal in every part.
-fn is_same_status(old: &JobStatus, new: &JobStatus) -> bool
+fn same_status(old: &JobStatus, new: &JobStatus) -> bool
     ensures { result ≡ same_status old.now new.now }
 {
     old.is_same(new)
@@ -38,7 +38,7 @@ fn is_same_status(old: &JobStatus, new: &JobStatus) -> bool
 fn changed(old: &JobStatus, new: JobStatus) -> Option<JobStatus>
     ensures { result ≡ changed old.now new }
 {
-    if is_same_status(old, &new) {
+    if same_status(old, &new) {
         return None;
     }
     Some(new)
@@ -97,7 +97,7 @@ fn accounted_for(alloc: Global, basis: &Basis, job: &Job) -> Result<CountIn, Wan
 }
 
 // What the sync decides.
-fn target_for(basis: &Basis, job: &Job, counted: &CountIn) -> Option<(CondKind, Reason)>
+fn decided_in(basis: &Basis, job: &Job, counted: &CountIn) -> Option<(CondKind, Reason)>
     requires this { basis.now.job ≡ Some job.now }
     requires few { length basis.now.pods < 2 ^ 31 }
     requires counted { counted.now ≡ accounted job.now basis.now }
@@ -127,7 +127,7 @@ fn wants_for(
     requires new_failed { counted.now.new_failed ≤ length basis.now.pods }
     ensures wants { IfOk result (λ r. r ≡ wants_in job.now basis.entry.now) }
 {
-    wants(alloc, basis, counted, is_settled(job, target))
+    wants(alloc, basis, counted, is_end_decided(job, target))
 }
 
 // The second status, where it is to be written. Where no pod is to be released it is as the first.
@@ -195,7 +195,7 @@ fn planned_with(alloc: Global, basis: &Basis, job: &Job, counted: &CountIn) -> R
     requires new_failed { counted.now.new_failed ≤ length basis.now.pods }
     ensures { IfOk result (λ r. r ≡ planned_for basis.entry.now (Some job.now)) }
 {
-    let target = target_for(basis, job, counted);
+    let target = decided_in(basis, job, counted);
     let releases = released(alloc, basis, &counted.releases)?;
     let wants = wants_for(alloc, basis, job, counted, target)?;
     let (first, second) = statuses_for(alloc, basis, job, counted, target, &wants)?;

@@ -9,7 +9,7 @@ ghost use Rattle.jc_states.specs.Pods.{active_pods};
 ghost use Rattle.jc_finish.specs.Settled.{is_target_kind, settled_of};
 ghost use Rattle.jc_finish.specs.Starts.{start_of};
 ghost use Rattle.jc_plan.specs.PodNumbers.{stopped_by};
-ghost use Rattle.jc_plan.specs.Statuses.{completed_at, conditions_at, with_due_end, filled, first_status_of, is_first_due, is_none, is_over, is_second_due, is_settled, leaves_none, lists_none, second_after, second_status_of};
+ghost use Rattle.jc_plan.specs.Statuses.{completed_at, conditions_at, with_due_end, filled, first_status_of, is_first_due, is_none, is_over, is_second_due, is_end_decided, leaves_none, lists_none, second_after, second_status_of};
 
 use crate::numbers::{Numbers, numbers_after};
 use jc_account::count_out;
@@ -21,8 +21,8 @@ use jc_types::{CondKind, Conditions, Copied, CountIn, Job, JobStatus, Reason, Ui
 use std::alloc::Global;
 
 /// Whether how the Job ends is settled, before the sync or by it.
-pub fn is_settled(job: &Job, target: Option<(CondKind, Reason)>) -> bool
-    ensures { result ≡ is_settled job.now target }
+pub fn is_end_decided(job: &Job, target: Option<(CondKind, Reason)>) -> bool
+    ensures { result ≡ is_end_decided job.now target }
 {
     has_target(&job.status.conditions) || target.is_some()
 }
@@ -103,7 +103,7 @@ fn conditions_at(
     requires this { basis.now.job ≡ Some job.now }
     requires kind { IfSome target (λ pair. is_target_kind pair.0 ≡ true) }
     requires fresh { IsSome target → has_target job.now.status.conditions ≡ false }
-    requires due { IsTrue due → is_settled job.now target ≡ true }
+    requires due { IsTrue due → is_end_decided job.now target ≡ true }
     ensures { IfOk result (λ r. r ≡ conditions_at basis.entry.now.now job.now target due) }
 {
     settle_conditions(alloc, basis, target, due)
@@ -175,7 +175,7 @@ pub fn first_status(
         (own_pods job.now basis.entry.now.pods) counted.now target wants.now) }
 {
     let pods = &*basis.pods;
-    let due = is_first_due(is_settled(job, target), job, pods, counted);
+    let due = is_first_due(is_end_decided(job, target), job, pods, counted);
     let numbers = numbers_after(job, pods, wants);
     let conditions = conditions_at(alloc, basis, job, target, due)?;
     let completion = completed_at(basis.now, &job.status, &conditions);
@@ -211,7 +211,7 @@ pub fn second_status(
         (counted_out first.now counted.now.releases)) }
 {
     let mut second = count_out(alloc, first, &counted.releases)?;
-    let due = is_second_due(is_settled(job, target), job, &*basis.pods, counted, &second);
+    let due = is_second_due(is_end_decided(job, target), job, &*basis.pods, counted, &second);
     let conditions = conditions_at(alloc, basis, job, target, due)?;
     second.completion = completed_at(basis.now, &job.status, &conditions);
     second.conditions = conditions;

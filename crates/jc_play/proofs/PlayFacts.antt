@@ -18,7 +18,7 @@ use Rattle.jc_history.specs.Play.{Playing, after_begin, brought_up, event_played
 use Rattle.jc_runs.specs.Seen.{Admits, IsDoable, Seen, act_seen, deeds_seen, happened, log_seen, past_seen, reply_seen}
 use Rattle.jc_machine.specs.declared.apply.ApplyFault.{ApplyFault}
 use Rattle.jc_machine.specs.declared.apply.ApplyFault.TheVariants.{HistoryFull}
-use Rattle.jc_play.specs.Turns.{HasCome, HasGrown, IsOwn, NeedsNoRest, Reaches, has_rest, is_begun_reply, next_to_bring, playing_of}
+use Rattle.jc_play.specs.Turns.{HasCome, HasGrown, IsOwn, NeedsNoRest, Reaches, is_quiescent_seen, is_begun_reply, next_to_bring, playing_of}
 use Rattle.jc_play.proofs.GoFacts.{done-reaches, grown-on, none-grown, ok-err, room-left, stop, stop-reaches}
 use Rattle.jc_play.proofs.OnFacts.{fills, happens, stays-full}
 
@@ -53,7 +53,7 @@ own-later old s event script shape counts h = record {
 }
 
 -- It may come.
-pub own-admits : (s : Seen) (event : Event) → IsOwn s event → MaySettle (act_seen s event) (has_rest s) → Admits s event
+pub own-admits : (s : Seen) (event : Event) → IsOwn s event → MaySettle (act_seen s event) (is_quiescent_seen s) → Admits s event
 own-admits s event h settled = record {
   next = subst (λ event. ComesNext s.script.commands s.pasts event) (sym h.is) h.next;
   within = h.within;

@@ -24,7 +24,7 @@ use Rattle.jc_order.proofs.AvailFacts.{Is, IsOf, all-within, any-here, delivery-
 use Rattle.jc_order.proofs.EndFacts.{numbers-within}
 use Rattle.jc_order.specs.Ends.{IsAtMost}
 use Rattle.jc_runs.specs.Seen.{Admits, IsDoable, Seen, deeds_seen, happened, log_seen}
-use Rattle.jc_play.specs.Turns.{IsComing, has_rest}
+use Rattle.jc_play.specs.Turns.{IsComing, is_quiescent_seen}
 use Rattle.jc_play.proofs.FirstFacts.{first-clock, none-empty}
 
 -- All that is available.
@@ -32,7 +32,7 @@ abbrev events_of : Seen → List Sys
 events_of seen = available seen.shape (deeds_seen seen) (log_seen seen)
 
 -- What the system does is no settle, and the machine does it.
-may-settle : (system : Sys) (seen : Seen) → MaySettle (act_of_system system) (has_rest seen)
+may-settle : (system : Sys) (seen : Seen) → MaySettle (act_of_system system) (is_quiescent_seen seen)
 may-settle (sys.List controller kind) seen = tt
 may-settle (sys.Deliver controller kind) seen = tt
 may-settle (sys.Begin controller worker) seen = tt
@@ -128,7 +128,7 @@ available-first shape past log o e =
     ∙ sym (first-clock (but_clock shape past log) (clock_events (moment shape past) (least_of_all shape past log)))
 
 -- Whether nothing is available, by what was found.
-pub rest-test : (seen : Seen) (o : Option Event) (b : Bool) → o ≡ first_event (events_of seen) → is_some o ≡ not b → b ≡ has_rest seen
+pub rest-test : (seen : Seen) (o : Option Event) (b : Bool) → o ≡ first_event (events_of seen) → is_some o ≡ not b → b ≡ is_quiescent_seen seen
 rest-test seen o b e t = by o b t ∙ ap is_none e ∙ none-empty (events_of seen)
   where
     by : (o : Option Event) (b : Bool) → is_some o ≡ not b → b ≡ is_none o
@@ -138,5 +138,5 @@ rest-test seen o b e t = by o b t ∙ ap is_none e ∙ none-empty (events_of see
     by (Some event) false t = refl
 
 -- Nothing is available where none was found.
-pub quiet : (seen : Seen) → None ≡ first_event (events_of seen) → has_rest seen ≡ true
+pub quiet : (seen : Seen) → None ≡ first_event (events_of seen) → is_quiescent_seen seen ≡ true
 quiet seen e = sym (none-empty (events_of seen)) ∙ ap is_none (sym e)

@@ -13,11 +13,11 @@ use Rattle.jc_types.specs.declared.runs.Event.TheVariants as event
 use Rattle.jc_types.specs.declared.runs.Past.{Past}
 use Rattle.jc_types.specs.declared.runs.Shape.{Shape}
 use Rattle.jc_log.specs.Deeds.{act_of_action, act_of_command}
-use Rattle.jc_history.specs.Legal.{InLanes, IsOfShape, MaySettle, lane_count, next_place}
+use Rattle.jc_history.specs.Legal.{InLanes, IsOfShape, MaySettle, lane_count, next_command}
 use Rattle.jc_history.specs.Play.{Playing, commanded, is_command, nothing, rest_played, whole_play}
 use Rattle.jc_history.specs.Replies.{log_given}
 use Rattle.jc_order.proofs.LaneFacts.{comes-next, played-is}
-use Rattle.jc_order.specs.Plays.{IsProper}
+use Rattle.jc_order.specs.Plays.{IsScriptFor}
 use Rattle.jc_runs.specs.Seen.{IsDoable, Seen}
 use Rattle.jc_machine.specs.declared.apply.ApplyFault.{ApplyFault}
 use Rattle.jc_play.specs.Turns.{HasCome, HasGrown, IsOwn, Reaches, playing_of}
@@ -49,7 +49,7 @@ itself n = by (nat_lt n n) refl
 
 -- Where all before it were played, a command that is not its lane's next one was played too.
 pub was-played : (commands : List Command) (pasts : List Past) → InLanes commands pasts → (place : ℕ) (command : Command) → slice_get commands place ≡ Some command → ArePlayed place pasts
-    → (next_place commands command.lane pasts ≡ Some place → ⊥) → list_any (is_command place) pasts ≡ true
+    → (next_command commands command.lane pasts ≡ Some place → ⊥) → list_any (is_command place) pasts ≡ true
 was-played commands pasts h place command e before other = by (list_any (is_command place) pasts) refl
   where
     by : (b : Bool) → list_any (is_command place) pasts ≡ b → b ≡ true
@@ -57,7 +57,7 @@ was-played commands pasts h place command e before other = by (list_any (is_comm
     by false s = absurd (other (comes-next commands pasts h place command e before s))
 
 -- The next one of a lane was not played yet.
-pub not-yet : (commands : List Command) (pasts : List Past) → InLanes commands pasts → (lane place : ℕ) → next_place commands lane pasts ≡ Some place → list_any (is_command place) pasts ≡ false
+pub not-yet : (commands : List Command) (pasts : List Past) → InLanes commands pasts → (lane place : ℕ) → next_command commands lane pasts ≡ Some place → list_any (is_command place) pasts ≡ false
 not-yet commands pasts h lane place e = played-is commands pasts h lane (lane_count lane pasts) place e ∙ itself (lane_count lane pasts)
 
 -- What was found is not that place: there is none, or another.
@@ -92,12 +92,12 @@ module _ (s : Seen) (place : ℕ) (command : Command) (stands : slice_get s.scri
       ∙ ap (λ b. cond b (playing_of false s) (commanded s.script s.shape command.action (event.Command command.lane place) (playing_of false s))) e
       ∙ by-its-way s.script s.shape (event.Command command.lane place) (playing_of false s) command.action
 
-  module _ (proper : IsProper s.script s.shape) where
+  module _ (proper : IsScriptFor s.script s.shape) where
     within : IsOfShape s.shape (act_of_action command.action)
     within = each-at (λ (c : Command). IsOfShape s.shape (act_of_action c.action)) s.script.commands place command proper stands
 
     -- It is an own event.
-    pub own-is : next_place s.script.commands command.lane s.pasts ≡ Some place → IsOwn s (event.Command command.lane place)
+    pub own-is : next_command s.script.commands command.lane s.pasts ≡ Some place → IsOwn s (event.Command command.lane place)
     own-is e = record {
       lane = command.lane;
       number = place;

@@ -11,7 +11,7 @@
 --     HasCome event seen          the command has come
 --     NeedsNoRest seen event      it may come whether or not there is something to do
 --     is_begun_reply reply              a sync began
---     has_rest seen               nothing is available
+--     is_quiescent_seen seen               nothing is available
 use Rattle.std.specs.Prelude.{◌≡◌, ℕ, ◌+◌, ◌≤◌, ◌++◌, Bool, true, false, List, length, Result, Err, OnOk, Option, Some, None, is_some}
 use Rattle.std.specs.List.{list_any}
 use Rattle.jc_queue.specs.Delayed.{earlier}
@@ -26,7 +26,7 @@ use Rattle.jc_types.specs.declared.runs.Shape.{Shape}
 use Rattle.jc_types.specs.declared.runs.Sys.{Sys}
 use Rattle.jc_log.specs.Deeds.{act_of_system}
 use Rattle.jc_history.specs.Available.{IsOrderly, WasAvailable, available, is_quiescent}
-use Rattle.jc_history.specs.Legal.{IsOfShape, MaySettle, lane_count, next_place}
+use Rattle.jc_history.specs.Legal.{IsOfShape, MaySettle, lane_count, next_command}
 use Rattle.jc_history.specs.Numbers.{number}
 use Rattle.jc_history.specs.Play.{Playing, brings, deeds_played, first_event, is_command, next_step, notes_in, on_and_on}
 use Rattle.jc_history.specs.Registers.{register}
@@ -96,7 +96,7 @@ pub record IsOwn (seen : Seen) (event : Event) : Type 0 where
   pub lane : ℕ
   pub number : ℕ
   pub is : event ≡ Command lane number
-  pub next : next_place seen.script.commands lane seen.pasts ≡ Some number
+  pub next : next_command seen.script.commands lane seen.pasts ≡ Some number
   pub within : IsOfShape seen.shape (act_seen seen event)
   pub doable : IsDoable (act_seen seen event)
 
@@ -115,5 +115,5 @@ is_begun_reply (reply.Begun key jobs_at pods_at) = true
 is_begun_reply other = false
 
 -- Nothing is available.
-abbrev pub has_rest : Seen → Bool
-has_rest seen = is_quiescent seen.shape (deeds_seen seen) (log_seen seen)
+abbrev pub is_quiescent_seen : Seen → Bool
+is_quiescent_seen seen = is_quiescent seen.shape (deeds_seen seen) (log_seen seen)

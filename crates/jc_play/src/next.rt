@@ -8,7 +8,7 @@ ghost use Rattle.jc_history.specs.Diaries.{moment};
 ghost use Rattle.jc_history.specs.Nodes.{fate, node_step};
 ghost use Rattle.jc_history.specs.Play.{first_event};
 ghost use Rattle.jc_runs.specs.Seen.{Admits, deeds_seen, log_seen};
-ghost use Rattle.jc_play.specs.Turns.{earliest_of, has_rest};
+ghost use Rattle.jc_play.specs.Turns.{earliest_of, is_quiescent_seen};
 
 use crate::kinds::{controller_begins, controller_delivers, controller_lists, controller_steps};
 use jc_machine::Machine;
@@ -168,7 +168,7 @@ pub fn next_event(machine: &Machine) -> Option<Event>
 
 /// Whether nothing is available.
 pub fn is_quiescent(machine: &Machine) -> bool
-    ensures { result ≡ has_rest machine.now }
+    ensures { result ≡ is_quiescent_seen machine.now }
 {
     next_event(machine).is_none()
 }

@@ -16,7 +16,7 @@ use jc_machine::{ApplyFault, Machine};
 use jc_types::{Event, Kind, Reply};
 
 // Whether the reply says that a sync began.
-fn is_begun(reply: Reply) -> bool
+fn is_begun_reply(reply: Reply) -> bool
     ensures { result ≡ is_begun_reply reply }
 {
     matches!(reply, Reply::Begun { .. })
@@ -36,7 +36,7 @@ fn begin_own(machine: &mut Machine, event: Event) -> Result<bool, ApplyFault>
         → machine.old.shape.events ≤ length machine.old.pasts }
 {
     let reply = machine.apply(event)?;
-    Ok(is_begun(reply))
+    Ok(is_begun_reply(reply))
 }
 
 // Does the own event of a sync, and the steps after it where the sync began.

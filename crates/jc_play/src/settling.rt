@@ -4,7 +4,7 @@ ghost use Rattle.std.specs.Prelude.{◌≡◌, ◌≤◌, Err, OnErr, OnOk, fals
 ghost use Rattle.jc_machine.specs.declared.apply.ApplyFault.TheVariants.{HistoryFull};
 ghost use Rattle.jc_history.specs.Play.{settled_down};
 ghost use Rattle.jc_runs.specs.Seen.{Admits, happened};
-ghost use Rattle.jc_play.specs.Turns.{HasGoneOn, HasGrown, Reaches, has_rest, next_to_settle, playing_of};
+ghost use Rattle.jc_play.specs.Turns.{HasGoneOn, HasGrown, Reaches, is_quiescent_seen, next_to_settle, playing_of};
 
 use crate::next::next_event;
 use jc_machine::{ApplyFault, Machine};
@@ -36,7 +36,7 @@ pub fn settle(machine: &mut Machine) -> Result<(), ApplyFault>
     ensures reaches { Reaches result
         (settled_down machine.old.script machine.old.shape (playing_of false machine.old))
         machine.new }
-    ensures rests { OnOk result (has_rest machine.new ≡ true) }
+    ensures rests { OnOk result (is_quiescent_seen machine.new ≡ true) }
     ensures kept { HasGoneOn (next_to_settle machine.old.script machine.old.shape) machine.old
         machine.new }
     ensures grown { HasGrown machine.old machine.new }

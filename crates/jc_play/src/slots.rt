@@ -17,7 +17,7 @@ pub struct Slot {
 
 impl Slot {
     /// Whether it is the register of the controller's worker.
-    pub fn is_of(&self, controller: u32, worker: u32) -> bool
+    pub fn is_slot_of(&self, controller: u32, worker: u32) -> bool
         ensures { result ≡ is_slot_of controller worker self.now }
     {
         self.controller == controller && self.worker == worker

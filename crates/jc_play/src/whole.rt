@@ -4,7 +4,7 @@ ghost use Rattle.std.specs.Prelude.{◌≡◌, ◌+◌, ◌<◌, IfSome, None, O
 ghost use Rattle.std.specs.List.{list_any};
 ghost use Rattle.jc_history.specs.Legal.{AreUsed};
 ghost use Rattle.jc_history.specs.Play.{is_command, rest_played};
-ghost use Rattle.jc_order.specs.Plays.{IsProper};
+ghost use Rattle.jc_order.specs.Plays.{IsScriptFor};
 ghost use Rattle.jc_play.specs.Turns.{HasGrown, IsOwn, Reaches, playing_of};
 ghost use Rattle.jc_play.specs.Ways.{ArePlayed, FitsWay, IsAtPlace, by_way, place_played};
 
@@ -33,7 +33,7 @@ fn command_at(script: &Script, place: usize) -> &Command
 
 // What is to be played of the place, where its command was not played yet.
 fn own_at(machine: &Machine, place: usize) -> Option<Own>
-    requires proper { IsProper machine.now.script machine.now.shape }
+    requires proper { IsScriptFor machine.now.script machine.now.shape }
     requires there { place < length machine.now.script.commands }
     requires before { ArePlayed place machine.now.pasts }
     ensures none { result ≡ None → list_any (is_command place) machine.now.pasts ≡ true }
@@ -63,7 +63,7 @@ fn own_at(machine: &Machine, place: usize) -> Option<Own>
 
 // Plays the command at the place, where it was not played yet.
 fn play_place(machine: &mut Machine, place: usize) -> Result<(), ApplyFault>
-    requires proper { IsProper machine.old.script machine.old.shape }
+    requires proper { IsScriptFor machine.old.script machine.old.shape }
     requires there { place < length machine.old.script.commands }
     requires before { ArePlayed place machine.old.pasts }
     ensures reaches { Reaches result
@@ -80,7 +80,7 @@ fn play_place(machine: &mut Machine, place: usize) -> Result<(), ApplyFault>
 
 // Plays the commands that were not played yet, one place after the other.
 fn play_places(machine: &mut Machine) -> Result<(), ApplyFault>
-    requires { IsProper machine.old.script machine.old.shape }
+    requires { IsScriptFor machine.old.script machine.old.shape }
     ensures reaches { Reaches result (rest_played machine.old.script machine.old.shape 0
         machine.old.script.commands (playing_of false machine.old)) machine.new }
     ensures grown { HasGrown machine.old machine.new }
@@ -104,7 +104,7 @@ fn play_places(machine: &mut Machine) -> Result<(), ApplyFault>
 /// `HistoryFull` exactly where the history has as many events as the shape allows and one is still
 /// to come; `Want` where there is no memory. The events before it are kept.
 pub fn play(machine: &mut Machine) -> Result<(), ApplyFault>
-    requires { IsProper machine.old.script machine.old.shape }
+    requires { IsScriptFor machine.old.script machine.old.shape }
     ensures reaches { Reaches result (rest_played machine.old.script machine.old.shape 0
         machine.old.script.commands (playing_of false machine.old)) machine.new }
     ensures used { OnOk result (AreUsed machine.new.script.commands machine.new.pasts) }

@@ -105,7 +105,7 @@ fn has_zero(codes: &[i32]) -> bool
     codes.iter().any(|code| *code == 0)
 }
 
-fn is_within(operator: Operator) -> bool
+fn is_operator_within(operator: Operator) -> bool
     ensures { result ≡ is_operator_within operator }
 {
     match operator {
@@ -119,7 +119,7 @@ fn are_codes(operator: Operator, codes: &[i32]) -> bool
     ensures { result ≡ are_codes operator codes.now }
 {
     (0 < codes.len() && codes.len() <= 255)
-        && (rises(codes) && !(is_within(operator) && has_zero(codes)))
+        && (rises(codes) && !(is_operator_within(operator) && has_zero(codes)))
 }
 
 // The codes that a list has.

@@ -14,7 +14,7 @@ use Rattle.jc_types.specs.declared.runs.Sys.{Sys}
 use Rattle.jc_types.specs.declared.runs.Sys.TheVariants as sys
 use Rattle.jc_log.specs.Deeds.{Deed, act_of_event, act_of_system, deeds, lane_of}
 use Rattle.jc_history.specs.Available.{IsOrderly, WasAvailable, available}
-use Rattle.jc_history.specs.Legal.{ComesNext, InLanes, IsHistory, IsLegal, IsOfShape, lane_count, next_place}
+use Rattle.jc_history.specs.Legal.{ComesNext, InLanes, IsHistory, IsLegal, IsOfShape, lane_count, next_command}
 use Rattle.jc_history.specs.Replies.{log_given}
 use Rattle.jc_bounds.proofs.OrderFacts.{each-slice}
 use Rattle.jc_order.proofs.AvailFacts.{Is}
@@ -43,7 +43,7 @@ are-events (past ∷ events) h = (h.0, are-events events h.1)
 module _ (script : Script) (shape : Shape) (lanes : Each (λ (command : Command). command.lane < 2 ^ 8) script.commands)
     (controllers : shape.controllers ≤ 2 ^ 32) (workers : shape.workers ≤ 2 ^ 32) where
   -- The lane of an event is that of a command.
-  lane-fits : (lane number : ℕ) (before : List Past) → next_place script.commands lane before ≡ Some number → lane < 2 ^ 8
+  lane-fits : (lane number : ℕ) (before : List Past) → next_command script.commands lane before ≡ Some number → lane < 2 ^ 8
   lane-fits lane number before e =
       let there = place-of lane 0 script.commands (lane_count lane before) number e in
       subst (λ n. n < 2 ^ 8) there.of_lane

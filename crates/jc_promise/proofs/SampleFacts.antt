@@ -27,7 +27,7 @@ use Rattle.jc_history.specs.Samples.{pi_key, pod_made, sample_spec, status_writt
 use Rattle.jc_history.specs.SampleScripts.{one_pod_script}
 use Rattle.jc_rest.specs.Orphans.{is_sure_of, last_about}
 use Rattle.jc_rest.specs.Stuck.{is_sure}
-use Rattle.jc_order.specs.Plays.{IsProper}
+use Rattle.jc_order.specs.Plays.{IsScriptFor}
 use Rattle.jc_promise.specs.Wrong.{job_is_made, pi_job, sync_begins, sync_steps}
 use Rattle.jc_promise.specs.WrongRests.{both_list}
 use Rattle.jc_promise.specs.SomeDeeds.{FindsEnd, MakesPod, SomeDeed, SomeSync, one_pod_deeds, orphan_deeds, orphan_script, quiet_deeds, waiting_deeds, waiting_script}
@@ -35,7 +35,7 @@ use Rattle.jc_order.proofs.PlayFacts.{plays-whole}
 
 -- ---- the history is legal
 
-proper : IsProper one_pod_script usual_shape
+proper : IsScriptFor one_pod_script usual_shape
 unfolding one_pod_script
 proper = (tt, ((omega arith, omega arith), (tt, ((omega arith, omega arith), tt))))
 
@@ -137,7 +137,7 @@ one_pod-ends = record {
 
 -- ---- a Job that waits
 
-proper-waiting : IsProper waiting_script usual_shape
+proper-waiting : IsScriptFor waiting_script usual_shape
 unfolding waiting_script
 proper-waiting = (tt, (tt, tt))
 
@@ -158,7 +158,7 @@ waiting-unended = refl
 
 -- ---- an orphan
 
-proper-orphan : IsProper orphan_script usual_shape
+proper-orphan : IsScriptFor orphan_script usual_shape
 unfolding orphan_script
 proper-orphan = (tt, ((omega arith, omega arith), (tt, (tt, tt))))
 

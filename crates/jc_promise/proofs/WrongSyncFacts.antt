@@ -33,7 +33,7 @@ use Rattle.jc_runs.specs.Sends.{sends_of}
 use Rattle.jc_runs.specs.Conflicts.{AreToldLater}
 use Rattle.jc_bounds.specs.Fitting.{IsMade}
 use Rattle.jc_bounds.specs.Histories.{HoldsBounds}
-use Rattle.jc_bounds.specs.KeptEnds.{IsShut}
+use Rattle.jc_bounds.specs.KeptEnds.{HasNothingOpen}
 use Rattle.jc_lines.specs.Events.{event_lines}
 use Rattle.jc_rest.specs.LetGo.{IsLetGoOnceEnded}
 use Rattle.jc_rest.specs.Stuck.{HasEnded, HasPods, IsHalted, IsHeldBack, IsOpen, IsSuspended, IsWaiting, MayRunNone, is_sure}
@@ -207,7 +207,7 @@ stuck_job-refused h = by (h stuck-rests 0 (omega arith) pi_key (pi_job sample_sp
 
 -- ---- an early end
 
-pub early_end-refused : IsShut early_end.log failed_job → ⊥
+pub early_end-refused : HasNothingOpen early_end.log failed_job → ⊥
 early_end-refused h = true≢false h.closed.opens
 
 -- ---- a command that is skipped

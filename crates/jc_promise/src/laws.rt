@@ -23,7 +23,7 @@ ghost use Rattle.jc_runs.specs.Once.{OnceAtEach};
 ghost use Rattle.jc_history.specs.Samples.{sample_spec};
 ghost use Rattle.jc_runs.specs.Conflicts.{AreToldLater};
 ghost use Rattle.jc_bounds.specs.Histories.{HoldsBounds};
-ghost use Rattle.jc_bounds.specs.KeptEnds.{IsShut};
+ghost use Rattle.jc_bounds.specs.KeptEnds.{HasNothingOpen};
 ghost use Rattle.jc_causes.specs.Causes.{AreCaused};
 ghost use Rattle.jc_rest.specs.Lost.{AreLostWell};
 ghost use Rattle.jc_rest.specs.Orphans.{is_sure_of, last_about};
@@ -175,7 +175,7 @@ pub fn wrong_histories_are_refused()
         left_over_released.log → ⊥ }
     ensures old_caches { HoldsBounds usual_shape old_caches → ⊥ }
     ensures two_syncs { HoldsBounds two_workers two_syncs → ⊥ }
-    ensures early_end { IsShut early_end.log failed_job → ⊥ }
+    ensures early_end { HasNothingOpen early_end.log failed_job → ⊥ }
     ensures false_conflict { AreToldLater usual_shape false_conflict → ⊥ }
     ensures skipped_command { IsToldAlone twice_script usual_shape skipped_command → ⊥ }
     ensures forgotten_pod { RestsWell usual_shape forgotten_pod

@@ -7,7 +7,7 @@ use Rattle.jc_types.specs.declared.objects.Key.{Key}
 use Rattle.jc_types.proofs.ListFacts.{Each-append}
 use Rattle.jc_queue.specs.declared.calls.Call.{Call}
 use Rattle.jc_queue.specs.declared.calls.Call.TheVariants.{Add, Get, Done, Finish, SendBack, Retract}
-use Rattle.jc_queue.specs.Calls.{GetsIdle, after, all_gots, called, finished_first, got_beside, gots_of, keys_got}
+use Rattle.jc_queue.specs.QueueCalls.{GetsIdle, after, all_gots, called, finished_first, got_beside, gots_of, keys_got}
 use Rattle.jc_queue.specs.Queued.{IsQueue, Queued, finished, has_key}
 use Rattle.jc_queue.proofs.BackFacts.{retracted_is, sent_back_is}
 use Rattle.jc_queue.proofs.KeyLists.{first_in}

@@ -1,3 +1,3 @@
-pub mod Calls
+pub mod QueueCalls
 pub mod Delayed
 pub mod Queued

@@ -1,7 +1,7 @@
 //! Lists of calls of a queue: what they get was not processing when it was got.
 
 ghost use Rattle.std.specs.Prelude.{◌≡◌, IfOk, List, OnErr, OnOk, option_to_list};
-ghost use Rattle.jc_queue.specs.Calls.{GetsIdle, StopsAfter, after, called, finished_if_processing, finished_oldest, keys_got, keys_got_by};
+ghost use Rattle.jc_queue.specs.QueueCalls.{GetsIdle, StopsAfter, after, called, finished_if_processing, finished_oldest, keys_got, keys_got_by};
 ghost use Rattle.jc_queue.specs.Queued.{IsQueue, Queued};
 ghost use Rattle.jc_queue.specs.declared.calls.Call.{Call};
 

@@ -113,7 +113,7 @@ impl Delays {
         ensures room { self.new.room + 1 ≡ self.old.room }
     {
         self.room -= 1;
-        keep(
+        put_moment(
             &mut self.moments,
             &mut self.copies,
             &mut self.least,
@@ -150,8 +150,8 @@ impl Delays {
         let Ok(_) = self.failures.insert(failed, count) else {
             unreachable!()
         };
-        if let Some(moment) = now.plus(pause(count)) {
-            keep(
+        if let Some(moment) = now.plus(seconds_after(count)) {
+            put_moment(
                 &mut self.moments,
                 &mut self.copies,
                 &mut self.least,
@@ -254,7 +254,7 @@ fn count_after(failures: &IndexMap<Key, u32>, key: &Key) -> u32
 }
 
 // Makes the key due at the moment, and keeps its second copy and the least moment.
-fn keep(
+fn put_moment(
     moments: &mut IndexMap<Key, Moment>,
     copies: &mut IndexSet<Key>,
     least: &mut Option<Moment>,
@@ -275,12 +275,12 @@ fn keep(
     let Ok(_) = copies.insert(again) else {
         unreachable!()
     };
-    keep_earlier(moments, key, moment);
+    put_earlier(moments, key, moment);
     *least = Some(earlier(*least, moment));
 }
 
 // Keeps the moment for the key; of two moments of a key the earlier.
-fn keep_earlier(moments: &mut IndexMap<Key, Moment>, key: Key, moment: Moment)
+fn put_earlier(moments: &mut IndexMap<Key, Moment>, key: Key, moment: Moment)
     requires room { 0 < spare moments.old }
     ensures earlier { moments.new.entries ≡ with_moment moments.old.entries key moment }
     ensures there { (k : Key) →
@@ -347,7 +347,7 @@ fn is_before(left: (&Key, &Moment), right: (&Key, &Moment)) -> bool
 }
 
 // The seconds to wait after this many failures in a row.
-fn pause(failures: u32) -> u64
+fn seconds_after(failures: u32) -> u64
     requires { failures ≤ 7 }
     ensures { result ≡ seconds_after failures }
 {

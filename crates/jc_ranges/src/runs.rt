@@ -122,7 +122,7 @@ pub fn push_numbers(runs: &mut Vec<Run>, first: u32, last: u32) -> Result<(), Wa
     ensures below { OnOk result (AllByRecursion (λ run. run.last < last + 1) runs.new.items) }
 {
     let len = runs.len();
-    if goes_on(runs.as_slice(), len, first) {
+    if joins_before(runs.as_slice(), len, first) {
         runs[len - 1].last = last;
         return Ok(());
     }
@@ -146,7 +146,7 @@ pub fn put_number(runs: &mut Vec<Run>, place: usize, n: u32) -> Result<(), Want>
     ensures apart { OnOk result (StandApart 0 runs.new.items) }
     ensures kept { OnErr result (runs.new.items ≡ runs.old.items) }
 {
-    let before = goes_on(runs.as_slice(), place, n);
+    let before = joins_before(runs.as_slice(), place, n);
     let after = leads_to(runs.as_slice(), place, n);
     if before {
         if after {
@@ -167,7 +167,7 @@ pub fn put_number(runs: &mut Vec<Run>, place: usize, n: u32) -> Result<(), Want>
 }
 
 // Whether `n` is the number behind the run before a place.
-fn goes_on(runs: &[Run], place: usize, n: u32) -> bool
+fn joins_before(runs: &[Run], place: usize, n: u32) -> bool
     requires { place ≤ length runs.now }
     ensures { result ≡ joins_before n runs.now place }
 {

@@ -67,14 +67,14 @@ fn word_len(bytes: &[u8]) -> usize
 }
 
 // The first word.
-fn word_in(bytes: &[u8]) -> &[u8]
+fn first_word_in(bytes: &[u8]) -> &[u8]
     ensures { result.now ≡ first_word_in bytes.now }
 {
     &bytes[..word_len(bytes)]
 }
 
 // What stands behind the first word and its blank.
-fn behind(bytes: &[u8]) -> &[u8]
+fn behind_word(bytes: &[u8]) -> &[u8]
     ensures { result.now ≡ behind_word bytes.now }
 {
     let end = word_len(bytes);
@@ -105,17 +105,17 @@ pub fn cut(line: &[u8]) -> Words<'_>
     ensures second { result.second.now ≡ word_at 4 line.now }
     ensures third { result.third.now ≡ word_at 5 line.now }
 {
-    let tagged = behind(line);
-    let act = behind(tagged);
-    let first = behind(act);
-    let second = behind(first);
-    let third = behind(second);
+    let tagged = behind_word(line);
+    let act = behind_word(tagged);
+    let first = behind_word(act);
+    let second = behind_word(first);
+    let third = behind_word(second);
     Words {
-        number: word_in(line),
-        tag: word_in(tagged),
-        verb: word_in(act),
-        first: word_in(first),
-        second: word_in(second),
-        third: word_in(third),
+        number: first_word_in(line),
+        tag: first_word_in(tagged),
+        verb: first_word_in(act),
+        first: first_word_in(first),
+        second: first_word_in(second),
+        third: first_word_in(third),
     }
 }

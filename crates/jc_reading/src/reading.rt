@@ -24,7 +24,7 @@ pub fn read_number(word: &[u8]) -> Option<u64>
 }
 
 /// A number below the bound.
-pub fn read_below(word: &[u8], bound: u64) -> Option<u64>
+pub fn number_below(word: &[u8], bound: u64) -> Option<u64>
     ensures { result ≡ number_below word.now bound }
 {
     let number = read_number(word)?;
@@ -35,7 +35,7 @@ pub fn read_below(word: &[u8], bound: u64) -> Option<u64>
 pub fn read_pod(word: &[u8]) -> Option<Uid>
     ensures { result ≡ pod_said word.now }
 {
-    let number = read_below(word, 4_294_967_296)?;
+    let number = number_below(word, 4_294_967_296)?;
     if 0 < number { Some(Uid(number)) } else { None }
 }
 
@@ -45,7 +45,7 @@ pub fn read_version(word: &[u8]) -> Option<Option<Version>>
 {
     match word {
         b"any" => Some(None),
-        [b'v', digits @ ..] => Some(Some(Version(read_below(digits, 4_294_967_296)?))),
+        [b'v', digits @ ..] => Some(Some(Version(number_below(digits, 4_294_967_296)?))),
         _ => None,
     }
 }
@@ -56,7 +56,7 @@ pub fn read_tag(word: &[u8]) -> Option<Option<u8>>
 {
     match word {
         b"-" => Some(None),
-        [b'@', digits @ ..] => Some(Some(read_below(digits, 16)? as u8)),
+        [b'@', digits @ ..] => Some(Some(number_below(digits, 16)? as u8)),
         _ => None,
     }
 }
@@ -106,7 +106,7 @@ pub enum Verb {
 }
 
 // The verb of that text.
-fn verb_of(text: &str) -> Option<Verb>
+fn verb_named(text: &str) -> Option<Verb>
     ensures { result ≡ verb_named text.now }
 {
     match text {
@@ -137,7 +137,7 @@ pub fn read_verb(word: &[u8]) -> Option<Verb>
     ensures { result ≡ verb_said word.now }
 {
     match str::from_utf8(word) {
-        Ok(text) => verb_of(text),
+        Ok(text) => verb_named(text),
         Err(_) => None,
     }
 }

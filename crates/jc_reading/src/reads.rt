@@ -12,7 +12,7 @@ ghost use Rattle.jc_reading.specs.declared.reads.LineRead.{LineRead};
 use crate::cuts::{Words, cut};
 use crate::parts::{read_changed, read_created, read_key, read_printed_ends, read_reported};
 use crate::reading::{
-    Verb, read_below, read_fault, read_kind, read_number, read_pod, read_tag, read_verb,
+    Verb, number_below, read_fault, read_kind, read_number, read_pod, read_tag, read_verb,
     read_version,
 };
 use jc_lines::{print_action, print_system};
@@ -119,11 +119,11 @@ fn read_plain(verb: Verb, first: &[u8], second: &[u8]) -> Option<Action1>
         }
         Verb::Finish => {
             let pod = read_pod(first)?;
-            let exit = read_below(second, 256)? as i32;
+            let exit = number_below(second, 256)? as i32;
             Some(Action1::Finish { pod, exit })
         }
         Verb::Clock => {
-            let add = read_below(first, 4_294_967_296)?;
+            let add = number_below(first, 4_294_967_296)?;
             Some(Action1::Clock { add })
         }
         Verb::Node => Some(Action1::Node),
@@ -138,27 +138,27 @@ fn read_turn(verb: Verb, first: &[u8], second: &[u8], third: &[u8]) -> Option<Ac
 {
     match verb {
         Verb::List => {
-            let controller = read_below(first, 4)? as u32;
+            let controller = number_below(first, 4)? as u32;
             let kind = read_kind(second)?;
             Some(Action1::List { controller, kind })
         }
         Verb::Deliver => {
-            let controller = read_below(first, 4)? as u32;
+            let controller = number_below(first, 4)? as u32;
             let kind = read_kind(second)?;
             Some(Action1::Deliver { controller, kind })
         }
         Verb::Begin => {
-            let controller = read_below(first, 4)? as u32;
-            let worker = read_below(second, 16)? as u32;
+            let controller = number_below(first, 4)? as u32;
+            let worker = number_below(second, 16)? as u32;
             Some(Action1::Begin { controller, worker })
         }
         Verb::Step => {
-            let controller = read_below(first, 4)? as u32;
-            let worker = read_below(second, 16)? as u32;
+            let controller = number_below(first, 4)? as u32;
+            let worker = number_below(second, 16)? as u32;
             Some(Action1::Step { controller, worker })
         }
         Verb::Restart => {
-            let controller = read_below(first, 4)? as u32;
+            let controller = number_below(first, 4)? as u32;
             Some(Action1::Restart { controller })
         }
         Verb::Fault => read_put_fault(first, second, third),
@@ -170,8 +170,8 @@ fn read_turn(verb: Verb, first: &[u8], second: &[u8], third: &[u8]) -> Option<Ac
 fn read_put_fault(first: &[u8], second: &[u8], third: &[u8]) -> Option<Action1>
     ensures { result ≡ turn_said verb.Fault first.now second.now third.now }
 {
-    let controller = read_below(first, 4)? as u32;
-    let worker = read_below(second, 16)? as u32;
+    let controller = number_below(first, 4)? as u32;
+    let worker = number_below(second, 16)? as u32;
     let fault = read_fault(third)?;
     Some(Action1::PutFault {
         controller,
@@ -206,23 +206,23 @@ fn read_system(verb: Verb, first: &[u8], second: &[u8]) -> Option<Sys>
 {
     match verb {
         Verb::List => {
-            let controller = read_below(first, 4)? as u32;
+            let controller = number_below(first, 4)? as u32;
             let kind = read_kind(second)?;
             Some(Sys::List { controller, kind })
         }
         Verb::Deliver => {
-            let controller = read_below(first, 4)? as u32;
+            let controller = number_below(first, 4)? as u32;
             let kind = read_kind(second)?;
             Some(Sys::Deliver { controller, kind })
         }
         Verb::Begin => {
-            let controller = read_below(first, 4)? as u32;
-            let worker = read_below(second, 16)? as u32;
+            let controller = number_below(first, 4)? as u32;
+            let worker = number_below(second, 16)? as u32;
             Some(Sys::Begin { controller, worker })
         }
         Verb::Step => {
-            let controller = read_below(first, 4)? as u32;
-            let worker = read_below(second, 16)? as u32;
+            let controller = number_below(first, 4)? as u32;
+            let worker = number_below(second, 16)? as u32;
             Some(Sys::Step { controller, worker })
         }
         Verb::Node => Some(Sys::Node),
@@ -315,7 +315,7 @@ fn front(alloc: Global, number: u64, read: &LineRead) -> Result<String, Want>
 }
 
 // Whether the line begins with that text.
-fn begins_with(line: &[u8], front: &[u8]) -> bool
+fn starts(line: &[u8], front: &[u8]) -> bool
     ensures { result ≡ starts front.now line.now }
 {
     line.starts_with(front)
@@ -327,7 +327,7 @@ fn is_printed(alloc: Global, number: u64, read: &LineRead, line: &[u8]) -> Resul
         ≡ starts (front_text number read.now.lane (act_of_line read.now.act)) line.now) }
 {
     let text = front(alloc, number, read)?;
-    Ok(begins_with(line, text.as_bytes()))
+    Ok(starts(line, text.as_bytes()))
 }
 
 // What was read of the line that has this first word, where the line begins with what is printed of

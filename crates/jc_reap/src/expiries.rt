@@ -64,7 +64,7 @@ fn ttl_of(makers: &Table<Uid, u32>, ttls: &[Option<u32>], uid: Uid) -> Option<u3
 }
 
 // Puts the Job at its place among those that may go, where it may go.
-fn note(rows: &mut BTreeMap<Expiry, Uid>, job: &Job, ttl: Option<u32>) -> Result<(), Want>
+fn put_expiry(rows: &mut BTreeMap<Expiry, Uid>, job: &Job, ttl: Option<u32>) -> Result<(), Want>
     ensures { OnOk result (rows.new.entries
         ≡ with_expiry (expires_at job.now ttl) job.now rows.old.entries) }
 {
@@ -77,7 +77,7 @@ fn note(rows: &mut BTreeMap<Expiry, Uid>, job: &Job, ttl: Option<u32>) -> Result
 }
 
 // Puts the Job at its place among those that may go, where the command that made it lets it go.
-fn note_made(
+fn put_made(
     rows: &mut BTreeMap<Expiry, Uid>,
     makers: &Table<Uid, u32>,
     ttls: &[Option<u32>],
@@ -88,7 +88,7 @@ fn note_made(
         job.now rows.old.entries) }
 {
     let ttl = ttl_of(makers, ttls, job.uid);
-    note(rows, job, ttl)
+    put_expiry(rows, job, ttl)
 }
 
 // The Jobs that may go, in the order in which they go, where these commands made the Jobs.
@@ -103,7 +103,7 @@ pub(crate) fn expired(
 {
     let mut rows = BTreeMap::new(alloc);
     for row in jobs.rows().rev() {
-        note_made(&mut rows, makers, ttls, &row.1)?;
+        put_made(&mut rows, makers, ttls, &row.1)?;
     }
     Ok(rows)
 }

@@ -17,7 +17,7 @@ ghost use Rattle.jc_log.specs.Log.{jobs_in};
 ghost use Rattle.jc_runs.specs.ValidActions.{IsValidAction};
 ghost use Rattle.jc_runs.specs.Legal.{IsLegal, IsOfShape};
 ghost use Rattle.jc_runs.specs.Play.{Playing, deeds_played, is_command, rest_played, whole_play};
-ghost use Rattle.jc_core.specs.Plays.{IsProper};
+ghost use Rattle.jc_core.specs.Plays.{IsScriptFor};
 ghost use Rattle.jc_runs.specs.Machines.{AllAskValid};
 ghost use Rattle.jc_runs.specs.Seen.{Seen, deeds_seen, log_seen};
 ghost use Rattle.jc_script.specs.Scripts.{BadLine, script_of};
@@ -135,7 +135,7 @@ pub fn longer_scripts_play_on()
 /// was gone, or was deleted so, was marked.
 pub fn collecting_plays_are_due()
     ensures { (front : List Command) (shape : Shape) (ttls : List (Option ℕ))
-        → IsProper (record { commands = front }) shape
+        → IsScriptFor (record { commands = front }) shape
         → Each (λ (command : Command). IsValidAction command.action) front
         → let seen = seen_at_end (record { commands = front }) shape in
         let longer = front ++ reap_list seen ttls in

@@ -12,7 +12,7 @@ use jc_types::{Action1, Command, Event, Past, Reply, Uid, Want};
 use std::alloc::Global;
 
 // The UID of the Job that the event made, and the place of the create command that made it.
-fn made(commands: &[Command], past: &Past) -> Option<(Uid, u32)>
+fn made_at(commands: &[Command], past: &Past) -> Option<(Uid, u32)>
     ensures { result ≡ made_at commands.now past.now }
 {
     let Event::Command { number, .. } = past.event else {
@@ -29,12 +29,12 @@ fn made(commands: &[Command], past: &Past) -> Option<(Uid, u32)>
 }
 
 // Notes which Job the event made.
-fn note(makers: &mut Table<Uid, u32>, commands: &[Command], past: &Past) -> Result<(), Want>
+fn put_maker(makers: &mut Table<Uid, u32>, commands: &[Command], past: &Past) -> Result<(), Want>
     ensures { OnOk result ((before : List Past)
         → ((u : Uid) → at same_uid makers.old u ≡ maker commands.now before u)
         → (u : Uid) → at same_uid makers.new u ≡ maker commands.now (past.now ∷ before) u) }
 {
-    match made(commands, past) {
+    match made_at(commands, past) {
         None => Ok(()),
         Some((uid, number)) => makers.put(uid, number),
     }
@@ -51,7 +51,7 @@ pub(crate) fn makers(
 {
     let mut makers = Table::new(alloc);
     for past in events {
-        note(&mut makers, commands, past)?;
+        put_maker(&mut makers, commands, past)?;
     }
     Ok(makers)
 }

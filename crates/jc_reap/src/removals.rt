@@ -10,7 +10,7 @@ use jc_types::{Action1, Commands, Uid, Want};
 use std::collections::BTreeMap;
 
 // The later of two moments.
-fn later(reached: Moment, due: Moment) -> Moment
+fn later_moment(reached: Moment, due: Moment) -> Moment
     ensures { result ≡ later_moment reached due }
 {
     if reached < due { due } else { reached }
@@ -51,7 +51,7 @@ pub(crate) fn remove_all(
     for (expiry, uid) in rows {
         let due = expiry.moment;
         wait(commands, reached, due)?;
-        reached = later(reached, due);
+        reached = later_moment(reached, due);
         remove(commands, store, expiry, uid)?;
     }
     Ok(())

@@ -33,7 +33,7 @@ use Rattle.jc_plan.specs.LetGoes.{is_let_go, is_needless, is_to_mark, seen}
 use Rattle.jc_plan.specs.declared.plans.Planned.{Planned}
 use Rattle.jc_plan.specs.Plans.{changed, planned}
 use Rattle.jc_plan.specs.Releases.{due_uids, is_released}
-use Rattle.jc_plan.specs.Statuses.{accounted, decided_in, first_value, is_settled, second_value}
+use Rattle.jc_plan.specs.Statuses.{accounted, decided_in, first_value, is_end_decided, second_value}
 use Rattle.jc_plan.proofs.BackoffFacts.{first-unneeded}
 use Rattle.jc_plan.proofs.PlanFacts.{plan-first, plan-let_goes, plan-marks, plan-releases, plan-second}
 use Rattle.jc_sync.specs.Flight.{Flight}
@@ -173,9 +173,9 @@ module _ (k : Key) (log : List Entry) (now : ℕ) (basis : Basis) (job : Job) (n
 
   at-mark : (u : Uid) (us : List Uid) → (planned basis).marks ≡ u ∷ us → Shows (MarkPod u)
   at-mark u us e =
-      let one = picked (λ (p : Pod). p.uid) (is_to_mark (is_settled job (decided_in job basis))) (LivesUnder k log) (own_pods job basis.pods) u us own-alive (sym (plan-marks basis job this) ∙ e) in
+      let one = picked (λ (p : Pod). p.uid) (is_to_mark (is_end_decided job (decided_in job basis))) (LivesUnder k log) (own_pods job basis.pods) u us own-alive (sym (plan-marks basis job this) ∙ e) in
       subst (λ v. ShowsIn k (mark_pod_at log now (living (life v log)))) one.1
-      (mark-shows k log one.0 now one.3 (and_parts (is_active one.0) (is_settled job (decided_in job basis) || not (is_tracked one.0)) one.2).0)
+      (mark-shows k log one.0 now one.3 (and_parts (is_active one.0) (is_end_decided job (decided_in job basis) || not (is_tracked one.0)) one.2).0)
 
   -- A pod that goes is tracked.
   let-gone : (row : Uid × Version) (rows : List (Uid × Version)) (target suspend : Bool)
@@ -197,7 +197,7 @@ module _ (k : Key) (log : List Entry) (now : ℕ) (basis : Basis) (job : Job) (n
 
   at-let_go : (row : Uid × Version) (rows : List (Uid × Version)) → (planned basis).let_goes ≡ row ∷ rows → Shows (let_go_ask row)
   at-let_go row rows e =
-      let one = let-gone row rows (is_settled job (decided_in job basis)) job.spec.suspend (sym (plan-let_goes basis job this) ∙ e) in
+      let one = let-gone row rows (is_end_decided job (decided_in job basis)) job.spec.suspend (sym (plan-let_goes basis job this) ∙ e) in
       subst (λ (r : Uid × Version). ShowsIn k (let_go_at log r.1 (living (life r.0 log)))) one.1 (let_go-shows k log one.0 one.3 one.2)
 
   at-status : (o : Option JobStatus) (status : JobStatus) → o ≡ Some status → same_status job.status status ≡ false → ShowsIn k (written_gives log flight o)

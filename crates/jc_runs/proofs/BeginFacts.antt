@@ -20,7 +20,7 @@ use Rattle.jc_states.specs.declared.bases.Basis.{Basis}
 use Rattle.jc_log.specs.Requests.{refused}
 use Rattle.jc_log.specs.Acts.{Act}
 use Rattle.jc_log.specs.Deeds.{Deed}
-use Rattle.jc_history.specs.Agrees.{IsHeld}
+use Rattle.jc_history.specs.Agrees.{IsScheduleOf}
 use Rattle.jc_history.specs.Available.{is_quiescent}
 use Rattle.jc_history.specs.Diaries.{moment, notes, on_begin}
 use Rattle.jc_history.specs.Fresh.{basis as basis_at, begin, begin_at, begin_first, begin_unless, cache_lag as lag_at}
@@ -197,7 +197,7 @@ module _ (shape : Shape) (past : List Deed) (log : List Entry) (teams : List Tea
       busy : (sync : Sync) → slice_get old.registers w ≡ Some (Some sync) → d.reply ≡ reply.WorkerBusy → new.con.schedule ≡ old.con.schedule → new.registers ≡ old.registers → IsMachine shape (d ∷ past) log (set teams i new) fates now
       busy sync e told_is schedule registers =
           run_quiet shape past log teams fates now run d i old new there done (subst (IsOf i) (sym act) refl) (ap began_of told_is) (ap told_step told_is)
-          (subst (IsHeld after) (sym schedule) (subst (λ notes. IsHeld notes old.con.schedule) (sym quiet) (team_before shape past log teams fates now run log d done i old there).schedule))
+          (subst (IsScheduleOf after) (sym schedule) (subst (λ notes. IsScheduleOf notes old.con.schedule) (sym quiet) (team_before shape past log teams fates now run log d done i old there).schedule))
           (held_same old.con.schedule schedule refl refl) (subst (λ notes. SameWorkers notes before) (sym quiet) (nothing_new before)) registers faults
         where
           done : IsDone shape past log log d
@@ -225,9 +225,9 @@ module _ (shape : Shape) (past : List Deed) (log : List Entry) (teams : List Tea
           then : begin before (log_given shape past) (moment shape past) ≡ answer
           then = ap (λ log. begin (notes shape i past log) log (moment shape past)) (sym run.log_is) ∙ same_answer
 
-          is_held : IsHeld after new.con.schedule
+          is_held : IsScheduleOf after new.con.schedule
           is_held =
-              subst (IsHeld after) (ap (λ n. (begun n old.con).schedule) (sym run.now_is) ∙ sym schedule)
+              subst (IsScheduleOf after) (ap (λ n. (begun n old.con).schedule) (sym run.now_is) ∙ sym schedule)
               (deed.began shape i past d run.legal old.con w act (told_is ∙ ap reply_of_begin (sym is ∙ sym then)) (still shape past log teams fates now run d i old new there done) team.schedule team.holds)
 
           is_holds : MirrorsLog log new.con

@@ -28,7 +28,7 @@ use Rattle.jc_ledger.specs.Tied.{IsWithin}
 use Rattle.jc_asks.specs.Readings.{told_step}
 use Rattle.jc_sync.proofs.RegisterFacts.{quiet_syncs}
 use Rattle.jc_sync.specs.AllRegisters.{HasSyncs}
-use Rattle.jc_history.specs.Agrees.{IsHeld}
+use Rattle.jc_history.specs.Agrees.{IsScheduleOf}
 use Rattle.jc_history.specs.Available.{is_quiescent}
 use Rattle.jc_history.specs.Diaries.{notes, on_delivery}
 use Rattle.jc_history.specs.Legal.{IsOfShape as IsInShape, MaySettle}
@@ -118,7 +118,7 @@ module _ (shape : Shape) (past : List Deed) (log : List Entry) (teams : List Tea
   after = notes shape i (d ∷ past) (log_given shape (d ∷ past))
 
   -- The controller's syncs and faults stay.
-  pub run_quiet : IsDone shape past log log d → IsOf i d.act → began_of d.reply ≡ None → told_step d.reply ≡ None → IsHeld (notes shape i (d ∷ past) (log_given shape (d ∷ past))) new.con.schedule → MirrorsLog log new.con
+  pub run_quiet : IsDone shape past log log d → IsOf i d.act → began_of d.reply ≡ None → told_step d.reply ≡ None → IsScheduleOf (notes shape i (d ∷ past) (log_given shape (d ∷ past))) new.con.schedule → MirrorsLog log new.con
       → SameWorkers (notes shape i (d ∷ past) (log_given shape (d ∷ past))) (notes shape i past (log_given shape past)) → new.registers ≡ old.registers → new.faults ≡ old.faults → IsMachine shape (d ∷ past) log (set teams i new) fates now
   run_quiet done of none untold schedule holds same r f =
       run_one shape past log teams fates now run log d done i old new of (record {
@@ -154,19 +154,19 @@ module _ (shape : Shape) (past : List Deed) (log : List Entry) (teams : List Tea
   pub list_run : (kind : Kind) → i < shape.controllers → d.act ≡ does.List i kind → d.reply ≡ reply.Listed (log_end log) → d.length.0 ≡ length log → new.con.schedule ≡ listed old.con.schedule kind log
       → (MirrorsLog log old.con → MirrorsLog log new.con) → new.registers ≡ old.registers → new.faults ≡ old.faults → IsMachine shape (d ∷ past) log (set teams i new) fates now
   list_run kind within act told_is long schedule holds r f =
-      run_quiet done (subst (IsOf i) (sym act) refl) (ap began_of told_is) (ap told_step told_is) (subst (IsHeld after) (sym (schedule ∙ ap (listed old.con.schedule kind) run.log_is)) (by kind act)) (holds (run.each i old there).holds)
+      run_quiet done (subst (IsOf i) (sym act) refl) (ap began_of told_is) (ap told_step told_is) (subst (IsScheduleOf after) (sym (schedule ∙ ap (listed old.con.schedule kind) run.log_is)) (by kind act)) (holds (run.each i old there).holds)
       (subst (λ notes. SameWorkers notes before) (sym (after_own shape i past d run.legal (does.List i kind) _ act refl refl ∙ own i _ before)) (silent-list kind _ before d.reply)) r f
     where
       done : IsDone shape past log log d
       done = done_still (does.List i kind) (refused (reply.Listed (log_end log))) act (gives_list shape past log i kind) refl told_is long within (subst (λ act. MaySettle act (is_quiescent shape past (log_given shape past))) (sym act) tt)
 
-      was : IsHeld before old.con.schedule
+      was : IsScheduleOf before old.con.schedule
       was = (team_before shape past log teams fates now run log d done i old there).schedule
 
       told_then : d.reply ≡ reply.Listed (log_end (log_given shape past))
       told_then = told_is ∙ ap (λ log. reply.Listed (log_end log)) run.log_is
 
-      by : (kind : Kind) → d.act ≡ does.List i kind → IsHeld after (listed old.con.schedule kind (log_given shape past))
+      by : (kind : Kind) → d.act ≡ does.List i kind → IsScheduleOf after (listed old.con.schedule kind (log_given shape past))
       by Jobs act = deed.listed-jobs shape i past d run.legal old.con.schedule act told_then (still done) was
       by Pods act = deed.listed-pods shape i past d run.legal old.con.schedule act told_then (still done) was
 
@@ -177,7 +177,7 @@ module _ (shape : Shape) (past : List Deed) (log : List Entry) (teams : List Tea
       → IsMachine shape (d ∷ past) log (set teams i new) fates now
   deliver_run kind within act told_is long schedule holds r f =
       run_quiet done (subst (IsOf i) (sym act) refl) (ap began_of told_is ∙ none_began (number_of kind old.con.schedule)) (ap told_step told_is ∙ none_told (number_of kind old.con.schedule))
-      (subst (IsHeld after) (sym schedule) (by (number_of kind old.con.schedule) refl told_is)) holds
+      (subst (IsScheduleOf after) (sym schedule) (by (number_of kind old.con.schedule) refl told_is)) holds
       (subst (λ notes. SameWorkers notes before) (sym (after_own shape i past d run.legal (does.Deliver i kind) _ act refl refl ∙ own i _ before)) (silent-delivery kind _ before d.reply)) r f
     where
       none_began : (o : Option Version) → began_of (deliver_gives log shape.window o).reply ≡ None
@@ -206,12 +206,12 @@ module _ (shape : Shape) (past : List Deed) (log : List Entry) (teams : List Tea
           (deliver_nothing log shape.window (number_of kind old.con.schedule)) told_is long within
           (subst (λ act. MaySettle act (is_quiescent shape past (log_given shape past))) (sym act) tt)
 
-      was : IsHeld before old.con.schedule
+      was : IsScheduleOf before old.con.schedule
       was = (team_before shape past log teams fates now run log d done i old there).schedule
 
       -- A reply of which no note is taken.
-      unnoted : (r : Reply) → d.reply ≡ r → on_delivery kind (log_given shape (d ∷ past)) r ≡ [] → IsHeld after old.con.schedule
-      unnoted r e none = subst (λ notes. IsHeld notes old.con.schedule) (sym (after_own shape i past d run.legal (does.Deliver i kind) r act e refl ∙ own i _ before ∙ ap (λ new. new ++ before) none)) was
+      unnoted : (r : Reply) → d.reply ≡ r → on_delivery kind (log_given shape (d ∷ past)) r ≡ [] → IsScheduleOf after old.con.schedule
+      unnoted r e none = subst (λ notes. IsScheduleOf notes old.con.schedule) (sym (after_own shape i past d run.legal (does.Deliver i kind) r act e refl ∙ own i _ before ∙ ap (λ new. new ++ before) none)) was
 
       within_log : (kind : Kind) (v : Version) → number_of kind old.con.schedule ≡ Some v → v.0 ≤ length log
       within_log Jobs v e = (subst (λ o. MirrorsJobs log o old.con.jobs) e (run.each i old there).holds.jobs).0
@@ -219,18 +219,18 @@ module _ (shape : Shape) (past : List Deed) (log : List Entry) (teams : List Tea
 
       by_entry : (v : Version) → number_of kind old.con.schedule ≡ Some v → (v.0 ≡ length log → ⊥) → d.reply
           ≡ reply.Delivered (record { 0 = v.0 + 1 }) → (o : Option Entry) → entry_at (v.0 + 1) log ≡ o
-          → IsHeld after (told_of old.con.schedule kind (record { 0 = v.0 + 1 }) o)
+          → IsScheduleOf after (told_of old.con.schedule kind (record { 0 = v.0 + 1 }) o)
       by_entry v n apart e None gone = absurd (let place = within_log kind v n in entry_there log v.0 (omega (arith, place, apart)) gone)
       by_entry v n apart e (Some entry) found =
           deed.told-entry shape i past d run.legal old.con.schedule kind (record { 0 = v.0 + 1 }) entry act e (ap (entry_at (v.0 + 1)) (sym (next_is shape past log teams fates now run log d done)) ∙ found) was
 
       choose : (v : Version) → number_of kind old.con.schedule ≡ Some v → (a b : Bool) → (v.0 == length log) ≡ b
           → d.reply ≡ (cond {A = Answered} a (refused (reply.Expired (record { 0 = length log - shape.window }))) (cond b (refused reply.UpToDate) (refused (reply.Delivered (record { 0 = v.0 + 1 }))))).reply
-          → IsHeld after (cond a (forgot old.con.schedule kind) (cond b old.con.schedule (told_of old.con.schedule kind (record { 0 = v.0 + 1 }) (entry_at (v.0 + 1) log))))
+          → IsScheduleOf after (cond a (forgot old.con.schedule kind) (cond b old.con.schedule (told_of old.con.schedule kind (record { 0 = v.0 + 1 }) (entry_at (v.0 + 1) log))))
       choose v n true b t e = deed.expired shape i past d run.legal old.con.schedule kind _ act e was
       choose v n false true t e = unnoted reply.UpToDate e refl
       choose v n false false t e = by_entry v n (eqb-false v.0 (length log) t) e (entry_at (v.0 + 1) log) refl
 
-      by : (o : Option Version) → number_of kind old.con.schedule ≡ o → d.reply ≡ (deliver_gives log shape.window o).reply → IsHeld after (delivered_at log shape.window old.con.schedule kind o)
+      by : (o : Option Version) → number_of kind old.con.schedule ≡ o → d.reply ≡ (deliver_gives log shape.window o).reply → IsScheduleOf after (delivered_at log shape.window old.con.schedule kind o)
       by None n e = unnoted reply.NotSynced e refl
       by (Some v) n e = choose v n (nat_lt v.0 (length log - shape.window)) (v.0 == length log) refl e

@@ -13,10 +13,10 @@ use Rattle.jc_types.specs.declared.runs.Shape.{Shape}
 use Rattle.jc_log.specs.Requests.{refused}
 use Rattle.jc_log.specs.Acts.{Act}
 use Rattle.jc_log.specs.Deeds.{Deed}
-use Rattle.jc_ledger.specs.EventKinds.{IsQuiet}
+use Rattle.jc_ledger.specs.EventKinds.{AppendsNoEntry}
 use Rattle.jc_ledger.specs.Syncs.{began_of}
 use Rattle.jc_ledger.specs.Tied.{IsWithin as IsReached}
-use Rattle.jc_history.specs.Agrees.{IsHeld}
+use Rattle.jc_history.specs.Agrees.{IsScheduleOf}
 use Rattle.jc_history.specs.Available.{is_quiescent}
 use Rattle.jc_history.specs.Diaries.{moment, notes_taken, notes, restarts}
 use Rattle.jc_history.specs.Legal.{MaySettle}
@@ -92,14 +92,14 @@ module _ (shape : Shape) (past : List Deed) (log : List Entry) (teams : List Tea
   abbrev newer : List Note
   newer = notes shape i (d ∷ past) (log_given shape (d ∷ past))
 
-  still : (act : Act) → d.reply ≡ reply.Done → d.length.0 ≡ length log → IsQuiet d log
+  still : (act : Act) → d.reply ≡ reply.Done → d.length.0 ≡ length log → AppendsNoEntry d log
   still act e long = record { still = long; within = subst (λ o. IfSome o (IsReached (length log))) (sym (ap began_of e)) tt }
 
   pub restart_run : d.act ≡ does.Restart i → d.reply ≡ reply.Done → d.length.0 ≡ length log → new.con.schedule ≡ idle → MirrorsLog log new.con → new.registers ≡ freed old.registers → new.faults ≡ map (λ f. None) old.faults
       → IsMachine shape (d ∷ past) log (set teams i new) fates now
   restart_run act told_is long schedule holds registers faults =
       run_one shape past log teams fates now run log d done i old new (subst (IsOf i) (sym act) refl) (record {
-        schedule = subst (IsHeld newer) (sym schedule) (deed.restarted shape i past d run.legal act);
+        schedule = subst (IsScheduleOf newer) (sym schedule) (deed.restarted shape i past d run.legal act);
         holds = subst (λ log. MirrorsLog log new.con) (next_is shape past log teams fates now run log d done) holds;
         workers =
             subst (λ rs. AreWorkers newer rs new.faults) (sym registers) (subst (λ fs. AreWorkers newer (freed old.registers) fs) (sym faults)
@@ -128,7 +128,7 @@ module _ (shape : Shape) (past : List Deed) (log : List Entry) (teams : List Tea
       → IsMachine shape (d ∷ past) log (set teams i new) fates now
   fault_run w fault working act told_is long con registers faults =
       run_one shape past log teams fates now run log d done i old new (subst (IsOf i) (sym act) refl) (record {
-        schedule = subst (λ c. IsHeld newer c.schedule) (sym con) (subst (λ notes. IsHeld notes old.con.schedule) (sym after) (schedule.held-faulted older old.con.schedule w fault team.schedule));
+        schedule = subst (λ c. IsScheduleOf newer c.schedule) (sym con) (subst (λ notes. IsScheduleOf notes old.con.schedule) (sym after) (schedule.held-faulted older old.con.schedule w fault team.schedule));
         holds = subst (λ c. MirrorsLog (log_given shape (d ∷ past)) c) (sym con) (subst (λ log. MirrorsLog log old.con) (next_is shape past log teams fates now run log d done) (run.each i old there).holds);
         workers =
             subst (λ rs. AreWorkers newer rs new.faults) (sym registers) (subst (λ fs. AreWorkers newer old.registers fs) (sym faults)

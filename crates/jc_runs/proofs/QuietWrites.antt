@@ -25,7 +25,7 @@ use Rattle.jc_states.proofs.PodListFacts.{rises_filter}
 use Rattle.jc_log.proofs.WriteFacts.{job_in-key}
 use Rattle.jc_plan.specs.Next.{next_status}
 use Rattle.jc_plan.proofs.NextFacts.{unwritten}
-use Rattle.jc_ledger.specs.Tied.{HasSoundLists}
+use Rattle.jc_ledger.specs.Tied.{HasOrderedLists}
 use Rattle.jc_types.specs.declared.actions.Fault.{Fault}
 use Rattle.jc_types.specs.declared.actions.Fault.TheVariants.{Drop, Lose}
 use Rattle.jc_ledger.specs.declared.flights.Flight.{Flight}
@@ -115,7 +115,7 @@ module _ (shape : Shape) (c w : ℕ) (d : Deed) (past : List Deed) (k : Key) (jo
   key-named = job_in-key k (log_given shape (d ∷ past)) job b.there
 
   -- The plan writes nothing.
-  no-writes : HasSoundLists job → next_status (moment shape past) (backoff k (notes shape c past (log_given shape past))) job (own_pods job (pods_under k (log_given shape (d ∷ past)))) ≡ job.status
+  no-writes : HasOrderedLists job → next_status (moment shape past) (backoff k (notes shape c past (log_given shape past))) job (own_pods job (pods_under k (log_given shape (d ∷ past)))) ≡ job.status
       → ((planned the-basis).first ≡ None) × ((planned the-basis).second ≡ None)
   no-writes tidy same =
       (unwritten job the-basis (saw-then shape c w d past k job rs b)
@@ -151,7 +151,7 @@ module _ (shape : Shape) (c w : ℕ) (d : Deed) (past : List Deed) (k : Key) (jo
         by [] next steps (inr e) = absurd e
         by (last ∷ more) next steps (inr e) = absurd (true≢false (sym steps.1 ∙ ap is_some e.freed))
 
-  tidy-then : (last : Deed) (run : List Deed) → HasEnded shape c w the-basis job (saw-then shape c w d past k job rs b) key-named last (run ++ d ∷ past) → HasSoundLists job
+  tidy-then : (last : Deed) (run : List Deed) → HasEnded shape c w the-basis job (saw-then shape c w d past k job rs b) key-named last (run ++ d ∷ past) → HasOrderedLists job
   tidy-then last run h =
       tidy (run ++ d ∷ past) (log_given shape (run ++ d ∷ past)) (flights_of_all h.registers) h.sync.flight job h.known.tied
       (fly (around c w h.registers (Some h.sync) h.in_register)) (ap (λ (x : Basis). x.job) h.of_basis ∙ saw-then shape c w d past k job rs b) h.leaves

@@ -4,7 +4,7 @@ use Rattle.std.specs.Option.{option_map, unwrap_or}
 use Rattle.std.specs.Prelude.{replicate}
 use Rattle.jc_types.specs.declared.actions.Fault.{Fault}
 use Rattle.jc_types.specs.declared.runs.Shape.{Shape}
-use Rattle.jc_history.specs.Agrees.{IsHeld}
+use Rattle.jc_history.specs.Agrees.{IsScheduleOf}
 use Rattle.jc_history.specs.Replies.{log_given}
 use Rattle.jc_history.proofs.HeldSteps as schedule
 use Rattle.jc_sync.specs.AllRegisters.{flights_in, flights_of_all, register_at}
@@ -30,7 +30,7 @@ none_fly (suc n) = none_fly n
 module _ (shape : Shape) where
   fresh_team : (c : ℕ) (team : Team) → KnowsNothing shape.workers team → IsTeam shape [] [] c team
   fresh_team c team f = record {
-    schedule = subst (IsHeld []) (sym f.schedule) schedule.held-idle;
+    schedule = subst (IsScheduleOf []) (sym f.schedule) schedule.held-idle;
     holds = holds_idle [] team.con f.schedule f.jobs f.rows;
     workers = record {
       syncs = λ w sync e. sym (ap (λ o. option_map (λ (s : Sync). s.flight.basis) o) (none_at shape.workers w sync (ap (λ l. slice_get l w) (sym f.registers) ∙ e)));

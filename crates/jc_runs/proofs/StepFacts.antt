@@ -33,7 +33,7 @@ use Rattle.jc_types.specs.Equality.{same_status}
 use Rattle.jc_ledger.specs.declared.flights.Flight.{Flight}
 use Rattle.jc_log.specs.Acts.{Act}
 use Rattle.jc_log.specs.Deeds.{Deed}
-use Rattle.jc_history.specs.Agrees.{IsHeld}
+use Rattle.jc_history.specs.Agrees.{IsScheduleOf}
 use Rattle.jc_history.specs.Diaries.{end_by, moment, notes, on_step}
 use Rattle.jc_history.specs.Legal.{IsLegal}
 use Rattle.jc_history.specs.Notes.{Note, Asked, Ended, newest}
@@ -68,22 +68,22 @@ same_version (answer.Unchanged v) = refl
 same_version (answer.Released v) = refl
 same_version other = refl
 
-module _ (older : List Note) (h0 : Schedule) (w : ℕ) (basis : Basis) (ask : Ask) (given : Answer) (h : IsHeld older h0) (next : next_ask (planned basis) (made w older) ≡ Some ask) where
+module _ (older : List Note) (h0 : Schedule) (w : ℕ) (basis : Basis) (ask : Ask) (given : Answer) (h : IsScheduleOf older h0) (next : next_ask (planned basis) (made w older) ≡ Some ask) where
   abbrev kept : Bool
   kept = asks_status (as_request ask) && tells_written given && is_first w basis older
 
-  unkept : kept ≡ false → IsHeld (Asked w basis (as_request ask) given ∷ older) (answered_if h0 basis.key (floor_given given))
+  unkept : kept ≡ false → IsScheduleOf (Asked w basis (as_request ask) given ∷ older) (answered_if h0 basis.key (floor_given given))
   unkept k = by (floor_given given) refl
     where
-      by : (o : Option Version) → floor_given given ≡ o → IsHeld (Asked w basis (as_request ask) given ∷ older) (answered_if h0 basis.key o)
+      by : (o : Option Version) → floor_given given ≡ o → IsScheduleOf (Asked w basis (as_request ask) given ∷ older) (answered_if h0 basis.key o)
       by None e = schedule.held-unversioned older h0 w basis (as_request ask) given h e k
       by (Some v) e = schedule.held-answered older h0 w basis (as_request ask) given h v e k
 
 -- What the code notes of an answer is what the note of it says.
-pub asked_held : (older : List Note) (h0 : Schedule) (w : ℕ) (basis : Basis) (ask : Ask) (given : Answer) → IsHeld older h0 → next_ask (planned basis) (made w older) ≡ Some ask
-    → IsHeld (Asked w basis (as_request ask) given ∷ older) (noted_answer h0 basis.key ask given (planned basis).backoff)
+pub asked_held : (older : List Note) (h0 : Schedule) (w : ℕ) (basis : Basis) (ask : Ask) (given : Answer) → IsScheduleOf older h0 → next_ask (planned basis) (made w older) ≡ Some ask
+    → IsScheduleOf (Asked w basis (as_request ask) given ∷ older) (noted_answer h0 basis.key ask given (planned basis).backoff)
 asked_held older h0 w basis ask given h next =
-    subst (λ o. IsHeld (Asked w basis (as_request ask) given ∷ older) (cond (is_first_written ask given) (kept_backoff (answered_if h0 basis.key o) basis.key (planned basis).backoff) (answered_if h0 basis.key o))) (sym (same_version given))
+    subst (λ o. IsScheduleOf (Asked w basis (as_request ask) given ∷ older) (cond (is_first_written ask given) (kept_backoff (answered_if h0 basis.key o) basis.key (planned basis).backoff) (answered_if h0 basis.key o))) (sym (same_version given))
     (by ask given next)
   where
     first_is : (ask : Ask) → next_ask (planned basis) (made w older) ≡ Some ask → is_first w basis older ≡ is_write_first (Some ask)
@@ -94,7 +94,7 @@ asked_held older h0 w basis ask given h next =
     off false = refl
 
     by : (ask : Ask) (given : Answer) → next_ask (planned basis) (made w older) ≡ Some ask
-        → IsHeld (Asked w basis (as_request ask) given ∷ older) (cond (is_first_written ask given) (kept_backoff (answered_if h0 basis.key (floor_given given)) basis.key (planned basis).backoff) (answered_if h0 basis.key (floor_given given)))
+        → IsScheduleOf (Asked w basis (as_request ask) given ∷ older) (cond (is_first_written ask given) (kept_backoff (answered_if h0 basis.key (floor_given given)) basis.key (planned basis).backoff) (answered_if h0 basis.key (floor_given given)))
     by WriteFirst (answer.Written v) e = schedule.held-first older h0 w basis request.Status (answer.Written v) h v refl (first_is WriteFirst e)
     by WriteFirst other e = unkept older h0 w basis WriteFirst other h e refl
     by WriteSecond given e = unkept older h0 w basis WriteSecond given h e (ap (λ f. tells_written given && f) (first_is WriteSecond e) ∙ off (tells_written given))
@@ -239,7 +239,7 @@ noted_queue h k ask given backoff = by (is_first_written ask given) (floor_given
     by false (Some v) = refl
 
 pub record Shown (notes : List Note) (h : Schedule) (rs : List (Option Sync)) (fs : List (Option Fault)) : Type 0 where
-  pub schedule : IsHeld notes h
+  pub schedule : IsScheduleOf notes h
   pub workers : AreWorkers notes rs fs
 
 module _ (shape : Shape) (i w : ℕ) (past : List Deed) (d : Deed) (legal : IsLegal shape past) (log : List Entry)
@@ -254,7 +254,7 @@ module _ (shape : Shape) (i w : ℕ) (past : List Deed) (d : Deed) (legal : IsLe
   abbrev m : ℕ
   m = moment shape past
 
-  module _ (g : IsHeld older h) (workers : AreWorkers older rs fs) (there : slice_get rs w ≡ Some (Some sync)) (at : slice_get fs w ≡ Some fault) (next : next_ask (planned sync.flight.basis) (made w older) ≡ slice_get sync.left 0) where
+  module _ (g : IsScheduleOf older h) (workers : AreWorkers older rs fs) (there : slice_get rs w ≡ Some (Some sync)) (at : slice_get fs w ≡ Some fault) (next : next_ask (planned sync.flight.basis) (made w older) ≡ slice_get sync.left 0) where
     mine : register w older ≡ Some sync.flight.basis
     mine = workers.syncs w (Some sync) there
 

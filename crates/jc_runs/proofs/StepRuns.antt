@@ -19,7 +19,7 @@ use Rattle.jc_log.specs.Writes.{Stored}
 use Rattle.jc_ledger.specs.Syncs.{began_of}
 use Rattle.jc_ledger.specs.Flights.{Flies}
 use Rattle.jc_ledger.proofs.FrameFacts.{AllFly-one}
-use Rattle.jc_history.specs.Agrees.{IsHeld}
+use Rattle.jc_history.specs.Agrees.{IsScheduleOf}
 use Rattle.jc_history.specs.Available.{is_quiescent}
 use Rattle.jc_history.specs.Diaries.{moment, notes, on_step}
 use Rattle.jc_history.specs.Legal.{IsOfShape, MaySettle}
@@ -154,7 +154,7 @@ module _ (shape : Shape) (past : List Deed) (log : List Entry) (teams : List Tea
   idle_run free told_is grew long schedule holds registers faults =
       subst (λ log. IsMachine shape (d ∷ past) log (set teams i new) fates now) (sym grew)
       (run_quiet shape past log teams fates now run d i old new there done (subst (IsOf i) (sym act) refl) (ap began_of told_is) (ap told_step told_is)
-      (subst (IsHeld newer) (sym schedule) (subst (λ notes. IsHeld notes old.con.schedule) (sym same) (team_before shape past log teams fates now run log d done i old there).schedule))
+      (subst (IsScheduleOf newer) (sym schedule) (subst (λ notes. IsScheduleOf notes old.con.schedule) (sym same) (team_before shape past log teams fates now run log d done i old there).schedule))
       (subst (λ log. MirrorsLog log new.con) grew holds) (subst (λ notes. SameWorkers notes older) (sym same) (nothing_new older))
       (registers ∙ set_itself old.registers w None free) (faults ∙ set_itself old.faults w fault fault_there))
     where
@@ -175,7 +175,7 @@ module _ (shape : Shape) (past : List Deed) (log : List Entry) (teams : List Tea
       → new.faults ≡ set old.faults w (stride_by now fault old.con.schedule sync (stepped now fault log sync)).fault → IsMachine shape (d ∷ past) next (set teams i new) fates now
   sync_run sync mine told_is grew long stored schedule holds registers faults =
       run_one shape past log teams fates now run next d done i old new (subst (IsOf i) (sym act) refl) (record {
-        schedule = subst (IsHeld newer) (sym held_then) shown.schedule;
+        schedule = subst (IsScheduleOf newer) (sym held_then) shown.schedule;
         holds = subst (λ log. MirrorsLog log new.con) (next_is shape past log teams fates now run next d done) holds;
         workers = subst (λ rs. AreWorkers newer rs new.faults) (sym registers_then) (subst (λ fs. AreWorkers newer (set old.registers w (register_of step_then.next)) fs) (sym faults_then) shown.workers);
         count = ap (λ rs. length rs) registers ∙ length-set old.registers w (register_of step.next) ∙ team.count;

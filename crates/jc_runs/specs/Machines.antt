@@ -7,7 +7,7 @@ use Rattle.std.specs.Prelude.{◌≡◌, ℕ, ◌≤◌, List, length, slice_get
 use Rattle.std.specs.List.{AllByRecursion as Each}
 use Rattle.std.specs.Option.{option_map}
 use Rattle.jc_control.specs.Schedules.{MirrorsLog}
-use Rattle.jc_history.specs.Agrees.{IsHeld}
+use Rattle.jc_history.specs.Agrees.{IsScheduleOf}
 use Rattle.jc_history.specs.Diaries.{moment, notes}
 use Rattle.jc_history.specs.Legal.{IsLegal}
 use Rattle.jc_history.specs.Notes.{Note}
@@ -37,7 +37,7 @@ pub record AreWorkers (notes : List Note) (rs : List (Option Sync)) (fs : List (
 -- What a controller with its workers has is what its notes say.
 pub record IsTeam (shape : Shape) (deeds : List Deed) (log : List Entry) (c : ℕ) (team : Team)
     : Type 0 where
-  pub schedule : IsHeld (notes shape c deeds log) team.con.schedule
+  pub schedule : IsScheduleOf (notes shape c deeds log) team.con.schedule
   pub holds : MirrorsLog log team.con
   pub workers : AreWorkers (notes shape c deeds log) team.registers team.faults
   pub count : length team.registers ≡ shape.workers

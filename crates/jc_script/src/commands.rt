@@ -24,7 +24,7 @@ pub struct Said {
 }
 
 // The kind of objects of that word.
-fn kind_of(text: &str) -> Option<Kind>
+fn kind_named(text: &str) -> Option<Kind>
     ensures { result ≡ kind_named text.now }
 {
     match text {
@@ -52,7 +52,7 @@ fn read_kind(alloc: Global, value: &Value) -> Result<Kind, LineFault>
 {
     let path = Path::new(alloc);
     let text = need_text(alloc, value, &path, "kind")?;
-    match kind_of(text) {
+    match kind_named(text) {
         Some(kind) => Ok(kind),
         None => Err(broken(&path, "kind", 29)),
     }

@@ -10,15 +10,15 @@ use Rattle.jc_types.specs.declared.runs.Past.{Past}
 use Rattle.jc_types.specs.declared.runs.Sys.{Sys}
 use Rattle.jc_types.specs.declared.runs.Sys.TheVariants as sys
 use Rattle.jc_history.specs.Available.{available}
-use Rattle.jc_history.specs.Legal.{AreUsed, lane_count, next_place, places_from}
+use Rattle.jc_history.specs.Legal.{AreUsed, lane_count, next_command, places_from}
 use Rattle.jc_history.specs.Play.{first_event}
 use Rattle.jc_runs.specs.Seen.{Seen, deeds_seen, log_seen}
 use Rattle.jc_core.specs.Places.{AreUsedUp, most_lanes}
 use Rattle.jc_core.specs.Actors.{IsOfActor}
 use Rattle.jc_core.specs.Actor.TheVariants as actor
 use Rattle.jc_core.specs.Slot.{Slot}
-use Rattle.jc_core.specs.Slots.{has_holder, is_slot_of, is_unheld, unheld_seen}
-use Rattle.jc_core.specs.Turns.{has_rest}
+use Rattle.jc_core.specs.Slots.{has_holder, is_slot_of, is_untaken, unheld_seen}
+use Rattle.jc_core.specs.Turns.{is_quiescent_seen}
 use Rattle.jc_core.proofs.SystemFacts.{quiet}
 use Rattle.jc_seats.specs.declared.players.Player.{Player}
 use Rattle.jc_seats.specs.Names.{AreLanes, AreLanesBelow}
@@ -37,16 +37,16 @@ none-held (slot ∷ slots) c w h = by (is_slot_of c w slot) (is_some slot.holder
     by false false h ih = ih h
 
 module _ (slots : List Slot) (h : list_any (λ (slot : Slot). is_some slot.holder) slots ≡ false) where
-  unheld : (event : Sys) → is_unheld slots event ≡ true
+  unheld : (event : Sys) → is_untaken slots event ≡ true
   unheld (sys.Step c w) = ap not (none-held slots c w h)
   unheld other = refl
 
-  all-unheld : (events : List Sys) → filter (is_unheld slots) events ≡ events
+  all-unheld : (events : List Sys) → filter (is_untaken slots) events ≡ events
   all-unheld [] = refl
-  all-unheld (e ∷ es) = ap (λ b. cond b (e ∷ filter (is_unheld slots) es) (filter (is_unheld slots) es)) (unheld e) ∙ ap (λ more. e ∷ more) (all-unheld es)
+  all-unheld (e ∷ es) = ap (λ b. cond b (e ∷ filter (is_untaken slots) es) (filter (is_untaken slots) es)) (unheld e) ∙ ap (λ more. e ∷ more) (all-unheld es)
 
   -- Where nothing but the steps of held registers is available, nothing is.
-  pub rests : (seen : Seen) → first_event (unheld_seen slots seen) ≡ None → has_rest seen ≡ true
+  pub rests : (seen : Seen) → first_event (unheld_seen slots seen) ≡ None → is_quiescent_seen seen ≡ true
   rests seen none = quiet seen (sym none ∙ ap first_event (all-unheld (available seen.shape (deeds_seen seen) (log_seen seen))))
 
 -- ---- events of a player
@@ -74,9 +74,9 @@ lane-below bound lane p (command ∷ commands) k n all e = by (command.lane == l
 
 -- Where no lane that there can be has a command left, none has.
 pub used-of : (commands : List Command) (pasts : List Past) → AreLanes commands → AreUsedUp commands pasts → AreUsed commands pasts
-used-of commands pasts lanes up lane = by (next_place commands lane pasts) refl
+used-of commands pasts lanes up lane = by (next_command commands lane pasts) refl
   where
-    by : (o : Option ℕ) → next_place commands lane pasts ≡ o → next_place commands lane pasts ≡ None
+    by : (o : Option ℕ) → next_command commands lane pasts ≡ o → next_command commands lane pasts ≡ None
     by None e = e
     by (Some n) e = up lane (lane-below most_lanes lane 0 commands (lane_count lane pasts) n lanes e)
 

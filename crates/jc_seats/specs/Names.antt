@@ -16,7 +16,7 @@ use Rattle.jc_types.specs.declared.actions.Script.{Script}
 use Rattle.jc_types.specs.declared.runs.Past.{Past}
 use Rattle.jc_types.specs.declared.runs.Shape.{Shape}
 use Rattle.jc_history.specs.Available.{IsOrderly}
-use Rattle.jc_history.specs.Legal.{next_place}
+use Rattle.jc_history.specs.Legal.{next_command}
 use Rattle.jc_runs.specs.Seen.{Seen, deeds_seen}
 use Rattle.jc_core.specs.Places.{most_lanes}
 
@@ -60,7 +60,7 @@ AreLanes commands = AreLanesBelow most_lanes commands
 -- Each lane from the bound on is used up.
 abbrev pub AreUsedFrom : ℕ → Seen → Type 0
 AreUsedFrom bound seen =
-    (lane : ℕ) → bound ≤ lane → next_place seen.script.commands lane seen.pasts ≡ None
+    (lane : ℕ) → bound ≤ lane → next_command seen.script.commands lane seen.pasts ≡ None
 
 -- What the type keeps: the history is orderly, and only lanes below the number that it keeps have commands
 -- left, which is no more than there can be.

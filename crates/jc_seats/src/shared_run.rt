@@ -9,7 +9,7 @@ ghost use Rattle.jc_core.specs.ApplyFault.TheVariants.{HistoryFull};
 ghost use Rattle.jc_core.specs.Shared.{has_holders};
 ghost use Rattle.jc_core.specs.declared.holding.Work.{Work};
 ghost use Rattle.jc_core.specs.Slots.{unheld_seen};
-ghost use Rattle.jc_core.specs.Turns.{has_rest};
+ghost use Rattle.jc_core.specs.Turns.{is_quiescent_seen};
 ghost use Rattle.jc_seats.specs.Hands.{IsHandedIn, WasTaken, offered};
 ghost use Rattle.jc_seats.specs.PlayerTurns.{HasHappened, HasLeft, HasTurned, IsOwnEvent};
 
@@ -164,7 +164,7 @@ impl<J: Naming, L: LogTag> SharedRun<J, L> {
             × (first_event (unheld_seen self.old.slots self.old.seen) ≡ None)
             × ¬ HasLeft player.old self.old.seen) }
         ensures ends { IfOk result (λ next. next ≡ NextAction.End → (self.new ≡ self.old)
-            × (has_rest self.old.seen ≡ true) × ¬ HasLeft player.old self.old.seen) }
+            × (is_quiescent_seen self.old.seen ≡ true) × ¬ HasLeft player.old self.old.seen) }
         ensures kept { OnErr result (self.new ≡ self.old) }
         ensures room { result ≡ Err HistoryFull
             → self.old.seen.shape.events ≤ length self.old.seen.pasts }
@@ -195,7 +195,7 @@ impl<J: Naming, L: LogTag> SharedRun<J, L> {
             × (first_event (unheld_seen self.new.slots self.new.seen) ≡ None)
             × ¬ HasLeft player.old self.new.seen) }
         ensures ends { IfOk result (λ next. next ≡ NextAction.End
-            → (has_rest self.new.seen ≡ true) × ¬ HasLeft player.old self.new.seen) }
+            → (is_quiescent_seen self.new.seen ≡ true) × ¬ HasLeft player.old self.new.seen) }
         ensures room { result ≡ Err HistoryFull
             → self.new.seen.shape.events ≤ length self.new.seen.pasts }
         ensures player { (player.new.number ≡ player.old.number)

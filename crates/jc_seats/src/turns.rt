@@ -9,7 +9,7 @@ ghost use Rattle.jc_core.specs.DiariesSeen.{diary_seen};
 ghost use Rattle.jc_core.specs.ApplyFault.TheVariants.{HistoryFull};
 ghost use Rattle.jc_core.specs.Actors.{CanCome};
 ghost use Rattle.jc_core.specs.Slots.{unheld_seen};
-ghost use Rattle.jc_core.specs.Turns.{has_rest};
+ghost use Rattle.jc_core.specs.Turns.{is_quiescent_seen};
 ghost use Rattle.jc_core.specs.Shared.{has_holders, is_open_slot, taken_by};
 ghost use Rattle.jc_seats.specs.PlayerTurns.{HasHappened, HasLeft, IsOfLanes, IsOwnEvent};
 ghost use Rattle.jc_core.specs.declared.holding.Work.{Work};
@@ -112,7 +112,7 @@ impl<J: Naming> Kept<J> {
             × (first_event (unheld_seen self.old.slots self.old.seen) ≡ None)
             × ¬ HasLeft player.old self.old.seen) }
         ensures ends { IfOk result (λ next. next ≡ NextAction.End → (self.new ≡ self.old)
-            × (has_rest self.old.seen ≡ true) × ¬ HasLeft player.old self.old.seen) }
+            × (is_quiescent_seen self.old.seen ≡ true) × ¬ HasLeft player.old self.old.seen) }
         ensures first { IfOk result (λ next. ((work : Work) → next ≢ NextAction.Plan work)
             → find (is_open_slot self.old.seen) self.old.slots ≡ None) }
         ensures kept { OnErr result (self.new ≡ self.old) }

@@ -6,7 +6,7 @@ ghost use Rattle.jc_types.specs.declared.actions.Command.{Command};
 ghost use Rattle.jc_runs.specs.ValidActions.{IsValidAction};
 ghost use Rattle.jc_history.specs.Available.{IsOrderly};
 ghost use Rattle.jc_runs.specs.Seen.{deeds_seen};
-ghost use Rattle.jc_seats.specs.Plays.{IsProper};
+ghost use Rattle.jc_seats.specs.Plays.{IsScriptFor};
 ghost use Rattle.jc_seats.specs.Shared.{Shared};
 ghost use Rattle.jc_seats.specs.Names.{IsOfName};
 ghost use Rattle.jc_shared.specs.SharedEnds.{EndsRun};
@@ -86,7 +86,7 @@ fn run_named<J: Naming + Send + Sync, R: Threads + Wait + Sync, G: Gate + Sync>(
     requires script { play.script.now ≡ J.script }
     requires shape { play.shape.now ≡ J.shape }
     requires fine { Each (λ (command : Command). IsValidAction command.action) play.script.now.commands }
-    requires proper { IsProper play.script.now play.shape.now }
+    requires proper { IsScriptFor play.script.now play.shape.now }
     ensures { EndsRun play.entry.script.now play.entry.shape.now result }
 {
     let Ok(kept) = new_kept::<J>(host.alloc, play) else {
@@ -123,7 +123,7 @@ pub fn run_threads<R: Threads + Wait + Sync, G: Gate + Sync>(
     requires some { 1 ≤ threads }
     requires few { threads ≤ 16 }
     requires fine { Each (λ (command : Command). IsValidAction command.action) script.now.commands }
-    requires proper { IsProper script.now shape.now }
+    requires proper { IsScriptFor script.now shape.now }
     requires fits { length script.now.commands < 2 ^ 32 }
     requires bound { shape.now.events ≤ 200000 }
     ensures ended { EndsRun script.now shape.now result }

@@ -7,7 +7,7 @@ ghost use Rattle.jc_runs.specs.Bases.{CanPlan};
 ghost use Rattle.jc_runs.specs.ValidActions.{IsValidAction};
 ghost use Rattle.jc_runs.specs.Seen.{deeds_seen};
 ghost use Rattle.jc_history.specs.Available.{IsOrderly};
-ghost use Rattle.jc_seats.specs.Plays.{IsProper};
+ghost use Rattle.jc_seats.specs.Plays.{IsScriptFor};
 ghost use Rattle.jc_seats.specs.Shared.{Shared};
 ghost use Rattle.jc_seats.specs.Work.{Work};
 ghost use Rattle.jc_turn.specs.LockSeats.{NoSeatHolds, BelongTo, IsSameSeat, fresh_seats};
@@ -204,7 +204,7 @@ fn open<J: Naming>(alloc: Global, play: Play<'_>) -> Option<(TurnLock<Kept<J>>, 
     requires script { play.script.now ≡ J.script }
     requires shape { play.shape.now ≡ J.shape }
     requires fine { Each (λ (command : Command). IsValidAction command.action) play.script.now.commands }
-    requires proper { IsProper play.script.now play.shape.now }
+    requires proper { IsScriptFor play.script.now play.shape.now }
     ensures count { IfSome result (λ made. made.0.seats ≡ play.entry.threads) }
     ensures fresh { IfSome result (λ made. made.1 ≡ fresh_seats made.0.name 0 play.entry.threads) }
 {
@@ -268,7 +268,7 @@ fn played<J: Naming + Send + Sync, R: Threads + Wait + Sync, G: Gate + Sync>(
     requires script { play.script.now ≡ J.script }
     requires shape { play.shape.now ≡ J.shape }
     requires fine { Each (λ (command : Command). IsValidAction command.action) play.script.now.commands }
-    requires proper { IsProper play.script.now play.shape.now }
+    requires proper { IsScriptFor play.script.now play.shape.now }
     ensures named { IfSome result (λ cluster. IsOfName J.script J.shape cluster.seen) }
     ensures orderly { IfSome result
         (λ cluster. IsOrderly cluster.seen.shape (deeds_seen cluster.seen)) }
@@ -287,7 +287,7 @@ fn run_named<J: Naming + Send + Sync, R: Threads + Wait + Sync, G: Gate + Sync>(
     requires script { play.script.now ≡ J.script }
     requires shape { play.shape.now ≡ J.shape }
     requires fine { Each (λ (command : Command). IsValidAction command.action) play.script.now.commands }
-    requires proper { IsProper play.script.now play.shape.now }
+    requires proper { IsScriptFor play.script.now play.shape.now }
     ensures { EndsRun play.entry.script.now play.entry.shape.now result }
 {
     match played::<J, R, G>(host, play) {
@@ -313,7 +313,7 @@ pub fn run_turn<R: Threads + Wait + Sync, G: Gate + Sync>(
     requires some { 1 ≤ threads }
     requires few { threads ≤ 16 }
     requires fine { Each (λ (command : Command). IsValidAction command.action) script.now.commands }
-    requires proper { IsProper script.now shape.now }
+    requires proper { IsScriptFor script.now shape.now }
     requires fits { length script.now.commands < 2 ^ 32 }
     requires bound { shape.now.events ≤ 200000 }
     ensures ended { EndsRun script.now shape.now result }

@@ -4,7 +4,7 @@ ghost use Rattle.std.specs.Prelude.{◌≡◌};
 ghost use Rattle.std.specs.List.{AllByRecursion as Each};
 ghost use Rattle.jc_types.specs.declared.actions.Command.{Command};
 ghost use Rattle.jc_runs.specs.ValidActions.{IsValidAction};
-ghost use Rattle.jc_seats.specs.Plays.{IsProper};
+ghost use Rattle.jc_seats.specs.Plays.{IsScriptFor};
 ghost use Rattle.jc_history.specs.Available.{IsOrderly};
 ghost use Rattle.jc_runs.specs.Seen.{deeds_seen};
 ghost use Rattle.jc_seats.specs.Names.{IsOfName};
@@ -21,7 +21,7 @@ pub(crate) fn new_kept<J: Naming>(alloc: Global, play: Play<'_>) -> Result<Kept<
     requires script { play.script.now ≡ J.script }
     requires shape { play.shape.now ≡ J.shape }
     requires fine { Each (λ (command : Command). IsValidAction command.action) play.script.now.commands }
-    requires proper { IsProper play.script.now play.shape.now }
+    requires proper { IsScriptFor play.script.now play.shape.now }
 {
     let cluster = Cluster::new(alloc, play.script.copy()?, *play.shape)?;
     Ok(keep(cluster))

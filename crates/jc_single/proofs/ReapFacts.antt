@@ -15,7 +15,7 @@ use Rattle.jc_promise.specs.Available.{is_quiescent}
 use Rattle.jc_promise.specs.Legal.{IsOfShape}
 use Rattle.jc_promise.specs.Play.{Playing, is_full, play_of, whole_play}
 use Rattle.jc_promise.specs.Replies.{log_given}
-use Rattle.jc_promise.specs.Plays.{AreWithin, IsProper, ends_in_settle}
+use Rattle.jc_promise.specs.Plays.{AreWithin, IsScriptFor, ends_in_settle}
 use Rattle.jc_promise.proofs.DeedFacts.{deeds-are}
 use Rattle.jc_reap.specs.Finds.{seen_at_end}
 use Rattle.jc_reap.specs.Reaping.{command, reap_list}
@@ -51,7 +51,7 @@ settled_valid commands h = both (λ (c : Command). IsValidAction c.action) comma
 pub settled_lanes : (commands : List Command) → AreByteLanes commands → AreByteLanes (at_rest commands).commands
 settled_lanes commands h = both (λ (c : Command). c.lane < 2 ^ 8) commands (command act.Settle ∷ []) h (omega arith, tt)
 
-pub settled_within : (shape : Shape) (commands : List Command) → AreWithin shape commands → IsProper (at_rest commands) shape
+pub settled_within : (shape : Shape) (commands : List Command) → AreWithin shape commands → IsScriptFor (at_rest commands) shape
 settled_within shape commands h =
     both (λ (c : Command). IsOfShape shape (act_of_action c.action)) commands (command act.Settle ∷ []) h (tt, tt)
 
@@ -190,9 +190,9 @@ last-valid script last shape ttls is first more =
     (both (λ (c : Command). IsValidAction c.action) script.commands (reap_list (seen_at_end script shape) ttls) first more))
 
 pub last-within : (script last : Script) (shape : Shape) (ttls : List (Option ℕ)) → last ≡ then_reaped script shape ttls
-    → IsProper script shape → AreWithin shape (reap_list (seen_at_end script shape) ttls) → IsProper last shape
+    → IsScriptFor script shape → AreWithin shape (reap_list (seen_at_end script shape) ttls) → IsScriptFor last shape
 last-within script last shape ttls is first more =
-    subst (λ (s : Script). IsProper s shape) (sym is) (last-holds (λ (s : Script). IsProper s shape) script shape ttls first
+    subst (λ (s : Script). IsScriptFor s shape) (sym is) (last-holds (λ (s : Script). IsScriptFor s shape) script shape ttls first
     (both (λ (c : Command). IsOfShape shape (act_of_action c.action)) script.commands (reap_list (seen_at_end script shape) ttls) first more))
 
 -- The report of the script that is played last.

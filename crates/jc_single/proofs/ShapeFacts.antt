@@ -9,7 +9,7 @@ use Rattle.jc_types.specs.declared.runs.Shape.{Shape}
 use Rattle.jc_promise.specs.ValidActions.{IsValidAction}
 use Rattle.jc_promise.specs.Deeds.{act_of_action}
 use Rattle.jc_promise.specs.Legal.{IsOfShape}
-use Rattle.jc_promise.specs.Plays.{AreWithin, IsProper}
+use Rattle.jc_promise.specs.Plays.{AreWithin, IsScriptFor}
 use Rattle.jc_gen.specs.Generated.{IsGenerated, generated}
 use Rattle.jc_script.specs.Fits.{NamesShape}
 
@@ -74,9 +74,9 @@ generated_is_fine number jobs pods script e =
 
 pub generated_is_proper : (shape : Shape) (number jobs pods : ℕ) (script : Script) → script ≡ generated number jobs pods
     → Each (λ (command : Command). IsGenerated number jobs pods command) (generated number jobs pods).commands
-    → IsProper script shape
+    → IsScriptFor script shape
 generated_is_proper shape number jobs pods script e h =
-    subst (λ (s : Script). IsProper s shape) (sym e)
+    subst (λ (s : Script). IsScriptFor s shape) (sym e)
     (generated_within shape number jobs pods (generated number jobs pods).commands h)
 
 pub generated_is_few : (number jobs pods : ℕ) (script : Script) → script ≡ generated number jobs pods

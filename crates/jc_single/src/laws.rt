@@ -11,7 +11,7 @@ ghost use Rattle.jc_types.specs.declared.runs.History.{History};
 ghost use Rattle.jc_types.specs.declared.runs.Shape.{Shape};
 ghost use Rattle.jc_promise.specs.ValidActions.{IsValidAction};
 ghost use Rattle.jc_promise.specs.Play.{is_full, play_of};
-ghost use Rattle.jc_promise.specs.Plays.{IsProper};
+ghost use Rattle.jc_promise.specs.Plays.{IsScriptFor};
 ghost use Rattle.jc_reap.specs.TtlLines.{ttls_of};
 ghost use Rattle.jc_script.specs.Cause.{Cause};
 ghost use Rattle.jc_script.specs.Scripts.{BadLine, most_bytes, script_of};
@@ -40,13 +40,13 @@ pub fn plays_tell_their_history()
     ensures history { (script : Script) (shape : Shape) (history : History)
         → history.events.items ≡ play_of script shape
         → Each (λ (command : Command). IsValidAction command.action) script.commands
-        → IsProper script shape → 0 < shape.controllers → 0 < shape.workers → shape.events ≤ 200000
+        → IsScriptFor script shape → 0 < shape.controllers → 0 < shape.workers → shape.events ≤ 200000
         → IsReportOf history 0 script shape (is_full script shape)
         (report_printed script shape).text }
     ensures report { (script : Script) (shape : Shape)
         → Each (λ (command : Command). IsValidAction command.action) script.commands
         → Each (λ (command : Command). command.lane < 2 ^ 8) script.commands
-        → IsProper script shape → 0 < shape.controllers → shape.controllers ≤ 2 ^ 32
+        → IsScriptFor script shape → 0 < shape.controllers → shape.controllers ≤ 2 ^ 32
         → 0 < shape.workers → shape.workers ≤ 2 ^ 32 → shape.events ≤ 200000
         → IsReport 0 script shape (is_full script shape) (report_printed script shape).text }
 {

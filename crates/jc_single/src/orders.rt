@@ -4,7 +4,7 @@ ghost use Rattle.std.specs.Prelude.{◌≡◌, ◌<◌, ◌≤◌, ◌^◌, Err,
 ghost use Rattle.std.specs.List.{AllByRecursion as Each};
 ghost use Rattle.jc_types.specs.declared.actions.Command.{Command};
 ghost use Rattle.jc_promise.specs.ValidActions.{IsValidAction};
-ghost use Rattle.jc_promise.specs.Plays.{IsProper};
+ghost use Rattle.jc_promise.specs.Plays.{IsScriptFor};
 ghost use Rattle.jc_promise.specs.Seen.{log_seen};
 ghost use Rattle.jc_report.specs.Reports.{report_text, summary_of};
 ghost use Rattle.jc_gen.specs.Generated.{generated};
@@ -66,7 +66,7 @@ fn print_summary(alloc: Global, played: &Played) -> Result<Output, Want>
 /// time: the program prints the report and ends.
 pub(crate) fn script_answer(alloc: Global, script: Script, shape: Shape) -> Result<Output, Want>
     requires fine { Each (λ (command : Command). IsValidAction command.action) script.commands }
-    requires proper { IsProper script shape }
+    requires proper { IsScriptFor script shape }
     requires fits { length script.commands < 2 ^ 32 }
     requires bound { shape.events ≤ 200000 }
     ensures { IfOk result (λ output. printed_by output ≡ report_printed script shape) }

@@ -5,7 +5,7 @@ ghost use Rattle.std.specs.List.{AllByRecursion as Each};
 ghost use Rattle.jc_types.specs.declared.actions.Command.{Command};
 ghost use Rattle.jc_promise.specs.ValidActions.{IsValidAction};
 ghost use Rattle.jc_promise.specs.Play.{rest_played, whole_play};
-ghost use Rattle.jc_promise.specs.Plays.{IsProper};
+ghost use Rattle.jc_promise.specs.Plays.{IsScriptFor};
 ghost use Rattle.jc_report.specs.Turns.{playing_of};
 
 use jc_report::{ApplyFault, Cluster, new_machines_play_the_whole_script};
@@ -39,7 +39,7 @@ fn play_out(cluster: &mut Cluster) -> Result<bool, Want>
 /// Plays the whole script in a new cluster.
 pub(crate) fn play_whole(alloc: Global, script: Script, shape: Shape) -> Result<Played, Want>
     requires fine { Each (λ (command : Command). IsValidAction command.action) script.commands }
-    requires proper { IsProper script shape }
+    requires proper { IsScriptFor script shape }
     requires fits { length script.commands < 2 ^ 32 }
     requires bound { shape.events ≤ 200000 }
     ensures script { IfOk result (λ played. played.cluster.seen.script ≡ script) }

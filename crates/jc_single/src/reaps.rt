@@ -6,7 +6,7 @@ ghost use Rattle.std.specs.List.{AllByRecursion as Each};
 ghost use Rattle.jc_types.specs.declared.actions.Command.{Command};
 ghost use Rattle.jc_promise.specs.ValidActions.{IsValidAction};
 ghost use Rattle.jc_promise.specs.Available.{is_quiescent};
-ghost use Rattle.jc_promise.specs.Plays.{IsProper, ends_in_settle};
+ghost use Rattle.jc_promise.specs.Plays.{IsScriptFor, ends_in_settle};
 ghost use Rattle.jc_promise.specs.Seen.{deeds_seen, log_seen};
 ghost use Rattle.jc_reap.specs.Reaping.{reap_list};
 ghost use Rattle.jc_reap.specs.TtlLines.{ttls_of};
@@ -88,7 +88,7 @@ fn last_of(alloc: Global, played: &Played, ttls: &Ttls) -> Result<Script, Want>
 // once.
 fn last_script(alloc: Global, script: Script, ttls: &Ttls, shape: &Shape) -> Result<Script, Want>
     requires fine { Each (λ (command : Command). IsValidAction command.action) script.commands }
-    requires proper { IsProper script shape.now }
+    requires proper { IsScriptFor script shape.now }
     requires fits { length script.commands < 2 ^ 32 }
     requires few { length ttls.now ≤ length script.commands }
     requires ends { ends_in_settle script.commands ≡ true }
@@ -109,7 +109,7 @@ fn settled_answer(
     shape: &Shape,
 ) -> Result<Output, Want>
     requires fine { Each (λ (command : Command). IsValidAction command.action) script.commands }
-    requires proper { IsProper script shape.now }
+    requires proper { IsScriptFor script shape.now }
     requires few_commands { length script.commands ≤ most_commands }
     requires few { length ttls.now ≤ length script.commands }
     requires bound { shape.now.events ≤ 200000 }

@@ -10,8 +10,8 @@ use Rattle.jc_types.specs.declared.objects.Pod.{Pod}
 use Rattle.jc_types.specs.declared.statuses.IndexCount.{IndexCount}
 use Rattle.jc_types.specs.Keys.{same_uid}
 use Rattle.jc_types.proofs.ListFacts.{filter_swap}
-use Rattle.jc_states.specs.Bases.{IsTidy, TotalsFit, FailuresFit, is_own, own_pods}
-use Rattle.jc_states.specs.Noted.{is_at_odds, is_noted}
+use Rattle.jc_states.specs.Bases.{CountsByIndex, TotalsFit, FailuresFit, is_own, own_pods}
+use Rattle.jc_states.specs.Noted.{is_at_odds, needs_look}
 use Rattle.jc_states.specs.Pods.{is_active, is_tracked}
 use Rattle.jc_states.specs.UidLists.{is_in}
 use Rattle.jc_states.proofs.PodListFacts.{length-filter-le}
@@ -20,23 +20,23 @@ use Rattle.jc_states.proofs.PodListFacts.{length-filter-le}
 
 module _ (owner : Uid) (uids more : List Uid) (pod : Pod) where
   -- A pod at odds is noted.
-  pub noted-odds : is_at_odds pod ≡ true → is_noted owner uids more pod ≡ true
+  pub noted-odds : is_at_odds pod ≡ true → needs_look owner uids more pod ≡ true
   noted-odds h = or_left (is_at_odds pod) (not (same_uid pod.owner_uid owner) || (is_in pod.uid uids || is_in pod.uid more)) h
 
   -- A pod of another owner is noted.
-  pub noted-other : not (same_uid pod.owner_uid owner) ≡ true → is_noted owner uids more pod ≡ true
+  pub noted-other : not (same_uid pod.owner_uid owner) ≡ true → needs_look owner uids more pod ≡ true
   noted-other h =
       or_right (is_at_odds pod) (not (same_uid pod.owner_uid owner) || (is_in pod.uid uids || is_in pod.uid more))
       (or_left (not (same_uid pod.owner_uid owner)) (is_in pod.uid uids || is_in pod.uid more) h)
 
   -- A pod is noted whose UID is in one of the lists.
-  pub noted-listed : (is_in pod.uid uids || is_in pod.uid more) ≡ true → is_noted owner uids more pod ≡ true
+  pub noted-listed : (is_in pod.uid uids || is_in pod.uid more) ≡ true → needs_look owner uids more pod ≡ true
   noted-listed h =
       or_right (is_at_odds pod) (not (same_uid pod.owner_uid owner) || (is_in pod.uid uids || is_in pod.uid more))
       (or_right (not (same_uid pod.owner_uid owner)) (is_in pod.uid uids || is_in pod.uid more) h)
 
   -- So is one whose UID is in the first list.
-  pub noted-in : is_in pod.uid uids ≡ true → is_noted owner uids more pod ≡ true
+  pub noted-in : is_in pod.uid uids ≡ true → needs_look owner uids more pod ≡ true
   noted-in h = noted-listed (or_left (is_in pod.uid uids) (is_in pod.uid more) h)
 
 -- A tracked pod that is not active is at odds.
@@ -64,7 +64,7 @@ module _ (job : Job) (test : Pod → Bool) (pods : List Pod) where
   own-part = filter_swap (is_own job) test pods
 
   -- A part is as tidy as all.
-  pub tidy-part : IsTidy job pods → IsTidy job (filter test pods)
+  pub tidy-part : CountsByIndex job pods → CountsByIndex job (filter test pods)
   tidy-part tidy at =
       let all = tidy at in
       (all.0, subst (All (λ pod. IsSome pod.index)) (sym own-part) (All-filter test (λ pod. IsSome pod.index) (own_pods job pods) all.1))

@@ -9,7 +9,7 @@ use Rattle.jc_types.specs.declared.objects.Pod.{Pod}
 use Rattle.jc_types.specs.Keys.{same_uid}
 use Rattle.jc_types.proofs.KeyFacts.{same_uid-eq}
 use Rattle.jc_types.proofs.ListFacts.{Each-both, Each-filter, Each-weaker, filter_same}
-use Rattle.jc_states.specs.Noted.{is_at_odds, is_calm, is_noted, odd_numbers}
+use Rattle.jc_states.specs.Noted.{is_at_odds, is_calm, needs_look, odd_numbers}
 use Rattle.jc_states.specs.PodLists.{RisesFrom}
 use Rattle.jc_states.specs.Tallies.{pods_for}
 use Rattle.jc_states.specs.UidLists.{is_in}
@@ -49,16 +49,16 @@ listed_odd pods pod (v ∷ uids) found calm h =
 -- Where all pods are the owner's and no listed one is calm, a sync looks at those at odds.
 pub noted-odd : (owner : Uid) (uids more : List Uid) (pods : List Pod) → RisesFrom 0 pods → length (pods_for owner pods) ≡ length pods
     → list_any (is_calm pods) uids ≡ false → list_any (is_calm pods) more ≡ false
-    → filter is_at_odds pods ≡ filter (is_noted owner uids more) pods
+    → filter is_at_odds pods ≡ filter (needs_look owner uids more) pods
 noted-odd owner uids more pods rising all calm calm_more =
     let own = each-kept (λ pod. same_uid pod.owner_uid owner) pods all in
     let P : Pod → Type 0 = λ pod. same_uid pod.owner_uid owner ≡ true in
     let Q : Pod → Type 0 = λ pod. pod_among pod.uid pods ≡ Some pod in
     sym
-    (filter_same (is_noted owner uids more) is_at_odds pods
-    (Each-weaker (λ pod. P pod × Q pod) (λ pod. is_noted owner uids more pod ≡ is_at_odds pod) (λ pod h. one pod h.0 h.1) pods (Each-both P Q pods own (rises-found 0 pods rising))))
+    (filter_same (needs_look owner uids more) is_at_odds pods
+    (Each-weaker (λ pod. P pod × Q pod) (λ pod. needs_look owner uids more pod ≡ is_at_odds pod) (λ pod h. one pod h.0 h.1) pods (Each-both P Q pods own (rises-found 0 pods rising))))
   where
-    one : (pod : Pod) → same_uid pod.owner_uid owner ≡ true → pod_among pod.uid pods ≡ Some pod → is_noted owner uids more pod ≡ is_at_odds pod
+    one : (pod : Pod) → same_uid pod.owner_uid owner ≡ true → pod_among pod.uid pods ≡ Some pod → needs_look owner uids more pod ≡ is_at_odds pod
     one pod own found =
         by (is_at_odds pod) (same_uid pod.owner_uid owner) own (is_in pod.uid uids) (listed_odd pods pod uids found calm) (is_in pod.uid more) (listed_odd pods pod more found calm_more)
       where

@@ -1,7 +1,7 @@
 -- Words on what one sync sees.
 --     is_own job pod        the pod was made for the Job, by UID
 --     own_pods job pods     the Job's own pods, in the order in which they stand
---     IsTidy job pods       of an Indexed Job no success is listed, and each pod has an index
+--     CountsByIndex job pods       of an Indexed Job no success is listed, and each pod has an index
 --     TotalsFit job pods    the totals with what is listed, and with the pods, are below 2 ^ 64
 --     FailuresFit job pods  the failures of each index ascend by index, and are below 2 ^ 64 with the pods
 --     CanPlan basis         there is a valid Job, and all numbers are small enough
@@ -28,8 +28,8 @@ abbrev pub own_pods : Job → List Pod → List Pod
 own_pods job pods = filter (is_own job) pods
 
 -- Of an Indexed Job no success is listed, and each of its pods has an index.
-abbrev pub IsTidy : Job → List Pod → Type 0
-IsTidy job pods =
+abbrev pub CountsByIndex : Job → List Pod → Type 0
+CountsByIndex job pods =
     job.spec.mode ≡ Indexed
     → (job.status.uncounted_succeeded ≡ []) × All (λ pod. IsSome pod.index) (own_pods job pods)
 
@@ -49,7 +49,7 @@ pub record FailuresFit (job : Job) (pods : List Pod) : Type 0 where
 pub record CanPlan (basis : Basis) : Type 0 where
   pub there : IsSome basis.job
   pub valid : IfSome basis.job (λ job. IsValidSpec job.spec)
-  pub tidy : IfSome basis.job (λ job. IsTidy job basis.pods)
+  pub tidy : IfSome basis.job (λ job. CountsByIndex job basis.pods)
   pub totals : IfSome basis.job (λ job. TotalsFit job basis.pods)
   pub index_failures : IfSome basis.job (λ job. FailuresFit job basis.pods)
   pub distinct : AllPairs (λ pod other. pod.uid ≢ other.uid) basis.pods

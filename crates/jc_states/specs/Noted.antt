@@ -1,6 +1,6 @@
 -- At which pods a sync of an owner's Job has to look.
 --     is_at_odds pod                 it is tracked and not active, or active and not tracked
---     is_noted owner uids more pod   it is at odds, or another owner's, or its UID is in one of the lists
+--     needs_look owner uids more pod   it is at odds, or another owner's, or its UID is in one of the lists
 --     is_calm pods u                 a pod of the UID is among them, and is not at odds
 --     with_note pod numbers          the numbers with that of the pod's UID where it is at odds, and without it where not
 --     odd_numbers pods               the numbers of the UIDs of the pods at odds, in their order
@@ -26,8 +26,8 @@ abbrev pub is_at_odds : Pod → Bool
 is_at_odds pod = if is_tracked pod then not (is_active pod) else is_active pod
 
 -- The pod is at odds, or was made for another owner, or its UID is in one of the lists.
-abbrev pub is_noted : Uid → List Uid → List Uid → Pod → Bool
-is_noted owner uids more pod =
+abbrev pub needs_look : Uid → List Uid → List Uid → Pod → Bool
+needs_look owner uids more pod =
     is_at_odds pod || (not (same_uid pod.owner_uid owner) || (is_in pod.uid uids || is_in pod.uid more))
 
 -- A pod of the UID is among them, and is not at odds.

@@ -30,10 +30,10 @@ pub use counts::{
 pub use indexes::{has_index, is_completed};
 pub use laws::{bases_are_compared, lists_merge};
 pub use owners::is_foreign;
-pub use phases::{is_final, is_pending, is_same_phase};
+pub use phases::{is_final, is_pending, same_phase};
 pub use pod_lists::Pods;
 pub use pods::{
     goes, is_active, is_at_odds, is_ending, is_marked, is_open, is_own, is_ready, is_tracked_active,
 };
 pub use tallies::Tally;
-pub use uids::{is_among, is_listed};
+pub use uids::{is_in, is_listed};

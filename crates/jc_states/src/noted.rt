@@ -1,21 +1,21 @@
 //! At which pods a sync of an owner's Job has to look.
 
 ghost use Rattle.std.specs.Prelude.{◌≡◌, IfOk, filter};
-ghost use Rattle.jc_states.specs.Noted.{is_at_odds, is_noted};
+ghost use Rattle.jc_states.specs.Noted.{is_at_odds, needs_look};
 
 use crate::pods::is_at_odds;
-use crate::uids::is_among;
+use crate::uids::is_in;
 use jc_types::{Arc, Copied, Pod, Uid, Want};
 use std::alloc::Global;
 
 // Whether a sync of the owner has to look at the pod.
-fn is_noted(pod: &Pod, owner: Uid, uids: &[Uid], more: &[Uid]) -> bool
-    ensures { result ≡ is_noted owner uids.now more.now pod.now }
+fn needs_look(pod: &Pod, owner: Uid, uids: &[Uid], more: &[Uid]) -> bool
+    ensures { result ≡ needs_look owner uids.now more.now pod.now }
 {
     is_at_odds(pod)
         || pod.owner_uid.0 != owner.0
-        || is_among(pod.uid, uids)
-        || is_among(pod.uid, more)
+        || is_in(pod.uid, uids)
+        || is_in(pod.uid, more)
 }
 
 // Copies of the pods at odds among these. It goes over all of them.
@@ -36,7 +36,7 @@ pub(crate) fn odd_among(alloc: Global, pods: &[Arc<Pod>]) -> Result<Vec<Arc<Pod>
 // Copies of the pods at which a sync of the owner has to look. It goes over all pods.
 //
 // `Want` where there is no memory for them.
-pub(crate) fn noted_among(
+pub(crate) fn pods_to_look_at(
     alloc: Global,
     pods: &[Arc<Pod>],
     owner: Uid,
@@ -44,13 +44,13 @@ pub(crate) fn noted_among(
     more: &[Uid],
 ) -> Result<Vec<Arc<Pod>>, Want>
     ensures { IfOk result (λ noted. noted.items
-        ≡ filter (is_noted owner uids.now more.now) pods.now) }
+        ≡ filter (needs_look owner uids.now more.now) pods.now) }
 {
     let mut noted = Vec::new(alloc);
     for pod in pods {
-        if is_noted(pod, owner, uids, more) {
+        if needs_look(pod, owner, uids, more) {
             noted.push(pod.copy()?)?;
         }
     }
-    Ok(noted)
+    Ok(to_look_at)
 }

@@ -27,7 +27,7 @@ pub fn is_pending(phase: Phase) -> bool
 }
 
 /// Whether both phases are the same.
-pub fn is_same_phase(left: Phase, right: Phase) -> bool
+pub fn same_phase(left: Phase, right: Phase) -> bool
     ensures { result ≡ same_phase left right }
 {
     left == right

@@ -8,13 +8,13 @@ ghost use Rattle.jc_types.specs.declared.numbers.Uid.{Uid};
 ghost use Rattle.jc_types.specs.Keys.{same_uid};
 ghost use Rattle.jc_states.specs.PodLists.{IsRising, drop_pod, place_from, put_pod};
 ghost use Rattle.jc_states.specs.Holders.{has_index_in, held_in, holders_of, holds_index};
-ghost use Rattle.jc_states.specs.Noted.{is_at_odds, is_calm, is_noted, with_note};
+ghost use Rattle.jc_states.specs.Noted.{is_at_odds, is_calm, needs_look, with_note};
 ghost use Rattle.jc_states.specs.Pods.{tracked_active_pods};
 ghost use Rattle.jc_states.specs.Tallies.{pods_for, tally_of};
 
 use crate::holders::Holders;
-use crate::noted::{noted_among, odd_among};
-use crate::odds::note;
+use crate::to_look_at::{noted_among, odd_among};
+use crate::odds::put_odd;
 use crate::pods::is_at_odds;
 use crate::tallies::{Tally, enter, leave, tally_in};
 use indexmap::IndexMap;
@@ -76,7 +76,7 @@ fn is_there(pods: &[Arc<Pod>], uid: Uid, place: usize) -> bool
 // Notes the pod among those at odds, or that it is not, and the index that it holds, if it holds one.
 //
 // `Want` where there is no memory for it; the numbers and who holds which index are then as before.
-fn note_and_enter(odd: &mut BTreeSet<u64>, holders: &mut Holders, pod: &Pod) -> Result<(), Want>
+fn put_odd_and_enter(odd: &mut BTreeSet<u64>, holders: &mut Holders, pod: &Pod) -> Result<(), Want>
     ensures noted { OnOk result (odd.new.keys ≡ with_note pod.now odd.old.keys) }
     ensures entered { OnOk result ((owner : Uid) → (n : ℕ) → held_in owner n holders.new
         ≡ held_in owner n holders.old + (if holds_index owner n pod.now then 1 else 0)) }
@@ -85,7 +85,7 @@ fn note_and_enter(odd: &mut BTreeSet<u64>, holders: &mut Holders, pod: &Pod) -> 
         → held_in owner n holders.new ≡ held_in owner n holders.old) }
 {
     holders.enter(pod)?;
-    if let Err(want) = note(odd, pod) {
+    if let Err(want) = put_odd(odd, pod) {
         holders.leave(pod);
         return Err(want);
     }
@@ -185,9 +185,9 @@ impl Pods {
     ///
     /// # Errors
     /// `Want` where there is no memory for them.
-    pub fn noted(&self, owner: Uid, uids: &[Uid], more: &[Uid]) -> Result<Vec<Arc<Pod>>, Want>
+    pub fn to_look_at(&self, owner: Uid, uids: &[Uid], more: &[Uid]) -> Result<Vec<Arc<Pod>>, Want>
         ensures pods { IfOk result (λ pods. pods.items
-            ≡ filter (is_noted owner uids.now more.now) self.now) }
+            ≡ filter (needs_look owner uids.now more.now) self.now) }
         ensures rising { IfOk result (λ pods. IsRising pods.items) }
     {
         if self.are_all_of(owner) && !self.has_calm(uids) && !self.has_calm(more) {
@@ -262,26 +262,26 @@ impl Pods {
 
     /// Whether an active pod with the finalizer of the owner has an index from the first up to the last. It
     /// goes over no pod.
-    pub fn holds_between(&self, owner: Uid, first: u32, last: u32) -> bool
+    pub fn takes_between(&self, owner: Uid, first: u32, last: u32) -> bool
         ensures { result
             ≡ list_any (has_index_in first last) (tracked_active_pods (pods_for owner self.now)) }
     {
-        self.holders.holds_between(owner, first, last)
+        self.holders.takes_between(owner, first, last)
     }
 
     /// Whether an active pod with the finalizer of the owner has this index or a greater one. It goes over
     /// no pod.
-    pub fn holds_from(&self, owner: Uid, first: u32) -> bool
+    pub fn takes_from(&self, owner: Uid, first: u32) -> bool
         ensures { result
             ≡ list_any (λ pod. option_map_or (λ index. nat_le first index) pod.index false)
             (tracked_active_pods (pods_for owner self.now)) }
     {
-        self.holders.holds_from(owner, first)
+        self.holders.takes_from(owner, first)
     }
 
     /// The least index from the first one on that no active pod with the finalizer of the owner has; the end
     /// where there is none below it. It goes over no pod.
-    pub fn first_unheld(&self, owner: Uid, from: u32, end: u32) -> u32
+    pub fn first_free_from(&self, owner: Uid, from: u32, end: u32) -> u32
         requires { from ≤ end }
         ensures above { from ≤ result }
         ensures within { result ≤ end }
@@ -290,7 +290,7 @@ impl Pods {
         ensures free { result < end → list_any (has_index_in result result)
             (tracked_active_pods (pods_for owner self.now)) ≡ false }
     {
-        self.holders.first_unheld(owner, from, end)
+        self.holders.first_free_from(owner, from, end)
     }
 
     /// Adds a pod whose UID is above all others.
@@ -333,7 +333,7 @@ impl Pods {
         ensures kept { OnErr result (self.new ≡ self.old) }
     {
         self.tallies.reserve(1)?;
-        note_and_enter(&mut self.odd, &mut self.holders, &pod)?;
+        put_odd_and_enter(&mut self.odd, &mut self.holders, &pod)?;
         self.holders.leave(&self.pods[place]);
         leave(&mut self.tallies, &self.pods[place]);
         enter(&mut self.tallies, &pod);
@@ -353,7 +353,7 @@ impl Pods {
     {
         self.pods.reserve(1)?;
         self.tallies.reserve(1)?;
-        note_and_enter(&mut self.odd, &mut self.holders, &pod)?;
+        put_odd_and_enter(&mut self.odd, &mut self.holders, &pod)?;
         enter(&mut self.tallies, &pod);
         let Ok(()) = self.pods.insert(place, pod) else {
             unreachable!()

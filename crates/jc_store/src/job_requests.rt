@@ -6,7 +6,7 @@ ghost use Rattle.jc_log.specs.Log.{job_in};
 use super::Store;
 use super::new_objects::new_job;
 use super::spec_changes::{changed_spec, is_other, is_same_limits, refusal};
-use super::statuses::is_equal_status;
+use super::statuses::same_status;
 use jc_moment::Moment;
 use jc_types::{Arc, Copied, Job, JobSpec, JobStatus, Key, Reply, SpecChange, Uid, Version, Want};
 
@@ -108,7 +108,7 @@ impl Store {
                 current: job.version,
             });
         }
-        if is_equal_status(&job.status, status) {
+        if same_status(&job.status, status) {
             return Ok(Reply::Unchanged {
                 version: job.version,
             });

@@ -15,5 +15,5 @@ mod statuses;
 mod store;
 
 pub use pod_table::pods_among;
-pub use statuses::is_equal_status;
+pub use statuses::same_status;
 pub use store::Store;

@@ -6,7 +6,7 @@ ghost use Rattle.jc_types.specs.declared.objects.Phase.TheVariants.{Pending, Run
 ghost use Rattle.jc_log.specs.Requests.{changed_by, changed_container, given_exit, is_unnamed, named, put_pattern, same_course_of};
 ghost use Rattle.jc_types.specs.Equality.{same_phase, same_container, same_pattern};
 
-use jc_states::is_same_phase;
+use jc_states::same_phase;
 use jc_types::{
     Container, ContainerChange, ContainerChanges, Containers, Copied, Name, Pattern, Patterns,
     Phase, PhaseChange, Pod, Same, Text, Version, Want,
@@ -163,14 +163,14 @@ fn has_container(pod: &Pod, name: &Name) -> bool
 pub(super) fn is_step_back(from: Phase, to: Phase) -> bool
     ensures { result ≡ (same_phase from Running && same_phase to Pending) }
 {
-    is_same_phase(from, Phase::Running) && is_same_phase(to, Phase::Pending)
+    same_phase(from, Phase::Running) && same_phase(to, Phase::Pending)
 }
 
 // Whether what a report may change agrees.
 pub(super) fn is_same_course(left: &Pod, right: &Pod) -> bool
     ensures { result ≡ same_course_of left.now right.now }
 {
-    is_same_phase(left.phase, right.phase)
+    same_phase(left.phase, right.phase)
         && is_same_containers(&left.containers, &right.containers)
         && is_same_conditions(&left.conditions, &right.conditions)
 }

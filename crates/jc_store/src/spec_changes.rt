@@ -46,7 +46,7 @@ pub(super) fn is_same_limits(left: &JobSpec, right: &JobSpec) -> bool
 {
     left.parallelism == right.parallelism
         && is_same_number(left.completions, right.completions)
-        && is_same_flag(left.suspend, right.suspend)
+        && same_bool(left.suspend, right.suspend)
         && is_same_number(left.deadline, right.deadline)
         && left.backoff_limit == right.backoff_limit
 }
@@ -63,7 +63,7 @@ fn is_same_number(left: Option<u32>, right: Option<u32>) -> bool
 }
 
 // Whether both are true, or both false.
-fn is_same_flag(left: bool, right: bool) -> bool
+fn same_bool(left: bool, right: bool) -> bool
     ensures { result ≡ same_bool left right }
 {
     if left { right } else { !right }

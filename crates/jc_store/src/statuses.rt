@@ -5,7 +5,7 @@ ghost use Rattle.jc_types.specs.Equality.{same_status};
 use jc_types::{JobStatus, Same};
 
 /// Whether the two statuses are equal.
-pub fn is_equal_status(left: &JobStatus, right: &JobStatus) -> bool
+pub fn same_status(left: &JobStatus, right: &JobStatus) -> bool
     ensures { result ≡ same_status left.now right.now }
 {
     left.is_same(right)

@@ -48,7 +48,7 @@ impl Model for Store {
 }
 
 // Makes a row for the owner's count, without a change of any count. An owner that was counted has one.
-fn keep_count(made: &mut Table<Uid, u32>, owner: Uid, count: u32) -> Result<(), Want>
+fn reserve_count(made: &mut Table<Uid, u32>, owner: Uid, count: u32) -> Result<(), Want>
     requires { count ≡ count_of made.old owner }
     ensures counts { (other : Uid) → count_of made.new other ≡ count_of made.old other }
     ensures row { OnOk result (IsSome (at same_uid made.new owner)) }
@@ -309,7 +309,7 @@ impl Store {
         let owner = pod.owner_uid;
         let count = self.made_for(owner);
         let more = count + 1;
-        keep_count(&mut self.made, owner, count)?;
+        reserve_count(&mut self.made, owner, count)?;
         let pod = Arc::new(self.alloc, pod)?;
         let entry = Entry::PodPut(pod.copy()?);
         add_pod(&mut self.pods, &mut self.log, pod, entry)?;

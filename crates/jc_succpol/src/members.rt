@@ -18,7 +18,7 @@ fn is_shared(set: &Ranges, place: u32, other: &Ranges) -> bool
 }
 
 /// Whether each of the indexes is completed.
-pub fn are_all_completed(completed: &Ranges, indexes: &Ranges) -> bool
+pub fn includes(completed: &Ranges, indexes: &Ranges) -> bool
     ensures { result ≡ includes completed.now indexes.now }
 {
     for place in 0..indexes.len() {
@@ -30,7 +30,7 @@ pub fn are_all_completed(completed: &Ranges, indexes: &Ranges) -> bool
 }
 
 /// How many completed indexes are among the indexes.
-pub fn completed_within(indexes: &Ranges, completed: &Ranges) -> u32
+pub fn count_within(indexes: &Ranges, completed: &Ranges) -> u32
     ensures { result ≡ count_within indexes.now completed.now }
 {
     let mut count = 0;

@@ -3,7 +3,7 @@
 ghost use Rattle.std.specs.Prelude.{◌≡◌, ◌<◌, ◌^◌, is_some, length};
 ghost use Rattle.jc_succpol.specs.SuccessRules.{is_met, met_place};
 
-use crate::members::{are_all_completed, completed_within};
+use crate::members::{includes, count_within};
 use jc_ranges::Ranges;
 use jc_types::{SuccessPolicy, SuccessRule};
 
@@ -13,14 +13,14 @@ fn is_rule_met(rule: &SuccessRule, completed: &Ranges) -> bool
 {
     match (&rule.indexes, rule.count) {
         (None, None) => false,
-        (Some(indexes), None) => are_all_completed(completed, indexes),
+        (Some(indexes), None) => includes(completed, indexes),
         (None, Some(count)) => count <= completed.len(),
-        (Some(indexes), Some(count)) => count <= completed_within(indexes, completed),
+        (Some(indexes), Some(count)) => count <= count_within(indexes, completed),
     }
 }
 
 // The place of the first rule that is met.
-fn first_met(policy: &SuccessPolicy, completed: &Ranges) -> Option<usize>
+fn met_place(policy: &SuccessPolicy, completed: &Ranges) -> Option<usize>
     ensures { result ≡ met_place policy.now completed.now }
 {
     policy
@@ -34,7 +34,7 @@ fn first_met(policy: &SuccessPolicy, completed: &Ranges) -> Option<usize>
 pub fn is_met(policy: &SuccessPolicy, completed: &Ranges) -> bool
     ensures { result ≡ is_some (met_place policy.now completed.now) }
 {
-    first_met(policy, completed).is_some()
+    met_place(policy, completed).is_some()
 }
 
 /// The place among a success policy's rules, counted from 0, of the first that the completed indexes
@@ -46,7 +46,7 @@ pub fn met(policy: &SuccessPolicy, completed: &Ranges) -> Option<u32>
     requires few { length policy.now.rules < 2 ^ 32 }
     ensures { result ≡ met_place policy.now completed.now }
 {
-    match first_met(policy, completed) {
+    match met_place(policy, completed) {
         None => None,
         Some(place) => Some(place as u32),
     }

@@ -11,7 +11,7 @@ use Rattle.jc_log.specs.Deeds.{Deed}
 use Rattle.jc_log.specs.Log.{Life, Never, Live, is_never, life}
 use Rattle.jc_states.specs.Pods.{goes}
 use Rattle.jc_log.specs.Writes.{IsOwned, Stored}
-use Rattle.jc_ledger.specs.EventKinds.{IsQuiet, IsWritten, pod_of}
+use Rattle.jc_ledger.specs.EventKinds.{AppendsNoEntry, IsWritten, pod_of}
 use Rattle.jc_ledger.specs.Syncs.{began_of}
 use Rattle.jc_ledger.specs.Tied.{IsWithin}
 use Rattle.jc_ledger.proofs.QuietFacts.{IfSome-absent}
@@ -47,5 +47,5 @@ written-by d log e asked given reply grown stored owned = record {
 }
 
 -- Or nothing.
-pub quiet-by : (d : Deed) (log : List Entry) → began_of d.reply ≡ None → d.length.0 ≡ length log → IsQuiet d log
+pub quiet-by : (d : Deed) (log : List Entry) → began_of d.reply ≡ None → d.length.0 ≡ length log → AppendsNoEntry d log
 quiet-by d log none still = record { still = still; within = IfSome-absent (began_of d.reply) (IsWithin (length log)) none }

@@ -11,7 +11,7 @@ use Rattle.jc_types.specs.declared.objects.Pod.{Pod}
 use Rattle.jc_types.specs.declared.specifications.Mode.TheVariants.{Indexed}
 use Rattle.jc_types.specs.declared.statuses.IndexCount.{IndexCount}
 use Rattle.jc_states.specs.declared.bases.Basis.{Basis}
-use Rattle.jc_states.specs.Bases.{CanPlan, FailuresFit, IsTidy, TotalsFit, own_pods}
+use Rattle.jc_states.specs.Bases.{CanPlan, FailuresFit, CountsByIndex, TotalsFit, own_pods}
 use Rattle.jc_log.specs.Deeds.{Deed}
 use Rattle.jc_types.specs.Keys.{same_key}
 use Rattle.jc_log.specs.Log.{Live, entry_at, job_in, life, pods_in, pods_of, upto}
@@ -30,7 +30,7 @@ use Rattle.jc_log.proofs.WriteFacts.{Follows-upto, Stored-from_legal}
 use Rattle.jc_plan.proofs.Owned.{filter-least as filter-few}
 use Rattle.jc_ledger.specs.declared.flights.Flight.{Flight}
 use Rattle.jc_ledger.specs.Flights.{IsBasisOf}
-use Rattle.jc_ledger.specs.Tied.{HasSoundLists, Tied, made_as}
+use Rattle.jc_ledger.specs.Tied.{HasOrderedLists, Tied, made_as}
 use Rattle.jc_ledger.proofs.FrameFacts.{owner_made}
 use Rattle.jc_ledger.proofs.MadeFacts.{WasMade, job_in-was_made, made_as-upto}
 use Rattle.jc_ledger.proofs.OwnFacts.{basis-rises, own-is, own-live}
@@ -59,7 +59,7 @@ plannable_more e log p fits = record {
 -- The parts of a plan's condition that the log gives.
 pub record IsReady (log : List Entry) (basis : Basis) (job : Job) : Type 0 where
   pub valid : IsValidSpec job.spec
-  pub tidy : IsTidy job basis.pods
+  pub tidy : CountsByIndex job basis.pods
   pub totals : length log < 2 ^ 32 → TotalsFit job basis.pods
   pub fails : length log < 2 ^ 32 → FailuresFit job basis.pods
   pub few : length basis.pods ≤ length log
@@ -94,7 +94,7 @@ ready deeds log flights basis job t p is saw = record {
     is_made : made_as was.made.uid log ≡ Some was.made
     is_made = made_as-upto was.made.uid basis.jobs_at.0 log was.made (ap (λ j. made_as j (upto basis.jobs_at.0 log)) (sym was.step.uid) ∙ was.is_made)
 
-    tidy : HasSoundLists job
+    tidy : HasOrderedLists job
     tidy = (ties_of deeds log flights was.made t is_made).tidy job.version.0 job entry was.step.uid
 
     few_pods : length basis.pods ≤ length log
@@ -156,7 +156,7 @@ can_plan deeds log flights basis job t p is saw short failures last =
     record {
       there = ap is_some saw;
       valid = subst (λ (o : Option Job). IfSome o (λ j. IsValidSpec j.spec)) (sym saw) r.valid;
-      tidy = subst (λ (o : Option Job). IfSome o (λ j. IsTidy j basis.pods)) (sym saw) r.tidy;
+      tidy = subst (λ (o : Option Job). IfSome o (λ j. CountsByIndex j basis.pods)) (sym saw) r.tidy;
       totals = subst (λ (o : Option Job). IfSome o (λ j. TotalsFit j basis.pods)) (sym saw) (r.totals (omega (arith, short)));
       index_failures = subst (λ (o : Option Job). IfSome o (λ j. FailuresFit j basis.pods)) (sym saw) (r.fails (omega (arith, short)));
       distinct = rising-apart 0 basis.pods (basis-rises log basis is);

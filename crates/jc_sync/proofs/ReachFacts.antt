@@ -24,7 +24,7 @@ use Rattle.jc_plan.proofs.NextFacts.{second-next}
 use Rattle.jc_plan.proofs.OrderFacts.{due-released}
 use Rattle.jc_ledger.specs.declared.flights.Flight.{Flight}
 use Rattle.jc_ledger.specs.Flights.{Flies}
-use Rattle.jc_ledger.specs.Tied.{HasSoundLists, Tied, made_as}
+use Rattle.jc_ledger.specs.Tied.{HasOrderedLists, Tied, made_as}
 use Rattle.jc_ledger.proofs.DuePods.{due_in}
 use Rattle.jc_ledger.proofs.MadeFacts.{WasMade, job_in-was_made, made_as-upto}
 use Rattle.jc_ledger.proofs.OwnFacts.{basis-rises}
@@ -46,7 +46,7 @@ module _ (deeds : List Deed) (log : List Entry) (flights : List Flight) (flight 
   is_made : made_as was.made.uid log ≡ Some was.made
   is_made = made_as-upto was.made.uid flight.basis.jobs_at.0 log was.made (ap (λ j. made_as j (upto flight.basis.jobs_at.0 log)) (sym was.step.uid) ∙ was.is_made)
 
-  pub tidy : HasSoundLists job
+  pub tidy : HasOrderedLists job
   tidy = (ties_of deeds log flights was.made t is_made).tidy job.version.0 job (seen_job-entry flight.basis.key flight.basis.jobs_at.0 log job t.legal flies.basis.jobs_at seen) was.step.uid
 
   -- The status is the next one.

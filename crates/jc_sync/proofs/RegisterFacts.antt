@@ -25,7 +25,7 @@ use Rattle.jc_log.specs.Deeds.{Deed}
 use Rattle.jc_log.specs.Writes.{Stored}
 use Rattle.jc_log.proofs.WriteFacts.{Stored-from_legal}
 use Rattle.jc_ledger.specs.declared.flights.Flight.{Flight}
-use Rattle.jc_ledger.specs.EventKinds.{Begins, IsQuiet, began}
+use Rattle.jc_ledger.specs.EventKinds.{Begins, AppendsNoEntry, began}
 use Rattle.jc_ledger.specs.Flights.{Flies}
 use Rattle.jc_ledger.specs.Syncs.{Began, began_by, began_of, is_begin, stepper, sync_of}
 use Rattle.jc_ledger.specs.Tied.{Tied}
@@ -229,7 +229,7 @@ kept c w d past sync none untold r = record {
 }
 
 -- One that appends nothing, begins no sync and is no step of one.
-pub quiet_syncs : (d : Deed) (past : List Deed) (log : List Entry) (rs : Registers) → HasSyncs past log rs → IsQuiet d log → began_of d.reply ≡ None → told_step d.reply ≡ None → HasSyncs (d ∷ past) log rs
+pub quiet_syncs : (d : Deed) (past : List Deed) (log : List Entry) (rs : Registers) → HasSyncs past log rs → AppendsNoEntry d log → began_of d.reply ≡ None → told_step d.reply ≡ None → HasSyncs (d ∷ past) log rs
 quiet_syncs d past log rs h quiet none untold = record {
   tied = tied_quiet d past log (flights_of_all rs) h.tied quiet;
   each = λ c w sync is. kept c w d past sync (began_by-none c w d none) (step_told-none c w d untold) (h.each c w sync is);
@@ -427,7 +427,7 @@ restart_keeps zero (suc d) v (ws ∷ rs) sync h = h
 restart_keeps (suc c) zero v (ws ∷ rs) sync h = h
 restart_keeps (suc c) (suc d) v (ws ∷ rs) sync h = restart_keeps c d v rs sync h
 
-pub restart_syncs : (d : Deed) (past : List Deed) (log : List Entry) (rs : Registers) (c : ℕ) → HasSyncs past log rs → IsQuiet d log → began_of d.reply ≡ None → told_step d.reply ≡ None → HasSyncs (d ∷ past) log (restarted c rs)
+pub restart_syncs : (d : Deed) (past : List Deed) (log : List Entry) (rs : Registers) (c : ℕ) → HasSyncs past log rs → AppendsNoEntry d log → began_of d.reply ≡ None → told_step d.reply ≡ None → HasSyncs (d ∷ past) log (restarted c rs)
 restart_syncs d past log rs c h quiet none untold =
     let all = quiet_syncs d past log rs h quiet none untold in
     let w = restart_drops c rs in

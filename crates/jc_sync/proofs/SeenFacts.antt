@@ -25,7 +25,7 @@ use Rattle.jc_plan.specs.LetGoes.{seen, seen_uids}
 use Rattle.jc_plan.proofs.OneWay.{goes-seen}
 use Rattle.jc_plan.specs.declared.plans.Planned.{Planned}
 use Rattle.jc_plan.specs.Plans.{planned, planned_for}
-use Rattle.jc_plan.specs.Statuses.{accounted, decided_in, is_settled, wants_in}
+use Rattle.jc_plan.specs.Statuses.{accounted, decided_in, is_end_decided, wants_in}
 use Rattle.jc_plan.proofs.PartFacts.{planned-here}
 use Rattle.jc_plan.proofs.OrderFacts.{let_goes-ascend}
 use Rattle.jc_plan.proofs.PlanBounds.{plan-numbered}
@@ -57,7 +57,7 @@ own_contains job pods seen is_seen own =
 goes-active : (job : Job) (basis : Basis) → IsRising basis.pods → Each (λ row. SeenActive basis row.0 row.1) (wants_in job basis).let_goes
 goes-active job basis rising =
     Each-weaker (IsSeen own) (λ row. SeenActive basis row.0 row.1) at_row (wants_in job basis).let_goes
-    (recursion_from_All (IsSeen own) (wants_in job basis).let_goes (goes-seen own (is_settled job (decided_in job basis)) job (accounted job basis)))
+    (recursion_from_All (IsSeen own) (wants_in job basis).let_goes (goes-seen own (is_end_decided job (decided_in job basis)) job (accounted job basis)))
   where
     own : List Pod
     own = own_pods job basis.pods

@@ -24,7 +24,7 @@ ghost use Rattle.jc_plan.specs.Plans.{IsDated, planned};
 ghost use Rattle.jc_control.specs.ControllerCalls.{begun};
 ghost use Rattle.jc_control.specs.Schedules.{ControllerView, MirrorsLog};
 ghost use Rattle.jc_control.specs.declared.begins.Begin.TheVariants.{Begun};
-ghost use Rattle.jc_ledger.specs.EventKinds.{IsQuiet};
+ghost use Rattle.jc_ledger.specs.EventKinds.{AppendsNoEntry};
 ghost use Rattle.jc_ledger.specs.Flights.{Flies, IsBasisOf};
 ghost use Rattle.jc_ledger.specs.Tied.{Tied};
 ghost use Rattle.jc_ledger.specs.declared.flights.Flight.{Flight};
@@ -102,7 +102,7 @@ pub fn quiet_syncs_come_to_the_next_status()
 pub fn syncs_keep_their_registers()
     ensures start { (rs : Registers) → AreFree rs → HasSyncs [] [] rs }
     ensures quiet { (d : Deed) (past : List Deed) (log : List Entry) (rs : Registers)
-        → HasSyncs past log rs → IsQuiet d log → TellsOfNoSync d → HasSyncs (d ∷ past) log rs }
+        → HasSyncs past log rs → AppendsNoEntry d log → TellsOfNoSync d → HasSyncs (d ∷ past) log rs }
     ensures stepped { (d : Deed) (past : List Deed) (log : List Entry) (rs : Registers)
         (c w now : ℕ) (pending : Option Fault) (sync : Sync)
         → HasSyncs past log rs → register_at c w rs ≡ Some (Some sync)
@@ -112,7 +112,7 @@ pub fn syncs_keep_their_registers()
         → HasSyncs past log rs → register_at c w rs ≡ Some None → MirrorsLog log controller
         → (begun now controller).answer ≡ Begun basis → HasBegun d past log rs c w basis }
     ensures restarted { (d : Deed) (past : List Deed) (log : List Entry) (rs : Registers) (c : ℕ)
-        → HasSyncs past log rs → IsQuiet d log → TellsOfNoSync d
+        → HasSyncs past log rs → AppendsNoEntry d log → TellsOfNoSync d
         → HasSyncs (d ∷ past) log (restarted c rs) }
     ensures next { (past : List Deed) (log : List Entry) (rs : Registers) (c w : ℕ) (sync : Sync)
         → HasSyncs past log rs → register_at c w rs ≡ Some (Some sync)

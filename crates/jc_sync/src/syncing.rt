@@ -278,7 +278,7 @@ impl Syncing {
         ensures sync { self.new ≡ answered_at self.old.flight self.old.left answer.now }
         ensures basis { self.new.flight.basis ≡ self.old.flight.basis }
     {
-        let written = written_by(self.asks.first(), answer);
+        let written = first_written(self.asks.first(), answer);
         self.is_written = is_written_after(written, self.is_written);
         self.sends = written.unwrap_or(self.sends);
         self.asks.answered(is_gone(answer));
@@ -293,7 +293,7 @@ fn is_written_after(written: Option<Version>, before: bool) -> bool
 }
 
 // The version at which the first status was written by the request.
-fn written_by(ask: Option<Ask>, answer: &Answer) -> Option<Version>
+fn first_written(ask: Option<Ask>, answer: &Answer) -> Option<Version>
     ensures { result ≡ first_written ask answer.now }
 {
     match ask {

@@ -32,7 +32,7 @@ pub(crate) fn begin(
     ensures reply { IfOk result (λ r. r.0 ≡ reply_of_begin (begun now controller.old).answer) }
     ensures sync { IfOk result (λ r. r.1 ≡ begun_sync (begun now controller.old).answer) }
 {
-    controller.settle();
+    controller.apply_pending();
     let answer = controller.peek(now)?;
     let left = prepared(&answer)?;
     controller.begin_as(now, &answer)?;

@@ -23,7 +23,7 @@ use Rattle.jc_failpol.specs.declared.outcomes.Outcome.{Outcome}
 use Rattle.jc_verdicts.specs.declared.books.Book.{Book}
 use Rattle.jc_ledger.specs.declared.counts.Verdicts.{Verdicts}
 use Rattle.jc_account.specs.declared.judgements.Judgement.{Judgement as Row}
-use Rattle.jc_verdicts.specs.Books.{AreCounts, AreFew, AreSound, IsSoundBook, Knows, done_at, rows_at, totals_of, verdicts_at}
+use Rattle.jc_verdicts.specs.Books.{AreCounts, AreFew, AreBooksOf, IsBookOf, Knows, done_at, rows_at, totals_of, verdicts_at}
 use Rattle.jc_ledger.specs.Ledger.{kept, Judging, Ledger, Record, entered, judged_by, ledger_of}
 use Rattle.jc_verdicts.specs.LogPlaces.{touching_places}
 use Rattle.jc_verdicts.specs.Verdicts.{HasSeen, IsCount, before_place, done_once_seen, done_by, fresh_rows, new_rows, outcome_in, rows_for, success_indexes}
@@ -75,13 +75,13 @@ module _ (u : Uid) (old mid new : List (Uid × Book)) (book : Book)
     (others : (j : Uid) → same_uid u j ≡ false → at same_uid mid j ≡ at same_uid old j)
     (sets : Sets same_uid mid new u (Some book)) where
   -- Each book is sound where one was changed that is.
-  pub books-sound : (log : List Entry) → AreSound log old → IsSoundBook u log book → AreSound log new
+  pub books-sound : (log : List Entry) → AreBooksOf log old → IsBookOf u log book → AreBooksOf log new
   books-sound log all is j =
-      subst (λ o. IfSome o (λ b. IsSoundBook j log b)) (sym (sets j)) (by (same_uid u j) refl)
+      subst (λ o. IfSome o (λ b. IsBookOf j log b)) (sym (sets j)) (by (same_uid u j) refl)
     where
-      by : (b : Bool) → same_uid u j ≡ b → IfSome (cond b (Some book) (at same_uid mid j)) (λ x. IsSoundBook j log x)
-      by true s = subst (λ x. IsSoundBook x log book) (same_uid-eq u j s) is
-      by false s = subst (λ o. IfSome o (λ b. IsSoundBook j log b)) (sym (others j s)) (all j)
+      by : (b : Bool) → same_uid u j ≡ b → IfSome (cond b (Some book) (at same_uid mid j)) (λ x. IsBookOf j log x)
+      by true s = subst (λ x. IsBookOf x log book) (same_uid-eq u j s) is
+      by false s = subst (λ o. IfSome o (λ b. IsBookOf j log b)) (sym (others j s)) (all j)
 
 -- Each book counts as its ledger after a write of the Job.
 pub books-counted : (job : Job) (log : List Entry) (seen version : ℕ) (ledgers : Uid → Ledger) (old mid new : List (Uid × Book)) (book : Book)

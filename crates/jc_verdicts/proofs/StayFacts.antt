@@ -25,7 +25,7 @@ use Rattle.jc_account.specs.Judged.{has_come_to, is_fresh}
 use Rattle.jc_account.specs.Modes.{indexes_of}
 use Rattle.jc_account.specs.Rooms.{has_room, joins_list, judged_within}
 use Rattle.jc_ledger.specs.Ledger.{within}
-use Rattle.jc_verdicts.specs.Verdicts.{is_held_by, is_row_of, is_success_by, outcome_in, row_for, rows_for, space_by, stays, success_indexes, waiting}
+use Rattle.jc_verdicts.specs.Verdicts.{has_joined_list, is_row_of, is_success_by, outcome_in, row_for, rows_for, space_by, stays, success_indexes, waiting}
 use Rattle.jc_verdicts.proofs.VerdictRows.{indexes_are}
 
 -- A tracked pod that is at odds is not active.
@@ -69,7 +69,7 @@ module _ (known : List (Uid × Outcome)) where
       (fresh-odds spec (λ u. is_some (at same_uid known u)) pod h)
 
   -- A pod that joined a list stays.
-  held-stays : (spec : JobSpec) (pod : Pod) → is_held_by spec (at same_uid known) pod ≡ true → stays known pod ≡ true
+  held-stays : (spec : JobSpec) (pod : Pod) → has_joined_list spec (at same_uid known) pod ≡ true → stays known pod ≡ true
   held-stays spec pod held =
       and_from (is_tracked pod) (not (is_active pod) || is_some (at same_uid known pod.uid)) parts.0
       (or_right (not (is_active pod)) (is_some (at same_uid known pod.uid)) (by (at same_uid known pod.uid) parts.1))
@@ -97,7 +97,7 @@ module _ (known : List (Uid × Outcome)) where
       ap (λ (ps : List Pod). map (row_for spec) (judged_within spec (space_by spec (at same_uid known) (filter (stays known) pods)) ps))
       (filter_within (is_fresh spec (λ u. is_some (at same_uid known u))) (stays known) (fresh-stays spec) pods)
       ∙ ap (λ (ps : List Pod). map (row_for spec) (judged_within spec (MOST_UNCOUNTED - length ps) (waiting spec (at same_uid known) pods)))
-      (filter_within (is_held_by spec (at same_uid known)) (stays known) (held-stays spec) pods)
+      (filter_within (has_joined_list spec (at same_uid known)) (stays known) (held-stays spec) pods)
 
   -- So are the indexes of the successes.
   pub indexes-kept_pods : (job : Job) (pods : List Pod) → success_indexes job (at same_uid known) (filter (stays known) pods) ≡ success_indexes job (at same_uid known) pods

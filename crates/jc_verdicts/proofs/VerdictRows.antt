@@ -40,7 +40,7 @@ use Rattle.jc_account.proofs.RoomFacts.{first_of, room-below}
 use Rattle.jc_account.specs.declared.judgements.Judgement.{Judgement as Row}
 use Rattle.jc_account.specs.Judged.{has_come_to, is_fresh}
 use Rattle.jc_ledger.specs.Ledger.{Record, Ledger, record_of, has_record, is_held, is_success, is_within, fresh, chosen, kept, recorded, judged_as, successes, entered, within}
-use Rattle.jc_verdicts.specs.Verdicts.{row_of, row_for, done_by, fresh_row, is_held_by, is_row_of, is_success_by, new_rows, outcome_in, rows_for, space_by, success_index, success_indexes, waiting, IsCount}
+use Rattle.jc_verdicts.specs.Verdicts.{row_of, row_for, done_by, fresh_row, has_joined_list, is_row_of, is_success_by, new_rows, outcome_in, rows_for, space_by, success_index, success_indexes, waiting, IsCount}
 
 -- ---- the set of indexes
 
@@ -71,7 +71,7 @@ known_is u records = by (record_of u records) ∙ ap is_some (outcome_is u recor
     by (Some r) = refl
 
 -- A pod joined a list by its record where it did by its row.
-held_is : (spec : JobSpec) (records : List Record) (pod : Pod) → is_held spec records pod ≡ is_held_by spec (outcome_in (map row_of records)) pod
+held_is : (spec : JobSpec) (records : List Record) (pod : Pod) → is_held spec records pod ≡ has_joined_list spec (outcome_in (map row_of records)) pod
 held_is spec records pod =
     ap (λ b. is_tracked pod && b)
     (by (record_of pod.uid records) ∙ ap (λ o. option_map_or (λ outcome. joins_list spec.mode outcome) o false) (outcome_is pod.uid records))
@@ -85,7 +85,7 @@ pub chosen_is : (job : Job) (records : List Record) (pods : List Pod) → chosen
     ≡ judged_within job.spec (space_by job.spec (outcome_in (map row_of records)) pods) (waiting job.spec (outcome_in (map row_of records)) pods)
 chosen_is job records pods =
     let known = outcome_in (map row_of records) in
-    let held = filter_agree (is_held job.spec records) (is_held_by job.spec known) (held_is job.spec records) pods in
+    let held = filter_agree (is_held job.spec records) (has_joined_list job.spec known) (held_is job.spec records) pods in
     let unjudged = filter_agree (is_fresh job.spec (has_record records)) (is_fresh job.spec (λ u. is_some (known u)))
     (λ pod. ap (λ b. is_tracked pod && (is_verdict (outcome_of job.spec pod) && not b)) (known_is pod.uid records)) pods in
     ap (λ (ps : List Pod). judged_within job.spec (MOST_UNCOUNTED - length ps) (fresh job records pods)) held

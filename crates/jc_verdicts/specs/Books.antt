@@ -1,7 +1,7 @@
 -- The books of all Jobs, as a pass over a history keeps them, and what they come to.
 --     Knows known rows         the outcomes under UIDs are those of the rows
---     IsSoundBook j log book   the book has pods of the Job of the UID, and is in order
---     AreSound log books       so it is of each book
+--     IsBookOf j log book   the book has pods of the Job of the UID, and is in order
+--     AreBooksOf log books       so it is of each book
 --     rows_at j books          the rows of the Job's book; none where it has no book
 --     done_at j books          the indexes of the Job's book; none where it has no book
 --     AreCounts ledgers books  the rows and the indexes of each Job are those of its ledger
@@ -30,14 +30,14 @@ Knows known rows = (u : Uid) → at same_uid known u ≡ outcome_in rows u
 
 -- The book of the Job of the UID has those of the Job's pods among the first entries that stay; its
 -- indexes rise, and its outcomes are those of its rows.
-pub record IsSoundBook (j : Uid) (log : List Entry) (book : Book) : Type 0 where
+pub record IsBookOf (j : Uid) (log : List Entry) (book : Book) : Type 0 where
   pub seen : HasSeen j log book.known.entries book.pods.items book.at
   pub order : IsIncreasing book.done.items
   pub known : Knows book.known.entries book.rows.items
 
 -- So it is of each book.
-abbrev pub AreSound : List Entry → List (Uid × Book) → Type 0
-AreSound log books = (j : Uid) → IfSome (at same_uid books j) (λ book. IsSoundBook j log book)
+abbrev pub AreBooksOf : List Entry → List (Uid × Book) → Type 0
+AreBooksOf log books = (j : Uid) → IfSome (at same_uid books j) (λ book. IsBookOf j log book)
 
 -- The rows of the Job's book; none where it has no book.
 abbrev pub rows_at : Uid → List (Uid × Book) → List Row

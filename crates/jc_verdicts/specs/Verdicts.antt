@@ -4,7 +4,7 @@
 --     sync_at d past                 the sync whose write of a status the deed is
 --     Row, row_of record             what a count keeps of a record
 --     outcome_in rows u              what the pod of the UID was judged, by the rows
---     is_held_by spec known pod      the pod is tracked, and was judged so that it joined a list
+--     has_joined_list spec known pod      the pod is tracked, and was judged so that it joined a list
 --     space_by spec known pods       how many UIDs may join the lists
 --     waiting spec known pods        the pods that are still to be judged
 --     fresh_row spec known pod       the row of a pod that is still to be judged
@@ -89,13 +89,13 @@ abbrev pub outcome_in : List Row → Uid → Option Outcome
 outcome_in rows u = option_map (λ (row : Row). row.outcome) (find (is_row_of u) rows)
 
 -- The pod is tracked, and was judged so that it joined a list, where pods were judged so.
-abbrev pub is_held_by : JobSpec → (Uid → Option Outcome) → Pod → Bool
-is_held_by spec known pod =
+abbrev pub has_joined_list : JobSpec → (Uid → Option Outcome) → Pod → Bool
+has_joined_list spec known pod =
     is_tracked pod && option_map_or (λ outcome. joins_list spec.mode outcome) (known pod.uid) false
 
 -- How many UIDs may join the lists, where pods were judged so.
 abbrev pub space_by : JobSpec → (Uid → Option Outcome) → List Pod → ℕ
-space_by spec known pods = MOST_UNCOUNTED - length (filter (is_held_by spec known) pods)
+space_by spec known pods = MOST_UNCOUNTED - length (filter (has_joined_list spec known) pods)
 
 -- The pods that are still to be judged, where pods were judged so.
 abbrev pub waiting : JobSpec → (Uid → Option Outcome) → List Pod → List Pod

@@ -2,13 +2,13 @@
 
 ghost use Rattle.std.specs.Prelude.{◌≡◌, ◌++◌, ℕ, [], OnOk, Some, reverse};
 ghost use Rattle.jc_types.specs.declared.numbers.Uid.{Uid};
-ghost use Rattle.jc_verdicts.specs.Books.{AreCounts, AreSound, IsSoundBook};
+ghost use Rattle.jc_verdicts.specs.Books.{AreCounts, AreBooksOf, IsBookOf};
 ghost use Rattle.jc_ledger.specs.Ledger.{Ledger, judged_by};
 ghost use Rattle.jc_verdicts.specs.LogPlaces.{ArePlaces};
 ghost use Rattle.jc_verdicts.specs.Verdicts.{done_once_seen, fresh_rows};
 
 use crate::places::{Places, places_at};
-use crate::rows::{new_rows, note_outcomes, success_indexes, take_indexes};
+use crate::rows::{new_rows, add_outcomes, success_indexes, take_indexes};
 use crate::seen::look;
 use indexmap::IndexMap;
 use jc_account::Judgement as Row;
@@ -57,12 +57,12 @@ fn judge(
     seen: u64,
 ) -> Result<(), Want>
     requires places { ArePlaces (reverse log.now) places.now }
-    requires sound { IsSoundBook job.now.uid log.now book.old }
+    requires sound { IsBookOf job.now.uid log.now book.old }
     ensures rows { OnOk result (book.new.rows.items
         ≡ book.old.rows.items ++ fresh_rows job.now book.old.rows.items log.now seen) }
     ensures done { OnOk result (book.new.done.items
         ≡ done_once_seen job.now book.old.rows.items book.old.done.items log.now seen) }
-    ensures sound { OnOk result (IsSoundBook job.now.uid log.now book.new) }
+    ensures sound { OnOk result (IsBookOf job.now.uid log.now book.new) }
 {
     let own = places_at(&places.pods, &job.uid);
     book.at = look(
@@ -80,7 +80,7 @@ fn judge(
     take_indexes(&mut book.done, job, more.as_slice())?;
     let fresh = new.as_slice();
     book.rows.extend_from_slice(fresh)?;
-    note_outcomes(&mut book.known, fresh)?;
+    add_outcomes(&mut book.known, fresh)?;
     Ok(())
 }
 
@@ -94,8 +94,8 @@ pub fn judge_in(
     seen: u64,
 ) -> Result<(), Want>
     requires places { ArePlaces (reverse log.now) places.now }
-    requires sound { AreSound log.now books.old.entries }
-    ensures sound { OnOk result (AreSound log.now books.new.entries) }
+    requires sound { AreBooksOf log.now books.old.entries }
+    ensures sound { OnOk result (AreBooksOf log.now books.new.entries) }
     ensures counts { OnOk result ((ledgers : Uid → Ledger) (version : ℕ)
         → AreCounts ledgers books.old.entries
         → AreCounts

@@ -7,7 +7,7 @@ ghost use Rattle.jc_types.specs.declared.runs.Past.{Past};
 ghost use Rattle.jc_types.specs.Keys.{same_uid};
 ghost use Rattle.jc_log.specs.Deeds.{deed, deeds};
 ghost use Rattle.jc_log.specs.Tables.{at};
-ghost use Rattle.jc_verdicts.specs.Books.{AreCounts, AreFew, AreSound, totals_of, verdicts_at};
+ghost use Rattle.jc_verdicts.specs.Books.{AreCounts, AreFew, AreBooksOf, totals_of, verdicts_at};
 ghost use Rattle.jc_ledger.specs.Ledger.{Ledger, judging_of, ledger_of};
 ghost use Rattle.jc_verdicts.specs.LogPlaces.{ArePlaces};
 ghost use Rattle.jc_verdicts.specs.SyncStarts.{HasStarts};
@@ -19,7 +19,7 @@ use crate::events::written_sync;
 use crate::places::{Places, places_of};
 use crate::rows::count;
 use crate::seen::{end_of, job_among};
-use crate::starts::{Start, Worker, note_begin};
+use crate::starts::{Start, Worker, add_begin};
 use indexmap::IndexMap;
 use jc_failpol::Outcome;
 use jc_ledger::{Verdicts, pods_are_judged_once};
@@ -65,8 +65,8 @@ fn take_in(
     requires starts { HasStarts (deeds_of script.now before.now) starts.now }
     requires event { IsPlace script.now.commands past.now.event }
     requires places { ArePlaces (reverse log.now) places.now }
-    requires sound { AreSound log.now books.old.entries }
-    ensures sound { OnOk result (AreSound log.now books.new.entries) }
+    requires sound { AreBooksOf log.now books.old.entries }
+    ensures sound { OnOk result (AreBooksOf log.now books.new.entries) }
     ensures counts { OnOk result ((ledgers : Uid → Ledger)
         → AreCounts ledgers books.old.entries
         → AreCounts (λ j. ledger_after script.now before.now past.now j log.now (ledgers j))
@@ -105,7 +105,7 @@ fn filled(
             log,
             places,
         )?;
-        note_begin(&mut starts, script, past)?;
+        add_begin(&mut starts, script, past)?;
     }
     Ok(books)
 }
@@ -190,11 +190,11 @@ pub fn verdicts(
         v ≡ verdicts_of (ledger_of job (deeds script.now history.now) (reverse log.now))) }
 {
     let rows = all_verdicts(alloc, script, history, log)?;
-    Ok(row_or_none(&rows, job))
+    Ok(verdicts_at(&rows, job))
 }
 
 /// The verdicts in the row of a Job; none where it has no row.
-fn row_or_none(rows: &Table<Uid, Verdicts>, job: Uid) -> Verdicts
+fn verdicts_at(rows: &Table<Uid, Verdicts>, job: Uid) -> Verdicts
     ensures { result ≡ verdicts_at job rows.now }
 {
     match rows.get(&job) {

@@ -44,7 +44,7 @@ pub fn count_below(places: &[usize], n: usize) -> usize
 }
 
 /// Adds a place to the list of a key. The key is copied only where it has no list yet.
-fn note<K: Copied + Eq + Hash>(
+fn add_place<K: Copied + Eq + Hash>(
     alloc: Global,
     lists: &mut IndexMap<K, Vec<usize>>,
     key: &K,
@@ -63,7 +63,7 @@ fn note<K: Copied + Eq + Hash>(
 }
 
 /// Adds a place to the list of the Job that a pod was made for before, if that was another one.
-fn note_other(
+fn add_other_place(
     alloc: Global,
     lists: &mut IndexMap<Uid, Vec<usize>>,
     before: Option<Uid>,
@@ -79,7 +79,7 @@ fn note_other(
     if other.0 == owner.0 {
         return Ok(());
     }
-    note(alloc, lists, &other, place)
+    add_place(alloc, lists, &other, place)
 }
 
 /// A pod is put: its owner is told, and the owner that it had before.
@@ -88,8 +88,8 @@ fn pod_put(alloc: Global, places: &mut Places, pod: &Pod, place: usize) -> Resul
         → ArePlaces older places.old → ArePlaces (PodPut pod.now ∷ older) places.new) }
 {
     let before = places.owners.insert(pod.uid, pod.owner_uid)?;
-    note(alloc, &mut places.pods, &pod.owner_uid, place)?;
-    note_other(alloc, &mut places.pods, before, pod.owner_uid, place)?;
+    add_place(alloc, &mut places.pods, &pod.owner_uid, place)?;
+    add_other_place(alloc, &mut places.pods, before, pod.owner_uid, place)?;
     Ok(())
 }
 
@@ -101,7 +101,7 @@ fn pod_gone(alloc: Global, places: &mut Places, pod: &Pod, place: usize) -> Resu
     let Some(owner) = places.owners.swap_remove(&pod.uid) else {
         return Ok(());
     };
-    note(alloc, &mut places.pods, &owner, place)?;
+    add_place(alloc, &mut places.pods, &owner, place)?;
     Ok(())
 }
 
@@ -112,11 +112,11 @@ fn take_in(alloc: Global, places: &mut Places, entry: &Entry, place: usize) -> R
 {
     match entry {
         Entry::JobPut(job) => {
-            note(alloc, &mut places.jobs, &job.key, place)?;
+            add_place(alloc, &mut places.jobs, &job.key, place)?;
             Ok(())
         }
         Entry::JobGone(job) => {
-            note(alloc, &mut places.jobs, &job.key, place)?;
+            add_place(alloc, &mut places.jobs, &job.key, place)?;
             Ok(())
         }
         Entry::PodPut(pod) => pod_put(alloc, places, pod, place),

@@ -14,7 +14,7 @@ ghost use Rattle.jc_failpol.specs.Outcomes.{is_succeeded, same_outcome};
 ghost use Rattle.jc_account.specs.declared.judgements.Judgement.{Judgement as Row};
 ghost use Rattle.jc_account.specs.Rooms.{joins_list};
 ghost use Rattle.jc_ledger.specs.Ledger.{is_within, kept as kept_of};
-ghost use Rattle.jc_verdicts.specs.Verdicts.{fresh_row, is_held_by, is_success_by, outcome_in, row_for, rows_for, space_by};
+ghost use Rattle.jc_verdicts.specs.Verdicts.{fresh_row, has_joined_list, is_success_by, outcome_in, row_for, rows_for, space_by};
 ghost use Rattle.jc_verdicts.specs.Verdicts.{success_index, success_indexes, waiting};
 
 use indexmap::IndexMap;
@@ -36,8 +36,8 @@ fn has_joined(mode: Mode, outcome: Option<&Outcome>) -> bool
 }
 
 /// Whether the pod is tracked, and was judged so that it joined a list.
-fn is_held(spec: &JobSpec, known: &IndexMap<Uid, Outcome>, pod: &Pod) -> bool
-    ensures { result ≡ is_held_by spec.now (at same_uid known.now.entries) pod.now }
+fn has_joined_list(spec: &JobSpec, known: &IndexMap<Uid, Outcome>, pod: &Pod) -> bool
+    ensures { result ≡ has_joined_list spec.now (at same_uid known.now.entries) pod.now }
 {
     pod.tracked && has_joined(spec.mode, known.get(&pod.uid))
 }
@@ -48,7 +48,7 @@ fn space(spec: &JobSpec, known: &IndexMap<Uid, Outcome>, pods: &[Arc<Pod>]) -> u
 {
     let mut space = MOST_UNCOUNTED as usize;
     for pod in pods {
-        if is_held(spec, known, pod) {
+        if has_joined_list(spec, known, pod) {
             space = space.saturating_sub(1);
         }
     }
@@ -115,7 +115,7 @@ pub fn new_rows(
 }
 
 /// Notes the outcome of a row, where its UID has none.
-fn note_row(known: &mut IndexMap<Uid, Outcome>, row: &Row) -> Result<(), Want>
+fn add_outcome(known: &mut IndexMap<Uid, Outcome>, row: &Row) -> Result<(), Want>
     ensures { OnOk result ((u : Uid) → at same_uid known.new.entries u
         ≡ option_or (at same_uid known.old.entries u) (outcome_in (row.now ∷ []) u)) }
 {
@@ -126,12 +126,12 @@ fn note_row(known: &mut IndexMap<Uid, Outcome>, row: &Row) -> Result<(), Want>
 }
 
 /// Notes the outcomes of new rows.
-pub fn note_outcomes(known: &mut IndexMap<Uid, Outcome>, rows: &[Row]) -> Result<(), Want>
+pub fn add_outcomes(known: &mut IndexMap<Uid, Outcome>, rows: &[Row]) -> Result<(), Want>
     ensures { OnOk result ((u : Uid) → at same_uid known.new.entries u
         ≡ option_or (at same_uid known.old.entries u) (outcome_in rows.now u)) }
 {
     for row in rows {
-        note_row(known, row)?;
+        add_outcome(known, row)?;
     }
     Ok(())
 }
@@ -225,7 +225,7 @@ fn count_within(done: &[u32], completions: u32) -> usize
 }
 
 /// Keeps the indexes that stay: those below the number of completions, or all where an end stands.
-fn keep(done: &mut Vec<u32>, job: &Job)
+fn retain_indexes(done: &mut Vec<u32>, job: &Job)
     requires { IsIncreasing done.old.items }
     ensures { done.new.items ≡ kept_of job.now done.old.items }
 {
@@ -265,7 +265,7 @@ pub fn take_indexes(done: &mut Vec<u32>, job: &Job, indexes: &[u32]) -> Result<(
         (done.new.items ≡ join (kept_of job.now done.old.items) indexes.now) }
     ensures order { OnOk result (IsIncreasing done.new.items) }
 {
-    keep(done, job);
+    retain_indexes(done, job);
     put_indexes(done, indexes)?;
     Ok(())
 }

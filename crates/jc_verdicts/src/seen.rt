@@ -186,7 +186,7 @@ fn begin_of(pods: &mut Vec<Arc<Pod>>, at: usize, count: usize) -> usize
 }
 
 /// Leaves out the pods that do not stay.
-fn keep_staying(pods: &mut Vec<Arc<Pod>>, known: &IndexMap<Uid, Outcome>)
+fn retain_staying(pods: &mut Vec<Arc<Pod>>, known: &IndexMap<Uid, Outcome>)
     ensures { pods.new.items ≡ filter (stays known.now.entries) pods.old.items }
 {
     pods.retain(|pod| stays(known, pod));
@@ -235,6 +235,6 @@ pub fn look(
     let count = count_below(places, end_of(log, seen));
     let from = begin_of(pods, at, count);
     go_on(pods, known, owner, log, places, from, count)?;
-    keep_staying(pods, known);
+    retain_staying(pods, known);
     Ok(count)
 }

@@ -61,7 +61,7 @@ fn beginner(commands: &[Command], event: &Event) -> Option<Worker>
 }
 
 /// Notes with what a sync began, where the event began one.
-pub fn note_begin(
+pub fn add_begin(
     starts: &mut Table<Worker, Start>,
     script: &Script,
     past: &Past,

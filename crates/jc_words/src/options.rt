@@ -40,7 +40,7 @@ pub struct Said<'w> {
 }
 
 // The option that has the word.
-fn name_of(word: &str) -> Option<OptionName>
+fn option_named(word: &str) -> Option<OptionName>
     ensures { result ≡ option_named word.now }
 {
     match word {
@@ -75,10 +75,10 @@ fn first_option<'w>(
     ensures fewer { IfSome result (λ first. length first.2.now ≤ length behind.now) }
 {
     if let Some((name, value)) = cut(word) {
-        return Some((name_of(name)?, value, behind));
+        return Some((option_named(name)?, value, behind));
     }
     let (value, rest) = behind.split_first()?;
-    Some((name_of(word)?, value.as_str(), rest))
+    Some((option_named(word)?, value.as_str(), rest))
 }
 
 /// What the options say; `None` where they are not in the grammar.

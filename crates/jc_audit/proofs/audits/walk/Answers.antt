@@ -16,23 +16,23 @@ take-requires-clause-fits c = c.walking.invariant.used
 
 pub walking-preserved : goal.walking-preserved
 walking-preserved c =
-    goes_on c.args.machine.now.shape c.args.bytes.now c.walking.at c.in-Some.len c.walking.machine c.take.new.machine c.rest_at-in-walking.result.now c.walking.invariant
-    c.rest_at-in-walking.ensures
-    (subst (λ o. IfSome o (HasTaken c.walking.machine c.take.new.machine c.rest_at-in-walking.result.now)) c.in-Some.is c.in_ok-taken.ensures.taken)
+    goes_on c.args.machine.now.shape c.args.bytes.now c.walking.at c.in-Some.len c.walking.machine c.take.new.machine c.bytes_from-in-walking.result.now c.walking.invariant
+    c.bytes_from-in-walking.ensures
+    (subst (λ o. IfSome o (HasTaken c.walking.machine c.take.new.machine c.bytes_from-in-walking.result.now)) c.in-Some.is c.in_ok-taken.ensures.taken)
 
 pub walking-smaller : goal.walking-smaller
 walking-smaller c =
-    less_left c.args.machine.now.shape c.args.bytes.now c.walking.at c.in-Some.len c.walking.machine c.take.new.machine c.rest_at-in-walking.result.now c.walking.invariant
-    c.rest_at-in-walking.ensures
-    (subst (λ o. IfSome o (HasTaken c.walking.machine c.take.new.machine c.rest_at-in-walking.result.now)) c.in-Some.is c.in_ok-taken.ensures.taken)
+    less_left c.args.machine.now.shape c.args.bytes.now c.walking.at c.in-Some.len c.walking.machine c.take.new.machine c.bytes_from-in-walking.result.now c.walking.invariant
+    c.bytes_from-in-walking.ensures
+    (subst (λ o. IfSome o (HasTaken c.walking.machine c.take.new.machine c.bytes_from-in-walking.result.now)) c.in-Some.is c.in_ok-taken.ensures.taken)
 
 pub returns-in_default : goal.returns-in_default
 returns-in_default c =
-    not_taken c.args.machine.now.shape c.args.bytes.now c.walking.at _ c.walking.machine c.rest_at.result.now c.rest_at-in-walking.result.now c.walking.invariant
-    c.rest_at.ensures c.rest_at-in-walking.ensures (sym c.begins_event.ensures ∙ c.walking-test.true) (c.in_ok-taken.ensures.none c.in_default.is)
+    not_taken c.args.machine.now.shape c.args.bytes.now c.walking.at _ c.walking.machine c.bytes_from.result.now c.bytes_from-in-walking.result.now c.walking.invariant
+    c.bytes_from.ensures c.bytes_from-in-walking.ensures (sym c.begins_event.ensures ∙ c.walking-test.true) (c.in_ok-taken.ensures.none c.in_default.is)
     (line_number c.history.result.now.events.items _ c.len.result c.history.ensures.events c.len.ensures)
 
 pub returns : goal.returns
 returns c =
-    said_at_last c.args.machine.now.shape c.args.bytes.now c.walking.at c.walking.machine c.in_ok-verdict.verdict c.rest_at.result.now c.rest_at-2.result.now c.walking.invariant
-    c.rest_at.ensures c.rest_at-2.ensures (sym c.begins_event.ensures ∙ c.walking-test.false) c.in_ok-verdict.ensures
+    said_at_last c.args.machine.now.shape c.args.bytes.now c.walking.at c.walking.machine c.in_ok-verdict.verdict c.bytes_from.result.now c.bytes_from-2.result.now c.walking.invariant
+    c.bytes_from.ensures c.bytes_from-2.ensures (sym c.begins_event.ensures ∙ c.walking-test.false) c.in_ok-verdict.ensures

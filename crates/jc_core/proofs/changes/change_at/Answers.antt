@@ -9,7 +9,7 @@ returns-then-place-len c =
     let place = c.place_of-place.result in
     let test = c.if-place-len.true in
     let count = c.len.ensures in
-    ap (set old place) (c.changed.ensures ∙ ap (changed_slot c.args.change) c.index.ensures)
+    ap (set old place) (c.changed_slot.ensures ∙ ap (changed_slot c.args.change) c.index.ensures)
     ∙ changed-there c.args.shape.now old c.requires.whole c.args.change c.args.controller c.args.worker c.requires.of place c.index.result.now c.place_of-place.ensures (omega (arith, test, count))
 
 pub returns-else-place-len : goal.returns-else-place-len

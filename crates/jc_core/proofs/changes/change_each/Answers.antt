@@ -11,7 +11,7 @@ loop-i-preserved c =
     let within : c.loop-i.i < length c.args.slots.now.items = omega (arith, test, count) in
     record {
       made =
-          ap (λ t. set c.loop-i.slots.items c.loop-i.i t) c.changed.ensures
+          ap (λ t. set c.loop-i.slots.items c.loop-i.i t) c.changed_slot.ensures
           ∙ put_next (changed_slot c.args.change) c.args.slots.now.items c.loop-i.slots.items c.loop-i.i c.index.result.now within c.loop-i.invariant.made c.index.ensures;
-      count = length-set c.loop-i.slots.items c.loop-i.i c.changed.result ∙ c.loop-i.invariant.count;
+      count = length-set c.loop-i.slots.items c.loop-i.i c.changed_slot.result ∙ c.loop-i.invariant.count;
     }

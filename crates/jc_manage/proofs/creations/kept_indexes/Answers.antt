@@ -27,15 +27,15 @@ loop-pod-preserved c =
     let i = c.loop-pod.pod-index in
     let pod = c.deref.result.now in
     let old = c.loop-pod.kept.items in
-    let new = c.keep_index.new.kept in
+    let new = c.flag_index.new.kept in
     let value = c.as_mut_slice.ensures.value in
-    let long : length new ≡ c.args.completions = c.keep_index.ensures.count ∙ ap length value ∙ c.loop-pod.invariant.0 in
+    let long : length new ≡ c.args.completions = c.flag_index.ensures.count ∙ ap length value ∙ c.loop-pod.invariant.0 in
     let same : take c.loop-pod.kept.len (new ++ drop (length new) old) ≡ new =
-    take_at new (drop (length new) old) c.loop-pod.kept.len (c.keep_index.ensures.count ∙ c.as_mut_slice.ensures.len) in
+    take_at new (drop (length new) old) c.loop-pod.kept.len (c.flag_index.ensures.count ∙ c.as_mut_slice.ensures.len) in
     let item : take (i + 1) pods ≡ take i pods ++ c.pod-item.result ∷ [] = search (rules, take_more) in
     let more : take (i + 1) pods ≡ take i pods ++ pod ∷ [] = item ∙ ap (λ p. take i pods ++ p ∷ []) (sym c.deref.ensures) in
     let step : (n : ℕ) → n < c.args.completions → get_or new n false ≡ ((is_own job pod && (keeps_it pod && has_index n pod)) || get_or old n false) =
-    λ n h. c.keep_index.ensures.flags n (omega (arith, h, ap length value, c.loop-pod.invariant.0))
+    λ n h. c.flag_index.ensures.flags n (omega (arith, h, ap length value, c.loop-pod.invariant.0))
     ∙ ap (λ flags. (is_own job pod && (keeps_it pod && has_index n pod)) || get_or flags n false) value in (
       ap length same ∙ long,
       λ n h. ap (λ flags. get_or flags n false) same

@@ -7,4 +7,4 @@ pub returns-else-shares_index : goal.returns-else-shares_index
 returns-else-shares_index c none =
     let job = c.args.job.now in
     none-spare job.spec.mode (is_needless (unwrap_or job.spec.completions 0) c.args.counted.now) (own_tracked job c.args.pods.now) (c.shares_index.ensures.apart c.if-shares_index.false)
-    (sym c.holds_needless.ensures ∙ none)
+    (sym c.has_needless.ensures ∙ none)

@@ -1,6 +1,6 @@
 -- Of the noted pods the same lose their finalizer as of all.
 use Rattle.std.proofs.Common.{◌≡◌, [], IfOk, filter, ap, sym, subst, ◌∙◌}
-use Rattle.jc_states.specs.Noted.{is_noted}
+use Rattle.jc_states.specs.Noted.{needs_look}
 use Rattle.jc_states.specs.PodLists.{IsRising}
 use Rattle.jc_states.specs.UidLists.{Ascends, uids_of}
 use Rattle.jc_plan.specs.Releases.{is_released}
@@ -27,6 +27,6 @@ returns c =
     let due = c.as_slice-due.result.now in
     subst (λ us. IfOk c.released_of-2.result (λ uids. uids ≡ us))
     (ap (λ pods. uids_of (filter (is_released basis) pods))
-    (c.as_slice.ensures.value ∙ c.in_ok-noted.ensures.pods ∙ (λ i. filter (is_noted (c.deref-4.ensures i).uid due []) (c.deref-3.ensures i)))
+    (c.as_slice.ensures.value ∙ c.in_ok-noted.ensures.pods ∙ (λ i. filter (needs_look (c.deref-4.ensures i).uid due []) (c.deref-3.ensures i)))
     ∙ releases-noted basis c.in-Some.job due [] c.in-Some.is (c.as_slice-due.ensures ∙ c.requires))
     c.released_of-2.ensures

@@ -2,13 +2,13 @@ use Rattle.std.proofs.Common.{sym, ap, ◌∙◌}
 use Rattle.std.specs.Prelude.{Err}
 use Rattle.std.proofs.lemmas.Result.{err_from_is_err_and}
 use Rattle.jc_machine.specs.declared.apply.ApplyFault.{ApplyFault}
-use Rattle.jc_play.specs.Turns.{has_rest}
+use Rattle.jc_play.specs.Turns.{is_quiescent_seen}
 use Rattle.jc_play.proofs.GoFacts.{grown-then, ok-err, room-left}
 use Rattle.jc_play.proofs.PlayFacts.{begin-ends, begin-steps, begin-stops, came-grown, came-happened, on-ok-of, own-admits, own-grown}
 use Rattle.jc_play.proofs.playing.begin_and_step.Goals as goal
 
 pub begin_own-requires : goal.begin_own-requires
-begin_own-requires c = own-admits c.args.machine.now c.args.event c.requires.own (c.requires.free (has_rest c.args.machine.now))
+begin_own-requires c = own-admits c.args.machine.now c.args.event c.requires.own (c.requires.free (is_quiescent_seen c.args.machine.now))
 
 pub returns-in_err-begun-clause-reaches : goal.returns-in_err-begun-clause-reaches
 returns-in_err-begun-clause-reaches c =

@@ -2,7 +2,7 @@ use Rattle.std.proofs.Common.{false}
 use Rattle.std.proofs.lemmas.Result.{err_from_is_err_and}
 use Rattle.jc_history.specs.Play.{event_played, settled_down}
 use Rattle.jc_runs.specs.Seen.{act_seen}
-use Rattle.jc_play.specs.Turns.{IsOwn, has_rest, playing_of}
+use Rattle.jc_play.specs.Turns.{IsOwn, is_quiescent_seen, playing_of}
 use Rattle.jc_play.proofs.GoFacts.{grown-then, stopped}
 use Rattle.jc_play.proofs.PlayFacts.{event-full, own-admits, own-later, rest-settles}
 use Rattle.jc_play.proofs.playing.play_settle.Goals as goal
@@ -12,7 +12,7 @@ play_plain-requires c =
     let own : IsOwn c.settle.new.machine c.args.event = own-later c.args.machine.now c.settle.new.machine c.args.event c.settle.ensures.kept.script c.settle.ensures.kept.shape c.settle.ensures.kept.counts c.requires.own in
     record {
       own = own;
-      admits = own-admits c.settle.new.machine c.args.event own (rest-settles (act_seen c.settle.new.machine c.args.event) (has_rest c.settle.new.machine) c.in_ok-settle.ensures.rests);
+      admits = own-admits c.settle.new.machine c.args.event own (rest-settles (act_seen c.settle.new.machine c.args.event) (is_quiescent_seen c.settle.new.machine) c.in_ok-settle.ensures.rests);
     }
 
 pub returns-in_err-settle-clause-reaches : goal.returns-in_err-settle-clause-reaches

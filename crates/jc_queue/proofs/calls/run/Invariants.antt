@@ -1,5 +1,5 @@
 use Rattle.std.proofs.Common.{◌≡◌, take}
-use Rattle.jc_queue.specs.Calls.{after, keys_got}
+use Rattle.jc_queue.specs.QueueCalls.{after, keys_got}
 use Rattle.jc_queue.proofs.calls.run.Given as goal
 
 -- The calls so far are made.

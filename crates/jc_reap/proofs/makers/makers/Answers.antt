@@ -12,6 +12,6 @@ loop-past-preserved c =
     let events = c.args.events.now in
     let i = c.loop-past.past-index in
     let past = c.past-item.result in
-    maker-more c.args.commands.now (take i events) (take (i + 1) events) past (λ (u : Uid). at same_uid c.note.new.makers u)
+    maker-more c.args.commands.now (take i events) (take (i + 1) events) past (λ (u : Uid). at same_uid c.put_maker.new.makers u)
     (take_more events i past (omega (arith, c.loop-past-test.true)) ∙ ap (λ p. take i events ++ p ∷ []) (sym c.past-item.is))
-    (c.in_ok-note.ensures (reverse (take i events)) c.loop-past.invariant)
+    (c.in_ok-put_maker.ensures (reverse (take i events)) c.loop-past.invariant)

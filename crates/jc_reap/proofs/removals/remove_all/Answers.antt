@@ -11,7 +11,7 @@ loop-expiry-preserved c =
     let row : Expiry × Uid = (c.in-Some.expiry, c.in-Some.uid) in (
       removals-more c.args.store.now c.args.now c.loop-expiry.yielded row c.loop-expiry.reached c.args.commands.now _ c.wait.new.commands _
           c.loop-expiry.invariant.0 c.loop-expiry.invariant.1 c.in_ok-wait.ensures c.in_ok-remove.ensures,
-      c.later-reached.ensures
+      c.later_moment-reached.ensures
           ∙ ap (λ m. later_moment m c.in-Some.expiry.moment) c.loop-expiry.invariant.1
           ∙ reached-more c.args.now c.loop-expiry.yielded row,
     )

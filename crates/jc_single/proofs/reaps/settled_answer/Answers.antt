@@ -1,7 +1,7 @@
 -- What is asked of the commands that were read is asked of those that are played.
 use Rattle.std.proofs.Common.{◌∙◌, ap, subst, sym}
 use Rattle.jc_types.specs.declared.actions.Script.{Script}
-use Rattle.jc_promise.specs.Plays.{IsProper, ends_in_settle}
+use Rattle.jc_promise.specs.Plays.{IsScriptFor, ends_in_settle}
 use Rattle.jc_single.proofs.ReapFacts.{AreValid, last-valid, last-within, settled_ends, settled_valid, settled_within}
 use Rattle.jc_reap.specs.Finds.{seen_at_end}
 use Rattle.jc_single.proofs.reaps.settled_answer.Goals as goal
@@ -21,6 +21,6 @@ pub script_answer-requires-clause-proper : goal.script_answer-requires-clause-pr
 script_answer-requires-clause-proper c =
     let script = c.settle_at_end.new.script in
     last-within script c.in_ok-last.last c.args.shape.now c.args.ttls.now c.in_ok-last.ensures.last
-    (subst (λ (s : Script). IsProper s c.args.shape.now) (sym c.in_ok-settle_at_end.ensures)
+    (subst (λ (s : Script). IsScriptFor s c.args.shape.now) (sym c.in_ok-settle_at_end.ensures)
     (settled_within c.args.shape.now c.args.script.commands c.requires.proper))
     (c.reaped_commands_fit.ensures.within c.args.shape.now (seen_at_end script c.args.shape.now) c.args.ttls.now)

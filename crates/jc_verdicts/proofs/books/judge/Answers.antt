@@ -22,11 +22,11 @@ new_rows-requires c =
 pub returns-clause-sound : goal.returns-clause-sound
 returns-clause-sound c = record {
   seen =
-      seen-judged c.args.book.now.known.entries c.note_outcomes.new.known.entries c.args.job.now.uid c.args.log.now c.look.new.pods.items c.in_ok-book.field-0 c.deref.result.now c.as_slice-fresh.result.now c.in_ok-book.ensures.seen
-      (c.as_slice-fresh.ensures.value ∙ c.in_ok-new.ensures ∙ ap (rows_for c.deref.result.now (at same_uid c.args.book.now.known.entries)) c.as_slice-pods.ensures.value) c.in_ok-note_outcomes.ensures;
+      seen-judged c.args.book.now.known.entries c.add_outcomes.new.known.entries c.args.job.now.uid c.args.log.now c.look.new.pods.items c.in_ok-book.field-0 c.deref.result.now c.as_slice-fresh.result.now c.in_ok-book.ensures.seen
+      (c.as_slice-fresh.ensures.value ∙ c.in_ok-new.ensures ∙ ap (rows_for c.deref.result.now (at same_uid c.args.book.now.known.entries)) c.as_slice-pods.ensures.value) c.in_ok-add_outcomes.ensures;
   order = c.in_ok-take_indexes.ensures.order;
   known =
-      knows-more c.args.book.now.known.entries c.note_outcomes.new.known.entries c.args.book.now.rows.items c.as_slice-fresh.result.now c.extend_from_slice.new.self.items c.requires.sound.known c.in_ok-note_outcomes.ensures
+      knows-more c.args.book.now.known.entries c.add_outcomes.new.known.entries c.args.book.now.rows.items c.as_slice-fresh.result.now c.extend_from_slice.new.self.items c.requires.sound.known c.in_ok-add_outcomes.ensures
       c.in_ok-extend_from_slice.ensures.items;
 }
 

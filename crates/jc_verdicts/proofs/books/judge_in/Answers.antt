@@ -3,7 +3,7 @@ use Rattle.std.specs.Option.{option_copied_mut}
 use Rattle.jc_ranges.specs.Sets.{IsIncreasing}
 use Rattle.jc_types.specs.Keys.{same_uid}
 use Rattle.jc_log.specs.Tables.{at}
-use Rattle.jc_verdicts.specs.Books.{IsSoundBook}
+use Rattle.jc_verdicts.specs.Books.{IsBookOf}
 use Rattle.jc_verdicts.specs.Verdicts.{outcome_in}
 use Rattle.jc_verdicts.proofs.BookFacts.{book-judged, books-sound, done-of, rows-of}
 use Rattle.jc_verdicts.proofs.TouchFacts.{seen-first}
@@ -12,7 +12,7 @@ use Rattle.jc_verdicts.proofs.books.judge_in.Goals as goal
 -- The book of the Job is sound, as each is.
 pub judge-requires-clause-sound : goal.judge-requires-clause-sound
 judge-requires-clause-sound c =
-    subst (λ o. IfSome o (λ book. IsSoundBook c.args.job.now.uid c.args.log.now book)) (sym c.get_mut.ensures.value ∙ ap option_copied_mut c.in-Some.is) (c.requires.sound c.args.job.now.uid)
+    subst (λ o. IfSome o (λ book. IsBookOf c.args.job.now.uid c.args.log.now book)) (sym c.get_mut.ensures.value ∙ ap option_copied_mut c.in-Some.is) (c.requires.sound c.args.job.now.uid)
 
 -- It is changed where it stands.
 pub returns-in-Some-clause-sound : goal.returns-in-Some-clause-sound

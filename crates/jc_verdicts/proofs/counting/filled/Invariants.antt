@@ -1,5 +1,5 @@
 use Rattle.std.proofs.Common.{reverse, take}
-use Rattle.jc_verdicts.specs.Books.{AreCounts, AreSound}
+use Rattle.jc_verdicts.specs.Books.{AreCounts, AreBooksOf}
 use Rattle.jc_ledger.specs.Ledger.{ledger_of}
 use Rattle.jc_verdicts.specs.SyncStarts.{HasStarts}
 use Rattle.jc_verdicts.specs.Verdicts.{deeds_of}
@@ -10,5 +10,5 @@ abbrev pub invariant-loop-place : goal.invariant-loop-place
 invariant-loop-place l = record {
   counts : AreCounts (λ j. ledger_of j (deeds_of l.script (take l.place l.events)) (reverse l.log)) l.books.entries;
   starts : HasStarts (deeds_of l.script (take l.place l.events)) l.starts;
-  sound : AreSound l.log l.books.entries;
+  sound : AreBooksOf l.log l.books.entries;
 }

@@ -8,8 +8,8 @@ returns c =
     λ older long are.
     record {
       pods = pods-put older c.args.place long c.args.places.now.pods.entries are.pods c.args.pod.now
-          c.in_ok-before.before c.note.new.lists.entries c.note_other.new.lists.entries
-          (c.in_ok-before.ensures.old ∙ are.owners c.args.pod.now.uid) c.in_ok-note.ensures c.in_ok-note_other.ensures;
+          c.in_ok-before.before c.add_place.new.lists.entries c.add_other_place.new.lists.entries
+          (c.in_ok-before.ensures.old ∙ are.owners c.args.pod.now.uid) c.in_ok-add_place.ensures c.in_ok-add_other_place.ensures;
       jobs = are.jobs;
       owners = owners-put older c.args.places.now.owners.entries c.insert.new.self.entries c.args.pod.now are.owners c.in_ok-before.ensures.updates.0;
     }

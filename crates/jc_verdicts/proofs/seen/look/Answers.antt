@@ -12,7 +12,7 @@ count_below-count-requires c = places-rise (pods_of c.args.owner) (touches c.arg
 -- The pods are those that the sync saw.
 pub returns-clause-pods : goal.returns-clause-pods
 returns-clause-pods c =
-    c.keep_staying.ensures
+    c.retain_staying.ensures
     ∙ seen-cut c.args.known.now.entries c.args.owner c.args.log.now c.args.places.now c.requires.places
     (filter (stays c.args.known.now.entries) c.go_on.new.pods.items) c.count_below-count.result c.end_of.result
     c.args.seen c.in_ok-go_on.ensures c.count_below-count.ensures c.end_of.ensures.within c.end_of.ensures.same
@@ -24,4 +24,4 @@ go_on-requires-clause-seen c = c.begin_of-from.ensures.seen c.args.owner c.args.
 -- They are those of its places.
 pub returns-clause-seen : goal.returns-clause-seen
 returns-clause-seen c =
-    subst (λ pods. HasSeen c.args.owner c.args.log.now c.args.known.now.entries pods c.count_below-count.result) (sym c.keep_staying.ensures) c.in_ok-go_on.ensures
+    subst (λ pods. HasSeen c.args.owner c.args.log.now c.args.known.now.entries pods c.count_below-count.result) (sym c.retain_staying.ensures) c.in_ok-go_on.ensures

@@ -6,11 +6,11 @@ use Rattle.jc_control.proofs.controller.Controller.take_first.Goals as goal
 -- The key that is got has a row, a supply, and room for its end.
 pub invariant_of-self-2 : goal.invariant_of-self-2
 invariant_of-self-2 c =
-    provided_got c.self.inside.queue c.reserve.new.self c.get.new.self c.self.inside.delays c.reserve-2.new.self c.self.inside.known c.note.new.rows c.self.inside.supplies.items c.push_reserved.new.self.items c.args.key.now
+    provided_got c.self.inside.queue c.reserve.new.self c.get.new.self c.self.inside.delays c.reserve-2.new.self c.self.inside.known c.add_known.new.rows c.self.inside.supplies.items c.push_reserved.new.self.items c.args.key.now
     (c.requires.first ∙ ap (λ (c : ControllerView). slice_get c.schedule.queue.line 0) (sym c.self.view_is))
     c.reserve.ensures.queue (omega (arith, c.in_ok-reserve.ensures.room, c.len.ensures.count, c.processing-syncs.ensures.count))
     c.reserve-2.ensures.delays (omega (arith, c.in_ok-reserve-2.ensures.room, c.processing-syncs.ensures.count))
     (c.push_reserved.ensures.items
     ∙ ap (λ keys. keys ++ c.in_ok-ending.ending ∷ []) c.reserve-3.ensures.items
     ∙ ap (λ k. c.self.inside.supplies.items ++ k ∷ []) c.in_ok-ending.ensures)
-    c.in_ok-note.ensures.noted c.get.ensures.got c.get.ensures.room c.self.invariant
+    c.in_ok-add_known.ensures.noted c.get.ensures.got c.get.ensures.room c.self.invariant

@@ -3,7 +3,7 @@ use Rattle.jc_types.specs.declared.objects.Job.{Job}
 use Rattle.jc_types.specs.declared.objects.Key.{Key}
 use Rattle.jc_types.specs.declared.replies.Reply.TheVariants.{Ended}
 use Rattle.jc_runs.specs.Seen.{Seen, happened}
-use Rattle.jc_play.specs.SyncsSeen.{StartsCurrent, StepsQuietly, begin_event, next_seen}
+use Rattle.jc_play.specs.SyncsSeen.{StartsCurrent, StepsWithoutStatus, begin_event, next_seen}
 use Rattle.jc_core.specs.Shared.{Shared}
 use Rattle.jc_core.proofs.ToldFacts.{synced-up}
 use Rattle.jc_core.proofs.cluster.Cluster.sync.Goals as goal
@@ -16,12 +16,12 @@ returns-clause-silent c =
     subst (λ (s : Shared). OnOk c.sync-ended.result
     ((k : Key) (job : Job) → StartsCurrent s.seen c.args.controller c.args.worker k job
     → next_seen s.seen c.args.controller k job ≡ job.status
-    → StepsQuietly c.args.controller c.args.worker (happened s.seen (begin_event c.args.controller c.args.worker))
+    → StepsWithoutStatus c.args.controller c.args.worker (happened s.seen (begin_event c.args.controller c.args.worker))
     c.keep_up.new.self.seen)) c.self.view_is
     (subst (λ (s : Seen). OnOk c.sync-ended.result
     ((k : Key) (job : Job) → StartsCurrent c.self.inside.machine c.args.controller c.args.worker k job
     → next_seen c.self.inside.machine c.args.controller k job ≡ job.status
-    → StepsQuietly c.args.controller c.args.worker
+    → StepsWithoutStatus c.args.controller c.args.worker
     (happened c.self.inside.machine (begin_event c.args.controller c.args.worker)) s)) (sym c.keep_up.ensures.seen)
     c.sync-ended.ensures.silent)
 

@@ -5,7 +5,7 @@ use Rattle.jc_runs.proofs.StepRuns.{plans_at}
 use Rattle.jc_machine.specs.MachineKept.{fates_in}
 use Rattle.jc_machine.proofs.Closing.{After, Before, acts, before, closes, member, past, short, within, worker}
 use Rattle.jc_machine.proofs.machine.Machine.begin.Goals as goal
-use Rattle.jc_machine.proofs.machine.Machine.begin.Goals.{After-keep_twice-reply}
+use Rattle.jc_machine.proofs.machine.Machine.begin.Goals.{After-record_twice-reply}
 
 pub begin-requires-clause-worker : goal.begin-requires-clause-worker
 begin-requires-clause-worker c = let b = before c.self.inside.script c.self.inside.shape
@@ -26,7 +26,7 @@ begin-requires-clause-plans c =
     c.args.controller c.index_mut-member.result.now there (short b)
 
 -- How it is before.
-old : (c : After-keep_twice-reply) → Before c.self.inside.script c.self.inside.shape c.self.inside.history.events.items
+old : (c : After-record_twice-reply) → Before c.self.inside.script c.self.inside.shape c.self.inside.history.events.items
     c.self.inside.lanes c.self.inside.store c.self.inside.members.items c.self.inside.fates c.self.inside.clock
     c.args.self.now c.args.event (does.Begin c.args.controller c.args.worker)
 old c = before c.self.inside.script c.self.inside.shape c.self.inside.history.events.items c.self.inside.lanes
@@ -35,12 +35,12 @@ old c = before c.self.inside.script c.self.inside.shape c.self.inside.history.ev
     c.requires.room
 
 -- How it is afterwards.
-after : (c : After-keep_twice-reply) → After c.self.inside.script c.self.inside.shape
-    c.keep_twice-reply.new.history.items c.keep_twice-reply.new.lanes c.self.inside.store
+after : (c : After-record_twice-reply) → After c.self.inside.script c.self.inside.shape
+    c.record_twice-reply.new.history.items c.record_twice-reply.new.lanes c.self.inside.store
     (set c.self.inside.members.items c.args.controller c.begin.new.self) c.self.inside.fates c.self.inside.clock
     c.args.self.now c.args.event c.in_ok-begins.begins
 after c =
-    closes (old c) _ _ _ _ _ _ _ _ _ c.keep_twice-reply.ensures.kept c.in_ok-reserve.ensures.kept c.keep_twice-reply.ensures.lanes
+    closes (old c) _ _ _ _ _ _ _ _ _ c.record_twice-reply.ensures.kept c.in_ok-reserve.ensures.kept c.record_twice-reply.ensures.lanes
     (begin_run c.self.inside.shape (past (old c)) c.self.inside.store c.self.inside.members.items
     (fates_in c.self.inside.fates) c.self.inside.clock c.self.invariant.machine.run _ c.args.controller
     c.index_mut-member.result.now c.begin.new.self
@@ -53,4 +53,4 @@ pub invariant_of-self-2 : goal.invariant_of-self-2
 invariant_of-self-2 c = (after c).kept
 
 pub returns : goal.returns
-returns c = ((after c).view, c.keep_twice-reply.ensures.reply ∙ (after c).told)
+returns c = ((after c).view, c.record_twice-reply.ensures.reply ∙ (after c).told)

@@ -6,13 +6,13 @@ use Rattle.jc_machine.proofs.Starts.{fate_put}
 use Rattle.jc_machine.specs.MachineKept.{fates_in}
 use Rattle.jc_machine.proofs.Closing.{After, Before, acts, before, closes, past}
 use Rattle.jc_machine.proofs.machine.Machine.fate.Goals as goal
-use Rattle.jc_machine.proofs.machine.Machine.fate.Goals.{After-keep-reply}
+use Rattle.jc_machine.proofs.machine.Machine.fate.Goals.{After-record-reply}
 
 pub set-requires : goal.set-requires
 set-requires c = record { some = λ none. c.requires.some (sym c.in_ok-ends_again.ensures ∙ none) }
 
 -- How it is before.
-old : (c : After-keep-reply) → Before c.self.inside.script c.self.inside.shape c.self.inside.history.events.items
+old : (c : After-record-reply) → Before c.self.inside.script c.self.inside.shape c.self.inside.history.events.items
     c.self.inside.lanes c.self.inside.store c.self.inside.members.items c.self.inside.fates c.self.inside.clock
     c.args.self.now c.args.event (does.Fate c.args.key.now c.args.ends.now)
 old c = before c.self.inside.script c.self.inside.shape c.self.inside.history.events.items c.self.inside.lanes
@@ -21,11 +21,11 @@ old c = before c.self.inside.script c.self.inside.shape c.self.inside.history.ev
     c.requires.may.room
 
 -- How it is afterwards.
-after : (c : After-keep-reply) → After c.self.inside.script c.self.inside.shape c.keep-reply.new.history.items
-    c.keep-reply.new.lanes c.self.inside.store c.self.inside.members.items c.set.new.self c.self.inside.clock
+after : (c : After-record-reply) → After c.self.inside.script c.self.inside.shape c.record-reply.new.history.items
+    c.record-reply.new.lanes c.self.inside.store c.self.inside.members.items c.set.new.self c.self.inside.clock
     c.args.self.now c.args.event reply.Done
 after c =
-    closes (old c) _ _ _ _ _ _ _ _ _ c.keep-reply.ensures.kept c.in_ok-reserve.ensures.kept c.keep-reply.ensures.lanes
+    closes (old c) _ _ _ _ _ _ _ _ _ c.record-reply.ensures.kept c.in_ok-reserve.ensures.kept c.record-reply.ensures.lanes
     (fated_run c.self.inside.shape (past (old c)) c.self.inside.store c.self.inside.members.items
     (fates_in c.self.inside.fates) c.self.inside.clock c.self.invariant.machine.run _ c.args.key.now c.args.ends.now
     (fates_in c.set.new.self) (acts (old c)) refl c.log_len-length.ensures
@@ -36,4 +36,4 @@ pub invariant_of-self-2 : goal.invariant_of-self-2
 invariant_of-self-2 c = (after c).kept
 
 pub returns : goal.returns
-returns c = ((after c).view, c.keep-reply.ensures.reply ∙ (after c).told)
+returns c = ((after c).view, c.record-reply.ensures.reply ∙ (after c).told)

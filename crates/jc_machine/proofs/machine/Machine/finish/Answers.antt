@@ -7,10 +7,10 @@ use Rattle.jc_runs.proofs.PodEvents.{finished}
 use Rattle.jc_machine.specs.MachineKept.{fates_in}
 use Rattle.jc_machine.proofs.Closing.{After, Before, acts, before, closes, past}
 use Rattle.jc_machine.proofs.machine.Machine.finish.Goals as goal
-use Rattle.jc_machine.proofs.machine.Machine.finish.Goals.{After-keep_twice-reply}
+use Rattle.jc_machine.proofs.machine.Machine.finish.Goals.{After-record_twice-reply}
 
 -- How it is before.
-old : (c : After-keep_twice-reply) → Before c.self.inside.script c.self.inside.shape c.self.inside.history.events.items
+old : (c : After-record_twice-reply) → Before c.self.inside.script c.self.inside.shape c.self.inside.history.events.items
     c.self.inside.lanes c.self.inside.store c.self.inside.members.items c.self.inside.fates c.self.inside.clock
     c.args.self.now c.args.event (does.Finish c.args.pod c.args.exit)
 old c = before c.self.inside.script c.self.inside.shape c.self.inside.history.events.items c.self.inside.lanes
@@ -19,12 +19,12 @@ old c = before c.self.inside.script c.self.inside.shape c.self.inside.history.ev
     c.requires.room
 
 -- How it is afterwards.
-after : (c : After-keep_twice-reply) → After c.self.inside.script c.self.inside.shape
-    c.keep_twice-reply.new.history.items c.keep_twice-reply.new.lanes c.finish_twice.new.store
+after : (c : After-record_twice-reply) → After c.self.inside.script c.self.inside.shape
+    c.record_twice-reply.new.history.items c.record_twice-reply.new.lanes c.finish_twice.new.store
     c.self.inside.members.items c.self.inside.fates c.self.inside.clock c.args.self.now c.args.event
     c.in_ok-replies.replies
 after c =
-    closes (old c) _ _ _ _ _ _ _ _ _ c.keep_twice-reply.ensures.kept c.in_ok-reserve.ensures.kept c.keep_twice-reply.ensures.lanes
+    closes (old c) _ _ _ _ _ _ _ _ _ c.record_twice-reply.ensures.kept c.in_ok-reserve.ensures.kept c.record_twice-reply.ensures.lanes
     (finished c.self.inside.shape (past (old c)) c.self.inside.store c.self.inside.members.items
     (fates_in c.self.inside.fates) c.self.inside.clock c.self.invariant.machine.run c.finish_twice.new.store _
     c.args.pod c.args.exit (acts (old c)) (subst
@@ -38,4 +38,4 @@ pub invariant_of-self-2 : goal.invariant_of-self-2
 invariant_of-self-2 c = (after c).kept
 
 pub returns : goal.returns
-returns c = ((after c).view, c.keep_twice-reply.ensures.reply ∙ (after c).told)
+returns c = ((after c).view, c.record_twice-reply.ensures.reply ∙ (after c).told)

@@ -5,7 +5,7 @@ use Rattle.jc_types.specs.declared.replies.Reply.TheVariants as reply
 use Rattle.jc_machine.specs.MachineKept.{fates_in}
 use Rattle.jc_machine.proofs.Closing.{After, Before, acts, before, closes, faulty, member, past, within}
 use Rattle.jc_machine.proofs.machine.Machine.put_fault.Goals as goal
-use Rattle.jc_machine.proofs.machine.Machine.put_fault.Goals.{After-keep-reply}
+use Rattle.jc_machine.proofs.machine.Machine.put_fault.Goals.{After-record-reply}
 
 pub put_fault-requires : goal.put_fault-requires
 put_fault-requires c = let b = before c.self.inside.script c.self.inside.shape c.self.inside.history.events.items
@@ -16,7 +16,7 @@ put_fault-requires c = let b = before c.self.inside.script c.self.inside.shape c
     c.args.worker c.index_mut-member.result.now there (within b).1
 
 -- How it is before.
-old : (c : After-keep-reply) → Before c.self.inside.script c.self.inside.shape c.self.inside.history.events.items
+old : (c : After-record-reply) → Before c.self.inside.script c.self.inside.shape c.self.inside.history.events.items
     c.self.inside.lanes c.self.inside.store c.self.inside.members.items c.self.inside.fates c.self.inside.clock
     c.args.self.now c.args.event (does.PutFault c.args.controller c.args.worker c.args.fault)
 old c = before c.self.inside.script c.self.inside.shape c.self.inside.history.events.items c.self.inside.lanes
@@ -25,11 +25,11 @@ old c = before c.self.inside.script c.self.inside.shape c.self.inside.history.ev
     c.requires.acts c.requires.room
 
 -- How it is afterwards.
-after : (c : After-keep-reply) → After c.self.inside.script c.self.inside.shape c.keep-reply.new.history.items
-    c.keep-reply.new.lanes c.self.inside.store (set c.self.inside.members.items c.args.controller c.put_fault.new.self)
+after : (c : After-record-reply) → After c.self.inside.script c.self.inside.shape c.record-reply.new.history.items
+    c.record-reply.new.lanes c.self.inside.store (set c.self.inside.members.items c.args.controller c.put_fault.new.self)
     c.self.inside.fates c.self.inside.clock c.args.self.now c.args.event reply.Done
 after c =
-    closes (old c) _ _ _ _ _ _ _ _ _ c.keep-reply.ensures.kept c.in_ok-reserve.ensures.kept c.keep-reply.ensures.lanes
+    closes (old c) _ _ _ _ _ _ _ _ _ c.record-reply.ensures.kept c.in_ok-reserve.ensures.kept c.record-reply.ensures.lanes
     (fault_run c.self.inside.shape (past (old c)) c.self.inside.store c.self.inside.members.items
     (fates_in c.self.inside.fates) c.self.inside.clock c.self.invariant.machine.run _ c.args.controller
     c.index_mut-member.result.now c.put_fault.new.self
@@ -41,4 +41,4 @@ pub invariant_of-self-2 : goal.invariant_of-self-2
 invariant_of-self-2 c = (after c).kept
 
 pub returns : goal.returns
-returns c = ((after c).view, c.keep-reply.ensures.reply ∙ (after c).told)
+returns c = ((after c).view, c.record-reply.ensures.reply ∙ (after c).told)

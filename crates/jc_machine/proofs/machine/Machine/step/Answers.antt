@@ -4,7 +4,7 @@ use Rattle.jc_runs.proofs.StepRuns.{busy_at, step_seen}
 use Rattle.jc_machine.specs.MachineKept.{fates_in}
 use Rattle.jc_machine.proofs.Closing.{After, Before, acts, before, closes, faulty, member, past, room_left, within, worker}
 use Rattle.jc_machine.proofs.machine.Machine.step.Goals as goal
-use Rattle.jc_machine.proofs.machine.Machine.step.Goals.{After-keep-reply}
+use Rattle.jc_machine.proofs.machine.Machine.step.Goals.{After-record-reply}
 
 pub step-requires-clause-worker : goal.step-requires-clause-worker
 step-requires-clause-worker c = let b = before c.self.inside.script c.self.inside.shape
@@ -40,7 +40,7 @@ step-requires-clause-room c = room_left
     c.requires.room)
 
 -- How it is before.
-old : (c : After-keep-reply) → Before c.self.inside.script c.self.inside.shape c.self.inside.history.events.items
+old : (c : After-record-reply) → Before c.self.inside.script c.self.inside.shape c.self.inside.history.events.items
     c.self.inside.lanes c.self.inside.store c.self.inside.members.items c.self.inside.fates c.self.inside.clock
     c.args.self.now c.args.event (does.Step c.args.controller c.args.worker)
 old c = before c.self.inside.script c.self.inside.shape c.self.inside.history.events.items c.self.inside.lanes
@@ -49,11 +49,11 @@ old c = before c.self.inside.script c.self.inside.shape c.self.inside.history.ev
     c.requires.room
 
 -- How it is afterwards.
-after : (c : After-keep-reply) → After c.self.inside.script c.self.inside.shape c.keep-reply.new.history.items
-    c.keep-reply.new.lanes c.step.new.store (set c.self.inside.members.items c.args.controller c.step.new.self)
+after : (c : After-record-reply) → After c.self.inside.script c.self.inside.shape c.record-reply.new.history.items
+    c.record-reply.new.lanes c.step.new.store (set c.self.inside.members.items c.args.controller c.step.new.self)
     c.self.inside.fates c.self.inside.clock c.args.self.now c.args.event c.in_ok-reply.reply
 after c =
-    closes (old c) _ _ _ _ _ _ _ _ _ c.keep-reply.ensures.kept c.in_ok-reserve.ensures.kept c.keep-reply.ensures.lanes
+    closes (old c) _ _ _ _ _ _ _ _ _ c.record-reply.ensures.kept c.in_ok-reserve.ensures.kept c.record-reply.ensures.lanes
     (step_seen c.self.inside.shape (past (old c)) c.self.inside.store c.self.inside.members.items
     (fates_in c.self.inside.fates) c.self.inside.clock c.self.invariant.machine.run c.step.new.store _ c.args.controller
     c.index_mut-member.result.now c.step.new.self
@@ -67,4 +67,4 @@ pub invariant_of-self-2 : goal.invariant_of-self-2
 invariant_of-self-2 c = (after c).kept
 
 pub returns : goal.returns
-returns c = ((after c).view, c.keep-reply.ensures.reply ∙ (after c).told)
+returns c = ((after c).view, c.record-reply.ensures.reply ∙ (after c).told)

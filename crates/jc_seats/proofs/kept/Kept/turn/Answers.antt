@@ -1,5 +1,5 @@
 use Rattle.std.proofs.Common.{◌≡◌, ◌∙◌, true, refl, sym, subst}
-use Rattle.jc_core.specs.Turns.{has_rest}
+use Rattle.jc_core.specs.Turns.{is_quiescent_seen}
 use Rattle.jc_core.specs.Shared.{Shared}
 use Rattle.jc_seats.specs.PlayerTurns.{HasLeft}
 use Rattle.jc_seats.proofs.TurnFacts.{rests, went-own}
@@ -12,7 +12,7 @@ pub returns-in-None-2-clause-ends : goal.returns-in-None-2-clause-ends
 returns-in-None-2-clause-ends g c = λ e.
     let same = c.in-Ok-None.ensures.none c.in-Ok-None.field-0-is ∙ c.self.view_is in (
       same,
-      subst (λ (s : Shared). has_rest s.seen ≡ true) same (rests c.take_plan.new.self.slots (sym c.if-held.ensures) c.take_plan.new.self.seen (c.in-None-2.ensures.system refl)),
+      subst (λ (s : Shared). is_quiescent_seen s.seen ≡ true) same (rests c.take_plan.new.self.slots (sym c.if-held.ensures) c.take_plan.new.self.seen (c.in-None-2.ensures.system refl)),
       subst (λ (s : Shared). HasLeft c.args.player.now s.seen → ⊥) same (c.in-None-2.ensures.lanes refl),
     )
 

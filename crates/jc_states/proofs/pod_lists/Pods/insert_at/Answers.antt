@@ -30,9 +30,9 @@ invariant_of-self-2 c =
     let few = subst HasFewRestarts c.deref-2.ensures c.enter.ensures.few in
     let numbers =
     subst (λ (pod : Pod). (owner : Uid) → tally_in owner c.enter.new.rows.entries ≡ with_pod owner pod (tally_in owner c.reserve-2.new.self.entries)) c.deref-2.ensures c.enter.ensures.numbers in
-    let noted = c.in_ok-note_and_enter.ensures.noted ∙ ap (λ (pod : Pod). with_note pod c.self.inside.odd.keys) c.deref.ensures in
+    let noted = c.in_ok-put_odd_and_enter.ensures.noted ∙ ap (λ (pod : Pod). with_note pod c.self.inside.odd.keys) c.deref.ensures in
     let entered =
-    subst (λ (pod : Pod). (owner : Uid) → (n : ℕ) → held_in owner n c.note_and_enter.new.holders ≡ held_in owner n c.self.inside.holders + cond (holds_index owner n pod) 1 0) c.deref.ensures c.in_ok-note_and_enter.ensures.entered in
+    subst (λ (pod : Pod). (owner : Uid) → (n : ℕ) → held_in owner n c.put_odd_and_enter.new.holders ≡ held_in owner n c.self.inside.holders + cond (holds_index owner n pod) 1 0) c.deref.ensures c.in_ok-put_odd_and_enter.ensures.entered in
     record {
       tallies =
           subst (λ pods. KeepsTallies pods c.enter.new.rows.entries) (sym put)
@@ -40,10 +40,10 @@ invariant_of-self-2 c =
           (absent-seen c.args.pod items c.args.self.now c.args.place c.self.view_is c.requires.place c.requires.absent)
           (omega (arith, c.requires.few, ap length c.self.view_is)) few
           (subst (λ rows. (owner : Uid) → tally_in owner c.enter.new.rows.entries ≡ with_pod owner c.args.pod (tally_in owner rows)) c.in_ok-reserve-2.ensures.entries numbers));
-      odd = subst (λ pods. c.note_and_enter.new.odd.keys ≡ odd_numbers pods) (sym put) (odd-put c.self.inside.pods.items c.self.inside.odd.keys c.self.invariant.tallies.rising c.self.invariant.odd c.args.pod c.note_and_enter.new.odd.keys noted);
+      odd = subst (λ pods. c.put_odd_and_enter.new.odd.keys ≡ odd_numbers pods) (sym put) (odd-put c.self.inside.pods.items c.self.inside.odd.keys c.self.invariant.tallies.rising c.self.invariant.odd c.args.pod c.put_odd_and_enter.new.odd.keys noted);
       held =
-          subst (λ pods. AreHeld pods c.note_and_enter.new.holders) (sym put)
-          (held-inserted c.args.pod items c.self.inside.holders c.note_and_enter.new.holders c.self.invariant.tallies.rising c.self.invariant.held
+          subst (λ pods. AreHeld pods c.put_odd_and_enter.new.holders) (sym put)
+          (held-inserted c.args.pod items c.self.inside.holders c.put_odd_and_enter.new.holders c.self.invariant.tallies.rising c.self.invariant.held
           (absent-seen c.args.pod items c.args.self.now c.args.place c.self.view_is c.requires.place c.requires.absent) entered);
     }
 

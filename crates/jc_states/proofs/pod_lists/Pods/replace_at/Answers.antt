@@ -49,17 +49,17 @@ invariant_of-self-2 c =
     let few = subst HasFewRestarts c.deref-4.ensures c.enter.ensures.few in
     let numbers =
     subst (λ (pod : Pod). (owner : Uid) → tally_in owner c.enter.new.rows.entries ≡ with_pod owner pod (tally_in owner c.leave-2.new.rows.entries)) c.deref-4.ensures c.enter.ensures.numbers in
-    let noted = c.in_ok-note_and_enter.ensures.noted ∙ ap (λ (pod : Pod). with_note pod c.self.inside.odd.keys) c.deref.ensures in
+    let noted = c.in_ok-put_odd_and_enter.ensures.noted ∙ ap (λ (pod : Pod). with_note pod c.self.inside.odd.keys) c.deref.ensures in
     let entered =
-    subst (λ (pod : Pod). (owner : Uid) → (n : ℕ) → held_in owner n c.note_and_enter.new.holders ≡ held_in owner n c.self.inside.holders + cond (holds_index owner n pod) 1 0) c.deref.ensures c.in_ok-note_and_enter.ensures.entered in
+    subst (λ (pod : Pod). (owner : Uid) → (n : ℕ) → held_in owner n c.put_odd_and_enter.new.holders ≡ held_in owner n c.self.inside.holders + cond (holds_index owner n pod) 1 0) c.deref.ensures c.in_ok-put_odd_and_enter.ensures.entered in
     record {
       tallies =
           subst (λ pods. KeepsTallies pods c.enter.new.rows.entries) (sym put)
           (kept-replaced c.args.pod c.deref-3.result.now items c.self.inside.tallies.entries c.leave-2.new.rows.entries c.enter.new.rows.entries c.self.invariant.tallies found lack few numbers);
-      odd = subst (λ pods. c.note_and_enter.new.odd.keys ≡ odd_numbers pods) (sym put) (odd-put c.self.inside.pods.items c.self.inside.odd.keys c.self.invariant.tallies.rising c.self.invariant.odd c.args.pod c.note_and_enter.new.odd.keys noted);
+      odd = subst (λ pods. c.put_odd_and_enter.new.odd.keys ≡ odd_numbers pods) (sym put) (odd-put c.self.inside.pods.items c.self.inside.odd.keys c.self.invariant.tallies.rising c.self.invariant.odd c.args.pod c.put_odd_and_enter.new.odd.keys noted);
       held =
           subst (λ pods. AreHeld pods c.leave.new.self) (sym put)
-          (held-replaced c.args.pod c.deref-2.result.now items c.self.inside.holders c.note_and_enter.new.holders c.leave.new.self c.self.invariant.tallies.rising c.self.invariant.held before
+          (held-replaced c.args.pod c.deref-2.result.now items c.self.inside.holders c.put_odd_and_enter.new.holders c.leave.new.self c.self.invariant.tallies.rising c.self.invariant.held before
           entered c.leave.ensures);
     }
 

@@ -14,8 +14,8 @@ pub overflow_add-more : goal.overflow_add-more
 overflow_add-more c =
     omega (arith, made_within c.args.pod.owner_uid c.args.self.now, c.made_for-count.ensures, c.requires.few)
 
-pub keep_count-requires : goal.keep_count-requires
-keep_count-requires c =
+pub reserve_count-requires : goal.reserve_count-requires
+reserve_count-requires c =
     c.made_for-count.ensures
     ∙ ap (made_for c.args.pod.owner_uid) (sym c.self.view_is)
     ∙ sym (c.self.invariant.made_before c.args.pod.owner_uid)
@@ -30,13 +30,13 @@ pub add_pod-requires-clause-begins_open : goal.add_pod-requires-clause-begins_op
 add_pod-requires-clause-begins_open c = ap is_open c.in_ok-pod.ensures ∙ ap (λ phase. not (is_final phase)) c.requires.new_pod.phase
 
 pub replace-requires : goal.replace-requires
-replace-requires c = c.in_ok-keep_count.ensures.row
+replace-requires c = c.in_ok-reserve_count.ensures.row
 
 pub invariant_of-self-2 : goal.invariant_of-self-2
 invariant_of-self-2 c =
     make_pod-keeps c.self.inside.born (c.born-born.result + 1) c.self.inside.jobs c.self.inside.pods c.add_pod.new.pods c.self.inside.made
-    c.keep_count.new.made c.replace.new.self c.self.inside.log c.add_pod.new.log c.args.self.now c.args.pod
+    c.reserve_count.new.made c.replace.new.self c.self.inside.log c.add_pod.new.log c.args.self.now c.args.pod
     c.made_for-count.result c.self.invariant c.self.view_is
     (c.in_ok-add_pod.ensures.entry ∙ ap (λ p. c.self.inside.log ++ PodPut p ∷ []) (c.in_ok-copy.ensures ∙ c.in_ok-pod.ensures))
-    (c.in_ok-add_pod.ensures.row ∙ ap (λ p. put_pod p c.self.inside.pods) c.in_ok-pod.ensures) c.keep_count.ensures.counts c.made_for-count.ensures c.replace.ensures.sets
+    (c.in_ok-add_pod.ensures.row ∙ ap (λ p. put_pod p c.self.inside.pods) c.in_ok-pod.ensures) c.reserve_count.ensures.counts c.made_for-count.ensures c.replace.ensures.sets
     (ap (λ n. n + 1) c.born-born.ensures.value) c.requires.few c.requires.version c.requires.new_pod

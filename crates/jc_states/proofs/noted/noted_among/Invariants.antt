@@ -1,7 +1,0 @@
-use Rattle.std.proofs.Common.{◌≡◌, filter, take}
-use Rattle.jc_states.specs.Noted.{is_noted}
-use Rattle.jc_states.proofs.noted.noted_among.Given as goal
-
--- The pods so far are those before the index at which a sync has to look.
-abbrev pub invariant-loop-pod : goal.invariant-loop-pod
-invariant-loop-pod l = l.noted.items ≡ filter (is_noted l.owner l.uids l.more) (take l.pod-index l.pods)
