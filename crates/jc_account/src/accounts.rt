@@ -36,7 +36,7 @@ fn raised(total: u64, before: &Uids, after: &Uids) -> u64
 fn with_successes(alloc: Global, mode: Mode, uids: &Uids, newly: &Uids) -> Result<Uids, Want>
     ensures merged { IfOk result (λ list. (pods : List Pod)
         → newly.now ≡ uids_of pods → list ≡ merge uids.now (listing mode pods)) }
-    ensures few { IfOk result (λ list. length list ≤ length uids.now + length newly.now) }
+    ensures no_longer { IfOk result (λ list. length list ≤ length uids.now + length newly.now) }
     ensures indexed { mode ≡ Indexed → IfOk result (λ list. list ≡ uids.now) }
 {
     match mode {
@@ -78,7 +78,7 @@ fn count_job(alloc: Global, job: &Job, pods: &[Arc<Pod>]) -> Result<CountIn, Wan
     requires totals { TotalsFit job.now pods.now }
     requires rising { IsRising pods.now }
     requires indexes { All HasSmallIndex pods.now }
-    requires few { length pods.now < 2 ^ 31 }
+    requires few_pods { length pods.now < 2 ^ 31 }
     ensures counted { IfOk result (λ r. r ≡ counted_in job.now pods.now) }
     ensures failed_fits { IfOk result (λ r. (counts r).0 < 2 ^ 64) }
     ensures succeeded_fits { IfOk result (λ r. (counts r).1 < 2 ^ 64) }
@@ -121,7 +121,7 @@ fn count_noted(alloc: Global, job: &Job, pods: &Pods) -> Result<CountIn, Want>
     requires tidy { CountsByIndex job.now pods.now }
     requires totals { TotalsFit job.now pods.now }
     requires indexes { All HasSmallIndex pods.now }
-    requires few { length pods.now < 2 ^ 31 }
+    requires few_pods { length pods.now < 2 ^ 31 }
     ensures counted { IfOk result (λ r. r ≡ counted_in job.now pods.now) }
     ensures failed_fits { IfOk result (λ r. (counts r).0 < 2 ^ 64) }
     ensures succeeded_fits { IfOk result (λ r. (counts r).1 < 2 ^ 64) }
@@ -151,7 +151,7 @@ pub fn count_in(alloc: Global, basis: &Basis) -> Result<CountIn, Want>
     requires tidy { IfSome basis.now.job (λ job. CountsByIndex job basis.now.pods) }
     requires totals { IfSome basis.now.job (λ job. TotalsFit job basis.now.pods) }
     requires indexes { All HasSmallIndex basis.now.pods }
-    requires few { length basis.now.pods < 2 ^ 31 }
+    requires few_pods { length basis.now.pods < 2 ^ 31 }
     ensures counted { IfOk result (λ r.
         IfSome basis.entry.now.job (λ job. r ≡ counted_in job basis.entry.now.pods)) }
     ensures failed_fits { IfOk result (λ r. (counts r).0 < 2 ^ 64) }

@@ -181,7 +181,7 @@ pub(crate) fn judge(
 ) -> Result<Verdicts, Want>
     requires rising { IsRising pods.now }
     requires indexes { All HasSmallIndex pods.now }
-    requires few { length pods.now < 2 ^ 31 }
+    requires few_pods { length pods.now < 2 ^ 31 }
     requires room { room ≡ room_of job.now (own_pods job.now pods.now) }
     ensures succeeded { IfOk result (λ r. r.succeeded ≡ new_uids job.now pods.now Succeeded) }
     ensures failed { IfOk result (λ r. r.failed ≡ new_uids job.now pods.now Failed) }

@@ -49,7 +49,7 @@ pub fn newly_judged_are_filters()
         → is_verdict outcome ≡ false → newly job own outcome ≡ [] }
     ensures order { (job : Job) (pods : List Pod) (outcome : Outcome)
         → IsRising pods → Ascends (new_uids job pods outcome) }
-    ensures few { (job : Job) (pods : List Pod) → IsRising pods
+    ensures few_judged { (job : Job) (pods : List Pod) → IsRising pods
         → length (filter (takes_room job.spec) (judged_now job (own_pods job pods)))
         ≤ room job (own_pods job pods) }
     ensures staying { (u : Uid) (job : Job) (own : List Pod)
@@ -96,7 +96,7 @@ pub fn lists_are_counted_in()
         → (is_in u job.status.uncounted_succeeded && is_in u job.status.uncounted_failed) ≡ false
         → (is_in u (counted_in job pods).uncounted_succeeded
         && is_in u (counted_in job pods).uncounted_failed) ≡ false }
-    ensures few { (job : Job) (pods : List Pod) → IsRising pods
+    ensures few_listed { (job : Job) (pods : List Pod) → IsRising pods
         → Ascends job.status.uncounted_succeeded → Ascends job.status.uncounted_failed
         → ShareNone job.status.uncounted_succeeded job.status.uncounted_failed
         → length job.status.uncounted_succeeded + length job.status.uncounted_failed

@@ -60,7 +60,7 @@ fn listed(alloc: Global, uids: &[Uid]) -> Result<Uids, Want>
 // without moving the others.
 fn with_each(alloc: Global, uids: &[Uid], more: &[Uid]) -> Result<Vec<Uid>, Want>
     ensures merged { IfOk result (λ all. all.items ≡ merge uids.now more.now) }
-    ensures few { IfOk result (λ all. length all.items ≤ length uids.now + length more.now) }
+    ensures no_longer { IfOk result (λ all. length all.items ≤ length uids.now + length more.now) }
 {
     let mut all = VecDeque::from_vec(Vec::from_slice(alloc, uids)?);
     for place in (0..more.len()).rev() {
@@ -75,7 +75,7 @@ fn with_each(alloc: Global, uids: &[Uid], more: &[Uid]) -> Result<Vec<Uid>, Want
 // `Want` where there is no memory for them.
 pub(crate) fn merged(alloc: Global, uids: &Uids, more: &Uids) -> Result<Uids, Want>
     ensures merged { IfOk result (λ list. list ≡ merge uids.now more.now) }
-    ensures few { IfOk result (λ list. length list ≤ length uids.now + length more.now) }
+    ensures no_longer { IfOk result (λ list. length list ≤ length uids.now + length more.now) }
 {
     if more.is_empty() {
         return uids.copy();

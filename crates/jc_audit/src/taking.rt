@@ -46,7 +46,7 @@ fn is_offered(machine: &Machine, system: &Sys) -> bool
 
 // The seconds by which the clock can pass of itself, where it can.
 fn clock_seconds(machine: &Machine) -> Option<u64>
-    ensures some { IfSome result
+    ensures it_can_come { IfSome result
         (λ add. CanCome machine.now (event.System (sys.Clock add))) }
     ensures exactly { (add : ℕ) → CanCome machine.now (event.System (sys.Clock add))
         → result ≡ Some add }

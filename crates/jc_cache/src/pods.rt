@@ -36,7 +36,7 @@ impl Model for PodCache {
 //
 // `Want` where there is no memory for it; the rows are then as before.
 fn put_pod(alloc: Global, rows: &mut IndexMap<Key, SharedPods>, pod: &Arc<Pod>) -> Result<(), Want>
-    requires few { length (pods_at pod.now.owner rows.old.entries) < 2 ^ 32 - 1 }
+    requires few_pods { length (pods_at pod.now.owner rows.old.entries) < 2 ^ 32 - 1 }
     ensures puts { OnOk result (TakesIn (PodPut pod.now) rows.old.entries rows.new.entries) }
     ensures kept { OnErr result (rows.new.entries ≡ rows.old.entries) }
 {
@@ -74,7 +74,7 @@ fn drop_pod(rows: &mut IndexMap<Key, SharedPods>, pod: &Pod) -> Result<(), Want>
 //
 // `Want` where there is no memory for it; the rows are then as before.
 fn take_in(alloc: Global, rows: &mut IndexMap<Key, SharedPods>, entry: &Entry) -> Result<(), Want>
-    requires few { HasFewPods rows.old.entries }
+    requires few_pods { HasFewPods rows.old.entries }
     ensures pods { OnOk result (TakesIn entry.now rows.old.entries rows.new.entries) }
     ensures kept { OnErr result (rows.new.entries ≡ rows.old.entries) }
 {
@@ -130,7 +130,7 @@ fn row_of(alloc: Global, owner: Key, pods: Pods) -> Result<IndexMap<Key, SharedP
 // The pods apart by owner, each in ascending UID as all of them are.
 fn mixed_rows(alloc: Global, pods: &[Arc<Pod>]) -> Result<IndexMap<Key, SharedPods>, Want>
     requires rising { IsRising pods.now }
-    requires few { length pods.now < 2 ^ 32 }
+    requires few_pods { length pods.now < 2 ^ 32 }
     ensures { IfOk result (λ rows. HoldsByOwner pods.now rows.entries) }
 {
     let mut rows = IndexMap::new(alloc);
@@ -212,7 +212,7 @@ impl PodCache {
     /// `Want` where there is no memory for it; the cache is then as before.
     pub fn deliver(&mut self, entry: &Entry, version: Version) -> Result<(), Want>
         requires next { IsNext self.old.number version }
-        requires few { HasFewPods self.old.rows }
+        requires few_pods { HasFewPods self.old.rows }
         ensures number { OnOk result (self.new.number ≡ Some version) }
         ensures pods { OnOk result (TakesIn entry.now self.old.rows self.new.rows) }
         ensures kept { OnErr result (self.new ≡ self.old) }

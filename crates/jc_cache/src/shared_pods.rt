@@ -91,7 +91,7 @@ impl SharedPods {
     /// # Errors
     /// `Want` where there is no memory for it; the pods are then as before.
     pub fn put(&mut self, pod: Arc<Pod>) -> Result<(), Want>
-        requires few { length self.old < 2 ^ 32 - 1 }
+        requires few_pods { length self.old < 2 ^ 32 - 1 }
         ensures puts { OnOk result (self.new ≡ put_pod pod self.old) }
         ensures kept { OnErr result (self.new ≡ self.old) }
     {

@@ -149,7 +149,7 @@ impl Controller {
     /// `Want` where there is no memory for it; the controller is then as before.
     pub fn deliver(&mut self, kind: Kind, entry: &Entry, version: Version) -> Result<(), Want>
         requires next { IsNext (number_of kind self.old.schedule) version }
-        requires few { HasFewPods self.old.rows }
+        requires few_pods { HasFewPods self.old.rows }
         ensures schedule { OnOk result
             (self.new.schedule ≡ delivered self.old.schedule kind entry.now version) }
         ensures jobs { OnOk result (self.new.jobs ≡ jobs_delivered kind entry.now self.old.jobs) }
@@ -413,7 +413,7 @@ impl Controller {
     // `Want` where there is no memory for it; the controller is then as before.
     fn tell(&mut self, kind: Kind, entry: &Entry, version: Version) -> Result<(), Want>
         requires next { IsNext (number_of kind self.old.schedule) version }
-        requires few { HasFewPods self.old.rows }
+        requires few_pods { HasFewPods self.old.rows }
         ensures schedule { OnOk result
             (self.new.schedule ≡ numbered self.old.schedule kind (Some version)) }
         ensures jobs { OnOk result (self.new.jobs ≡ jobs_delivered kind entry.now self.old.jobs) }

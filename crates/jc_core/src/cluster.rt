@@ -47,10 +47,10 @@ impl Cluster {
     /// # Errors
     /// `Want` where there is no memory for it.
     pub fn new(alloc: Global, script: Script, shape: Shape) -> Result<Cluster, Want>
-        requires fine { Each (λ (command : Command). IsValidAction command.action) script.commands }
-        requires proper { IsScriptFor script shape }
+        requires valid_actions { Each (λ (command : Command). IsValidAction command.action) script.commands }
+        requires fits_shape { IsScriptFor script shape }
         requires fits { length script.commands < 2 ^ 32 }
-        requires bound { shape.events ≤ 200000 }
+        requires few_events { shape.events ≤ 200000 }
         ensures seen { IfOk result
             (λ c. c.seen ≡ record { script = script; shape = shape; pasts = [] }) }
         ensures slots { IfOk result (λ c. c.slots ≡ map fresh_slot (all_registers shape)) }

@@ -30,7 +30,7 @@ impl Cluster {
     /// holds its register. The node gives its next step, where it has one; and the clock the seconds to the
     /// least delay, where nobody but the lanes has an event: the step of a held register counts as one.
     pub fn available(&self, actor: Actor) -> Option<Event>
-        ensures some { IfSome result (λ event. IsOfActor actor event) }
+        ensures of_actor { IfSome result (λ event. IsOfActor actor event) }
         ensures can_come { IfSome result (λ event. CanCome self.now.seen event) }
         ensures exactly { (event : Event) → IsOfActor actor event → CanCome self.now.seen event
             → is_held_actor self.now.slots actor ≡ false → result ≡ Some event }

@@ -20,7 +20,7 @@ impl Cluster {
     /// The script. It can be played on the shape.
     pub fn script(&self) -> &Script
         ensures script { result.now ≡ self.now.seen.script }
-        ensures proper { IsScriptFor self.now.seen.script self.now.seen.shape }
+        ensures fits_shape { IsScriptFor self.now.seen.script self.now.seen.shape }
     {
         self.machine.script()
     }
@@ -28,7 +28,7 @@ impl Cluster {
     /// The shape. Its history has at most 200,000 events.
     pub fn shape(&self) -> &Shape
         ensures shape { result.now ≡ self.now.seen.shape }
-        ensures bound { self.now.seen.shape.events ≤ 200000 }
+        ensures few_events { self.now.seen.shape.events ≤ 200000 }
     {
         self.machine.shape()
     }
@@ -49,7 +49,7 @@ impl Cluster {
         ensures follows { IsHistory self.now.seen.script self.now.seen.shape result.now }
         ensures legal { IsLegal self.now.seen.shape (deeds_seen self.now.seen) }
         ensures lanes { InLanes self.now.seen.script.commands self.now.seen.pasts }
-        ensures few { length self.now.seen.pasts ≤ self.now.seen.shape.events }
+        ensures few_events { length self.now.seen.pasts ≤ self.now.seen.shape.events }
         ensures once { OnceAtEach (deeds_seen self.now.seen) (log_seen self.now.seen) }
         ensures justified { (k : Key) (job : Job)
             → job_in k (log_seen self.now.seen) ≡ Some job

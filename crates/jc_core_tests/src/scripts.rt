@@ -58,9 +58,9 @@ fn is_proper(script: &Script, shape: &Shape) -> bool
 //
 // `Fail` where it is none.
 fn script_of(rt: &impl Abort, alloc: Global, text: &str, shape: &Shape) -> Result<Script, Fail>
-    ensures fine { IfOk result (λ script.
+    ensures valid_actions { IfOk result (λ script.
         Each (λ (command : Command). IsValidAction command.action) script.commands) }
-    ensures proper { IfOk result (λ script. IsScriptFor script shape.now) }
+    ensures fits_shape { IfOk result (λ script. IsScriptFor script shape.now) }
 {
     assert!(rt; text.len() < 1_000_000, "the script is short");
     scripts_fit_their_shape();

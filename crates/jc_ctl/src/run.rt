@@ -44,7 +44,7 @@ enum Asked {
 
 // Which run on threads or which audit the order is, where it is one.
 fn asked_for(order: &Order) -> Option<Asked>
-    ensures some { IfSome result (λ asked. order.now ≡ order_asked asked) }
+    ensures of_order { IfSome result (λ asked. order.now ≡ order_asked asked) }
     ensures threads { IfSome result HasThreads }
     ensures none { result ≡ None → IsSingle order.now }
 {

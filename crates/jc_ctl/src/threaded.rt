@@ -33,11 +33,11 @@ use std::thread::Threads;
 
 // What is printed of the cluster of a run on threads that has ended.
 fn told(alloc: Global, cluster: &Cluster, full: bool) -> Result<Output, Want>
-    requires fine { Each (λ (command : Command). IsValidAction command.action)
+    requires valid_actions { Each (λ (command : Command). IsValidAction command.action)
         cluster.now.seen.script.commands }
     requires some_controllers { 0 < cluster.now.seen.shape.controllers }
     requires some_workers { 0 < cluster.now.seen.shape.workers }
-    requires bound { cluster.now.seen.shape.events ≤ 200000 }
+    requires few_events { cluster.now.seen.shape.events ≤ 200000 }
     requires lanes { Each (λ (command : Command). command.lane < 2 ^ 8)
         cluster.now.seen.script.commands }
     requires few_controllers { cluster.now.seen.shape.controllers ≤ 4 }
@@ -71,8 +71,8 @@ fn run_locked<R: Threads + Wait + Sync, G: Gate + Sync>(
     lock: LockKind,
     play: Play<'_>,
 ) -> Result<Cluster, ThreadsFault>
-    requires fine { Each (λ (command : Command). IsValidAction command.action) play.script.now.commands }
-    requires proper { IsScriptFor play.script.now play.shape.now }
+    requires valid_actions { Each (λ (command : Command). IsValidAction command.action) play.script.now.commands }
+    requires fits_shape { IsScriptFor play.script.now play.shape.now }
     ensures { EndsRun play.entry.script.now play.entry.shape.now result }
 {
     match lock {
@@ -101,8 +101,8 @@ fn run_by<R: Threads + Wait + Sync, G: Gate + Sync>(
     lock: LockKind,
     play: Play<'_>,
 ) -> Result<Ended, Want>
-    requires fine { Each (λ (command : Command). IsValidAction command.action) play.script.now.commands }
-    requires proper { IsScriptFor play.script.now play.shape.now }
+    requires valid_actions { Each (λ (command : Command). IsValidAction command.action) play.script.now.commands }
+    requires fits_shape { IsScriptFor play.script.now play.shape.now }
     ensures { IfOk result (λ ended.
         IsEndOfRun play.entry.script.now play.entry.shape.now ended.cluster.seen ended.full) }
 {
@@ -125,8 +125,8 @@ fn threaded_report<R: Threads + Wait + Sync, G: Gate + Sync>(
     lock: LockKind,
     play: Play<'_>,
 ) -> Result<Output, Want>
-    requires fine { Each (λ (command : Command). IsValidAction command.action) play.script.now.commands }
-    requires proper { IsScriptFor play.script.now play.shape.now }
+    requires valid_actions { Each (λ (command : Command). IsValidAction command.action) play.script.now.commands }
+    requires fits_shape { IsScriptFor play.script.now play.shape.now }
     requires lanes { Each (λ (command : Command). command.lane < 2 ^ 8) play.script.now.commands }
     requires fit_shape { IsFitShape play.shape.now }
     ensures { IfOk result (λ output.
@@ -144,8 +144,8 @@ fn threaded_answer<R: Threads + Wait + Sync, G: Gate + Sync>(
     threads: u32,
     input: &[u8],
 ) -> Result<Output, ScriptFault>
-    requires some { 1 ≤ threads }
-    requires few { threads ≤ 16 }
+    requires some_threads { 1 ≤ threads }
+    requires few_threads { threads ≤ 16 }
     requires fit_shape { IsFitShape shape.now }
     requires short { length input.now ≤ most_bytes }
     ensures report { IfOk result (λ output. IsOkAnd (script_of shape.now input.now) (λ commands.
@@ -173,8 +173,8 @@ fn threaded_made<R: Threads + Wait + Sync, S: Source, G: Gate + Sync>(
     threads: u32,
     source: &mut S,
 ) -> Result<Output, Status>
-    requires some { 1 ≤ threads }
-    requires few { threads ≤ 16 }
+    requires some_threads { 1 ≤ threads }
+    requires few_threads { threads ≤ 16 }
     requires fit_shape { IsFitShape shape.now }
     ensures { HasMade (Run threads lock shape.now)
         (change (S.left source.old) (S.left source.new) (S.faults source.old) (S.faults source.new))
@@ -205,8 +205,8 @@ pub(crate) fn run_threaded<R: Threads + Wait + Sync, S: Source, K: Sink, G: Gate
     source: &mut S,
     sink: &mut K,
 ) -> Status
-    requires some { 1 ≤ threads }
-    requires few { threads ≤ 16 }
+    requires some_threads { 1 ≤ threads }
+    requires few_threads { threads ≤ 16 }
     requires fit_shape { IsFitShape shape.now }
     ensures { RunHasEnded (Run threads lock shape.now)
         (change (S.left source.old) (S.left source.new) (S.faults source.old) (S.faults source.new))

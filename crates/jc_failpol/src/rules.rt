@@ -138,7 +138,7 @@ pub fn action_of(policy: &FailurePolicy, pod: &Pod) -> Action
 /// The same action as `action_of`, with the place of the first rule that matches among the
 /// policy's rules, counted from 0; none where no rule matches.
 pub fn action(policy: &FailurePolicy, pod: &Pod) -> (Action, Option<u32>)
-    requires few { length policy.now.rules < 2 ^ 32 }
+    requires few_rules { length policy.now.rules < 2 ^ 32 }
     ensures action { result.0 ≡ action_of policy.now pod.now }
     ensures place { result.1 ≡ matching_place policy.now pod.now }
 {

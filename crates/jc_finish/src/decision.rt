@@ -196,7 +196,7 @@ fn decided(now: Moment, job: &Job, pods: &Pods, counted: &CountIn) -> Option<(Co
 ///
 /// `counted` are the sync's counts over the same basis.
 pub fn decide(basis: &Basis, counted: &CountIn) -> Option<(CondKind, Reason)>
-    requires few { length basis.now.pods < 2 ^ 31 }
+    requires few_pods { length basis.now.pods < 2 ^ 31 }
     requires failed { (counts_of counted.now).0 < 2 ^ 64 }
     requires succeeded { (counts_of counted.now).1 < 2 ^ 64 }
     ensures { result ≡ decision_of basis.entry.now counted.now }

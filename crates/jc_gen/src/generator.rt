@@ -42,8 +42,8 @@ fn job_mode(number: u32, i: u32) -> Mode
 }
 
 fn parallelism(number: u32, pods: u32, i: u32) -> u32
-    requires some { 1 ≤ pods }
-    requires few { pods ≤ 20 }
+    requires some_pods { 1 ≤ pods }
+    requires few_pods { pods ≤ 20 }
     ensures { result ≡ 1 + (number + 3 * i) % pods }
 {
     let mixed = (u64::from(number) + 3 * u64::from(i)) % u64::from(pods);
@@ -51,8 +51,8 @@ fn parallelism(number: u32, pods: u32, i: u32) -> u32
 }
 
 fn job_spec(alloc: Global, number: u32, pods: u32, i: u32) -> Result<JobSpec, Want>
-    requires some { 1 ≤ pods }
-    requires few { pods ≤ 20 }
+    requires some_pods { 1 ≤ pods }
+    requires few_pods { pods ≤ 20 }
     ensures { IfOk result (λ spec. spec ≡ job_spec number pods i) }
 {
     let mut containers = Names::new(alloc);
@@ -102,8 +102,8 @@ fn job_ends(alloc: Global, number: u32, i: u32) -> Result<Ends, Want>
 
 // The creation of a Job.
 fn creation(alloc: Global, number: u32, pods: u32, i: u32) -> Result<Command, Want>
-    requires some { 1 ≤ pods }
-    requires few { pods ≤ 20 }
+    requires some_pods { 1 ≤ pods }
+    requires few_pods { pods ≤ 20 }
     ensures { IfOk result (λ command. command ≡ creation number pods i) }
 {
     let spec = job_spec(alloc, number, pods, i)?;

@@ -46,7 +46,7 @@ pub trait Source {
     /// `Ok(0)` for a buffer that is not empty is the end of input. `Failed` comes only where the
     /// count of faults rose, and takes nothing.
     fn read_some(&mut self, buf: &mut [u8]) -> Result<usize, Failed>
-        ensures bound { ReadsAtMost result buf.new }
+        ensures reads_at_most { ReadsAtMost result buf.new }
         // The bytes that are given leave the source, none only at its end, and none at a fault.
         ensures bytes { ReadConsumes (left self.old) (left self.new) result buf.new }
         ensures cause { HasCause (faults self.old) (faults self.new) result }
@@ -69,8 +69,8 @@ pub trait Sink {
     ///
     /// `Failed` comes only where the count of faults rose, and appends nothing.
     fn write_some(&mut self, piece: &[u8]) -> Result<usize, Failed>
-        ensures bound { WritesAtMost result piece.now }
-        ensures some { 0 < length piece.now → IfOk result (λ n. 0 < n) }
+        ensures writes_at_most { WritesAtMost result piece.now }
+        ensures takes_some { 0 < length piece.now → IfOk result (λ n. 0 < n) }
         ensures bytes { WriteAppends (held self.old) (held self.new) result piece.now }
         ensures cause { HasCause (faults self.old) (faults self.new) result }
         ensures never_falls { faults self.old ≤ faults self.new }

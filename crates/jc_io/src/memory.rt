@@ -69,7 +69,7 @@ impl Source for MemSource {
     ghost calls = { λ s. (source_plan s).calls };
 
     fn read_some(&mut self, buf: &mut [u8]) -> Result<usize, Failed>
-        ensures bound { ReadsAtMost result buf.new }
+        ensures reads_at_most { ReadsAtMost result buf.new }
         ensures bytes { ReadConsumes
             (Some (bytes_left self.old)) (Some (bytes_left self.new)) result buf.new }
         ensures cause { HasCause
@@ -173,8 +173,8 @@ impl Sink for MemSink {
     ghost finished = { λ s. sink_finished s };
 
     fn write_some(&mut self, piece: &[u8]) -> Result<usize, Failed>
-        ensures bound { WritesAtMost result piece.now }
-        ensures some { 0 < length piece.now → IfOk result (λ n. 0 < n) }
+        ensures writes_at_most { WritesAtMost result piece.now }
+        ensures takes_some { 0 < length piece.now → IfOk result (λ n. 0 < n) }
         ensures bytes { WriteAppends
             (Some (bytes_held self.old)) (Some (bytes_held self.new)) result piece.now }
         ensures cause { HasCause (sink_plan self.old).faults (sink_plan self.new).faults result }

@@ -39,7 +39,7 @@ pub fn each_pod_is_counted_once()
 pub fn pods_are_judged_once()
     ensures distinct { (j : Uid) (deeds : List Deed) (log : List Entry)
         → IsDistinct same_uid (judged_uids (ledger_of j deeds log).records) }
-    ensures few { (j : Uid) (deeds : List Deed) (log : List Entry)
+    ensures few_records { (j : Uid) (deeds : List Deed) (log : List Entry)
         → length (ledger_of j deeds log).records ≤ length log }
 {}
 

@@ -59,7 +59,7 @@ pub fn tail(
     log: &Entries,
     jobs: &Table<Key, Arc<Job>>,
 ) -> Result<String, Want>
-    requires few { length log.now < 2 ^ 32 }
+    requires few_entries { length log.now < 2 ^ 32 }
     requires places { IsNumbered script.now history.now }
     requires jobs { jobs.now ≡ jobs_in (reverse log.now) }
     ensures { IfOk result (λ text. string_bytes text
@@ -88,7 +88,7 @@ pub fn report_of_parts(
     jobs: &Table<Key, Arc<Job>>,
     full: bool,
 ) -> Result<String, Want>
-    requires few { length log.now < 2 ^ 32 }
+    requires few_entries { length log.now < 2 ^ 32 }
     requires places { IsNumbered script.now history.now }
     requires jobs { jobs.now ≡ jobs_in (reverse log.now) }
     ensures { IfOk result (λ text. string_bytes text

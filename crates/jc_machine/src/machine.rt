@@ -88,9 +88,9 @@ impl Machine {
     /// # Errors
     /// `Want` where there is no memory for it.
     pub fn new(alloc: Global, script: Script, shape: Shape) -> Result<Machine, Want>
-        requires fine { Each (λ (command : Command). IsValidAction command.action) script.commands }
+        requires valid_actions { Each (λ (command : Command). IsValidAction command.action) script.commands }
         requires fits { length script.commands < 2 ^ 32 }
-        requires bound { shape.events ≤ 200000 }
+        requires few_events { shape.events ≤ 200000 }
         ensures { IfOk result (λ c. c ≡ record { script = script; shape = shape; pasts = [] }) }
     {
         runs_start();
@@ -142,7 +142,7 @@ impl Machine {
         ensures follows { IsHistory self.now.script self.now.shape result.now }
         ensures legal { IsLegal self.now.shape (deeds_seen self.now) }
         ensures lanes { InLanes self.now.script.commands self.now.pasts }
-        ensures few { length self.now.pasts ≤ self.now.shape.events }
+        ensures few_events { length self.now.pasts ≤ self.now.shape.events }
         ensures once { OnceAtEach (deeds_seen self.now) (log_seen self.now) }
         ensures justified { (k : Key) (job : Job) → job_in k (log_seen self.now) ≡ Some job
             → AllJustified job (deeds_seen self.now) (log_seen self.now) }
@@ -223,7 +223,7 @@ impl Machine {
     /// # Errors
     /// `Want` where there is no memory; the machine is then as before.
     pub fn extend(&mut self, command: Command) -> Result<(), Want>
-        requires fine { IsValidAction command.action }
+        requires valid_actions { IsValidAction command.action }
         requires fits { length self.old.script.commands + 1 < 2 ^ 32 }
         ensures ok { OnOk result (self.new ≡ extended self.old command) }
         ensures kept { OnErr result (self.new ≡ self.old) }

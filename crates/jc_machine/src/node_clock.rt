@@ -136,7 +136,7 @@ impl Machine {
     // `Want` where there is no memory for it; the machine is then as before.
     pub(crate) fn fate(&mut self, event: Event, key: &Key, ends: &Ends) -> Result<Reply, Want>
         requires may { MayCome self.old event (does.Fate key.now ends.now) }
-        requires some { ends.now ≢ [] }
+        requires some_ends { ends.now ≢ [] }
         ensures { HappensOrKeeps self.old self.new event result }
     {
         self.history.events.reserve(1)?;

@@ -42,7 +42,7 @@ pub(crate) fn backoff_after(backoff: &Backoff, counted: &CountIn, now: Moment) -
 // The seconds to wait after so many failures in a row.
 fn pause(failures: u64) -> u64
     ensures value { result ≡ pause failures }
-    ensures bound { result ≤ 360 }
+    ensures at_most { result ≤ 360 }
 {
     let doublings = failures.saturating_sub(1).min(MOST_DOUBLINGS) as u32;
     (FIRST_SECONDS * 2_u64.pow(doublings)).min(MOST_SECONDS)

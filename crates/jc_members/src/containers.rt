@@ -68,7 +68,7 @@ fn read_entry(
     ensures read { Says (λ number. number) result
         (entry_in path.now least greatest (view numbers.now) name.now) }
     ensures fits { IfOk result (λ o. IfSome o (λ n. (least ≤ℤ n) × (n ≤ℤ greatest))) }
-    ensures some { IfOk result (λ _. 0 < length name.now) }
+    ensures not_empty { IfOk result (λ _. 0 < length name.now) }
     ensures short { IfOk result (λ _. length name.now ≤ 63) }
 {
     if !is_label(name.as_bytes()) {
@@ -186,7 +186,7 @@ fn both_of<'v, 'a>(
 #[tactic(auto, unfolding(crate::specs::Phases::exit_in))]
 fn read_exit(alloc: Global, exits: &Value, name: &str) -> Result<Option<i32>, LineFault>
     ensures read { Says (λ exit. exit) result (exit_in (view exits.now) name.now) }
-    ensures some { IfOk result (λ _. 0 < length name.now) }
+    ensures not_empty { IfOk result (λ _. 0 < length name.now) }
     ensures short { IfOk result (λ _. length name.now ≤ 63) }
 {
     let path = Path::new(alloc).member("exitCodes")?;

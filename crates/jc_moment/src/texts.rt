@@ -113,7 +113,7 @@ fn year_in(text: &[u8]) -> i16
 fn pair(text: &[u8], place: usize) -> i8
     requires { place + 1 < length text.now }
     ensures value { (n : ℕ) → IsPairAt text.now place n → result ≡ pos n }
-    ensures bound { IsBetween (pos 0) (pos 99) result }
+    ensures below_100 { IsBetween (pos 0) (pos 99) result }
 {
     let tens = text[place].saturating_sub(b'0').min(9);
     let ones = text[place + 1].saturating_sub(b'0').min(9);

@@ -70,7 +70,7 @@ impl Fates {
     /// # Errors
     /// `Want` where there is no memory for it; the fates are then as before.
     pub fn set(&mut self, key: &Key, ends: Ends) -> Result<(), Want>
-        requires some { ends ≢ [] }
+        requires some_ends { ends ≢ [] }
         ensures rows { OnOk result (self.new ≡ puts same_key self.old key.now ends) }
         ensures fates { OnOk result ((other : Key) → ends_at_key self.new other
             ≡ (if same_key key.now other then Some ends else ends_at_key self.old other)) }
@@ -83,7 +83,7 @@ impl Fates {
     /// least one end.
     pub fn get(&self, key: &Key) -> Option<&Ends>
         ensures ends { option_copied result ≡ ends_at_key self.now key.now }
-        ensures some { IfSome (ends_at_key self.now key.now) (λ ends. ends ≢ []) }
+        ensures some_ends { IfSome (ends_at_key self.now key.now) (λ ends. ends ≢ []) }
     {
         self.rows.get(key)
     }

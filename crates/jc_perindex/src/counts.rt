@@ -163,7 +163,7 @@ fn is_newly_failed(job: &Job, uids: &[Uid], pod: &Pod) -> bool
 // # Errors
 // `Want` where there is no memory for them.
 pub(crate) fn raise_each(job: &Job, uids: &[Uid], pods: &[Arc<Pod>]) -> Result<IndexCounts, Want>
-    requires few { length pods.now < 2 ^ 31 }
+    requires few_pods { length pods.now < 2 ^ 31 }
     requires ascending { IsIncreasing (map (λ (count : IndexCount). count.index)
         job.now.status.index_failures) }
     requires fit { All (λ (count : IndexCount). count.failures + length pods.now < 2 ^ 64)

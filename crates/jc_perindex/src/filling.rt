@@ -49,7 +49,7 @@ fn add_failed(
     counts: &[IndexCount],
 ) -> Result<(), Want>
     requires ascending { IsIncreasing (set.old ++ map (λ (count : IndexCount). count.index) counts.now) }
-    requires few { completions ≤ GREATEST_COMPLETIONS }
+    requires few_completions { completions ≤ GREATEST_COMPLETIONS }
     ensures { OnOk result (set.new ≡ set.old ++ map (λ (count : IndexCount). count.index)
         (filter (has_failed limit completions completed.now) counts.now)) }
 {
@@ -70,7 +70,7 @@ fn failed_of(
     counts: &IndexCounts,
 ) -> Result<Ranges, Want>
     requires ascending { IsIncreasing (map (λ (count : IndexCount). count.index) counts.now) }
-    requires few { completions ≤ GREATEST_COMPLETIONS }
+    requires few_completions { completions ≤ GREATEST_COMPLETIONS }
     ensures { IfOk result (λ set. set ≡ map (λ (count : IndexCount). count.index)
         (filter (has_failed limit completions completed.now) counts.now)) }
 {
@@ -107,7 +107,7 @@ fn failed_set(
 // # Errors
 // `Want` where there is no memory for them.
 fn raised(job: &Job, pods: &Pods, uids: &[Uid]) -> Result<IndexCounts, Want>
-    requires few { length pods.now < 2 ^ 31 }
+    requires few_pods { length pods.now < 2 ^ 31 }
     requires failures { FailuresFit job.now pods.now }
     ensures { IfOk result (λ counts. counts
         ≡ raise_each job.now.spec.failure job.now.status.index_failures
@@ -120,7 +120,7 @@ fn raised(job: &Job, pods: &Pods, uids: &[Uid]) -> Result<IndexCounts, Want>
 // What is counted of a Job, with its failures of each index and its failed indexes.
 fn fill_job(alloc: Global, job: &Job, pods: &Pods, counted: CountIn) -> Result<CountIn, Want>
     requires valid { IsValidSpec job.now.spec }
-    requires few { length pods.now < 2 ^ 31 }
+    requires few_pods { length pods.now < 2 ^ 31 }
     requires failures { FailuresFit job.now pods.now }
     ensures { IfOk result (λ r. r ≡ filled_counts job.now (own_pods job.now pods.now) counted) }
 {
@@ -149,7 +149,7 @@ fn fill_job(alloc: Global, job: &Job, pods: &Pods, counted: CountIn) -> Result<C
 pub fn fill(alloc: Global, basis: &Basis, counted: CountIn) -> Result<CountIn, Want>
     requires there { IsSome basis.now.job }
     requires valid { IfSome basis.now.job (λ job. IsValidSpec job.spec) }
-    requires few { length basis.now.pods < 2 ^ 31 }
+    requires few_pods { length basis.now.pods < 2 ^ 31 }
     requires failures { IfSome basis.now.job (λ job. FailuresFit job basis.now.pods) }
     ensures { IfOk result (λ r. IfSome basis.entry.now.job (λ job.
         r ≡ filled_counts job (own_pods job basis.entry.now.pods) counted)) }

@@ -94,7 +94,7 @@ pub fn unneeded_first_changes_nothing()
 /// The failures in a row rise by the pods at most, and where there are some the moment of the last of
 /// them stays known.
 pub fn failures_are_bounded()
-    ensures few { (basis : Basis)
+    ensures few_failures { (basis : Basis)
         → (planned basis).backoff.failures ≤ basis.backoff.failures + length basis.pods }
     ensures dated { (basis : Basis) → IsDated basis.backoff → IsDated (planned basis).backoff }
 {}

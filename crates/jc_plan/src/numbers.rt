@@ -63,7 +63,7 @@ fn ready_after(job: &Job, pods: &Pods, wants: &Wants, ready: usize) -> usize
 
 /// The numbers of the Job's own pods once what the sync wants of them is done.
 pub fn numbers_after(job: &Job, pods: &Pods, wants: &Wants) -> Numbers
-    requires few { length pods.now < 2 ^ 31 }
+    requires few_pods { length pods.now < 2 ^ 31 }
     requires created { length wants.now.creates ≤ GREATEST_PARALLELISM }
     requires going { stopped_by wants.now ≤ length (active_pods (own_pods job.now pods.now)) }
     ensures active { result.active ≡ active_after wants.now (own_pods job.now pods.now) }

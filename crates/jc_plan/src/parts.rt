@@ -63,7 +63,7 @@ fn earlier(left: Option<Moment>, right: Option<Moment>) -> Option<Moment>
 
 // What the sync counts in.
 fn counted_for(alloc: Global, basis: &Basis, job: &Job) -> Result<CountIn, Want>
-    requires this { basis.now.job ≡ Some job.now }
+    requires its_job { basis.now.job ≡ Some job.now }
     requires can { CanPlan basis.now }
     ensures counted { IfOk result (λ r. r ≡ counted_in job.now basis.entry.now.pods) }
     ensures failed_fits { IfOk result (λ r. (counts r).0 < 2 ^ 64) }
@@ -75,7 +75,7 @@ fn counted_for(alloc: Global, basis: &Basis, job: &Job) -> Result<CountIn, Want>
 
 // What is counted, with the failures of each index and the indexes that have failed.
 fn filled_for(alloc: Global, basis: &Basis, job: &Job, counted: CountIn) -> Result<CountIn, Want>
-    requires this { basis.now.job ≡ Some job.now }
+    requires its_job { basis.now.job ≡ Some job.now }
     requires can { CanPlan basis.now }
     ensures { IfOk result (λ r.
         r ≡ filled_counts job.now (own_pods job.now basis.entry.now.pods) counted) }
@@ -85,7 +85,7 @@ fn filled_for(alloc: Global, basis: &Basis, job: &Job, counted: CountIn) -> Resu
 
 // What the sync counts in, with what is said of failed indexes.
 fn accounted_for(alloc: Global, basis: &Basis, job: &Job) -> Result<CountIn, Want>
-    requires this { basis.now.job ≡ Some job.now }
+    requires its_job { basis.now.job ≡ Some job.now }
     requires can { CanPlan basis.now }
     ensures counted { IfOk result (λ r. r ≡ accounted job.now basis.entry.now) }
     ensures failed_fits { IfOk result (λ r. (counts r).0 < 2 ^ 64) }
@@ -98,8 +98,8 @@ fn accounted_for(alloc: Global, basis: &Basis, job: &Job) -> Result<CountIn, Wan
 
 // What the sync decides.
 fn decided_in(basis: &Basis, job: &Job, counted: &CountIn) -> Option<(CondKind, Reason)>
-    requires this { basis.now.job ≡ Some job.now }
-    requires few { length basis.now.pods < 2 ^ 31 }
+    requires its_job { basis.now.job ≡ Some job.now }
+    requires few_pods { length basis.now.pods < 2 ^ 31 }
     requires counted { counted.now ≡ accounted job.now basis.now }
     requires failed { (counts counted.now).0 < 2 ^ 64 }
     requires succeeded { (counts counted.now).1 < 2 ^ 64 }
@@ -118,7 +118,7 @@ fn wants_for(
     counted: &CountIn,
     target: Option<(CondKind, Reason)>,
 ) -> Result<Wants, Want>
-    requires this { basis.now.job ≡ Some job.now }
+    requires its_job { basis.now.job ≡ Some job.now }
     requires can { CanPlan basis.now }
     requires counted { counted.now ≡ accounted job.now basis.now }
     requires target { target ≡ decided_in job.now basis.now }
@@ -139,7 +139,7 @@ fn second_for(
     target: Option<(CondKind, Reason)>,
     first: &JobStatus,
 ) -> Result<Option<JobStatus>, Want>
-    requires this { basis.now.job ≡ Some job.now }
+    requires its_job { basis.now.job ≡ Some job.now }
     requires counted { counted.now ≡ accounted job.now basis.now }
     requires target { target ≡ decided_in job.now basis.now }
     requires kind { IfSome target (λ pair. is_target_kind pair.0 ≡ true) }
@@ -166,7 +166,7 @@ fn statuses_for(
     target: Option<(CondKind, Reason)>,
     wants: &Wants,
 ) -> Result<(Option<JobStatus>, Option<JobStatus>), Want>
-    requires this { basis.now.job ≡ Some job.now }
+    requires its_job { basis.now.job ≡ Some job.now }
     requires can { CanPlan basis.now }
     requires counted { counted.now ≡ accounted job.now basis.now }
     requires target { target ≡ decided_in job.now basis.now }
@@ -187,7 +187,7 @@ fn statuses_for(
 
 // The plan of a basis with a Job, of what the sync counts in.
 fn planned_with(alloc: Global, basis: &Basis, job: &Job, counted: &CountIn) -> Result<Planned, Want>
-    requires this { basis.now.job ≡ Some job.now }
+    requires its_job { basis.now.job ≡ Some job.now }
     requires can { CanPlan basis.now }
     requires counted { counted.now ≡ accounted job.now basis.now }
     requires failed { (counts counted.now).0 < 2 ^ 64 }
@@ -213,7 +213,7 @@ fn planned_with(alloc: Global, basis: &Basis, job: &Job, counted: &CountIn) -> R
 
 // The plan of a basis with a Job.
 fn planned_for(alloc: Global, basis: &Basis, job: &Job) -> Result<Planned, Want>
-    requires this { basis.now.job ≡ Some job.now }
+    requires its_job { basis.now.job ≡ Some job.now }
     requires can { CanPlan basis.now }
     ensures { IfOk result (λ r. r ≡ planned_for basis.entry.now (Some job.now)) }
 {

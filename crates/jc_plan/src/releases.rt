@@ -62,7 +62,7 @@ fn released_of(alloc: Global, basis: &Basis, due: &[Uid], pods: &[Arc<Pod>]) -> 
 // Whether it is plain that no pod loses its finalizer: all are the Job's, and it is to release none. It goes
 // over no pod.
 fn releases_none(basis: &Basis, job: &Job, due: &[Uid]) -> bool
-    requires this { basis.now.job ≡ Some job.now }
+    requires its_job { basis.now.job ≡ Some job.now }
     requires due { due.now ≡ due_uids basis.now.job basis.now.pods }
     ensures { result ≡ true → releases_of basis.entry.now ≡ [] }
 {

@@ -100,7 +100,7 @@ fn conditions_at(
     target: Option<(CondKind, Reason)>,
     due: bool,
 ) -> Result<Conditions, Want>
-    requires this { basis.now.job ≡ Some job.now }
+    requires its_job { basis.now.job ≡ Some job.now }
     requires kind { IfSome target (λ pair. is_target_kind pair.0 ≡ true) }
     requires fresh { IsSome target → has_target job.now.status.conditions ≡ false }
     requires due { IsTrue due → is_end_decided job.now target ≡ true }
@@ -111,7 +111,7 @@ fn conditions_at(
 
 // The start time in force of the Job.
 fn start_at(basis: &Basis, job: &Job) -> Option<Moment>
-    requires this { basis.now.job ≡ Some job.now }
+    requires its_job { basis.now.job ≡ Some job.now }
     ensures { result ≡ start_of basis.entry.now.now job.now.spec job.now.status }
 {
     start_in_force(basis)
@@ -165,8 +165,8 @@ pub fn first_status(
     target: Option<(CondKind, Reason)>,
     wants: &Wants,
 ) -> Result<JobStatus, Want>
-    requires this { basis.now.job ≡ Some job.now }
-    requires few { length basis.now.pods < 2 ^ 31 }
+    requires its_job { basis.now.job ≡ Some job.now }
+    requires few_pods { length basis.now.pods < 2 ^ 31 }
     requires created { length wants.now.creates ≤ GREATEST_PARALLELISM }
     requires going { stopped_by wants.now ≤ length (active_pods (own_pods job.now basis.now.pods)) }
     requires kind { IfSome target (λ pair. is_target_kind pair.0 ≡ true) }
@@ -201,7 +201,7 @@ pub fn second_status(
     target: Option<(CondKind, Reason)>,
     first: &JobStatus,
 ) -> Result<JobStatus, Want>
-    requires this { basis.now.job ≡ Some job.now }
+    requires its_job { basis.now.job ≡ Some job.now }
     requires kind { IfSome target (λ pair. is_target_kind pair.0 ≡ true) }
     requires fresh { IsSome target → has_target job.now.status.conditions ≡ false }
     requires succeeded { first.now.succeeded + length first.now.uncounted_succeeded < 2 ^ 64 }

@@ -95,7 +95,7 @@ fn clock_offer(machine: &Machine) -> Option<Event>
 /// next step, where it has one; and the clock the seconds to the least delay, where nobody but the
 /// lanes has an event. The time it takes does not grow with what was kept so far.
 pub fn available(machine: &Machine, actor: Actor) -> Option<Event>
-    ensures some { IfSome result (λ event. IsOfActor actor event) }
+    ensures of_actor { IfSome result (λ event. IsOfActor actor event) }
     ensures can_come { IfSome result (λ event. CanCome machine.now event) }
     ensures exactly { (event : Event) → IsOfActor actor event → CanCome machine.now event
         → result ≡ Some event }

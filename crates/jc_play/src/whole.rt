@@ -33,7 +33,7 @@ fn command_at(script: &Script, place: usize) -> &Command
 
 // What is to be played of the place, where its command was not played yet.
 fn own_at(machine: &Machine, place: usize) -> Option<Own>
-    requires proper { IsScriptFor machine.now.script machine.now.shape }
+    requires fits_shape { IsScriptFor machine.now.script machine.now.shape }
     requires there { place < length machine.now.script.commands }
     requires before { ArePlayed place machine.now.pasts }
     ensures none { result ≡ None → list_any (is_command place) machine.now.pasts ≡ true }
@@ -63,7 +63,7 @@ fn own_at(machine: &Machine, place: usize) -> Option<Own>
 
 // Plays the command at the place, where it was not played yet.
 fn play_place(machine: &mut Machine, place: usize) -> Result<(), ApplyFault>
-    requires proper { IsScriptFor machine.old.script machine.old.shape }
+    requires fits_shape { IsScriptFor machine.old.script machine.old.shape }
     requires there { place < length machine.old.script.commands }
     requires before { ArePlayed place machine.old.pasts }
     ensures reaches { Reaches result

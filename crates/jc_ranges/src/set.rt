@@ -85,7 +85,7 @@ impl Ranges {
     /// How many members there are.
     pub fn len(&self) -> u32
         ensures count { result ≡ length self.now }
-        ensures few { result ≤ GREATEST_INDEX + 1 }
+        ensures few_items { result ≤ GREATEST_INDEX + 1 }
         ensures set { IsSet self.now }
     {
         self.count

@@ -66,7 +66,7 @@ fn settle(commands: &mut Commands) -> Result<(), Want>
 pub fn reap(alloc: Global, cluster: &Cluster, ttls: &Ttls) -> Result<Commands, Want>
     requires rest { is_quiescent cluster.now.seen.shape (deeds_seen cluster.now.seen)
         (log_seen cluster.now.seen) ≡ true }
-    requires few { length ttls.now ≤ length cluster.now.seen.script.commands }
+    requires few_ttls { length ttls.now ≤ length cluster.now.seen.script.commands }
     ensures { IfOk result (λ commands. commands ≡ reap_list cluster.now.seen ttls.now) }
 {
     let mut commands = unsettled(alloc, cluster, ttls)?;

@@ -189,7 +189,7 @@ fn take_line(
 /// that is no whole number, or is not from 0 to 2,147,483,647: with the first such line, and with the
 /// path of the member. `Want`: memory ran out.
 pub fn read_ttls(alloc: Global, bytes: &[u8], shape: &Shape) -> Result<Ttls, ScriptFault>
-    requires bound { length bytes.now ≤ most_bytes }
+    requires few_bytes { length bytes.now ≤ most_bytes }
     requires read { IsOk (script_of shape.now bytes.now) }
     ensures ttls { IfOk result (λ ttls. ttls_of shape.now bytes.now ≡ Ok ttls) }
     ensures bad_line { (number : ℕ) (cause : Cause)

@@ -46,7 +46,7 @@ pub fn is_part(text: &[u8]) -> bool
 #[tactic(auto, unfolding(crate::specs::NameForms::has_length_of_name))]
 fn has_length_of_name(text: &[u8]) -> bool
     ensures tested { result ≡ has_length_of_name text.now }
-    ensures some { OnTrue result (0 < length text.now) }
+    ensures not_empty { OnTrue result (0 < length text.now) }
     ensures short { OnTrue result (length text.now ≤ 63) }
 {
     0 < text.len() && text.len() <= MOST_BYTES
@@ -55,7 +55,7 @@ fn has_length_of_name(text: &[u8]) -> bool
 /// Whether a text is one part of 1 to 63 bytes: small letters, digits and dashes, no dash at an end.
 pub fn is_label(text: &[u8]) -> bool
     ensures tested { result ≡ is_label text.now }
-    ensures some { OnTrue result (0 < length text.now) }
+    ensures not_empty { OnTrue result (0 < length text.now) }
     ensures short { OnTrue result (length text.now ≤ 63) }
 {
     has_length_of_name(text) && is_part(text)
@@ -71,7 +71,7 @@ fn are_parts(text: &[u8]) -> bool
 /// Whether a text is made of parts that are joined by points, with 1 to 63 bytes together.
 pub fn is_subdomain(text: &[u8]) -> bool
     ensures tested { result ≡ is_subdomain text.now }
-    ensures some { OnTrue result (0 < length text.now) }
+    ensures not_empty { OnTrue result (0 < length text.now) }
     ensures short { OnTrue result (length text.now ≤ 63) }
 {
     has_length_of_name(text) && are_parts(text)

@@ -42,7 +42,7 @@ use jc_manifest::allowed_updates_stay_valid;
 /// In a legal history of as many events as a shape allows, the failures in a row of a key count
 /// pods that were made, so that they stay small; and the moment of the last is known.
 pub fn failures_stay_small()
-    ensures few { (shape : Shape) (c : ℕ) (deeds : List Deed) → IsLegal shape deeds
+    ensures few_failures { (shape : Shape) (c : ℕ) (deeds : List Deed) → IsLegal shape deeds
         → length deeds ≤ 200000 → (k : Key)
         → (backoff k (notes shape c deeds (log_given shape deeds))).failures ≤ 2 ^ 63 }
     ensures dated { (shape : Shape) (c : ℕ) (deeds : List Deed) → IsLegal shape deeds

@@ -21,6 +21,6 @@ pub fn scripts_fit_their_shape()
     ensures lanes { (shape : Shape) (text : List ℕ) (commands : List Command)
         → script_of shape text ≡ Ok commands
         → Each (λ (command : Command). command.lane < 16) commands }
-    ensures few { (shape : Shape) (text : List ℕ) (commands : List Command)
+    ensures few_commands { (shape : Shape) (text : List ℕ) (commands : List Command)
         → script_of shape text ≡ Ok commands → length commands ≤ most_commands }
 {}

@@ -121,7 +121,7 @@ fn take_line(
         with_front commands.new (lines_say shape.now (number + 1) (length commands.new) more)
         ≡ with_front commands.old
         (lines_say shape.now number (length commands.old) (line.now ∷ more))) }
-    ensures few { OnOk result (length commands.new ≤ most_commands) }
+    ensures few_commands { OnOk result (length commands.new ≤ most_commands) }
     ensures bad { (at : ℕ) (cause : Cause) → IsErrOf result (ScriptFault.BadLine at cause)
         → (more : List (List ℕ))
         → lines_say shape.now number (length commands.old) (line.now ∷ more)

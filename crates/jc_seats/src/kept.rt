@@ -148,7 +148,7 @@ impl<J: Naming> Kept<J> {
     // From which lane on each is used up: its type keeps it.
     pub(crate) fn lanes(&self) -> u32
         ensures used { AreUsedFrom result self.now.seen }
-        ensures few { result ≤ most_lanes }
+        ensures few_lanes { result ≤ most_lanes }
     {
         self.lanes
     }

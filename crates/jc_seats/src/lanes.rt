@@ -27,7 +27,7 @@ pub fn lanes_are_bytes(commands: &[Command])
 // How many lanes there are up to the greatest one of the commands.
 pub(crate) fn lanes_of(commands: &[Command]) -> u32
     ensures below { AreLanesBelow result commands.now }
-    ensures few { result ≤ most_lanes }
+    ensures few_lanes { result ≤ most_lanes }
 {
     let mut lanes = 0;
     for command in commands {
@@ -42,7 +42,7 @@ pub(crate) fn lanes_of(commands: &[Command]) -> u32
 // How many lanes there are up to the greatest one that has a command left; it is looked for from this many down.
 pub(crate) fn lanes_left(cluster: &Cluster, lanes: u32) -> u32
     requires used { AreUsedFrom lanes cluster.now.seen }
-    requires few { lanes ≤ most_lanes }
+    requires few_lanes { lanes ≤ most_lanes }
     ensures used { AreUsedFrom result cluster.now.seen }
     ensures fewer { result ≤ lanes }
 {

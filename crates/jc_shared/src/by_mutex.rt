@@ -52,7 +52,7 @@ fn played<
     R: Threads + Wait + Sync,
     G: Gate + Sync,
 >(host: &Host<'_, R, G>, kept: Kept<J>, log: Log, threads: u32) -> Option<Cluster>
-    requires some { 1 ≤ threads }
+    requires some_threads { 1 ≤ threads }
     requires name { log.name ≡ L.log }
     requires fresh { log.seen ≡ [] }
     ensures named { IfSome result (λ cluster. IsOfName J.script J.shape cluster.seen) }
@@ -85,8 +85,8 @@ fn run_named<J: Naming + Send + Sync, R: Threads + Wait + Sync, G: Gate + Sync>(
 ) -> Result<Cluster, ThreadsFault>
     requires script { play.script.now ≡ J.script }
     requires shape { play.shape.now ≡ J.shape }
-    requires fine { Each (λ (command : Command). IsValidAction command.action) play.script.now.commands }
-    requires proper { IsScriptFor play.script.now play.shape.now }
+    requires valid_actions { Each (λ (command : Command). IsValidAction command.action) play.script.now.commands }
+    requires fits_shape { IsScriptFor play.script.now play.shape.now }
     ensures { EndsRun play.entry.script.now play.entry.shape.now result }
 {
     let Ok(kept) = new_kept::<J>(host.alloc, play) else {
@@ -120,12 +120,12 @@ pub fn run_threads<R: Threads + Wait + Sync, G: Gate + Sync>(
     threads: u32,
     gate: &G,
 ) -> Result<Cluster, ThreadsFault>
-    requires some { 1 ≤ threads }
-    requires few { threads ≤ 16 }
-    requires fine { Each (λ (command : Command). IsValidAction command.action) script.now.commands }
-    requires proper { IsScriptFor script.now shape.now }
+    requires some_threads { 1 ≤ threads }
+    requires few_threads { threads ≤ 16 }
+    requires valid_actions { Each (λ (command : Command). IsValidAction command.action) script.now.commands }
+    requires fits_shape { IsScriptFor script.now shape.now }
     requires fits { length script.now.commands < 2 ^ 32 }
-    requires bound { shape.now.events ≤ 200000 }
+    requires few_events { shape.now.events ≤ 200000 }
     ensures ended { EndsRun script.now shape.now result }
 {
     let host = Host { rt, gate, alloc };

@@ -170,8 +170,8 @@ fn run_seats<J: Naming + Send + Sync, R: Threads + Wait + Sync, G: Gate + Sync>(
     seats: &mut [LockSeat],
     threads: u32,
 )
-    requires some { 1 ≤ threads }
-    requires few { length seats.old ≤ threads }
+    requires some_threads { 1 ≤ threads }
+    requires few_seats { length seats.old ≤ threads }
     requires own { BelongTo lock.now.name seats.old }
     requires free { NoSeatHolds seats.old }
     ensures own { BelongTo lock.now.name seats.new }
@@ -203,8 +203,8 @@ fn run_seats<J: Naming + Send + Sync, R: Threads + Wait + Sync, G: Gate + Sync>(
 fn open<J: Naming>(alloc: Global, play: Play<'_>) -> Option<(TurnLock<Kept<J>>, LockSeats)>
     requires script { play.script.now ≡ J.script }
     requires shape { play.shape.now ≡ J.shape }
-    requires fine { Each (λ (command : Command). IsValidAction command.action) play.script.now.commands }
-    requires proper { IsScriptFor play.script.now play.shape.now }
+    requires valid_actions { Each (λ (command : Command). IsValidAction command.action) play.script.now.commands }
+    requires fits_shape { IsScriptFor play.script.now play.shape.now }
     ensures count { IfSome result (λ made. made.0.seats ≡ play.entry.threads) }
     ensures fresh { IfSome result (λ made. made.1 ≡ fresh_seats made.0.name 0 play.entry.threads) }
 {
@@ -220,7 +220,7 @@ fn run_lock<J: Naming + Send + Sync, R: Threads + Wait + Sync, G: Gate + Sync>(
     seats: LockSeats,
     threads: u32,
 ) -> Kept<J>
-    requires some { 1 ≤ threads }
+    requires some_threads { 1 ≤ threads }
     requires count { lock.seats ≡ threads }
     requires fresh { seats ≡ fresh_seats lock.name 0 threads }
 {
@@ -246,7 +246,7 @@ fn left_by_lock<J: Naming + Send + Sync, R: Threads + Wait + Sync, G: Gate + Syn
     seats: LockSeats,
     threads: u32,
 ) -> Option<Cluster>
-    requires some { 1 ≤ threads }
+    requires some_threads { 1 ≤ threads }
     requires count { lock.seats ≡ threads }
     requires fresh { seats ≡ fresh_seats lock.name 0 threads }
     ensures named { IfSome result (λ cluster. IsOfName J.script J.shape cluster.seen) }
@@ -267,8 +267,8 @@ fn played<J: Naming + Send + Sync, R: Threads + Wait + Sync, G: Gate + Sync>(
 ) -> Option<Cluster>
     requires script { play.script.now ≡ J.script }
     requires shape { play.shape.now ≡ J.shape }
-    requires fine { Each (λ (command : Command). IsValidAction command.action) play.script.now.commands }
-    requires proper { IsScriptFor play.script.now play.shape.now }
+    requires valid_actions { Each (λ (command : Command). IsValidAction command.action) play.script.now.commands }
+    requires fits_shape { IsScriptFor play.script.now play.shape.now }
     ensures named { IfSome result (λ cluster. IsOfName J.script J.shape cluster.seen) }
     ensures orderly { IfSome result
         (λ cluster. IsOrderly cluster.seen.shape (deeds_seen cluster.seen)) }
@@ -286,8 +286,8 @@ fn run_named<J: Naming + Send + Sync, R: Threads + Wait + Sync, G: Gate + Sync>(
 ) -> Result<Cluster, ThreadsFault>
     requires script { play.script.now ≡ J.script }
     requires shape { play.shape.now ≡ J.shape }
-    requires fine { Each (λ (command : Command). IsValidAction command.action) play.script.now.commands }
-    requires proper { IsScriptFor play.script.now play.shape.now }
+    requires valid_actions { Each (λ (command : Command). IsValidAction command.action) play.script.now.commands }
+    requires fits_shape { IsScriptFor play.script.now play.shape.now }
     ensures { EndsRun play.entry.script.now play.entry.shape.now result }
 {
     match played::<J, R, G>(host, play) {
@@ -310,12 +310,12 @@ pub fn run_turn<R: Threads + Wait + Sync, G: Gate + Sync>(
     threads: u32,
     gate: &G,
 ) -> Result<Cluster, ThreadsFault>
-    requires some { 1 ≤ threads }
-    requires few { threads ≤ 16 }
-    requires fine { Each (λ (command : Command). IsValidAction command.action) script.now.commands }
-    requires proper { IsScriptFor script.now shape.now }
+    requires some_threads { 1 ≤ threads }
+    requires few_threads { threads ≤ 16 }
+    requires valid_actions { Each (λ (command : Command). IsValidAction command.action) script.now.commands }
+    requires fits_shape { IsScriptFor script.now shape.now }
     requires fits { length script.now.commands < 2 ^ 32 }
-    requires bound { shape.now.events ≤ 200000 }
+    requires few_events { shape.now.events ≤ 200000 }
     ensures ended { EndsRun script.now shape.now result }
 {
     let host = Host { rt, gate, alloc };

@@ -20,8 +20,8 @@ use std::alloc::Global;
 pub(crate) fn new_kept<J: Naming>(alloc: Global, play: Play<'_>) -> Result<Kept<J>, Want>
     requires script { play.script.now ≡ J.script }
     requires shape { play.shape.now ≡ J.shape }
-    requires fine { Each (λ (command : Command). IsValidAction command.action) play.script.now.commands }
-    requires proper { IsScriptFor play.script.now play.shape.now }
+    requires valid_actions { Each (λ (command : Command). IsValidAction command.action) play.script.now.commands }
+    requires fits_shape { IsScriptFor play.script.now play.shape.now }
 {
     let cluster = Cluster::new(alloc, play.script.copy()?, *play.shape)?;
     Ok(keep(cluster))

@@ -65,10 +65,10 @@ fn print_summary(alloc: Global, played: &Played) -> Result<Output, Want>
 /// The report of the play of a script. What was played is not given back piece by piece, which takes a tenth of the
 /// time: the program prints the report and ends.
 pub(crate) fn script_answer(alloc: Global, script: Script, shape: Shape) -> Result<Output, Want>
-    requires fine { Each (λ (command : Command). IsValidAction command.action) script.commands }
-    requires proper { IsScriptFor script shape }
+    requires valid_actions { Each (λ (command : Command). IsValidAction command.action) script.commands }
+    requires fits_shape { IsScriptFor script shape }
     requires fits { length script.commands < 2 ^ 32 }
-    requires bound { shape.events ≤ 200000 }
+    requires few_events { shape.events ≤ 200000 }
     ensures { IfOk result (λ output. printed_by output ≡ report_printed script shape) }
 {
     let played = play_whole(alloc, script, shape)?;
@@ -80,7 +80,7 @@ pub(crate) fn script_answer(alloc: Global, script: Script, shape: Shape) -> Resu
 // The report of the play of the script in the input.
 #[tactic(auto, using(crate::proofs::WholeFacts::reported_is))]
 fn run_answer(alloc: Global, shape: Shape, input: &[u8]) -> Result<Output, ScriptFault>
-    requires few { length input.now ≤ most_bytes }
+    requires few_bytes { length input.now ≤ most_bytes }
     requires fits { IsFitShape shape }
     ensures text { IfOk result
         (λ output. reported shape (as_script (script_of shape input.now)) ≡ Ok (printed_by output)) }
@@ -113,7 +113,7 @@ fn generate_answer(alloc: Global, number: u32, jobs: u32, pods: u32) -> Result<O
 /// What the order asks for, of what was read.
 #[tactic(auto, unfolding(crate::specs::RunAnswers::answer_of))]
 pub(crate) fn answer(alloc: Global, order: &Order, input: &[u8]) -> Result<Output, ScriptFault>
-    requires few { length input.now ≤ most_bytes }
+    requires few_bytes { length input.now ≤ most_bytes }
     requires fits { IsFitOrder order.now }
     requires single { IsSingle order.now }
     ensures text { IfOk result (λ output. answer_of order.now input.now ≡ Ok (printed_by output)) }

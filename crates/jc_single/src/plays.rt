@@ -38,10 +38,10 @@ fn play_out(cluster: &mut Cluster) -> Result<bool, Want>
 
 /// Plays the whole script in a new cluster.
 pub(crate) fn play_whole(alloc: Global, script: Script, shape: Shape) -> Result<Played, Want>
-    requires fine { Each (λ (command : Command). IsValidAction command.action) script.commands }
-    requires proper { IsScriptFor script shape }
+    requires valid_actions { Each (λ (command : Command). IsValidAction command.action) script.commands }
+    requires fits_shape { IsScriptFor script shape }
     requires fits { length script.commands < 2 ^ 32 }
-    requires bound { shape.events ≤ 200000 }
+    requires few_events { shape.events ≤ 200000 }
     ensures script { IfOk result (λ played. played.cluster.seen.script ≡ script) }
     ensures shape { IfOk result (λ played. played.cluster.seen.shape ≡ shape) }
     ensures play { IfOk result

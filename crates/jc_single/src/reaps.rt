@@ -51,7 +51,7 @@ fn append(commands: &mut Commands, more: &[Command]) -> Result<(), Want>
 fn reaped(alloc: Global, cluster: &Cluster, ttls: &Ttls) -> Result<Script, Want>
     requires rest { is_quiescent cluster.now.seen.shape (deeds_seen cluster.now.seen)
         (log_seen cluster.now.seen) ≡ true }
-    requires few { length ttls.now ≤ length cluster.now.seen.script.commands }
+    requires few_ttls { length ttls.now ≤ length cluster.now.seen.script.commands }
     ensures script { IfOk result (λ script. script.commands
         ≡ cluster.now.seen.script.commands ++ reap_list cluster.now.seen ttls.now) }
     ensures fits { IfOk result (λ script. length script.commands < 2 ^ 32) }
@@ -70,7 +70,7 @@ fn reaped(alloc: Global, cluster: &Cluster, ttls: &Ttls) -> Result<Script, Want>
 fn last_of(alloc: Global, played: &Played, ttls: &Ttls) -> Result<Script, Want>
     requires rest { played.now.full ≡ false → is_quiescent played.now.cluster.seen.shape
         (deeds_seen played.now.cluster.seen) (log_seen played.now.cluster.seen) ≡ true }
-    requires few { length ttls.now ≤ length played.now.cluster.seen.script.commands }
+    requires few_ttls { length ttls.now ≤ length played.now.cluster.seen.script.commands }
     requires fits { length played.now.cluster.seen.script.commands < 2 ^ 32 }
     ensures full { played.now.full ≡ true
         → IfOk result (λ last. last ≡ played.now.cluster.seen.script) }
@@ -87,12 +87,12 @@ fn last_of(alloc: Global, played: &Played, ttls: &Ttls) -> Result<Script, Want>
 // The script that is played last. The cluster of the first play is given up at the end, so that two are never there at
 // once.
 fn last_script(alloc: Global, script: Script, ttls: &Ttls, shape: &Shape) -> Result<Script, Want>
-    requires fine { Each (λ (command : Command). IsValidAction command.action) script.commands }
-    requires proper { IsScriptFor script shape.now }
+    requires valid_actions { Each (λ (command : Command). IsValidAction command.action) script.commands }
+    requires fits_shape { IsScriptFor script shape.now }
     requires fits { length script.commands < 2 ^ 32 }
-    requires few { length ttls.now ≤ length script.commands }
+    requires few_ttls { length ttls.now ≤ length script.commands }
     requires ends { ends_in_settle script.commands ≡ true }
-    requires bound { shape.now.events ≤ 200000 }
+    requires few_events { shape.now.events ≤ 200000 }
     ensures last { IfOk result (λ last. last ≡ then_reaped script shape.now ttls.now) }
     ensures fits { IfOk result (λ last. length last.commands < 2 ^ 32) }
 {
@@ -108,11 +108,11 @@ fn settled_answer(
     ttls: &Ttls,
     shape: &Shape,
 ) -> Result<Output, Want>
-    requires fine { Each (λ (command : Command). IsValidAction command.action) script.commands }
-    requires proper { IsScriptFor script shape.now }
+    requires valid_actions { Each (λ (command : Command). IsValidAction command.action) script.commands }
+    requires fits_shape { IsScriptFor script shape.now }
     requires few_commands { length script.commands ≤ most_commands }
-    requires few { length ttls.now ≤ length script.commands }
-    requires bound { shape.now.events ≤ 200000 }
+    requires few_ttls { length ttls.now ≤ length script.commands }
+    requires few_events { shape.now.events ≤ 200000 }
     ensures { IfOk result (λ output. printed_by output
         ≡ report_printed (then_reaped (at_rest script.commands) shape.now ttls.now) shape.now) }
 {
@@ -124,7 +124,7 @@ fn settled_answer(
 
 /// The report of a reaper, of the script in the input and the TTLs that it gives.
 pub(crate) fn reap_answer(alloc: Global, shape: Shape, input: &[u8]) -> Result<Output, ScriptFault>
-    requires few { length input.now ≤ most_bytes }
+    requires few_bytes { length input.now ≤ most_bytes }
     requires fits { IsFitShape shape }
     ensures text { IfOk result (λ output. reported shape
         (reaped_of shape (script_of shape input.now) (ttls_of shape input.now)) ≡ Ok (printed_by output)) }

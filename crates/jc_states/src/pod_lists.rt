@@ -112,7 +112,7 @@ impl Pods {
     /// `Want` where there is no memory for them.
     pub fn from_slice(alloc: Global, items: &[Arc<Pod>]) -> Result<Self, Want>
         requires rising { IsRising items.now }
-        requires few { length items.now < 2 ^ 32 }
+        requires few_pods { length items.now < 2 ^ 32 }
         ensures { IfOk result (λ pods. pods ≡ items.now) }
     {
         let mut pods = Pods::new(alloc);
@@ -136,7 +136,7 @@ impl Pods {
     /// The number of pods.
     pub fn len(&self) -> usize
         ensures count { result ≡ length self.now }
-        ensures few { result < 2 ^ 32 }
+        ensures few_items { result < 2 ^ 32 }
         ensures rising { IsRising self.now }
     {
         self.pods.len()
@@ -152,7 +152,7 @@ impl Pods {
     /// The pods, in ascending UID.
     pub fn as_slice(&self) -> &[Arc<Pod>]
         ensures pods { result.now ≡ self.now }
-        ensures few { length self.now < 2 ^ 32 }
+        ensures few_items { length self.now < 2 ^ 32 }
         ensures rising { IsRising self.now }
     {
         self.pods.as_slice()
@@ -299,7 +299,7 @@ impl Pods {
     /// `Want` where there is no memory for it; the pods are then as before.
     pub fn push(&mut self, pod: Arc<Pod>) -> Result<(), Want>
         requires above { All (λ (other : Pod). other.uid.0 < pod.uid.0) self.old }
-        requires few { length self.old < 2 ^ 32 - 1 }
+        requires few_pods { length self.old < 2 ^ 32 - 1 }
         ensures added { OnOk result (self.new ≡ self.old ++ pod ∷ []) }
         ensures kept { OnErr result (self.new ≡ self.old) }
     {
@@ -311,7 +311,7 @@ impl Pods {
     /// # Errors
     /// `Want` where there is no memory for one more pod; the pods are then as before.
     pub fn put(&mut self, pod: Arc<Pod>) -> Result<(), Want>
-        requires few { length self.old < 2 ^ 32 - 1 }
+        requires few_pods { length self.old < 2 ^ 32 - 1 }
         ensures puts { OnOk result (self.new ≡ put_pod pod self.old) }
         ensures kept { OnErr result (self.new ≡ self.old) }
     {
@@ -347,7 +347,7 @@ impl Pods {
     fn insert_at(&mut self, place: usize, pod: Arc<Pod>) -> Result<(), Want>
         requires place { place ≡ place_from pod.uid self.old }
         requires absent { find (λ other. same_uid other.uid pod.uid) self.old ≡ None }
-        requires few { length self.old < 2 ^ 32 - 1 }
+        requires few_pods { length self.old < 2 ^ 32 - 1 }
         ensures puts { OnOk result (self.new ≡ put_pod pod self.old) }
         ensures kept { OnErr result (self.new ≡ self.old) }
     {

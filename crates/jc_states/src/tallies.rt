@@ -49,7 +49,7 @@ fn no_pods(owner: Uid) -> Tally
 // The restarts of all containers of the pod.
 fn restarts_in(pod: &Pod) -> u128
     ensures sum { result ≡ restarts_in pod.now }
-    ensures few { result < 2 ^ 96 }
+    ensures few_restarts { result < 2 ^ 96 }
 {
     let mut restarts = 0;
     for container in pod.containers.as_slice() {
@@ -61,7 +61,7 @@ fn restarts_in(pod: &Pod) -> u128
 // The restarts of all containers of the pod, where it is open.
 fn open_restarts(pod: &Pod) -> u128
     ensures sum { result ≡ open_restarts pod.now }
-    ensures few { HasFewRestarts pod.now }
+    ensures few_restarts { HasFewRestarts pod.now }
 {
     if is_open(pod) { restarts_in(pod) } else { 0 }
 }
@@ -70,7 +70,7 @@ fn open_restarts(pod: &Pod) -> u128
 fn tally_with(tally: Tally, pod: &Pod) -> Tally
     requires { HasRoom tally }
     ensures numbers { result ≡ tally_with tally pod.now }
-    ensures few { HasFewRestarts pod.now }
+    ensures few_restarts { HasFewRestarts pod.now }
 {
     Tally {
         owner: tally.owner,
@@ -114,10 +114,10 @@ pub(crate) fn tally_in(rows: &IndexMap<Uid, Tally>, owner: Uid) -> Tally
 // Counts one more pod among those of its owner, in the room that there is.
 pub(crate) fn enter(rows: &mut IndexMap<Uid, Tally>, pod: &Pod)
     requires room { 0 < spare rows.old }
-    requires few { HasRoom (tally_in pod.now.owner_uid rows.old.entries) }
+    requires few_in_tally { HasRoom (tally_in pod.now.owner_uid rows.old.entries) }
     ensures numbers { (owner : Uid) → tally_in owner rows.new.entries
         ≡ with_pod owner pod.now (tally_in owner rows.old.entries) }
-    ensures few { HasFewRestarts pod.now }
+    ensures few_restarts { HasFewRestarts pod.now }
 {
     let tally = tally_with(tally_in(rows, pod.owner_uid), pod);
     let Ok(_) = rows.insert(pod.owner_uid, tally) else {

@@ -211,7 +211,7 @@ impl Store {
     /// The pods that are there, in ascending UID, fewer than 2 ^ 32.
     pub fn pods(&self) -> &PodTable
         ensures pods { result.now ≡ pods_in self.now }
-        ensures few { length (pods_in self.now) < 2 ^ 32 }
+        ensures few_pods { length (pods_in self.now) < 2 ^ 32 }
     {
         self.pods.all()
     }
@@ -299,7 +299,7 @@ impl Store {
 
     // Makes a pod.
     pub(super) fn make_pod(&mut self, pod: Pod) -> Result<(), Want>
-        requires few { length self.old < 2 ^ 32 - 1 }
+        requires few_entries { length self.old < 2 ^ 32 - 1 }
         requires version { pod.version ≡ next_version self.old }
         requires new_pod { IsNewPod self.old pod }
         ensures added { OnOk result (self.new ≡ PodPut pod ∷ self.old) }

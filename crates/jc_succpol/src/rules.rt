@@ -43,7 +43,7 @@ pub fn is_met(policy: &SuccessPolicy, completed: &Ranges) -> bool
 /// A rule with indexes alone needs all of them. A rule with a count alone needs that many completed
 /// indexes, and one with both needs that many of its own. A rule with neither is never met.
 pub fn met(policy: &SuccessPolicy, completed: &Ranges) -> Option<u32>
-    requires few { length policy.now.rules < 2 ^ 32 }
+    requires few_rules { length policy.now.rules < 2 ^ 32 }
     ensures { result ≡ met_place policy.now completed.now }
 {
     match met_place(policy, completed) {

@@ -217,7 +217,7 @@ impl Member {
     /// # Errors
     /// `Want` where there is no memory for it; all is then as before.
     pub fn deliver(&mut self, store: &Store, window: u32, kind: Kind) -> Result<Reply, Want>
-        requires few { HasFewPods self.old.con.rows }
+        requires few_pods { HasFewPods self.old.con.rows }
         ensures reply { IfOk result (λ r. MirrorsLog store.now self.old.con → r
             ≡ (deliver_gives store.now window (number_of kind self.old.con.schedule)).reply) }
         ensures schedule { OnOk result (MirrorsLog store.now self.old.con → self.new.con.schedule

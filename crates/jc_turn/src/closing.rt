@@ -24,7 +24,7 @@ fn place_of<T>(seat: LockSeat) -> LockPlace<T>
 // One place that stands for all these seats, and has seen what each of them has.
 fn gather<T: Booked>(board: &Board<T>, mut seats: Vec<LockSeat>) -> LockPlace<T>
     requires lock { IsLock board.now.table_id }
-    requires some { 0 < length seats.items }
+    requires some_seats { 0 < length seats.items }
     requires own { BelongTo board.now.table_id seats.items }
     requires free { NoSeatHolds seats.items }
     ensures place { (result.table_id ≡ board.now.table_id) × (result.me.1 ≡ []) }

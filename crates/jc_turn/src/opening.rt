@@ -56,7 +56,7 @@ fn lay<T: Booked>(alloc: Global, value: T, seats: u32) -> Result<(LockTable<T>, 
 
 // Cuts the seats from the place that stands for all of them.
 fn deal<T: Booked>(board: &Board<T>, mut place: LockPlace<T>, list: &mut Vec<LockSeat>, seats: u32)
-    requires some { 1 ≤ seats }
+    requires some_seats { 1 ≤ seats }
     requires lock { IsLock board.now.table_id × (place.table_id ≡ board.now.table_id) }
     requires all { place.me ≡ (first_view seats, []) }
     requires room { (list.old.items ≡ []) × (seats ≤ vec_capacity list.old) }

@@ -103,7 +103,7 @@ impl Name {
     /// # Errors
     /// `Want` where there is no memory for it.
     pub fn from_text(alloc: Global, text: &str) -> Result<Self, Want>
-        requires some { 0 < length text.now }
+        requires not_empty { 0 < length text.now }
         requires short { length text.now ≤ 63 }
         ensures { IfOk result (λ n. n ≡ text.now) }
     {
@@ -117,7 +117,7 @@ impl Name {
     /// # Errors
     /// `Want` where there is no memory for it.
     pub fn from_string(string: String) -> Result<Self, Want>
-        requires some { 0 < length (string_bytes string) }
+        requires not_empty { 0 < length (string_bytes string) }
         requires short { length (string_bytes string) ≤ 63 }
         ensures { IfOk result (λ n. n ≡ string_bytes string) }
     {
@@ -129,7 +129,7 @@ impl Name {
     /// The name's text.
     pub fn as_str(&self) -> &str
         ensures value { result.now ≡ self.now }
-        ensures some { 0 < length self.now }
+        ensures not_empty { 0 < length self.now }
         ensures short { length self.now ≤ 63 }
     {
         self.string.as_str()

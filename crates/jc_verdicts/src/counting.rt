@@ -159,7 +159,7 @@ pub fn all_verdicts(
     history: &History,
     log: &Entries,
 ) -> Result<Table<Uid, Verdicts>, Want>
-    requires few { length log.now < 2 ^ 32 }
+    requires few_entries { length log.now < 2 ^ 32 }
     requires places { IsNumbered script.now history.now }
     ensures counts { IfOk result (λ rows. (job : Uid) → verdicts_at job rows
         ≡ verdicts_of (ledger_of job (deeds script.now history.now) (reverse log.now))) }
@@ -184,7 +184,7 @@ pub fn verdicts(
     log: &Entries,
     job: Uid,
 ) -> Result<Verdicts, Want>
-    requires few { length log.now < 2 ^ 32 }
+    requires few_entries { length log.now < 2 ^ 32 }
     requires places { IsNumbered script.now history.now }
     ensures counts { IfOk result (λ v.
         v ≡ verdicts_of (ledger_of job (deeds script.now history.now) (reverse log.now))) }

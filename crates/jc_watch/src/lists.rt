@@ -42,7 +42,7 @@ pub fn list_pods(alloc: Global, store: &Store) -> Result<(Pods, Version), Want>
 // Copies of the pods that are there, in ascending UID.
 fn copies(alloc: Global, store: &Store) -> Result<ListOf<Arc<Pod>>, Want>
     ensures pods { IfOk result (λ list. list ≡ pods_in store.now) }
-    ensures few { length (pods_in store.now) < 2 ^ 32 }
+    ensures few_pods { length (pods_in store.now) < 2 ^ 32 }
 {
     let mut list = ListOf::new(alloc);
     for pod in store.pods().values() {

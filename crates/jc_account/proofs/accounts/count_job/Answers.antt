@@ -42,7 +42,7 @@ returns-clause-failed_fits c =
     omega (
       arith,
       c.raised.ensures,
-      c.in_ok-merged.ensures.few,
+      c.in_ok-merged.ensures.no_longer,
       c.in_ok-newly.ensures.few_failed,
       c.requires.totals.1,
     )
@@ -55,10 +55,10 @@ returns-clause-succeeded_fits c =
     c.in_ok-newly.newly.left_succeeded (length c.args.pods.now) status.succeeded (length status.uncounted_succeeded)
     c.succeeded.ensures.plain c.succeeded.ensures.indexed
     (λ e. ap length (c.requires.tidy (sym (ap (λ (spec : JobSpec). spec.mode) c.deref.ensures) ∙ e)).0)
-    c.raised-total.ensures c.in_ok-with_successes.ensures.few
+    c.raised-total.ensures c.in_ok-with_successes.ensures.no_longer
     (λ e. ap length (c.in_ok-with_successes.ensures.indexed e))
     (omega (arith, c.in_ok-stayed_succeeded.ensures.shorter, ap length c.as_slice.ensures))
-    c.in_ok-newly.ensures.few_succeeded c.requires.few c.requires.totals.0
+    c.in_ok-newly.ensures.few_succeeded c.requires.few_pods c.requires.totals.0
 
 -- The room is what those leave that stay.
 pub judge-requires-clause-room : goal.judge-requires-clause-room

@@ -24,12 +24,12 @@ count_job-requires-clause-indexes c =
     some-small c.args.job.now c.args.pods.now _ _ _ c.as_slice-succeeded.ensures c.as_slice-failed.ensures
     (c.as_slice.ensures.value ∙ c.in_ok-to_look_at.ensures.pods) c.requires.indexes
 
-pub count_job-requires-clause-few : goal.count_job-requires-clause-few
-count_job-requires-clause-few c =
+pub count_job-requires-clause-few_pods : goal.count_job-requires-clause-few_pods
+count_job-requires-clause-few_pods c =
     let few =
     some-few c.args.job.now c.args.pods.now _ _ _ c.as_slice-succeeded.ensures c.as_slice-failed.ensures
     (c.as_slice.ensures.value ∙ c.in_ok-to_look_at.ensures.pods)
-    in omega (arith, few, c.requires.few)
+    in omega (arith, few, c.requires.few_pods)
 
 pub returns-clause-counted : goal.returns-clause-counted
 returns-clause-counted c =

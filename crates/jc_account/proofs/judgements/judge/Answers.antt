@@ -57,11 +57,11 @@ returns-clause-completed c =
 
 pub count_beyond-requires : goal.count_beyond-requires
 count_beyond-requires c =
-    omega (arith, ap length (c.as_slice-6.ensures.value ∙ c.in_ok-rows.ensures), rows-few c.args.job.now c.args.pods.now, c.requires.few)
+    omega (arith, ap length (c.as_slice-6.ensures.value ∙ c.in_ok-rows.ensures), rows-few c.args.job.now c.args.pods.now, c.requires.few_pods)
 
 pub count_beyond-requires-2 : goal.count_beyond-requires-2
 count_beyond-requires-2 c =
-    omega (arith, ap length (c.as_slice-7.ensures.value ∙ c.in_ok-rows.ensures), rows-few c.args.job.now c.args.pods.now, c.requires.few)
+    omega (arith, ap length (c.as_slice-7.ensures.value ∙ c.in_ok-rows.ensures), rows-few c.args.job.now c.args.pods.now, c.requires.few_pods)
 
 pub returns-clause-left_succeeded : goal.returns-clause-left_succeeded
 returns-clause-left_succeeded c =

@@ -13,5 +13,5 @@ returns c = record {
   failed_length = failed-length;
   succeeded_length = succeeded-length;
   apart = lists-apart;
-  few = lists-short;
+  few_listed = lists-short;
 }

@@ -11,7 +11,7 @@ returns c = record {
   member = newly-member;
   none = newly-none;
   order = newly-order;
-  few = newly-room;
+  few_judged = newly-room;
   staying = staying-member;
   staying_length = staying-length;
 }

@@ -7,7 +7,7 @@ use Rattle.jc_audit.proofs.taking.can_pass.Goals as goal
 
 pub returns-in-Some-clause-can_come : goal.returns-in-Some-clause-can_come
 returns-in-Some-clause-can_come c = (
-  λ yes. subst (λ n. CanCome c.args.machine.now (event.System (sys.Clock n))) (eqb-true c.in-Some.seconds c.args.add yes) c.in-Some.ensures.some,
+  λ yes. subst (λ n. CanCome c.args.machine.now (event.System (sys.Clock n))) (eqb-true c.in-Some.seconds c.args.add yes) c.in-Some.ensures.it_can_come,
   λ can. eq-eqb c.in-Some.seconds c.args.add (same_number c.in-Some.seconds c.args.add (c.in-Some.ensures.exactly c.args.add can)),
 )
 

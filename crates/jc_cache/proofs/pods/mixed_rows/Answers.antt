@@ -11,7 +11,7 @@ put_pod-requires c =
     let pod = c.pod-item.result in
     let i = c.loop-pod.pod-index in
     let few = first-few pod.owner c.args.pods.now i (omega (arith, c.loop-pod-test.true)) in
-    record { few = omega (arith, few, ap length (c.loop-pod.invariant pod.owner), c.loop-pod-test.true, c.requires.few) }
+    record { few_pods = omega (arith, few, ap length (c.loop-pod.invariant pod.owner), c.loop-pod-test.true, c.requires.few_pods) }
 
 -- The pod after the first ones is put.
 pub loop-pod-preserved : goal.loop-pod-preserved

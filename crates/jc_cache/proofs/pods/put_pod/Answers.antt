@@ -15,7 +15,7 @@ put-requires c =
     let are =
     pods_there c.args.pod.now.owner c.in-Some.pods.now c.args.rows.now.entries
     (ap (λ (pod : Pod). at same_key c.args.rows.now.entries pod.owner) (sym c.deref.ensures) ∙ sym c.get_mut.ensures.value ∙ ap option_copied_mut c.in-Some.is) in
-    record { few = omega (arith, c.requires.few, ap length are) }
+    record { few_pods = omega (arith, c.requires.few_pods, ap length are) }
 
 -- The pods of the owner are as before, and so are all rows.
 pub returns-in_err-put-clause-kept : goal.returns-in_err-put-clause-kept

@@ -9,29 +9,29 @@ use Rattle.jc_ctl.specs.Asked.{HasThreads, order_asked}
 use Rattle.jc_ctl.specs.Done.{ByAudit, ByOne, ByThreads}
 use Rattle.jc_ctl.proofs.run.run_asked.Goals as goal
 
-pub run_threaded-requires-clause-few : goal.run_threaded-requires-clause-few
-run_threaded-requires-clause-few g c κs within =
-    (subst IsFitOrder (c.in-Some-Threads.ensures.some ∙ ap order_asked c.in-Some-Threads.field-0-is) c.requires).few_threads
+pub run_threaded-requires-clause-few_threads : goal.run_threaded-requires-clause-few_threads
+run_threaded-requires-clause-few_threads g c κs within =
+    (subst IsFitOrder (c.in-Some-Threads.ensures.of_order ∙ ap order_asked c.in-Some-Threads.field-0-is) c.requires).few_threads
 
 pub run_threaded-requires-clause-fit_shape : goal.run_threaded-requires-clause-fit_shape
 run_threaded-requires-clause-fit_shape g c κs within =
-    (subst IsFitOrder (c.in-Some-Threads.ensures.some ∙ ap order_asked c.in-Some-Threads.field-0-is) c.requires).shape_fits
+    (subst IsFitOrder (c.in-Some-Threads.ensures.of_order ∙ ap order_asked c.in-Some-Threads.field-0-is) c.requires).shape_fits
 
 pub audit_report-requires : goal.audit_report-requires
 audit_report-requires g c =
-    subst IsFitOrder (c.in-Some-Audit.ensures.some ∙ ap order_asked c.in-Some-Audit.field-0-is) c.requires
+    subst IsFitOrder (c.in-Some-Audit.ensures.of_order ∙ ap order_asked c.in-Some-Audit.field-0-is) c.requires
 
 pub returns-in-Some-Threads : goal.returns-in-Some-Threads
 returns-in-Some-Threads g c =
     ByThreads c.in-Some-Threads.threads c.in-Some-Threads.lock c.in-Some-Threads.shape
     (subst HasThreads c.in-Some-Threads.field-0-is c.in-Some-Threads.ensures.threads)
-    (ap (λ (o : Order). Some o) (c.in-Some-Threads.ensures.some ∙ ap order_asked c.in-Some-Threads.field-0-is))
+    (ap (λ (o : Order). Some o) (c.in-Some-Threads.ensures.of_order ∙ ap order_asked c.in-Some-Threads.field-0-is))
     c.run_threaded.ensures
 
 pub returns-in-Some-Audit : goal.returns-in-Some-Audit
 returns-in-Some-Audit g c =
     ByAudit c.in-Some-Audit.shape
-    (ap (λ (o : Order). Some o) (c.in-Some-Audit.ensures.some ∙ ap order_asked c.in-Some-Audit.field-0-is))
+    (ap (λ (o : Order). Some o) (c.in-Some-Audit.ensures.of_order ∙ ap order_asked c.in-Some-Audit.field-0-is))
     c.audit_report.ensures
 
 pub returns-in-None : goal.returns-in-None

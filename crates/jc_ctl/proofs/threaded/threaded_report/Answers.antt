@@ -21,14 +21,14 @@ told-requires-clause-few_controllers g c = subst (λ (s : Shape). s.controllers 
 pub told-requires-clause-few_workers : goal.told-requires-clause-few_workers
 told-requires-clause-few_workers g c = subst (λ (s : Shape). s.workers ≤ 16) (sym c.in_ok-ended.ensures.left.shape_is) c.requires.fit_shape.few_workers
 
-pub told-requires-clause-bound : goal.told-requires-clause-bound
-told-requires-clause-bound g c = subst (λ (s : Shape). s.events ≤ 200000) (sym c.in_ok-ended.ensures.left.shape_is) c.requires.fit_shape.few_events
+pub told-requires-clause-few_events : goal.told-requires-clause-few_events
+told-requires-clause-few_events g c = subst (λ (s : Shape). s.events ≤ 200000) (sym c.in_ok-ended.ensures.left.shape_is) c.requires.fit_shape.few_events
 
 pub told-requires-clause-lanes : goal.told-requires-clause-lanes
 told-requires-clause-lanes g c = subst (λ (s : Script). Each (λ (command : Command). command.lane < 2 ^ 8) s.commands) (sym c.in_ok-ended.ensures.left.script_is) c.requires.lanes
 
-pub told-requires-clause-fine : goal.told-requires-clause-fine
-told-requires-clause-fine g c = subst (λ (s : Script). Each (λ (command : Command). IsValidAction command.action) s.commands) (sym c.in_ok-ended.ensures.left.script_is) c.requires.fine
+pub told-requires-clause-valid_actions : goal.told-requires-clause-valid_actions
+told-requires-clause-valid_actions g c = subst (λ (s : Script). Each (λ (command : Command). IsValidAction command.action) s.commands) (sym c.in_ok-ended.ensures.left.script_is) c.requires.valid_actions
 
 pub told-requires-clause-ended : goal.told-requires-clause-ended
 told-requires-clause-ended g c =

@@ -8,7 +8,7 @@ returns-clause-report c = λ threads some.
     is_report c.args.cluster.now.seen c.history-history.result.now c.history-history.ensures.events threads c.args.full _
     c.history-history.ensures.follows
     (c.legal_histories_keep_the_promises.ensures c.args.cluster.now.seen.script c.args.cluster.now.seen.shape c.history-history.result.now
-    c.requires.fine c.requires.some_controllers c.requires.some_workers c.requires.bound c.history-history.ensures.follows)
+    c.requires.valid_actions c.requires.some_controllers c.requires.some_workers c.requires.few_events c.history-history.ensures.follows)
     (λ orderly. c.orderly_histories_have_small_numbers.ensures c.args.cluster.now.seen.script c.args.cluster.now.seen.shape
     c.history-history.result.now c.requires.lanes (let few = c.requires.few_controllers in omega (arith, few))
     (let few = c.requires.few_workers in omega (arith, few))

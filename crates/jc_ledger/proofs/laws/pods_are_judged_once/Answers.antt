@@ -6,5 +6,5 @@ use Rattle.jc_ledger.proofs.laws.pods_are_judged_once.Goals as goal
 pub returns : goal.returns
 returns c = record {
   distinct = ledger_of-distinct;
-  few = λ j deeds log. few_records j deeds log (ledger_of-distinct j deeds log);
+  few_records = λ j deeds log. few_records j deeds log (ledger_of-distinct j deeds log);
 }

@@ -18,7 +18,7 @@ raise_for-requires-clause-fit c =
     let test = λ (pod : Pod). is_own job pod && is_in pod.uid c.args.uids.now in
     subst (All (λ (count : IndexCount). count.failures + 1 < 2 ^ 64)) (sym c.loop-place.invariant)
     (one-fits (length pods) (2 ^ 64) job.spec.failure job.status.index_failures (filter test (drop c.loop-place.place pods))
-    (fewer-behind test pods c.loop-place.place (omega arith) (omega arith)) (omega (arith, c.requires.few)) c.requires.fit)
+    (fewer-behind test pods c.loop-place.place (omega arith) (omega arith)) (omega (arith, c.requires.few_pods)) c.requires.fit)
 
 pub raise_for-requires-clause-ascending : goal.raise_for-requires-clause-ascending
 raise_for-requires-clause-ascending c =

@@ -4,10 +4,10 @@ use Rattle.jc_perindex.specs.FillingSteps.{raise_each}
 use Rattle.jc_perindex.proofs.NotedFacts.{some-failed, some-few, some-fit}
 use Rattle.jc_perindex.proofs.filling.raised.Goals as goal
 
-pub raise_each-requires-clause-few : goal.raise_each-requires-clause-few
-raise_each-requires-clause-few c =
+pub raise_each-requires-clause-few_pods : goal.raise_each-requires-clause-few_pods
+raise_each-requires-clause-few_pods c =
     let few = some-few c.args.job.now c.args.pods.now _ c.args.uids.now [] (c.as_slice.ensures.value ∙ c.in_ok-noted.ensures.pods) in
-    omega (arith, few, c.requires.few)
+    omega (arith, few, c.requires.few_pods)
 
 pub raise_each-requires-clause-fit : goal.raise_each-requires-clause-fit
 raise_each-requires-clause-fit c =

@@ -19,34 +19,34 @@ pub overflow_add-going : goal.overflow_add-going
 overflow_add-going c =
     let pods = c.args.pods.now in
     let own = own_pods c.args.job.now pods in
-    omega (arith, c.len.ensures, c.len-2.ensures, c.requires.few, c.requires.going, open-few own, filter-few (is_own c.args.job.now) pods)
+    omega (arith, c.len.ensures, c.len-2.ensures, c.requires.few_pods, c.requires.going, open-few own, filter-few (is_own c.args.job.now) pods)
 
 pub overflow_add-result : goal.overflow_add-result
 overflow_add-result c =
     let pods = c.args.pods.now in
     let own = own_pods c.args.job.now pods in
-    omega (arith, c.len-3.ensures, active-is c.tally-tally.ensures, c.requires.few, c.requires.created, open-few own, filter-few (is_own c.args.job.now) pods)
+    omega (arith, c.len-3.ensures, active-is c.tally-tally.ensures, c.requires.few_pods, c.requires.created, open-few own, filter-few (is_own c.args.job.now) pods)
 
 pub overflow_cast-result-2 : goal.overflow_cast-result-2
 overflow_cast-result-2 c =
     let pods = c.args.pods.now in
     let own = own_pods c.args.job.now pods in
-    omega (arith, c.len-3.ensures, active-is c.tally-tally.ensures, c.requires.few, c.requires.created, open-few own, filter-few (is_own c.args.job.now) pods)
+    omega (arith, c.len-3.ensures, active-is c.tally-tally.ensures, c.requires.few_pods, c.requires.created, open-few own, filter-few (is_own c.args.job.now) pods)
 
 pub overflow_cast-result-3 : goal.overflow_cast-result-3
 overflow_cast-result-3 c =
     let pods = c.args.pods.now in
     let own = own_pods c.args.job.now pods in
-    omega (arith, c.ready_after.ensures, c.requires.few, filter-few (λ pod. is_ready pod && keeps_on c.args.wants.now pod) own, filter-few (is_own c.args.job.now) pods)
+    omega (arith, c.ready_after.ensures, c.requires.few_pods, filter-few (λ pod. is_ready pod && keeps_on c.args.wants.now pod) own, filter-few (is_own c.args.job.now) pods)
 
 pub overflow_add-result-2 : goal.overflow_add-result-2
 overflow_add-result-2 c =
     let pods = c.args.pods.now in
     let own = own_pods c.args.job.now pods in
-    omega (arith, c.len.ensures, c.len-2.ensures, ending-is c.tally-tally.ensures, c.requires.few, c.requires.going, open-few own, filter-few (is_own c.args.job.now) pods)
+    omega (arith, c.len.ensures, c.len-2.ensures, ending-is c.tally-tally.ensures, c.requires.few_pods, c.requires.going, open-few own, filter-few (is_own c.args.job.now) pods)
 
 pub overflow_cast-result-5 : goal.overflow_cast-result-5
 overflow_cast-result-5 c =
     let pods = c.args.pods.now in
     let own = own_pods c.args.job.now pods in
-    omega (arith, c.len.ensures, c.len-2.ensures, ending-is c.tally-tally.ensures, c.requires.few, c.requires.going, open-few own, filter-few (is_own c.args.job.now) pods)
+    omega (arith, c.len.ensures, c.len-2.ensures, ending-is c.tally-tally.ensures, c.requires.few_pods, c.requires.going, open-few own, filter-few (is_own c.args.job.now) pods)

@@ -9,11 +9,11 @@ use Rattle.jc_plan.proofs.parts.planned_with.Goals as goal
 pub released-requires : goal.released-requires
 released-requires c =
     ap (λ (k : CountIn). k.releases) c.requires.counted
-    ∙ sym (ap (λ o. due_uids o c.args.basis.now.pods) c.requires.this)
+    ∙ sym (ap (λ o. due_uids o c.args.basis.now.pods) c.requires.its_job)
 
 pub returns : goal.returns
 returns c =
     planned-is c.args.job.now c.args.basis.now c.in_ok-wants.wants c.in_ok-wants.ensures.wants
     c.next_deadline.result c.in_ok-first.first c.in_ok-first.second c.in_ok-releases.releases c.earlier.result
-    c.requires.this c.next_deadline.ensures c.in_ok-first.ensures.first c.in_ok-first.ensures.second
+    c.requires.its_job c.next_deadline.ensures c.in_ok-first.ensures.first c.in_ok-first.ensures.second
     c.in_ok-releases.ensures c.earlier.ensures

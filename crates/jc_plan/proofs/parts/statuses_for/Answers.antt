@@ -6,7 +6,7 @@ use Rattle.jc_plan.proofs.parts.statuses_for.Goals as goal
 
 pub first_status-requires-clause-created : goal.first_status-requires-clause-created
 first_status-requires-clause-created c =
-    wants-created c.args.job.now c.args.basis.now c.args.wants.now c.requires.this c.requires.can c.requires.wants
+    wants-created c.args.job.now c.args.basis.now c.args.wants.now c.requires.its_job c.requires.can c.requires.wants
 
 pub first_status-requires-clause-going : goal.first_status-requires-clause-going
 first_status-requires-clause-going c = wants-going c.args.job.now c.args.basis.now c.args.wants.now c.requires.wants

@@ -9,7 +9,7 @@ use Rattle.jc_plan.proofs.releases.releases_none.Goals as goal
 pub returns-then-is_empty : goal.returns-then-is_empty
 returns-then-is_empty c = λ h.
     let job = c.args.job.now in
-    releases-none c.args.basis.now job c.requires.this
+    releases-none c.args.basis.now job c.requires.its_job
     (sym c.requires.due ∙ nil_from_length c.args.due.now (eqb-true _ _ (sym c.is_empty.ensures ∙ c.if-is_empty.true)))
     (sym (ap (λ (t : Tally). t.pods) c.tally.ensures ∙ ap (λ pods. (tally_of job.uid pods).pods) c.deref.ensures)
     ∙ eqb-true _ _ h

@@ -23,7 +23,7 @@ pub returns-clause-own : goal.returns-clause-own
 returns-clause-own c =
     let same = c.if-number-place.false in
     subst (λ n. IsOwn c.args.machine.now (Command c.command_at-command.result.now.lane n)) (sym same)
-    (own-is c.args.machine.now c.args.place c.command_at-command.result.now (ap (λ (script : Script). slice_get script.commands c.args.place) (sym c.script.ensures) ∙ c.command_at-command.ensures) c.requires.proper
+    (own-is c.args.machine.now c.args.place c.command_at-command.result.now (ap (λ (script : Script). slice_get script.commands c.args.place) (sym c.script.ensures) ∙ c.command_at-command.ensures) c.requires.fits_shape
     (that-next c.next_command.result (next_command c.args.machine.now.script.commands c.command_at-command.result.now.lane c.args.machine.now.pasts) c.in_ok-number.number c.args.place c.next_command.ensures c.in_ok-number.was same))
 
 pub returns-clause-fits : goal.returns-clause-fits
@@ -31,7 +31,7 @@ returns-clause-fits c =
     let same = c.if-number-place.false in
     subst (λ n. FitsWay c.way_of.result c.args.machine.now (Command c.command_at-command.result.now.lane n)) (sym same)
     (subst (λ way. FitsWay way c.args.machine.now (Command c.command_at-command.result.now.lane c.args.place)) (sym c.way_of.ensures)
-    (own-fits c.args.machine.now c.args.place c.command_at-command.result.now (ap (λ (script : Script). slice_get script.commands c.args.place) (sym c.script.ensures) ∙ c.command_at-command.ensures) c.requires.proper))
+    (own-fits c.args.machine.now c.args.place c.command_at-command.result.now (ap (λ (script : Script). slice_get script.commands c.args.place) (sym c.script.ensures) ∙ c.command_at-command.ensures) c.requires.fits_shape))
 
 pub returns-clause-play : goal.returns-clause-play
 returns-clause-play c =

@@ -20,6 +20,6 @@ returns-clause-lanes c shape text commands said =
     each_map (IsFit shape) (λ (command : Command). command.lane < 16) (λ command fit. fit.lane) commands
     (script_fits shape text commands said).each
 
-pub returns-clause-few : goal.returns-clause-few
-returns-clause-few c shape text commands said =
+pub returns-clause-few_commands : goal.returns-clause-few_commands
+returns-clause-few_commands c shape text commands said =
     let few = (script_fits shape text commands said).few in omega (arith, few)

@@ -10,8 +10,8 @@ returns-in_ok-add_times-in-Ok-Some-clause-read c =
     (ap (λ n. nat_le (n + c.in-Ok-Some.said.times) most_commands) (sym c.len.ensures) ∙ sym c.if-not-are_few.ensures)
     c.in_ok-add_times-in-Ok-Some.ensures
 
-pub returns-in_ok-add_times-in-Ok-Some-clause-few : goal.returns-in_ok-add_times-in-Ok-Some-clause-few
-returns-in_ok-add_times-in-Ok-Some-clause-few c =
+pub returns-in_ok-add_times-in-Ok-Some-clause-few_commands : goal.returns-in_ok-add_times-in-Ok-Some-clause-few_commands
+returns-in_ok-add_times-in-Ok-Some-clause-few_commands c =
     few_times c.args.commands.now c.add_times.new.commands c.in-Ok-Some.said
     (ap (λ n. nat_le (n + c.in-Ok-Some.said.times) most_commands) (sym c.len.ensures) ∙ sym c.if-not-are_few.ensures)
     c.in_ok-add_times-in-Ok-Some.ensures

@@ -12,7 +12,7 @@ invariant_of-result g c = (
     used = used-above c.lanes_of-lanes.result c.args.cluster.seen.script.commands c.args.cluster.seen.pasts
         (subst (AreLanesBelow c.lanes_of-lanes.result)
         (c.as_slice.ensures ∙ ap (λ (s : Script). s.commands) c.script.ensures.script) c.lanes_of-lanes.ensures.below);
-    few = c.lanes_of-lanes.ensures.few;
+    few = c.lanes_of-lanes.ensures.few_lanes;
   },
   c.requires.named,
 )

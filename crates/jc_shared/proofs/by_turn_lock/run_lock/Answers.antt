@@ -2,8 +2,8 @@ use Rattle.std.proofs.Common.{◌∙◌, ap, length}
 use Rattle.jc_turn.proofs.Fresh.{few_fresh, free_fresh, lent_all, own_fresh}
 use Rattle.jc_shared.proofs.by_turn_lock.run_lock.Goals as goal
 
-pub run_seats-requires-clause-few : goal.run_seats-requires-clause-few
-run_seats-requires-clause-few g c κs within = few_fresh c.args.lock c.args.threads c.as_mut_slice.result.now (c.as_mut_slice.ensures.seats ∙ c.requires.fresh)
+pub run_seats-requires-clause-few_seats : goal.run_seats-requires-clause-few_seats
+run_seats-requires-clause-few_seats g c κs within = few_fresh c.args.lock c.args.threads c.as_mut_slice.result.now (c.as_mut_slice.ensures.seats ∙ c.requires.fresh)
 
 pub run_seats-requires-clause-own : goal.run_seats-requires-clause-own
 run_seats-requires-clause-own g c κs within = own_fresh c.args.lock c.args.threads c.as_mut_slice.result.now (c.as_mut_slice.ensures.seats ∙ c.requires.fresh)

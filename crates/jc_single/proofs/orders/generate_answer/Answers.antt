@@ -3,14 +3,14 @@ use Rattle.jc_single.proofs.ShapeFacts.{generated_is_few, generated_is_fine, gen
 use Rattle.jc_single.proofs.WholeFacts.{few_events, summary_is}
 use Rattle.jc_single.proofs.orders.generate_answer.Goals as goal
 
-pub play_whole-requires-clause-fine : goal.play_whole-requires-clause-fine
-play_whole-requires-clause-fine c =
+pub play_whole-requires-clause-valid_actions : goal.play_whole-requires-clause-valid_actions
+play_whole-requires-clause-valid_actions c =
     generated_is_fine c.args.number c.args.jobs c.args.pods _ c.in_ok-script.ensures
     (c.generated_commands_are_valid.ensures.valid c.args.number c.args.jobs c.args.pods c.requires.some_pods
     c.requires.few_pods)
 
-pub play_whole-requires-clause-proper : goal.play_whole-requires-clause-proper
-play_whole-requires-clause-proper c =
+pub play_whole-requires-clause-fits_shape : goal.play_whole-requires-clause-fits_shape
+play_whole-requires-clause-fits_shape c =
     generated_is_proper c.default_shape.result c.args.number c.args.jobs c.args.pods _ c.in_ok-script.ensures
     (c.generated_commands_are_valid.ensures.each c.args.number c.args.jobs c.args.pods)
 
@@ -19,8 +19,8 @@ play_whole-requires-clause-fits c =
     generated_is_few c.args.number c.args.jobs c.args.pods _ c.in_ok-script.ensures
     (c.generated_scripts_are_fit.ensures.length c.args.number c.args.jobs c.args.pods) c.requires.few_jobs
 
-pub play_whole-requires-clause-bound : goal.play_whole-requires-clause-bound
-play_whole-requires-clause-bound c = few_events _ _ c.default_shape.ensures c.orders_fit.ensures.default
+pub play_whole-requires-clause-few_events : goal.play_whole-requires-clause-few_events
+play_whole-requires-clause-few_events c = few_events _ _ c.default_shape.ensures c.orders_fit.ensures.default
 
 pub returns : goal.returns
 returns c =

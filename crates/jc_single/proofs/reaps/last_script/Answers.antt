@@ -10,7 +10,7 @@ last_of-requires-clause-rest c = λ room.
     let full = full-is c.args.script c.args.shape.now seen c.in_ok-played.played.full made.script made.shape made.play in
     rests-left c.args.script c.args.shape.now seen
     (left-is c.args.script c.args.shape.now seen c.in_ok-played.played.full made.script made.shape made.play)
-    (c.settled_plays_are_at_rest.ensures c.args.script c.args.shape.now c.requires.proper
+    (c.settled_plays_are_at_rest.ensures c.args.script c.args.shape.now c.requires.fits_shape
     (history_of c.args.script c.args.shape.now) refl (full ∙ room) c.requires.ends)
 
 pub returns-clause-last : goal.returns-clause-last

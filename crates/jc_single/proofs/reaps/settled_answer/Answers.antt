@@ -10,17 +10,17 @@ pub last_script-requires-clause-ends : goal.last_script-requires-clause-ends
 last_script-requires-clause-ends c =
     ap (λ (s : Script). ends_in_settle s.commands) c.in_ok-settle_at_end.ensures ∙ settled_ends c.args.script.commands
 
-pub script_answer-requires-clause-fine : goal.script_answer-requires-clause-fine
-script_answer-requires-clause-fine c =
+pub script_answer-requires-clause-valid_actions : goal.script_answer-requires-clause-valid_actions
+script_answer-requires-clause-valid_actions c =
     let script = c.settle_at_end.new.script in
     last-valid script c.in_ok-last.last c.args.shape.now c.args.ttls.now c.in_ok-last.ensures.last
-    (subst (λ (s : Script). AreValid s.commands) (sym c.in_ok-settle_at_end.ensures) (settled_valid c.args.script.commands c.requires.fine))
+    (subst (λ (s : Script). AreValid s.commands) (sym c.in_ok-settle_at_end.ensures) (settled_valid c.args.script.commands c.requires.valid_actions))
     (c.reaped_commands_fit.ensures.valid (seen_at_end script c.args.shape.now) c.args.ttls.now)
 
-pub script_answer-requires-clause-proper : goal.script_answer-requires-clause-proper
-script_answer-requires-clause-proper c =
+pub script_answer-requires-clause-fits_shape : goal.script_answer-requires-clause-fits_shape
+script_answer-requires-clause-fits_shape c =
     let script = c.settle_at_end.new.script in
     last-within script c.in_ok-last.last c.args.shape.now c.args.ttls.now c.in_ok-last.ensures.last
     (subst (λ (s : Script). IsScriptFor s c.args.shape.now) (sym c.in_ok-settle_at_end.ensures)
-    (settled_within c.args.shape.now c.args.script.commands c.requires.proper))
+    (settled_within c.args.shape.now c.args.script.commands c.requires.fits_shape))
     (c.reaped_commands_fit.ensures.within c.args.shape.now (seen_at_end script c.args.shape.now) c.args.ttls.now)

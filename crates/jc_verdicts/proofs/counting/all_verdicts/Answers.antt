@@ -12,7 +12,7 @@ tallied-requires c =
     (λ j. kept_of c.args.script.now c.args.history.now c.as_slice.result.now c.args.log.now
     c.as_slice-entries.result.now j (rows_at j c.in_ok-books.books.entries) (done_at j c.in_ok-books.books.entries)
     c.as_slice.ensures c.as_slice-entries.ensures (c.in_ok-books.ensures j))
-    (λ j. c.pods_are_judged_once.ensures.distinct j (deeds c.args.script.now c.args.history.now) (reverse c.args.log.now)) c.requires.few
+    (λ j. c.pods_are_judged_once.ensures.distinct j (deeds c.args.script.now c.args.history.now) (reverse c.args.log.now)) c.requires.few_entries
 
 pub returns : goal.returns
 returns c = record {

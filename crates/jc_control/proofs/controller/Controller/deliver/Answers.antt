@@ -5,8 +5,8 @@ use Rattle.jc_control.proofs.TurnFacts.{taken_back}
 use Rattle.jc_control.proofs.controller.Controller.deliver.Goals as goal
 
 -- A key that is added leaves the rows of the pod cache.
-pub tell-requires-2-clause-few : goal.tell-requires-2-clause-few
-tell-requires-2-clause-few c = λ k. subst (λ (seen : ControllerView). length (pods_at k seen.rows) < 2 ^ 32 - 1) (sym c.self.view_is) (c.requires.few k)
+pub tell-requires-2-clause-few_pods : goal.tell-requires-2-clause-few_pods
+tell-requires-2-clause-few_pods c = λ k. subst (λ (seen : ControllerView). length (pods_at k seen.rows) < 2 ^ 32 - 1) (sym c.self.view_is) (c.requires.few_pods k)
 
 -- The key that was added is taken back.
 pub returns-then-not-was_dirty-clause-kept : goal.returns-then-not-was_dirty-clause-kept

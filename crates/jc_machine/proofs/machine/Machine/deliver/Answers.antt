@@ -14,7 +14,7 @@ deliver-requires c = let b = before c.self.inside.script c.self.inside.shape c.s
     c.args.self.now c.args.event (does.Deliver c.args.controller c.args.kind) c.self.invariant c.self.view_is
     c.requires.admits c.requires.acts c.requires.room in let there = member b c.args.controller
     c.index_mut-member.result.now (within b) c.index_mut-member.ensures.value in record {
-      few = few-pods c.self.inside.store c.index_mut-member.result.now.con
+      few_pods = few-pods c.self.inside.store c.index_mut-member.result.now.con
           (c.self.invariant.machine.run.each c.args.controller c.index_mut-member.result.now there).holds (room_left b);
     }
 

@@ -9,7 +9,7 @@ use Rattle.jc_machine.proofs.machine.Machine.fate.Goals as goal
 use Rattle.jc_machine.proofs.machine.Machine.fate.Goals.{After-record-reply}
 
 pub set-requires : goal.set-requires
-set-requires c = record { some = λ none. c.requires.some (sym c.in_ok-ends_again.ensures ∙ none) }
+set-requires c = record { some_ends = λ none. c.requires.some_ends (sym c.in_ok-ends_again.ensures ∙ none) }
 
 -- How it is before.
 old : (c : After-record-reply) → Before c.self.inside.script c.self.inside.shape c.self.inside.history.events.items

@@ -17,7 +17,7 @@ owner_after-owner-requires g c =
 
 pub returns-then-is_some-clause-own : goal.returns-then-is_some-clause-own
 returns-then-is_some-clause-own g c =
-    own-lanes c.args.player.now c.loop-number.number c.available-found.result (sym c.loop-number.invariant.0 ∙ c.if-owner-player.true) c.available-found.ensures.some
+    own-lanes c.args.player.now c.loop-number.number c.available-found.result (sym c.loop-number.invariant.0 ∙ c.if-owner-player.true) c.available-found.ensures.of_actor
 
 pub loop-number-preserved : goal.loop-number-preserved
 loop-number-preserved g c = (

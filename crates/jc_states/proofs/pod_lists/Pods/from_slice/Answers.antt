@@ -11,5 +11,5 @@ push-requires c = record {
       c.loop-pod-test.true c.pod-item.is c.in_ok-copy.ensures c.loop-pod.invariant;
   few =
       let least = length-take-le c.loop-pod.pod-index c.args.items.now (omega (arith, c.loop-pod-test.true)) in
-      omega (arith, least, ap length c.loop-pod.invariant, c.loop-pod-test.true, c.requires.few);
+      omega (arith, least, ap length c.loop-pod.invariant, c.loop-pod-test.true, c.requires.few_pods);
 }

@@ -11,12 +11,12 @@ use Rattle.jc_states.proofs.PodPlaceFacts.{absent-seen, inserted-seen, place-fit
 use Rattle.jc_states.proofs.TallyFacts.{kept-inserted, kept-room}
 use Rattle.jc_states.proofs.pod_lists.Pods.insert_at.Goals as goal
 
-pub enter-requires-clause-few : goal.enter-requires-clause-few
-enter-requires-clause-few c =
+pub enter-requires-clause-few_in_tally : goal.enter-requires-clause-few_in_tally
+enter-requires-clause-few_in_tally c =
     subst (λ (pod : Pod). HasRoom (tally_in pod.owner_uid c.reserve-2.new.self.entries)) (sym c.deref-2.ensures)
     (subst (λ rows. HasRoom (tally_in c.args.pod.owner_uid rows)) (sym c.in_ok-reserve-2.ensures.entries)
     (kept-room c.args.pod.owner_uid c.self.inside.pods.items c.self.inside.tallies.entries c.self.invariant.tallies
-    (omega (arith, c.requires.few, ap length c.self.view_is))))
+    (omega (arith, c.requires.few_pods, ap length c.self.view_is))))
 
 pub insert-requires : goal.insert-requires
 insert-requires c =
@@ -27,7 +27,7 @@ pub invariant_of-self-2 : goal.invariant_of-self-2
 invariant_of-self-2 c =
     let items = c.self.inside.pods.items in
     let put = inserted-seen c.args.pod items c.args.self.now c.args.place c.self.view_is c.requires.place c.reserve.new.self.items c.insert.new.self.items c.requires.absent c.in_ok-reserve.ensures.items c.in-Ok.ensures.items in
-    let few = subst HasFewRestarts c.deref-2.ensures c.enter.ensures.few in
+    let few = subst HasFewRestarts c.deref-2.ensures c.enter.ensures.few_restarts in
     let numbers =
     subst (λ (pod : Pod). (owner : Uid) → tally_in owner c.enter.new.rows.entries ≡ with_pod owner pod (tally_in owner c.reserve-2.new.self.entries)) c.deref-2.ensures c.enter.ensures.numbers in
     let noted = c.in_ok-put_odd_and_enter.ensures.noted ∙ ap (λ (pod : Pod). with_note pod c.self.inside.odd.keys) c.deref.ensures in
@@ -38,7 +38,7 @@ invariant_of-self-2 c =
           subst (λ pods. KeepsTallies pods c.enter.new.rows.entries) (sym put)
           (kept-inserted c.args.pod items c.self.inside.tallies.entries c.enter.new.rows.entries c.self.invariant.tallies
           (absent-seen c.args.pod items c.args.self.now c.args.place c.self.view_is c.requires.place c.requires.absent)
-          (omega (arith, c.requires.few, ap length c.self.view_is)) few
+          (omega (arith, c.requires.few_pods, ap length c.self.view_is)) few
           (subst (λ rows. (owner : Uid) → tally_in owner c.enter.new.rows.entries ≡ with_pod owner c.args.pod (tally_in owner rows)) c.in_ok-reserve-2.ensures.entries numbers));
       odd = subst (λ pods. c.put_odd_and_enter.new.odd.keys ≡ odd_numbers pods) (sym put) (odd-put c.self.inside.pods.items c.self.inside.odd.keys c.self.invariant.tallies.rising c.self.invariant.odd c.args.pod c.put_odd_and_enter.new.odd.keys noted);
       held =

@@ -27,8 +27,8 @@ leave-requires-2 c =
     subst (λ rows. CountsPod (tally_in c.deref-3.result.now.owner_uid rows) c.deref-3.result.now) (sym c.in_ok-reserve.ensures.entries)
     (kept-counts c.args.pod.uid c.deref-3.result.now c.self.inside.pods.items c.self.inside.tallies.entries c.self.invariant.tallies found)
 
-pub enter-requires-clause-few : goal.enter-requires-clause-few
-enter-requires-clause-few c =
+pub enter-requires-clause-few_in_tally : goal.enter-requires-clause-few_in_tally
+enter-requires-clause-few_in_tally c =
     let found = found-seen c.args.pod c.self.inside.pods.items c.args.self.now c.args.place c.self.view_is c.requires.place c.requires.there c.index-2.result.now c.self.invariant.tallies.rising c.index-2.ensures ∙ ap Some (sym c.deref-3.ensures) in
     let lack = subst (λ rows. (owner : Uid) → tally_in owner c.leave-2.new.rows.entries ≡ without_pod owner c.deref-3.result.now (tally_in owner rows)) c.in_ok-reserve.ensures.entries c.leave-2.ensures.numbers in
     subst (λ (pod : Pod). HasRoom (tally_in pod.owner_uid c.leave-2.new.rows.entries)) (sym c.deref-4.ensures)
@@ -46,7 +46,7 @@ invariant_of-self-2 c =
     let lack = subst (λ rows. (owner : Uid) → tally_in owner c.leave-2.new.rows.entries ≡ without_pod owner c.deref-3.result.now (tally_in owner rows)) c.in_ok-reserve.ensures.entries c.leave-2.ensures.numbers in
     let before = found-seen c.args.pod items c.args.self.now c.args.place c.self.view_is c.requires.place c.requires.there c.index.result.now c.self.invariant.tallies.rising c.index.ensures ∙ ap Some (sym c.deref-2.ensures) in
     let put = replaced-seen c.args.pod items c.args.self.now c.args.place c.self.view_is c.requires.place c.requires.there c.self.invariant.tallies.rising in
-    let few = subst HasFewRestarts c.deref-4.ensures c.enter.ensures.few in
+    let few = subst HasFewRestarts c.deref-4.ensures c.enter.ensures.few_restarts in
     let numbers =
     subst (λ (pod : Pod). (owner : Uid) → tally_in owner c.enter.new.rows.entries ≡ with_pod owner pod (tally_in owner c.leave-2.new.rows.entries)) c.deref-4.ensures c.enter.ensures.numbers in
     let noted = c.in_ok-put_odd_and_enter.ensures.noted ∙ ap (λ (pod : Pod). with_note pod c.self.inside.odd.keys) c.deref.ensures in

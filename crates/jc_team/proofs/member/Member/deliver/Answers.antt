@@ -6,8 +6,8 @@ use Rattle.jc_runs.proofs.CacheFacts.{told_holds, entry_there}
 use Rattle.jc_team.proofs.member.Member.deliver.Goals as goal
 
 -- There is room for one more pod.
-pub deliver-requires-clause-few : goal.deliver-requires-clause-few
-deliver-requires-clause-few c = λ k. subst (λ (t : Team). length (pods_at k t.con.rows) < 2 ^ 32 - 1) (sym c.self.view_is) (c.requires.few k)
+pub deliver-requires-clause-few_pods : goal.deliver-requires-clause-few_pods
+deliver-requires-clause-few_pods c = λ k. subst (λ (t : Team). length (pods_at k t.con.rows) < 2 ^ 32 - 1) (sym c.self.view_is) (c.requires.few_pods k)
 
 pub returns-in_default-entry-clause-reply : goal.returns-in_default-entry-clause-reply
 returns-in_default-entry-clause-reply c = λ holds.

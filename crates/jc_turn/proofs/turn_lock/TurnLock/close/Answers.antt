@@ -5,8 +5,8 @@ use Rattle.jc_turn.proofs.Gathers.{more_seen, slot_value, some_same}
 use Rattle.jc_turn.proofs.Keeps.{closes}
 use Rattle.jc_turn.proofs.turn_lock.TurnLock.close.Goals as goal
 
-pub gather-place-requires-clause-some : goal.gather-place-requires-clause-some
-gather-place-requires-clause-some g c =
+pub gather-place-requires-clause-some_seats : goal.gather-place-requires-clause-some_seats
+gather-place-requires-clause-some_seats g c =
     let has : length c.args.seats ≡ c.args.self.seats = c.requires.seats.1 in
     let some_seats : 0 < c.self.inside.table.shared.key = c.self.invariant.1 in
     let e : length c.seats.inside.seats.items ≡ c.self.inside.table.shared.key = ap length c.seats.view_is ∙ (has ∙ ap (λ t. t.seats) (sym c.self.view_is)) in
