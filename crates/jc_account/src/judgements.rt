@@ -14,7 +14,7 @@ ghost use Rattle.jc_account.specs.Judgements.{first_left, index_judged, judgemen
 
 use crate::indexes::kept_indexes;
 use crate::rooms::{first_beyond, is_fit};
-use jc_failpol::{Outcome, same_outcome, is_verdict, outcome};
+use jc_failpol::{Outcome, is_verdict, outcome, same_outcome};
 use jc_ranges::Ranges;
 use jc_states::{has_end, is_listed, is_own};
 use jc_types::{Arc, Job, Mode, Pod, Uid, Uids, Want};

@@ -8,7 +8,7 @@ ghost use Rattle.jc_account.specs.Judged.{to_release};
 ghost use Rattle.jc_account.specs.Judgements.{first_left, has_place, is_to_go};
 
 use crate::rooms::{is_before, is_fit};
-use jc_failpol::{Outcome, has_ended, same_outcome, is_verdict, outcome};
+use jc_failpol::{Outcome, has_ended, is_verdict, outcome, same_outcome};
 use jc_states::{is_listed, is_own};
 use jc_types::{Arc, Job, JobSpec, Pod, Uid, Uids, Want};
 use std::alloc::Global;

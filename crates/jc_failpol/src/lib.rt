@@ -11,5 +11,5 @@ mod rules;
 pub use job_failures::fails_job;
 pub use judgements::{has_ended, outcome};
 pub use laws::{first_match_decides, outcomes_are_told_apart, outcomes_stay};
-pub use outcomes::{Outcome, same_outcome, is_verdict};
+pub use outcomes::{Outcome, is_verdict, same_outcome};
 pub use rules::{action, action_of};

@@ -52,7 +52,10 @@ fn same_kind(left: CondKind, right: CondKind) -> bool
 fn has_suspension(conditions: &Conditions) -> bool
     ensures { result ≡ list_any is_suspension conditions.now }
 {
-    conditions.as_slice().iter().any(|condition| same_kind(condition.kind, CondKind::Suspended))
+    conditions
+        .as_slice()
+        .iter()
+        .any(|condition| same_kind(condition.kind, CondKind::Suspended))
 }
 
 // The conditions with another at the end.

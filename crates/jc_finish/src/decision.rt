@@ -72,7 +72,8 @@ fn is_past_limit(job: &Job, pods: &Pods, failed: u64) -> bool
 {
     let limit = job.spec.backoff_limit;
     failed > u64::from(limit)
-        || restarts_on_failure(job.spec.template.restart) && exceeds(limit, count_restarts(job, pods))
+        || restarts_on_failure(job.spec.template.restart)
+            && exceeds(limit, count_restarts(job, pods))
 }
 
 // Whether so many seconds have passed since the start.

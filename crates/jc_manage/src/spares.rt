@@ -41,8 +41,7 @@ fn has_done(owner: Uid, pods: &Pods, counted: &CountIn) -> bool
         ≡ list_any (λ pod. option_map_or (is_done_index counted.now) pod.index false)
         (tracked_active_pods (pods_for owner pods.now)) }
 {
-    has_one_of(owner, pods, &counted.completed)
-        || has_one_of(owner, pods, &counted.failed_indexes)
+    has_one_of(owner, pods, &counted.completed) || has_one_of(owner, pods, &counted.failed_indexes)
 }
 
 // Whether an active tracked pod of the Job has an index of which none is of use.

@@ -211,7 +211,13 @@ pub fn second_status(
         (counted_out first.now counted.now.releases)) }
 {
     let mut second = count_out(alloc, first, &counted.releases)?;
-    let due = is_second_due(is_end_decided(job, target), job, &*basis.pods, counted, &second);
+    let due = is_second_due(
+        is_end_decided(job, target),
+        job,
+        &*basis.pods,
+        counted,
+        &second,
+    );
     let conditions = conditions_at(alloc, basis, job, target, due)?;
     second.completion = completed_at(basis.now, &job.status, &conditions);
     second.conditions = conditions;

@@ -12,10 +12,7 @@ use std::alloc::Global;
 fn needs_look(pod: &Pod, owner: Uid, uids: &[Uid], more: &[Uid]) -> bool
     ensures { result ≡ needs_look owner uids.now more.now pod.now }
 {
-    is_at_odds(pod)
-        || pod.owner_uid.0 != owner.0
-        || is_in(pod.uid, uids)
-        || is_in(pod.uid, more)
+    is_at_odds(pod) || pod.owner_uid.0 != owner.0 || is_in(pod.uid, uids) || is_in(pod.uid, more)
 }
 
 // Copies of the pods at odds among these. It goes over all of them.

@@ -13,10 +13,10 @@ ghost use Rattle.jc_states.specs.Pods.{tracked_active_pods};
 ghost use Rattle.jc_states.specs.Tallies.{pods_for, tally_of};
 
 use crate::holders::Holders;
-use crate::to_look_at::{noted_among, odd_among};
 use crate::odds::put_odd;
 use crate::pods::is_at_odds;
 use crate::tallies::{Tally, enter, leave, tally_in};
+use crate::to_look_at::{noted_among, odd_among};
 use indexmap::IndexMap;
 use jc_types::{Arc, Copied, Pod, Same, Uid, Want};
 use std::alloc::Global;

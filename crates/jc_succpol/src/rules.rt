@@ -3,7 +3,7 @@
 ghost use Rattle.std.specs.Prelude.{◌≡◌, ◌<◌, ◌^◌, is_some, length};
 ghost use Rattle.jc_succpol.specs.SuccessRules.{is_met, met_place};
 
-use crate::members::{includes, count_within};
+use crate::members::{count_within, includes};
 use jc_ranges::Ranges;
 use jc_types::{SuccessPolicy, SuccessRule};
 

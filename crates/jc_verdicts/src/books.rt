@@ -8,7 +8,7 @@ ghost use Rattle.jc_verdicts.specs.LogPlaces.{ArePlaces};
 ghost use Rattle.jc_verdicts.specs.Verdicts.{done_once_seen, fresh_rows};
 
 use crate::places::{Places, places_at};
-use crate::rows::{new_rows, add_outcomes, success_indexes, take_indexes};
+use crate::rows::{add_outcomes, new_rows, success_indexes, take_indexes};
 use crate::seen::look;
 use indexmap::IndexMap;
 use jc_account::Judgement as Row;
