@@ -1,5 +1,6 @@
 -- What a walk has come to: a legal and orderly history of its script, whose commands are proper and all used.
-use Rattle.std.proofs.Common.{◌≡◌, ℕ, suc, ◌+◌, ◌<◌, ◌≤◌, ◌==◌, Bool, true, false, cond, List, [], ◌∷◌, ◌++◌, length, reverse, drop, slice_get, Some, None, refl, sym, ap, ◌∙◌, subst, arith, eq-eqb, eqb-true, true≢false, ◌⊎◌, inl, inr, append_assoc, append-nil}
+use Rattle.std.proofs.Common.{◌≡◌, ℕ, suc, ◌+◌, ◌<◌, ◌≤◌, ◌==◌, Bool, true, false, cond, List, [], ◌∷◌, ◌++◌, length, reverse, drop, slice_get, Some, None, refl, sym, ap, ◌∙◌, subst, arith, eq-eqb, eqb-true, true≢false, ◌⊎◌, inl, inr}
+use Rattle.std.proofs.Common.{append_assoc, append-nil}
 use Rattle.std.proofs.lemmas.List.{length-reverse, reverse-append}
 use Rattle.std.specs.List.{AllByRecursion as Each}
 use Rattle.std.specs.Option.{option_or}

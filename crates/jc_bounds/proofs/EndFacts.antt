@@ -1,5 +1,6 @@
 -- Every legal history of one controller keeps what has ended.
-use Rattle.std.proofs.Common.{◌≡◌, ℕ, ◌≤◌, ◌==◌, nat_lt, Bool, true, false, cond, List, [], ◌∷◌, ◌++◌, length, filter, map, Option, Some, None, IfSome, is_some, refl, sym, ap, ◌∙◌, subst, true≢false, arith, ◌⊎◌, inl, inr, eqb-true, eq-eqb, ltb-false, ltb-true}
+use Rattle.std.proofs.Common.{◌≡◌, ℕ, ◌≤◌, ◌==◌, nat_lt, Bool, true, false, cond, List, [], ◌∷◌, ◌++◌, length, filter, map, Option, Some, None, IfSome, is_some, refl, sym, ap, ◌∙◌, subst, true≢false, arith, ◌⊎◌, inl, inr, eqb-true, eq-eqb}
+use Rattle.std.proofs.Common.{ltb-false, ltb-true}
 use Rattle.std.specs.List.{AllByRecursion as Each}
 use Rattle.std.specs.Option.{option_to_list}
 use Rattle.std.proofs.lemmas.Bool.{cond-true}
@@ -201,7 +202,8 @@ module _ (log : List Entry) (stored : Stored log) (neat : AlwaysHaveIndexTotals 
         before false t = refl
 
     -- What a write of an end leaves.
-    sets-first : (seen : Job) (status : JobStatus) → b.job ≡ Some seen → (planned b).first ≡ Some status → has_end seen.status.conditions ≡ false → has_end status.conditions ≡ true → IsFinalStatus status × IsClosed (own_pods seen (pods_under b.key log))
+    sets-first : (seen : Job) (status : JobStatus) → b.job ≡ Some seen → (planned b).first ≡ Some status → has_end seen.status.conditions ≡ false → has_end status.conditions ≡ true →
+        IsFinalStatus status × IsClosed (own_pods seen (pods_under b.key log))
     sets-first seen status there first none end =
         let is = changed-is seen.status (first_value seen b) status (sym (plan-first b seen there) ∙ first) in
         let new = ap (λ (s : JobStatus). has_end s.conditions) is ∙ end in
@@ -469,7 +471,8 @@ pub neat-past : (shape : Shape) (past : List Deed) (d : Deed) → AlwaysHaveInde
 unfolding log_given
 neat-past shape past d = neat-before (log_given shape past) (gives shape past (log_given shape past) d.act).entry
 
-pub legal-final : (shape : Shape) (deeds : List Deed) → shape.controllers ≡ 1 → IsLegal shape deeds → Stored (log_given shape deeds) → AlwaysHaveIndexTotals (log_given shape deeds) → KnowsEnds (log_given shape deeds) (notes shape 0 deeds (log_given shape deeds))
+pub legal-final : (shape : Shape) (deeds : List Deed) → shape.controllers ≡ 1 → IsLegal shape deeds → Stored (log_given shape deeds) → AlwaysHaveIndexTotals (log_given shape deeds) → KnowsEnds
+    (log_given shape deeds) (notes shape 0 deeds (log_given shape deeds))
 unfolding log_given
 legal-final shape [] one h s neat = record { finished = λ k job e. absurd (true≢false (sym (ap is_some e))); flights = λ w b e. absurd (true≢false (sym (ap is_some e))) }
 legal-final shape (d ∷ past) one h s neat =

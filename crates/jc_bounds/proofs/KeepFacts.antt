@@ -215,7 +215,8 @@ stands-more e log s h keep = λ m k old new was end is same. by m k old new was 
         let before = h m k old f.job (sym (ap (job_in k) (upto-fixed m e log le)) ∙ was) end f.is f.uid in
         keep k f.job f.is (ap (λ (s : JobStatus). has_end s.conditions) before ∙ end) new is (same ∙ sym f.uid) ∙ before
 
-pub legal-stands : (shape : Shape) (deeds : List Deed) → shape.controllers ≡ 1 → IsLegal shape deeds → ((past : List Deed) → IsLegal shape past → Legal (log_given shape past) × AlwaysHaveIndexTotals (log_given shape past)) → StatusesStand (log_given shape deeds)
+pub legal-stands : (shape : Shape) (deeds : List Deed) → shape.controllers ≡ 1 → IsLegal shape deeds →
+    ((past : List Deed) → IsLegal shape past → Legal (log_given shape past) × AlwaysHaveIndexTotals (log_given shape past)) → StatusesStand (log_given shape deeds)
 unfolding log_given
 legal-stands shape [] one h all = λ m k old new was end is same. absurd (true≢false (sym (ap is_some is)))
 legal-stands shape (d ∷ past) one h all = by (legal-stands shape past one h.1 all) (gives shape past (log_given shape past) d.act).entry (Stored-from_legal (log_given shape (d ∷ past)) (all (d ∷ past) h).0)

@@ -283,7 +283,8 @@ module _ (log : List Entry) (legal : Legal log) (neat : AlwaysHaveIndexTotals lo
       by (Some Lose) (ask ∷ left) = ask-good now b (made w old) (bounded.flights w b r).basis ask
       by None (ask ∷ left) = ask-good now b (made w old) (bounded.flights w b r).basis ask
 
-act-good : (shape : Shape) (past : List Deed) → shape.controllers ≡ 1 → (act : Act) → IsOfShape shape act → Legal (log_given shape past) → AlwaysHaveIndexTotals (log_given shape past) → IsBounded (log_given shape past) (notes shape 0 past (log_given shape past))
+act-good : (shape : Shape) (past : List Deed) → shape.controllers ≡ 1 → (act : Act) → IsOfShape shape act → Legal (log_given shape past) → AlwaysHaveIndexTotals (log_given shape past) → IsBounded
+    (log_given shape past) (notes shape 0 past (log_given shape past))
     → IfSome (gives shape past (log_given shape past) act).entry (λ e. Allowed (log_given shape past) e × IsNeatEntry e)
 unfolding gives
 act-good shape past one (does.Create key spec) w l n b = let log = log_given shape past in
@@ -349,6 +350,7 @@ legal-log shape (d ∷ past) one h =
     let before = legal-log shape past one h.1 in
     by before (gives shape past (log_given shape past) d.act).entry (act-good shape past one d.act h.0.within before.0 before.1 (legal-bounded shape past one h.1 (Stored-from_legal (log_given shape past) before.0)))
   where
-    by : Legal (log_given shape past) × AlwaysHaveIndexTotals (log_given shape past) → (o : Option Entry) → IfSome o (λ e. Allowed (log_given shape past) e × IsNeatEntry e) → Legal (grown (log_given shape past) o) × AlwaysHaveIndexTotals (grown (log_given shape past) o)
+    by : Legal (log_given shape past) × AlwaysHaveIndexTotals (log_given shape past) → (o : Option Entry) → IfSome o (λ e. Allowed (log_given shape past) e × IsNeatEntry e) → Legal
+        (grown (log_given shape past) o) × AlwaysHaveIndexTotals (grown (log_given shape past) o)
     by before None good = before
     by before (Some e) good = ((good.0, before.0), neat-more e (log_given shape past) before.1 good.1)

@@ -31,7 +31,9 @@ use Rattle.jc_types.specs.declared.replies.Reply.TheVariants as reply
 use Rattle.jc_types.specs.declared.runs.Shape.{Shape}
 use Rattle.jc_types.specs.declared.specifications.JobSpec.{JobSpec}
 use Rattle.jc_states.specs.declared.bases.Basis.{Basis}
-use Rattle.jc_log.specs.Requests.{Answered, accepted, changed_spec, create_job_at, create_job_gives, delete_job_at, delete_job_gives, empty_status, grown, is_other, is_unnamed, let_go_at, let_go_gives, made_job, mark_pod_at, mark_pod_gives, pod_entry, refused, release_at, release_gives, released, report_phase_at, report_phase_gives, report_unless, same_course_of, update_refusal, update_spec_at, update_spec_gives, update_unless, with_mark, with_report, with_spec, without_finalizer}
+use Rattle.jc_log.specs.Requests.{Answered, accepted, changed_spec, create_job_at, create_job_gives, delete_job_at, delete_job_gives, empty_status, grown, is_other, is_unnamed, let_go_at, let_go_gives, made_job, mark_pod_at, mark_pod_gives}
+use Rattle.jc_log.specs.Requests.{pod_entry, refused, release_at, release_gives, released, report_phase_at, report_phase_gives, report_unless, same_course_of, update_refusal, update_spec_at, update_spec_gives, update_unless, with_mark}
+use Rattle.jc_log.specs.Requests.{with_report, with_spec, without_finalizer}
 use Rattle.jc_log.specs.Acts.{Act}
 use Rattle.jc_log.specs.Deeds.{Deed}
 use Rattle.jc_types.specs.Keys.{same_key}

@@ -172,7 +172,8 @@ next_is log n v e is found =
     let next : v ≡ suc n = omega (arith, is) in
     ap (λ m. upto m log) next ∙ upto-entry_at n log e (ap (λ m. entry_at m log) (sym next) ∙ found)
 
-pub told-jobs : (log : List Entry) (number : Option Version) (version : Version) (e : Entry) (jobs : List (Key × Job)) → MirrorsJobs log number jobs → IsNext number version → entry_at version.0 log ≡ Some e → MirrorsJobs log (Some version) (jobs_after e jobs)
+pub told-jobs : (log : List Entry) (number : Option Version) (version : Version) (e : Entry) (jobs : List (Key × Job)) → MirrorsJobs log number jobs → IsNext number version → entry_at version.0 log
+    ≡ Some e → MirrorsJobs log (Some version) (jobs_after e jobs)
 told-jobs log None version e jobs h next found = absurd next
 told-jobs log (Some n) version e jobs h next found = (
   (entry_at-place version.0 log e found).1,
@@ -180,7 +181,8 @@ told-jobs log (Some n) version e jobs h next found = (
 )
 
 pub told-pods : ((k : Key) (e : Entry) (older : List Entry) → Stored (e ∷ older) → pods_under k (e ∷ older) ≡ owned_after k e (pods_under k older))
-    → (log : List Entry) (number : Option Version) (version : Version) (e : Entry) (rows new : List (Key × List Pod)) → Stored log → MirrorsPods log number rows → IsNext number version → entry_at version.0 log ≡ Some e → ((k : Key) → pods_at k new ≡ owned_after k e (pods_at k rows)) → MirrorsPods log (Some version) new
+    → (log : List Entry) (number : Option Version) (version : Version) (e : Entry) (rows new : List (Key × List Pod)) → Stored log → MirrorsPods log number rows → IsNext number version →
+    entry_at version.0 log ≡ Some e → ((k : Key) → pods_at k new ≡ owned_after k e (pods_at k rows)) → MirrorsPods log (Some version) new
 told-pods stays log None version e rows new stored h next found told = absurd next
 told-pods stays log (Some n) version e rows new stored h next found told =
     let is = next_is log n.0 version.0 e next found in (

@@ -59,7 +59,8 @@ pub provided_rows : (q : RoomedQueue) (d : RoomedDelays) (rows new : List (Key �
 provided_rows q d rows new supplies known h = record { known = known; supplied = h.supplied; for_delays = h.for_delays; for_queue = h.for_queue }
 
 -- More room.
-pub provided_more : (q new : RoomedQueue) (d more : RoomedDelays) (rows : List (Key × Known)) (supplies others : List Key) → new.queue ≡ q.queue → q.room ≤ new.room → more.delays ≡ d.delays → d.room ≤ more.room → AreSupplied q.queue.processing others → IsProvided q d rows supplies → IsProvided new more rows others
+pub provided_more : (q new : RoomedQueue) (d more : RoomedDelays) (rows : List (Key × Known)) (supplies others : List Key) → new.queue ≡ q.queue → q.room ≤ new.room → more.delays ≡ d.delays →
+    d.room ≤ more.room → AreSupplied q.queue.processing others → IsProvided q d rows supplies → IsProvided new more rows others
 provided_more q new d more rows supplies others same room delays further supplied h =
     let for_delays = h.for_delays in
     let for_queue = h.for_queue in
@@ -78,7 +79,9 @@ count-last : (k : Key) (keys : List Key) → length (keys ++ k ∷ []) ≡ lengt
 count-last k [] = refl
 count-last k (x ∷ keys) = let rest = count-last k keys in omega (arith, rest)
 
-pub provided_got : (q roomy new : RoomedQueue) (d more : RoomedDelays) (rows after : List (Key × Known)) (supplies others : List Key) (k : Key) → Some k ≡ slice_get q.queue.line 0 → roomy.queue ≡ q.queue → length d.delays.moments + (length q.queue.processing + 1) ≤ roomy.room → more.delays ≡ d.delays → length q.queue.processing + 1 ≤ more.room → others ≡ supplies ++ k ∷ [] → after ≡ noted rows k → new.queue ≡ got roomy.queue → new.room ≡ roomy.room → IsProvided q d rows supplies → IsProvided new more after others
+pub provided_got : (q roomy new : RoomedQueue) (d more : RoomedDelays) (rows after : List (Key × Known)) (supplies others : List Key) (k : Key) → Some k ≡ slice_get q.queue.line 0 → roomy.queue
+    ≡ q.queue → length d.delays.moments + (length q.queue.processing + 1) ≤ roomy.room → more.delays ≡ d.delays → length q.queue.processing + 1 ≤ more.room → others ≡ supplies ++ k ∷ [] → after
+    ≡ noted rows k → new.queue ≡ got roomy.queue → new.room ≡ roomy.room → IsProvided q d rows supplies → IsProvided new more after others
 provided_got q roomy new d more rows after supplies others k first same room delays further sets are gets still h =
     let processing : new.queue.processing ≡ q.queue.processing ++ k ∷ [] = ap (λ (q : Queued). q.processing) (gets ∙ ap got same) ∙ got-processing q.queue k first in
     let count : length new.queue.processing ≡ length q.queue.processing + 1 = ap length processing ∙ count-last k q.queue.processing in
@@ -147,7 +150,9 @@ ended-count d k Retry now = retried-count d k now
 ended-count d k Gone now = omega arith
 ended-count d k Unavailable now = retried-count d k now
 
-pub provided_done : (q new : RoomedQueue) (d left : RoomedDelays) (rows : List (Key × Known)) (supplies others : List Key) (k : Key) (end : SyncEnd) (now : ℕ) → IsQueue q.queue → has_key k q.queue.processing ≡ true → others ≡ without k supplies → left.delays ≡ delays_after d.delays k end now → d.room ≤ left.room + 1 → new.queue ≡ finished q.queue k → new.room ≡ q.room → IsProvided q d rows supplies → IsProvided new left rows others
+pub provided_done : (q new : RoomedQueue) (d left : RoomedDelays) (rows : List (Key × Known)) (supplies others : List Key) (k : Key) (end : SyncEnd) (now : ℕ) → IsQueue q.queue →
+    has_key k q.queue.processing ≡ true → others ≡ without k supplies → left.delays ≡ delays_after d.delays k end now → d.room ≤ left.room + 1 → new.queue ≡ finished q.queue k → new.room ≡ q.room →
+    IsProvided q d rows supplies → IsProvided new left rows others
 provided_done q new d left rows supplies others k end now s busy sets delays room done still h =
     let for_delays = h.for_delays in
     let for_queue = h.for_queue in

@@ -35,7 +35,8 @@ pub all_added-last : {X : Type 0} (key : X → Key) (q : Queued) (xs : List X) (
 all_added-last key q [] x = refl
 all_added-last key q (y ∷ xs) x = all_added-last key (added q (key y)) xs x
 
-pub all_added-next : {X : Type 0} (key : X → Key) (q before after : Queued) (xs : List X) (i next : ℕ) (x : X) → take next xs ≡ take i xs ++ x ∷ [] → before ≡ all_added q (map key (take i xs)) → after ≡ added before (key x) → after ≡ all_added q (map key (take next xs))
+pub all_added-next : {X : Type 0} (key : X → Key) (q before after : Queued) (xs : List X) (i next : ℕ) (x : X) → take next xs ≡ take i xs ++ x ∷ [] → before ≡ all_added q (map key (take i xs)) → after
+    ≡ added before (key x) → after ≡ all_added q (map key (take next xs))
 all_added-next key q before after xs i next x more b a =
     a ∙ ap (λ q. added q (key x)) b ∙ sym (all_added-last key q (take i xs) x) ∙ ap (λ ys. all_added q (map key ys)) (sym more)
 
@@ -113,7 +114,8 @@ none_left q d now q₀ d₀ h few = by d.moments refl
 -- ---- a delivery that found no memory
 
 -- The key that was added is taken back.
-pub taken_back : (old seen : ControllerView) (mid new : Queued) (k : Key) → IsQueue old.schedule.queue → has_key k old.schedule.queue.dirty ≡ false → mid ≡ added old.schedule.queue k → seen ≡ record old { schedule = record old.schedule { queue = mid } } → new ≡ retracted seen.schedule.queue k → record seen { schedule = record seen.schedule { queue = new } } ≡ old
+pub taken_back : (old seen : ControllerView) (mid new : Queued) (k : Key) → IsQueue old.schedule.queue → has_key k old.schedule.queue.dirty ≡ false → mid ≡ added old.schedule.queue k → seen
+    ≡ record old { schedule = record old.schedule { queue = mid } } → new ≡ retracted seen.schedule.queue k → record seen { schedule = record seen.schedule { queue = new } } ≡ old
 taken_back old seen mid new k queue clean m s n =
     (λ i. record seen { schedule = record seen.schedule { queue = n i } })
     ∙ ap (λ (seen : ControllerView). record seen { schedule = record seen.schedule { queue = retracted seen.schedule.queue k } }) s
@@ -210,7 +212,8 @@ lag-none c k known job j p found is there e none =
     ∙ sym e ∙ none
 
 -- The answer of a begin is the basis.
-pub begun-answer : (c : ControllerView) (now : ℕ) (j p : Version) (k : Key) → Some j ≡ c.schedule.jobs_at → Some p ≡ c.schedule.pods_at → Some k ≡ slice_get c.schedule.queue.line 0 → lag k c j p ≡ None → (basis : Basis) → basis ≡ basis_of now c j p k → Begun basis ≡ (begun now c).answer
+pub begun-answer : (c : ControllerView) (now : ℕ) (j p : Version) (k : Key) → Some j ≡ c.schedule.jobs_at → Some p ≡ c.schedule.pods_at → Some k ≡ slice_get c.schedule.queue.line 0 → lag k c j p
+    ≡ None → (basis : Basis) → basis ≡ basis_of now c j p k → Begun basis ≡ (begun now c).answer
 begun-answer c now j p k jobs pods first none basis e =
     ap (λ b. Begun b) e
     ∙ sym (ap (λ (b : Beginning). b.answer)
@@ -220,7 +223,8 @@ begun-answer c now j p k jobs pods first none basis e =
 
 -- What holds of each begin holds where a cache has no number, where no key waits, where a cache is behind and
 -- where a sync begins.
-pub each_begin : (P : Beginning → Type 0) (c : ControllerView) (now : ℕ) → P (unchanged c.schedule NotSynced) → P (unchanged c.schedule NoKey) → ((j p : Version) (k : Key) (rest : List Key) (lag : Lag) → c.schedule.queue.line ≡ k ∷ rest → P (begun_unless now c j p k (Some lag)))
+pub each_begin : (P : Beginning → Type 0) (c : ControllerView) (now : ℕ) → P (unchanged c.schedule NotSynced) → P (unchanged c.schedule NoKey) →
+    ((j p : Version) (k : Key) (rest : List Key) (lag : Lag) → c.schedule.queue.line ≡ k ∷ rest → P (begun_unless now c j p k (Some lag)))
     → ((j p : Version) (k : Key) (rest : List Key) → c.schedule.jobs_at ≡ Some j → c.schedule.pods_at ≡ Some p → c.schedule.queue.line ≡ k ∷ rest → lag k c j p ≡ None → P (begun_unless now c j p k None)) → P (begun now c)
 each_begin P c now not_synced no_key behind begins = at_numbers c.schedule.jobs_at refl c.schedule.pods_at refl
   where

@@ -4,7 +4,8 @@ ghost use Rattle.std.specs.Prelude.{◌≡◌, ◌↔◌, [], IfOk, IsTrue, OnEr
 ghost use Rattle.std.specs.Option.{option_copied, option_map};
 ghost use Rattle.jc_cache.specs.Caches.{AreApart, HasFewPods, HoldsByOwner, IsNext, job_rows};
 ghost use Rattle.jc_control.specs.Schedules.{backoff_of, idle, number_of, unknown};
-ghost use Rattle.jc_control.specs.ControllerCalls.{DeliversPods, TakesFirst, TakesKey, answered, basis_of, begun, can_begin, clocked, delivered, ended, followed, forgot, jobs_delivered, jobs_kept, kept_backoff, lag, listed_jobs, listed_pods, noted, numbered, rows_after, rows_kept, taken};
+ghost use Rattle.jc_control.specs.ControllerCalls.{DeliversPods, TakesFirst, TakesKey, answered, basis_of, begun, can_begin, clocked, delivered, ended, followed, forgot, jobs_delivered, jobs_kept, kept_backoff, lag, listed_jobs};
+ghost use Rattle.jc_control.specs.ControllerCalls.{listed_pods, noted, numbered, rows_after, rows_kept, taken};
 ghost use Rattle.jc_queue.specs.Delayed.{HasOneMoment, first_of};
 ghost use Rattle.jc_queue.specs.Queued.{IsQueue, has_key};
 ghost use Rattle.jc_types.specs.Keys.{same_key};

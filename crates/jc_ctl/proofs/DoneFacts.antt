@@ -16,7 +16,8 @@ use Rattle.jc_words.specs.declared.words.Order.{Order}
 use Rattle.jc_words.specs.declared.words.Order.TheVariants.{Audit, Generate, Run}
 use Rattle.jc_single.proofs.EndFacts.{EndsBad, EndsLong, all-written, bad-ends, bad-found, front-written, good-words, long-ends, long-taken, most-taken, no-line, none-written, quiet-ends, read-rose, whole, whole-of, write-rose}
 use Rattle.jc_single.proofs.RunFacts.{order_same, told_by}
-use Rattle.jc_single.proofs.WordFacts.{Tells, TellsAll, TellsSome, bad_script_is, bad_words_is, complete_bad_script_is, complete_generated_is, complete_is, complete_too_long_is, front_is, generates_is, generates_only_is, headline_front_is, headline_is, history_full_is, no_audit_is, not_too_long_is, nothing_read_is, nothing_written_is, ok_is, read_fault_is, too_long_is, write_fault_is}
+use Rattle.jc_single.proofs.WordFacts.{Tells, TellsAll, TellsSome, bad_script_is, bad_words_is, complete_bad_script_is, complete_generated_is, complete_is, complete_too_long_is, front_is, generates_is, generates_only_is, headline_front_is}
+use Rattle.jc_single.proofs.WordFacts.{headline_is, history_full_is, no_audit_is, not_too_long_is, nothing_read_is, nothing_written_is, ok_is, read_fault_is, too_long_is, write_fault_is}
 use Rattle.jc_single.specs.RunEnds.{Change, RunHasEnded, HasRun}
 use Rattle.jc_single.specs.Played.{Staging, script_played, staging_of}
 use Rattle.jc_single.specs.RunAnswers.{EndsUnread, IsSingle, MayEnd, OfInput, Printed, answer_of, status_of}

@@ -1,5 +1,6 @@
 -- A settle without pods comes to rest.
-use Rattle.std.proofs.Common.{◌≡◌, ℕ, zero, suc, ◌+◌, ◌-◌, ◌<◌, ◌≤◌, ◌==◌, nat_lt, Bool, true, false, ◌||◌, cond, List, [], ◌∷◌, ◌++◌, length, Option, Some, None, refl, sym, ap, ◌∙◌, subst, arith, ltb-true, ltb-false, eqb-true, eq-eqb, true≢false, ◌⊎◌, inl, inr}
+use Rattle.std.proofs.Common.{◌≡◌, ℕ, zero, suc, ◌+◌, ◌-◌, ◌<◌, ◌≤◌, ◌==◌, nat_lt, Bool, true, false, ◌||◌, cond, List, [], ◌∷◌, ◌++◌, length, Option, Some, None, refl, sym, ap, ◌∙◌, subst, arith, ltb-true, ltb-false, eqb-true, eq-eqb}
+use Rattle.std.proofs.Common.{true≢false, ◌⊎◌, inl, inr}
 use Rattle.jc_types.specs.declared.objects.Entry.{Entry}
 use Rattle.jc_types.specs.declared.objects.Entry.TheVariants.{JobPut}
 use Rattle.jc_types.specs.declared.objects.Job.{Job}
@@ -24,7 +25,8 @@ use Rattle.jc_settle.proofs.CalmFacts.{calms-down}
 use Rattle.jc_settle.proofs.ClockFacts.{moments-are}
 use Rattle.jc_settle.proofs.OnFacts.{next-is, next-legal, on-adds, on-legal, on-some, rest-earlier}
 use Rattle.jc_settle.proofs.TotalFacts.{total-less, total-most}
-use Rattle.jc_calm.specs.SettleTurns.{Asks, AsksForAPod, BeginsAlone, ClockMoves, Fails, Finds, EndsAtOnce, MeetsFault, MovesTheClock, NodeActs, Rests, Turn, Writes, WritesAndAsks, WritesStatus, WritesNoMore, asks_for_a_pod, is_node, notes_of_nothing}
+use Rattle.jc_calm.specs.SettleTurns.{Asks, AsksForAPod, BeginsAlone, ClockMoves, Fails, Finds, EndsAtOnce, MeetsFault, MovesTheClock, NodeActs, Rests, Turn, Writes, WritesAndAsks, WritesStatus, WritesNoMore, asks_for_a_pod, is_node}
+use Rattle.jc_calm.specs.SettleTurns.{notes_of_nothing}
 use Rattle.jc_calm.proofs.GoFacts.{goes-on}
 use Rattle.jc_ends.specs.Podless.{LeavesPods}
 use Rattle.jc_ends.proofs.Descent.{Falls, InFaults, InKeys, InMoments, InStatuses, Lowers, holds-of-all}

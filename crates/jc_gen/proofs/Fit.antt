@@ -1,5 +1,6 @@
 -- What the laws on generated scripts say.
-use Rattle.std.proofs.Common.{◌≡◌, ℕ, zero, suc, ◌+◌, ◌*◌, ◌%◌, ◌^◌, ◌<◌, ◌≤◌, ◌==◌, Bool, true, false, cond, ◌++◌, List, [], ◌∷◌, length, pos, refl, sym, ap, ◌∙◌, arith, rules, flat_map, replicate, IfSome, IsSome, None, Some, AllPairs, drop, if◌then◌else◌, decimal}
+use Rattle.std.proofs.Common.{◌≡◌, ℕ, zero, suc, ◌+◌, ◌*◌, ◌%◌, ◌^◌, ◌<◌, ◌≤◌, ◌==◌, Bool, true, false, cond, ◌++◌, List, [], ◌∷◌, length, pos, refl, sym, ap, ◌∙◌, arith, rules, flat_map, replicate, IfSome, IsSome, None, Some, AllPairs}
+use Rattle.std.proofs.Common.{drop, if◌then◌else◌, decimal}
 use Rattle.std.specs.List.{range_with_len}
 use Rattle.std.proofs.lemmas.Fmt.{decimal_injective}
 use Rattle.std.proofs.lemmas.List.{length-replicate, length_push as one_longer}

@@ -105,7 +105,8 @@ module _ (shape : Shape) (c : ℕ) (past : List Deed) (d : Deed) (h : IsLegal sh
       (ap (λ some. some ++ before) (noted_is (does.Deliver c kind) (reply.Expired floor) a e) ∙ own c _ before) (held-expired before schedule kind g)
 
   -- A begin of a free worker.
-  pub began : (con : ControllerView) (worker : ℕ) → d.act ≡ does.Begin c worker → d.reply ≡ reply_of_begin (begin_of before (log_given shape past) (moment shape past)) → log_given shape (d ∷ past) ≡ log_given shape past → IsScheduleOf before con.schedule
+  pub began : (con : ControllerView) (worker : ℕ) → d.act ≡ does.Begin c worker → d.reply ≡ reply_of_begin (begin_of before (log_given shape past) (moment shape past)) → log_given shape (d ∷ past)
+      ≡ log_given shape past → IsScheduleOf before con.schedule
       → MirrorsLog (log_given shape past) con → IsScheduleOf after (begun (moment shape past) con).schedule
   began con worker a e still g holds =
       held-next _ (on_begin worker (moment shape past) (log_given shape past) before (reply_of_begin (begin_of before (log_given shape past) (moment shape past)))) (not_restart (does.Begin c worker) a refl)
@@ -119,7 +120,8 @@ module _ (shape : Shape) (c : ℕ) (past : List Deed) (d : Deed) (h : IsLegal sh
       held-next _ (Ticked now ∷ []) (not_restart (does.Clock add) a refl) (ap (λ some. some ++ before) (noted_is (does.Clock add) (reply.Now now) a e)) (held-ticked before schedule now g)
 
   -- A step of a sync.
-  step-next : (new : Schedule) (worker : ℕ) (basis : Basis) (r : Reply) → d.act ≡ does.Step c worker → d.reply ≡ r → register worker before ≡ Some basis → IsScheduleOf (on_step worker (moment shape past) (Some basis) r ++ before) new → IsScheduleOf after new
+  step-next : (new : Schedule) (worker : ℕ) (basis : Basis) (r : Reply) → d.act ≡ does.Step c worker → d.reply ≡ r → register worker before ≡ Some basis → IsScheduleOf
+      (on_step worker (moment shape past) (Some basis) r ++ before) new → IsScheduleOf after new
   step-next new worker basis r a e mine g =
       held-next new (on_step worker (moment shape past) (Some basis) r) (not_restart (does.Step c worker) a refl)
       (ap (λ some. some ++ before) (noted_is (does.Step c worker) r a e) ∙ own c _ before ∙ ap (λ o. on_step worker (moment shape past) o r ++ before) mine) g

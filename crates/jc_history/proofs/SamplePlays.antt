@@ -12,8 +12,12 @@ use Rattle.jc_history.specs.Available.{available}
 use Rattle.jc_history.specs.Play.{brought_up, event_played, settled_down, stepped_through, whole_play}
 use Rattle.jc_history.specs.Replies.{gives}
 use Rattle.jc_history.specs.Samples.{narrow_window, sample_shape, two_controllers, usual_shape, told_replies, told_conditions, told_counts, told_indexes, told_verdicts, verdict_counts, both_true}
-use Rattle.jc_history.specs.SampleScripts.{one_pod_script, restart_script, lagging_cache_script, conflict_script, lost_status_script, lost_creation_script, dropped_creation_script, marked_pod_script, replacement_script, indexes_script, one_index_twice_script, backoff_limit_script, failing_exit_script, deadline_script, late_let_go_script, made_again_script, restarted_container_script, suspension_script, window_script, refusals_script, settling_script, ignoring_script}
-use Rattle.jc_history.specs.SampleReplies.{one_pod_replies, restart_replies, lagging_cache_replies, conflict_replies, lost_status_replies, lost_creation_replies, dropped_creation_replies, marked_pod_replies, replacement_replies, indexes_replies, one_index_twice_replies, backoff_limit_replies, failing_exit_replies, deadline_replies, late_let_go_replies, made_again_replies, restarted_container_replies, suspension_replies, window_replies, refusals_replies}
+use Rattle.jc_history.specs.SampleScripts.{one_pod_script, restart_script, lagging_cache_script, conflict_script, lost_status_script, lost_creation_script, dropped_creation_script, marked_pod_script, replacement_script, indexes_script}
+use Rattle.jc_history.specs.SampleScripts.{one_index_twice_script, backoff_limit_script, failing_exit_script, deadline_script, late_let_go_script, made_again_script, restarted_container_script, suspension_script, window_script}
+use Rattle.jc_history.specs.SampleScripts.{refusals_script, settling_script, ignoring_script}
+use Rattle.jc_history.specs.SampleReplies.{one_pod_replies, restart_replies, lagging_cache_replies, conflict_replies, lost_status_replies, lost_creation_replies, dropped_creation_replies, marked_pod_replies, replacement_replies}
+use Rattle.jc_history.specs.SampleReplies.{indexes_replies, one_index_twice_replies, backoff_limit_replies, failing_exit_replies, deadline_replies, late_let_go_replies, made_again_replies, restarted_container_replies, suspension_replies}
+use Rattle.jc_history.specs.SampleReplies.{window_replies, refusals_replies}
 
 pub one_pod-replies : told_replies one_pod_script usual_shape ≡ one_pod_replies
 unfolding whole_play brought_up stepped_through settled_down event_played gives planned first_value second_value counted_in counted_out failing_in failures_in pause available one_pod_script one_pod_replies

@@ -7,7 +7,8 @@ use Rattle.jc_types.specs.declared.objects.Kind.TheVariants.{Jobs, Pods}
 use Rattle.jc_types.specs.declared.objects.Phase.TheVariants.{Pending, Running, Failed}
 use Rattle.jc_types.specs.declared.specifications.Mode.TheVariants.{Indexed}
 use Rattle.jc_types.specs.declared.specifications.Replacement.TheVariants.{FailedOnly}
-use Rattle.jc_history.specs.Samples.{disrupted_end, ignoring_spec, limited_spec, unfailing_spec, good_end, restarting_spec, uid_of, version_at, key_named, pi_key, sample_spec, failing_spec, succeeding_spec, no_change, phase_change, exited, exited_main, exited_side, restarted_main, sample_script}
+use Rattle.jc_history.specs.Samples.{disrupted_end, ignoring_spec, limited_spec, unfailing_spec, good_end, restarting_spec, uid_of, version_at, key_named, pi_key, sample_spec, failing_spec, succeeding_spec, no_change, phase_change, exited}
+use Rattle.jc_history.specs.Samples.{exited_main, exited_side, restarted_main, sample_script}
 
 -- A pod succeeds and is counted.
 unfoldable pub one_pod_script : Script

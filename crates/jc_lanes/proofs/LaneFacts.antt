@@ -1,5 +1,6 @@
 -- How far each lane of a script is, and where its next command stands.
-use Rattle.std.proofs.Common.{◌≡◌, ℕ, zero, suc, ◌+◌, ◌<◌, ◌≤◌, ◌==◌, Bool, true, false, cond, List, [], ◌∷◌, length, set, filter, slice_get, drop, Option, Some, None, is_some, refl, sym, ap, ◌∙◌, subst, arith, true≢false, eq-eqb, ne_eqb, ◌⊎◌, inl, inr}
+use Rattle.std.proofs.Common.{◌≡◌, ℕ, zero, suc, ◌+◌, ◌<◌, ◌≤◌, ◌==◌, Bool, true, false, cond, List, [], ◌∷◌, length, set, filter, slice_get, drop, Option, Some, None, is_some, refl, sym, ap, ◌∙◌, subst, arith, true≢false, eq-eqb, ne_eqb}
+use Rattle.std.proofs.Common.{◌⊎◌, inl, inr}
 use Rattle.std.proofs.lemmas.Bool.Decides.{nat_tests}
 use Rattle.std.specs.Option.{unwrap_or}
 use Rattle.jc_types.specs.declared.actions.Command.{Command}

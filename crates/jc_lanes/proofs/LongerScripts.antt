@@ -100,7 +100,8 @@ module _ (commands : List Command) (command : Command) where
           decide : (b : Bool) → (other == lane) ≡ b → lane_count lane (past ∷ before) ≤ length (lane_places lane commands)
           decide true same =
               let mine : is_of_lane lane past ≡ true = ap (λ e. is_of_lane lane (record past { event = e })) is ∙ same in
-              let less : lane_count lane before < length (lane_places lane commands) = get_within (lane_places lane commands) (lane_count lane before) number (subst (λ l. next_command commands l before ≡ Some number) (eqb-true other lane same) next) in
+              let less : lane_count lane before < length (lane_places lane commands) = get_within (lane_places lane commands) (lane_count lane before) number
+              (subst (λ l. next_command commands l before ≡ Some number) (eqb-true other lane same) next) in
               subst (λ b. length (cond b (past ∷ filter (is_of_lane lane) before) (filter (is_of_lane lane) before)) ≤ length (lane_places lane commands)) (sym mine) (omega (arith, less))
           decide false apart =
               let mine : is_of_lane lane past ≡ false = ap (λ e. is_of_lane lane (record past { event = e })) is ∙ apart in

@@ -194,7 +194,8 @@ KeptJob j Q None = Unit {0}
 KeptJob j Q (Some job) = same_uid job.uid j ≡ true → Q job
 
 -- What a step keeps of a Job, an entry keeps of the Job of a UID that was put.
-pub job_kept_entry : (Q : Job → Type 0) → ((old new : Job) → JobStep old new → Q old → Q new) → (j : Uid) (k : Key) (e : Entry) (older : List Entry) → Writes older e → Stored older → is_born j older ≡ true → KeptJob j Q (job_in k older) → KeptJob j Q (job_in k (e ∷ older))
+pub job_kept_entry : (Q : Job → Type 0) → ((old new : Job) → JobStep old new → Q old → Q new) → (j : Uid) (k : Key) (e : Entry) (older : List Entry) → Writes older e → Stored older → is_born j older
+    ≡ true → KeptJob j Q (job_in k older) → KeptJob j Q (job_in k (e ∷ older))
 job_kept_entry Q step j k (JobPut job) older w all born h = by (same_key job.key k) refl
   where
     made : (o : Option Job) → CanJob older o job → KeptJob j Q o → same_uid job.uid j ≡ true → Q job
@@ -217,7 +218,8 @@ job_kept_entry Q step j k (PodPut pod) older w all born h = h
 job_kept_entry Q step j k (PodGone pod) older w all born h = h
 
 -- What a step keeps of a Job lasts from a prefix to every longer one.
-pub job_kept_to : (Q : Job → Type 0) → ((old new : Job) → JobStep old new → Q old → Q new) → (k : Key) (m n : ℕ) (log : List Entry) → Stored log → m ≤ n → (job : Job) → job_in k (upto m log) ≡ Some job → Q job → KeptJob job.uid Q (job_in k (upto n log))
+pub job_kept_to : (Q : Job → Type 0) → ((old new : Job) → JobStep old new → Q old → Q new) → (k : Key) (m n : ℕ) (log : List Entry) → Stored log → m ≤ n → (job : Job) → job_in k (upto m log)
+    ≡ Some job → Q job → KeptJob job.uid Q (job_in k (upto n log))
 job_kept_to Q step k m n log all h job there q =
     (persists Writes (λ l. (is_born job.uid l ≡ true) × KeptJob job.uid Q (job_in k l))
     (λ e older w rest p. (is_born-more job.uid e older p.0, job_kept_entry Q step job.uid k e older w rest p.0 p.1))

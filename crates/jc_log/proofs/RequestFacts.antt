@@ -22,7 +22,9 @@ use Rattle.jc_types.specs.declared.replies.Reply.TheVariants.{BadStep, Conflict,
 use Rattle.jc_types.specs.declared.specifications.JobSpec.{JobSpec}
 use Rattle.jc_types.specs.declared.statuses.JobStatus.{JobStatus}
 use Rattle.jc_log.specs.StoredAnswers.{StaysLegal, StaysStored}
-use Rattle.jc_log.specs.Requests.{Answered, accepted, changed_spec, create_job_at, create_job_gives, create_pod_gives, delete_job_at, delete_job_gives, gone_job, grown, is_other, is_unnamed, let_go_at, let_go_gives, made_job, made_pod, mark_pod_at, mark_pod_gives, new_container, new_containers, pod_entry, refused, release_at, release_gives, released, report_phase_at, report_phase_gives, report_unless, same_course_of, update_refusal, update_spec_at, update_spec_gives, update_unless, with_mark, with_report, with_spec, with_status, without_finalizer, write_status_at, write_status_gives}
+use Rattle.jc_log.specs.Requests.{Answered, accepted, changed_spec, create_job_at, create_job_gives, create_pod_gives, delete_job_at, delete_job_gives, gone_job, grown, is_other, is_unnamed, let_go_at, let_go_gives, made_job, made_pod}
+use Rattle.jc_log.specs.Requests.{mark_pod_at, mark_pod_gives, new_container, new_containers, pod_entry, refused, release_at, release_gives, released, report_phase_at, report_phase_gives, report_unless, same_course_of, update_refusal}
+use Rattle.jc_log.specs.Requests.{update_spec_at, update_spec_gives, update_unless, with_mark, with_report, with_spec, with_status, without_finalizer, write_status_at, write_status_gives}
 use Rattle.jc_types.specs.Keys.{same_uid}
 use Rattle.jc_log.specs.Log.{Life, Never, Live, Gone, has_job, job_in, life, next_version, pod_in}
 use Rattle.jc_states.specs.Pods.{goes, is_final, is_marked}
@@ -93,7 +95,8 @@ module _ (log : List Entry) (stored : Stored log) where
   pub write_status-allowed : (key : Key) (uid : Uid) (version : Version) (status : JobStatus) → Adds log (write_status_gives log key uid version status)
   write_status-allowed key uid version status = by (job_in key log) refl
     where
-      last : (job : Job) → job_in key log ≡ Some job → (a b c : Bool) → Adds log (cond a (refused NotFound) (cond b (refused (Conflict job.version)) (cond c (refused (Unchanged job.version)) (accepted (Written (next_version log)) (JobPut (with_status log job status))))))
+      last : (job : Job) → job_in key log ≡ Some job → (a b c : Bool) → Adds log (cond a (refused NotFound)
+          (cond b (refused (Conflict job.version)) (cond c (refused (Unchanged job.version)) (accepted (Written (next_version log)) (JobPut (with_status log job status))))))
       last job is true b c = tt
       last job is false true c = tt
       last job is false false true = tt

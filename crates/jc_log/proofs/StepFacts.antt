@@ -54,7 +54,8 @@ pub version_step : (old : Job) (version : Version) (new : Job) → new ≡ recor
 version_step old version new e = status_step old version old.status new e
 
 -- A changed specification keeps what no change names.
-pub spec_step : (old : Job) (version : Version) (change : SpecChange) (base changed shared : JobSpec) (new : Job) → base ≡ old.spec → changed ≡ changed_spec base change → shared ≡ changed → new ≡ record old { version = version; spec = shared } → JobStep old new
+pub spec_step : (old : Job) (version : Version) (change : SpecChange) (base changed shared : JobSpec) (new : Job) → base ≡ old.spec → changed ≡ changed_spec base change → shared ≡ changed → new
+    ≡ record old { version = version; spec = shared } → JobStep old new
 spec_step old version change base changed shared new from by same e =
     let is : shared ≡ changed_spec old.spec change = same ∙ by ∙ ap (λ b. changed_spec b change) from in
     record {
@@ -149,7 +150,9 @@ was_pending Running Failed f b p = absurd (true≢false (sym p))
 was_pending Succeeded to f b p = absurd (true≢false f)
 was_pending Failed to f b p = absurd (true≢false f)
 
-pub report_step : (old : Pod) (version : Version) (change : PhaseChange) (new : Pod) → is_final old.phase ≡ false → (same_phase old.phase Running && same_phase change.phase Pending) ≡ false → new ≡ record old { version = version; phase = change.phase; containers = map (changed_container change.containers) old.containers; conditions = fold put_pattern old.conditions change.conditions } → PodStep old new
+pub report_step : (old : Pod) (version : Version) (change : PhaseChange) (new : Pod) → is_final old.phase ≡ false → (same_phase old.phase Running && same_phase change.phase Pending) ≡ false → new
+    ≡ record old { version = version; phase = change.phase; containers = map (changed_container change.containers) old.containers; conditions = fold put_pattern old.conditions change.conditions } →
+    PodStep old new
 report_step old version change new going forth e = record {
   uid = ap (λ p. p.uid) e;
   owner = ap (λ p. p.owner) e;

@@ -13,7 +13,8 @@ module _ {K V : Type 0} (same : K → K → Bool) where
   set_value-puts k v [] h = absurd (true≢false (sym h))
   set_value-puts k v (row ∷ rows) h = by (same k row.0) h (set_value-puts k v rows)
     where
-      by : (b : Bool) → IsSome (cond b (Some row.1) (lookup (same k) rows)) → (IsSome (lookup (same k) rows) → set_value (same k) rows v ≡ puts same rows k v) → cond b ((row.0, v) ∷ rows) (row ∷ set_value (same k) rows v) ≡ cond b ((row.0, v) ∷ rows) (row ∷ puts same rows k v)
+      by : (b : Bool) → IsSome (cond b (Some row.1) (lookup (same k) rows)) → (IsSome (lookup (same k) rows) → set_value (same k) rows v ≡ puts same rows k v) → cond b ((row.0, v) ∷ rows)
+          (row ∷ set_value (same k) rows v) ≡ cond b ((row.0, v) ∷ rows) (row ∷ puts same rows k v)
       by true h rest = refl
       by false h rest = ap (λ rows. row ∷ rows) (rest h)
 
@@ -39,7 +40,8 @@ module _ {K V : Type 0} (same : K → K → Bool) where
     Sets-puts k v [] q = ap (λ b. cond b (Some v) None) (same_either_way same eq itself q k)
     Sets-puts k v (row ∷ rows) q = by (same k row.0) refl (Sets-puts k v rows q)
       where
-        by : (b : Bool) → same k row.0 ≡ b → at same (puts same rows k v) q ≡ cond (same k q) (Some v) (at same rows q) → at same (cond b ((row.0, v) ∷ rows) (row ∷ puts same rows k v)) q ≡ cond (same k q) (Some v) (cond (same q row.0) (Some row.1) (at same rows q))
+        by : (b : Bool) → same k row.0 ≡ b → at same (puts same rows k v) q ≡ cond (same k q) (Some v) (at same rows q) → at same (cond b ((row.0, v) ∷ rows) (row ∷ puts same rows k v)) q ≡ cond
+            (same k q) (Some v) (cond (same q row.0) (Some row.1) (at same rows q))
         by true t rest =
             let alike : same q row.0 ≡ same k q = same_either_way same eq itself q row.0 ∙ ap (λ a. same a q) (sym (eq k row.0 t)) in
             at_row (same q row.0) (same k q) alike

@@ -21,7 +21,8 @@ module _ (A : List Entry → Entry → Type 0) where
   persists P step m n (e ∷ older) all h p =
       by (λ le q. persists P step m n older all.1 le q) (λ le q. persists P step m (length older) older all.1 le q) (nat_lt (length older) n) refl (nat_lt (length older) m) refl
     where
-      by : (m ≤ n → P (upto m older) → P (upto n older)) → (m ≤ length older → P (upto m older) → P (upto (length older) older)) → (b : Bool) → nat_lt (length older) n ≡ b → (c : Bool) → nat_lt (length older) m ≡ c → P (cond b (e ∷ older) (upto n older))
+      by : (m ≤ n → P (upto m older) → P (upto n older)) → (m ≤ length older → P (upto m older) → P (upto (length older) older)) → (b : Bool) → nat_lt (length older) n ≡ b → (c : Bool) → nat_lt
+          (length older) m ≡ c → P (cond b (e ∷ older) (upto n older))
       by near far true t true s = subst P (upto-all m (e ∷ older) (let lt = ltb-true (length older) m s in omega (arith, lt))) p
       by near far true t false s =
           let le = ltb-false (length older) m s in

@@ -1,5 +1,6 @@
 -- A plan of an Indexed Job uses up what may be made.
-use Rattle.std.proofs.Common.{◌≡◌, ℕ, ◌+◌, ◌-◌, ◌<◌, ◌≤◌, min, nat_lt, nat_le, Bool, true, false, cond, not, ◌&&◌, ◌||◌, List, [], ◌++◌, map, filter, length, take, drop, Option, Some, None, IsSome, IfSome, is_some, unwrap_or, refl, sym, ap, ◌∙◌, subst, arith, true≢false}
+use Rattle.std.proofs.Common.{◌≡◌, ℕ, ◌+◌, ◌-◌, ◌<◌, ◌≤◌, min, nat_lt, nat_le, Bool, true, false, cond, not, ◌&&◌, ◌||◌, List, [], ◌++◌, map, filter, length, take, drop, Option, Some, None, IsSome, IfSome, is_some, unwrap_or, refl, sym, ap}
+use Rattle.std.proofs.Common.{◌∙◌, subst, arith, true≢false}
 use Rattle.std.specs.List.{AllByRecursion as Each, range_with_len}
 use Rattle.std.proofs.lemmas.Bool.{and_parts, lt-leb, ltb-true}
 use Rattle.std.proofs.lemmas.List.{append-nil, length-append}
@@ -289,7 +290,8 @@ module _ (ends : List End) (made : ℕ) (job : Job) (basis : Basis) (this : basi
       (cond (is_end_decided job (decided_in job basis) || job.spec.suspend) [] (new_pods m (job_lacks job own (accounted job basis)) (free completions (accounted job basis) (keepers job.spec.replacement own))))) indexed
 
   of-use-then : length (remaining Indexed useless (stay ++ is.fresh)) ≡ length stay + length is.fresh
-  of-use-then = with-numbers (numbers-of job own (accounted job basis) (is_end_decided job (decided_in job basis)) (job_lacks job own (accounted job basis)) (is_delayed_until (opening (backoff_after basis.backoff (accounted job basis) basis.now)) basis.now))
+  of-use-then = with-numbers (numbers-of job own (accounted job basis) (is_end_decided job (decided_in job basis)) (job_lacks job own (accounted job basis))
+      (is_delayed_until (opening (backoff_after basis.backoff (accounted job basis) basis.now)) basis.now))
     where
       in-stay : (P : Pod → Type 0) → Each P active → Each P stay
       in-stay P h =

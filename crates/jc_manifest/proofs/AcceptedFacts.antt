@@ -1,5 +1,6 @@
 -- What an accepted manifest says is a valid specification.
-use Rattle.std.proofs.Common.{◌≡◌, ◌≢◌, refl, sym, ◌∙◌, ap, subst, ℕ, zero, suc, ◌+◌, ◌<◌, ◌≤◌, ℤ, pos, negsuc, nat_abs, List, [], ◌∷◌, ◌++◌, length, get_or, Bool, true, false, not, ◌&&◌, ◌||◌, cond, bytes_eq, Option, Some, None, option_map, is_some, IsSome, IfSome, Result, Ok, Err, codes, append_assoc, true≢false, arith}
+use Rattle.std.proofs.Common.{◌≡◌, ◌≢◌, refl, sym, ◌∙◌, ap, subst, ℕ, zero, suc, ◌+◌, ◌<◌, ◌≤◌, ℤ, pos, negsuc, nat_abs, List, [], ◌∷◌, ◌++◌, length, get_or, Bool, true, false, not, ◌&&◌, ◌||◌, cond, bytes_eq, Option, Some, None}
+use Rattle.std.proofs.Common.{option_map, is_some, IsSome, IfSome, Result, Ok, Err, codes, append_assoc, true≢false, arith}
 use Rattle.std.specs.Prelude.{All, IfOk, AllPairs, int_le, is_none, nat_lt, nat_le, ok_or, option_and_then, unwrap_or}
 use Rattle.std.specs.Option.{option_or, option_map_or}
 use Rattle.std.specs.Result.{result_unwrap_or}
@@ -34,14 +35,16 @@ use Rattle.jc_manifest.specs.declared.manifests.Head.{Head}
 use Rattle.jc_rows.specs.declared.refusals.ManifestFault.{ManifestFault}
 use Rattle.jc_log.specs.Requests.{is_indexed}
 use Rattle.jc_rows.specs.PodCountRows.{is_mode, completions_of, completions_or, indexed_row, numbers_refusal, parallelism_in, completions_in, mode_in, counts_refusal, counts_in}
-use Rattle.jc_policies.specs.FailurePolicies.{is_fail_index, action_in, action_refusal, failure_rule_refusal, failure_rule_in, failure_rule_row, failure_rules_from, failure_rules_refusal, given_failure_refusal, failure_refusal, failure_rules_in, failure_in}
+use Rattle.jc_policies.specs.FailurePolicies.{is_fail_index, action_in, action_refusal, failure_rule_refusal, failure_rule_in, failure_rule_row, failure_rules_from, failure_rules_refusal, given_failure_refusal, failure_refusal}
+use Rattle.jc_policies.specs.FailurePolicies.{failure_rules_in, failure_in}
 use Rattle.jc_manifest.specs.IndexLimits.{index_limits_refusal, index_limits_in, is_by_index, has_indexes_to_limit, by_index_refusal}
 use Rattle.jc_manifest.specs.Limits.{managed_row, usual_backoff, limits_in}
 use Rattle.jc_manifest.specs.Manifests.{is_early, replacement_in, replacement_refusal, head_refusal, head_in, policies_refusal, policies_in, spec_refusal, spec_in, metadata_part_refusal, spec_part_refusal, manifest_refusal, key_of, spec_of}
 use Rattle.jc_manifest.specs.Metadata.{type_refusal}
 use Rattle.jc_rows.specs.ManifestRows.{Row, Reads, each, rule_row, passes, number_in, object_in, rows_of_given, given_in, text_row, given_text_row, object_row}
 use Rattle.jc_policies.specs.SuccessPolicies.{count_in, success_rule_in, success_rules_from, success_rules_in, given_success_refusal, success_refusal, success_in}
-use Rattle.jc_rows.specs.Templates.{never_restarts, restart_in, restart_refusal, init_count, list_in, given_list_in, are_right_many, containers_refusal, is_among, is_new_label, name_row, container_name, names_row, names_in, all_names_refusal, all_containers_refusal, pod_refusal, names_of_both, all_names_in, template_in_pod, pod_path, pod_spec_in, template_refusal, template_in}
+use Rattle.jc_rows.specs.Templates.{never_restarts, restart_in, restart_refusal, init_count, list_in, given_list_in, are_right_many, containers_refusal, is_among, is_new_label, name_row, container_name, names_row, names_in}
+use Rattle.jc_rows.specs.Templates.{all_names_refusal, all_containers_refusal, pod_refusal, names_of_both, all_names_in, template_in_pod, pod_path, pod_spec_in, template_refusal, template_in}
 use Rattle.jc_rows.specs.NameForms.{is_label}
 use Rattle.jc_policies.proofs.IndexSetFacts.{left, right}
 

@@ -6,7 +6,8 @@ ghost use Rattle.jc_json.specs.Place.{path_to};
 ghost use Rattle.jc_types.specs.ValidSpecs.{IsValidSpec};
 ghost use Rattle.jc_rows.specs.PodCountRows.{counts_in};
 ghost use Rattle.jc_rows.specs.ManifestRows.{Checks, Reads, rule_row, given_text_row};
-ghost use Rattle.jc_manifest.specs.Manifests.{replacement_of, is_replacement, usual_replacement, replacement_in, is_early, replacement_refusal, policies_refusal, policies_in, head_refusal, head_in, spec_refusal, spec_with, spec_in, metadata_part_refusal, spec_part_refusal, manifest_refusal, key_of, spec_of};
+ghost use Rattle.jc_manifest.specs.Manifests.{replacement_of, is_replacement, usual_replacement, replacement_in, is_early, replacement_refusal, policies_refusal, policies_in, head_refusal, head_in, spec_refusal, spec_with, spec_in};
+ghost use Rattle.jc_manifest.specs.Manifests.{metadata_part_refusal, spec_part_refusal, manifest_refusal, key_of, spec_of};
 
 use crate::index_limits::{IndexLimits, check_by_index, is_by_index, read_index_limits};
 use crate::limits::{Limits, check_managed, read_limits};

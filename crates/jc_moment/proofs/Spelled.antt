@@ -67,7 +67,10 @@ pair_passed z n below is =
     rw is (to_z-of_z w8 (pos n) fits)
 
 -- Readers that read the digits where they stand in the text of a moment have read its parts.
-pub parts_read : (seconds : ℕ) (text : List ℕ) (t : IsMomentText seconds text) (y mo d h mi s : ℤ) → ((n : ℕ) → IsPairAt text 0 (n / 100) → IsPairAt text 2 (n % 100) → y ≡ pos n) → ((n : ℕ) → IsPairAt text 5 n → mo ≡ pos n) → ((n : ℕ) → IsPairAt text 8 n → d ≡ pos n) → ((n : ℕ) → IsPairAt text 11 n → h ≡ pos n) → ((n : ℕ) → IsPairAt text 14 n → mi ≡ pos n) → ((n : ℕ) → IsPairAt text 17 n → s ≡ pos n) → HasParts t.civil (to_z w16 (of_z w16 y)) (to_z w8 (of_z w8 mo)) (to_z w8 (of_z w8 d)) (to_z w8 (of_z w8 h)) (to_z w8 (of_z w8 mi)) (to_z w8 (of_z w8 s))
+pub parts_read : (seconds : ℕ) (text : List ℕ) (t : IsMomentText seconds text) (y mo d h mi s : ℤ) → ((n : ℕ) → IsPairAt text 0 (n / 100) → IsPairAt text 2 (n % 100) → y ≡ pos n) →
+    ((n : ℕ) → IsPairAt text 5 n → mo ≡ pos n) → ((n : ℕ) → IsPairAt text 8 n → d ≡ pos n) → ((n : ℕ) → IsPairAt text 11 n → h ≡ pos n) → ((n : ℕ) → IsPairAt text 14 n → mi ≡ pos n) →
+    ((n : ℕ) → IsPairAt text 17 n → s ≡ pos n) → HasParts t.civil (to_z w16 (of_z w16 y)) (to_z w8 (of_z w8 mo)) (to_z w8 (of_z w8 d)) (to_z w8 (of_z w8 h)) (to_z w8 (of_z w8 mi))
+    (to_z w8 (of_z w8 s))
 parts_read seconds text t y mo d h mi s year month day hour minute second =
     let at = spelled seconds text t in
     record {
@@ -81,7 +84,8 @@ parts_read seconds text t y mo d h mi s year month day hour minute second =
     }
 
 -- A text that ends in `Z` is that of a moment exactly where the rest is how its date and time are written.
-pub ends_in_Z : (seconds : ℕ) (a : DateTime) (text rest written : List ℕ) (same : Bool) → civil_seconds a ≡ pos seconds → a.time.subsec_nanosecond ≡ 0 → text ≡ rest ++ codes "Z" → written ≡ iso_datetime_text a → same ≡ bytes_eq rest written → IsTrue same ↔ IsMomentText seconds text
+pub ends_in_Z : (seconds : ℕ) (a : DateTime) (text rest written : List ℕ) (same : Bool) → civil_seconds a ≡ pos seconds → a.time.subsec_nanosecond ≡ 0 → text ≡ rest ++ codes "Z" → written
+    ≡ iso_datetime_text a → same ≡ bytes_eq rest written → IsTrue same ↔ IsMomentText seconds text
 ends_in_Z seconds a text rest written same at whole ends writes tests = (
   λ yes. record {
     civil = a;

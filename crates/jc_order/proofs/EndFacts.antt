@@ -33,7 +33,8 @@ use Rattle.jc_types.specs.declared.runs.Shape.{Shape}
 use Rattle.jc_types.specs.declared.specifications.JobSpec.{JobSpec}
 use Rattle.jc_types.specs.declared.statuses.JobStatus.{JobStatus}
 use Rattle.jc_states.specs.declared.bases.Basis.{Basis}
-use Rattle.jc_log.specs.Requests.{Answered, grown, refused, accepted, create_job_at, create_pod_gives, delete_job_at, is_other, let_go_at, made_job, made_pod, mark_pod_at, pod_entry, release_at, released, report_phase_at, report_unless, same_course_of, is_unnamed, update_refusal, update_spec_at, update_unless, changed_spec, with_mark, with_report, with_spec, with_status, gone_job, without_finalizer, write_status_at}
+use Rattle.jc_log.specs.Requests.{Answered, grown, refused, accepted, create_job_at, create_pod_gives, delete_job_at, is_other, let_go_at, made_job, made_pod, mark_pod_at, pod_entry, release_at, released, report_phase_at, report_unless}
+use Rattle.jc_log.specs.Requests.{same_course_of, is_unnamed, update_refusal, update_spec_at, update_unless, changed_spec, with_mark, with_report, with_spec, with_status, gone_job, without_finalizer, write_status_at}
 use Rattle.jc_log.specs.Acts.{Act}
 use Rattle.jc_log.specs.Deeds.{Deed}
 use Rattle.jc_types.specs.Keys.{same_key, same_uid}

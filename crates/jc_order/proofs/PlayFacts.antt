@@ -1,5 +1,6 @@
 -- The play of a script is a legal and orderly history of it, which ends where the lanes are used up or all events are.
-use Rattle.std.proofs.Common.{◌≡◌, ℕ, zero, suc, ◌+◌, ◌-◌, ◌<◌, ◌≤◌, ◌==◌, nat_lt, Bool, true, false, cond, ◌||◌, List, [], ◌∷◌, ◌++◌, length, map, reverse, slice_get, Option, Some, None, is_some, refl, sym, ap, ◌∙◌, subst, arith, ltb-true, ltb-false, eqb-true, eq-eqb, true≢false, ◌⊎◌, inl, inr}
+use Rattle.std.proofs.Common.{◌≡◌, ℕ, zero, suc, ◌+◌, ◌-◌, ◌<◌, ◌≤◌, ◌==◌, nat_lt, Bool, true, false, cond, ◌||◌, List, [], ◌∷◌, ◌++◌, length, map, reverse, slice_get, Option, Some, None, is_some, refl, sym, ap, ◌∙◌, subst, arith, ltb-true}
+use Rattle.std.proofs.Common.{ltb-false, eqb-true, eq-eqb, true≢false, ◌⊎◌, inl, inr}
 use Rattle.std.proofs.lemmas.Bool.{eqb-false}
 use Rattle.std.proofs.lemmas.List.{length-reverse, map-append, reverse-append, reverse-reverse}
 use Rattle.std.specs.List.{AllByRecursion as Each, list_any}
@@ -28,7 +29,8 @@ use Rattle.jc_order.specs.Ends.{IsAtMost}
 use Rattle.jc_history.specs.Diaries.{moment, notes}
 use Rattle.jc_history.specs.Legal.{AreUsed, ComesNext, IsHistory, InLanes, IsLegal, IsOfShape, MaySettle, next_command, lane_count}
 use Rattle.jc_history.specs.Numbers.{number}
-use Rattle.jc_history.specs.Play.{Playing, has_just_begun, brings, brought_up, commanded, deeds_played, event_played, does_if, first_event, is_command, notes_in, nothing, on_and_on, play_of, rest_played, settled_down, stepped_through, stepped_if, next_step, with_answer, whole_play as all_played}
+use Rattle.jc_history.specs.Play.{Playing, has_just_begun, brings, brought_up, commanded, deeds_played, event_played, does_if, first_event, is_command, notes_in, nothing, on_and_on, play_of, rest_played, settled_down, stepped_through}
+use Rattle.jc_history.specs.Play.{stepped_if, next_step, with_answer, whole_play as all_played}
 use Rattle.jc_history.specs.Registers.{register}
 use Rattle.jc_history.specs.Replies.{gives, log_after, log_given, reply_given}
 use Rattle.jc_order.specs.Plays.{AreWithin, IsPlayed, IsScriptFor, ends_in_settle, is_settle_action}

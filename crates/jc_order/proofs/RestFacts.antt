@@ -16,7 +16,8 @@ use Rattle.jc_states.specs.declared.bases.Basis.{Basis}
 use Rattle.jc_log.specs.Deeds.{Deed}
 use Rattle.jc_types.specs.Keys.{same_key}
 use Rattle.jc_log.specs.Tables.{at}
-use Rattle.jc_history.specs.Available.{available, begin_events, below, but_clock, clock_events, delivery_events, delivery_event, earliest, free_worker, is_empty, is_quiescent, least_of_all, list_event, list_events, node_events, or_clock, step_event, step_events}
+use Rattle.jc_history.specs.Available.{available, begin_events, below, but_clock, clock_events, delivery_events, delivery_event, earliest, free_worker, is_empty, is_quiescent, least_of_all, list_event, list_events, node_events, or_clock}
+use Rattle.jc_history.specs.Available.{step_event, step_events}
 use Rattle.jc_history.specs.Delays.{delay, delays, ended_key, least_delay}
 use Rattle.jc_history.specs.Diaries.{moment, notes}
 use Rattle.jc_history.specs.Fresh.{begin_at, begin_first, may_begin}

@@ -5,7 +5,10 @@ ghost use Rattle.jc_json.specs.View.{view};
 ghost use Rattle.jc_json.specs.Place.{path_to};
 ghost use Rattle.jc_rows.specs.ManifestRows.{Checks, Reads, each, rule_row, text_row, given_text_row, object_in};
 ghost use Rattle.jc_rows.specs.Templates.{never_restarts, list_in, is_among};
-ghost use Rattle.jc_policies.specs.FailurePolicies.{action_named, operator_of, truth_of, is_action, is_operator, is_truth, operator_in, container_in, number_at, code_row, codes_in, rises_from, has_zero, is_operator_within, are_codes, values_refusal, exit_codes_refusal, exit_codes_in, is_type, pattern_refusal, type_in, truth_in, pattern_in, pattern_row, patterns_from, patterns_refusal, is_fail_index, action_row, action_in, action_refusal, is_no_empty_list, has_exit_codes, has_patterns, is_just_one, given_exit_codes_refusal, given_patterns_refusal, requirement_refusal, requirement_in, failure_rule_refusal, failure_rule_in, failure_rule_row, failure_rules_from, failure_rules_refusal, failure_rules_in, given_failure_refusal, failure_refusal, failure_in};
+ghost use Rattle.jc_policies.specs.FailurePolicies.{action_named, operator_of, truth_of, is_action, is_operator, is_truth, operator_in, container_in, number_at, code_row, codes_in, rises_from, has_zero, is_operator_within, are_codes};
+ghost use Rattle.jc_policies.specs.FailurePolicies.{values_refusal, exit_codes_refusal, exit_codes_in, is_type, pattern_refusal, type_in, truth_in, pattern_in, pattern_row, patterns_from, patterns_refusal, is_fail_index, action_row};
+ghost use Rattle.jc_policies.specs.FailurePolicies.{action_in, action_refusal, is_no_empty_list, has_exit_codes, has_patterns, is_just_one, given_exit_codes_refusal, given_patterns_refusal, requirement_refusal, requirement_in};
+ghost use Rattle.jc_policies.specs.FailurePolicies.{failure_rule_refusal, failure_rule_in, failure_rule_row, failure_rules_from, failure_rules_refusal, failure_rules_in, given_failure_refusal, failure_refusal, failure_in};
 
 use jc_json::{Path, Value, item_number, may_object, may_text, member, need_list, need_text};
 use jc_rows::{ManifestFault, broken, broken_at, check_objects, never_restarts, read_object};

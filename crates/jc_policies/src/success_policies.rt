@@ -8,7 +8,8 @@ ghost use Rattle.jc_rows.specs.ManifestRows.{Checks, Reads, each, rule_row};
 ghost use Rattle.jc_log.specs.Requests.{is_indexed};
 ghost use Rattle.jc_policies.specs.IndexSets.{set_of};
 ghost use Rattle.jc_rows.specs.PodCountRows.{completions_of};
-ghost use Rattle.jc_policies.specs.SuccessPolicies.{are_indexes, indexes_read, indexes_row, succeeded_indexes_in, is_reachable, count_in, count_row, count_refusal, says_something, success_rule_refusal, success_rule_in, success_rule_row, success_rules_from, success_rules_refusal, success_rules_in, given_success_refusal, success_refusal, success_in};
+ghost use Rattle.jc_policies.specs.SuccessPolicies.{are_indexes, indexes_read, indexes_row, succeeded_indexes_in, is_reachable, count_in, count_row, count_refusal, says_something, success_rule_refusal, success_rule_in, success_rule_row};
+ghost use Rattle.jc_policies.specs.SuccessPolicies.{success_rules_from, success_rules_refusal, success_rules_in, given_success_refusal, success_refusal, success_in};
 
 use jc_json::{Path, Value, may_number, may_object, may_text, member, need_list};
 use jc_ranges::{Ranges, RangesFault};

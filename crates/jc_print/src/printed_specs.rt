@@ -6,7 +6,8 @@ ghost use Rattle.serde_json.specs.Find.{of_integer};
 ghost use Rattle.serde_json.specs.Written.{compact_text};
 ghost use Rattle.jc_ranges.specs.Texts.{ranges_text};
 ghost use Rattle.jc_print.specs.PrintedMembers.{texts_data, list_data};
-ghost use Rattle.jc_print.specs.PrintedSpecs.{mode_word, replacement_word, restart_word, action_word, operator_word, truth_word, pattern_data, exit_codes_data, with_requirement, failure_rule_data, failure_data, success_rule_data, success_data, template_data, spec_data, change_data};
+ghost use Rattle.jc_print.specs.PrintedSpecs.{mode_word, replacement_word, restart_word, action_word, operator_word, truth_word, pattern_data, exit_codes_data, with_requirement, failure_rule_data, failure_data, success_rule_data};
+ghost use Rattle.jc_print.specs.PrintedSpecs.{success_data, template_data, spec_data, change_data};
 ghost use Rattle.jc_print.specs.Tokens.{AddsTokens, data_tokens, front_tokens, given_tokens};
 
 use crate::writes::{

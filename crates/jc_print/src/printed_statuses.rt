@@ -5,7 +5,8 @@ ghost use Rattle.serde_json.specs.Data.{boolean, number, string, no_members};
 ghost use Rattle.serde_json.specs.View.{view, members_view};
 ghost use Rattle.serde_json.specs.Written.{compact_text};
 ghost use Rattle.jc_print.specs.PrintedMembers.{unless_zero, unless_empty};
-ghost use Rattle.jc_print.specs.PrintedStatuses.{kind_word, reason_word, status_word, moment_data, uid_data, unless_no_index, with_kind, condition_data, uncounted_data, given_uncounted, unless_false, index_count_data, with_pods, with_totals, with_failures, with_times, with_lists, status_data};
+ghost use Rattle.jc_print.specs.PrintedStatuses.{kind_word, reason_word, status_word, moment_data, uid_data, unless_no_index, with_kind, condition_data, uncounted_data, given_uncounted, unless_false, index_count_data, with_pods};
+ghost use Rattle.jc_print.specs.PrintedStatuses.{with_totals, with_failures, with_times, with_lists, status_data};
 
 use crate::members::{
     Members, put_given, put_given_bool, put_number, put_text, put_unless_zero, put_value,

@@ -33,7 +33,8 @@ use Rattle.jc_history.specs.Samples.{pod_let_go, pod_made, pod_marked, pod_relea
 use Rattle.jc_runs.proofs.PodListFacts.{each-fails}
 use Rattle.jc_causes.specs.Causes.{AreCaused, IsDoubled, IsOfNoUse, IsOfSuspended, IsTooMany, IsUnwanted, MayAsk, MayAskOf, MayLetGo, MayMake, MayMark, MayRelease, is_decided, made_by, tracked_in, wanted_successes}
 use Rattle.jc_promise.specs.Wrong.{sync_steps}
-use Rattle.jc_promise.specs.WrongCauses.{active_released, failed_before, failed_makes, index_before, index_made_twice, many_before, one_too_many, overdue_before, overdue_makes, same_status_written, suspended_before, suspended_makes, synced_again, wanted_let_go, wanted_marked}
+use Rattle.jc_promise.specs.WrongCauses.{active_released, failed_before, failed_makes, index_before, index_made_twice, many_before, one_too_many, overdue_before, overdue_makes, same_status_written, suspended_before, suspended_makes}
+use Rattle.jc_promise.specs.WrongCauses.{synced_again, wanted_let_go, wanted_marked}
 
 -- A step whose request has no cause in what its sync saw is refused.
 refused : (past : List Deed) (d : Deed) (asked : Request) (given : Answer) → d.act ≡ does.Step 0 0 → d.reply ≡ reply.Stepped asked given → (P : Basis → Bool)

@@ -1,5 +1,6 @@
 -- What the history is refused by in which a pod is released that was left over: worked out over any number of pods.
-use Rattle.std.proofs.Common.{◌≡◌, ℕ, zero, suc, ◌+◌, ◌*◌, ◌<◌, ◌≤◌, nat_lt, Bool, true, false, cond, List, [], ◌∷◌, ◌++◌, filter, length, map, Option, Some, None, is_some, inl, inr, refl, sym, ap, ◌∙◌, subst, arith, lt-ltb, le-ltb, ltb-true, eq-eqb, ne_eqb, true≢false}
+use Rattle.std.proofs.Common.{◌≡◌, ℕ, zero, suc, ◌+◌, ◌*◌, ◌<◌, ◌≤◌, nat_lt, Bool, true, false, cond, List, [], ◌∷◌, ◌++◌, filter, length, map, Option, Some, None, is_some, inl, inr, refl, sym, ap, ◌∙◌, subst, arith, lt-ltb, le-ltb}
+use Rattle.std.proofs.Common.{ltb-true, eq-eqb, ne_eqb, true≢false}
 use Rattle.std.specs.List.{AllByRecursion as Each}
 use Rattle.std.specs.Option.{option_map}
 use Rattle.std.proofs.lemmas.Bool.{cond-true}
@@ -272,7 +273,8 @@ last-refused h = by (h (uid_of 502) 1003 (nth_ended 500) (ap (life (uid_of 502))
     by (inl (ByCommand takes strip)) = true≢false (sym (ap (λ (act : Act). strips act (uid_of 0)) strip))
     by (inl (BySync takes false asked just)) =
         no-cause many_listed (ledger_of (uid_of 1) (after_releases 500).deeds last_log).records 1505 last_log takes.pod
-        (λ r is. unjudged 500 last_log r last-seen (subst (λ u. record_of u (ledger_of (uid_of 1) (after_releases 500).deeds last_log).records ≡ Some r) (life-uid (uid_of 502) (upto (reach (after_releases 500).deeds) last_log) takes.pod takes.stood) is))
+        (λ r is. unjudged 500 last_log r last-seen (subst (λ u. record_of u (ledger_of (uid_of 1) (after_releases 500).deeds last_log).records ≡ Some r)
+        (life-uid (uid_of 502) (upto (reach (after_releases 500).deeds) last_log) takes.pod takes.stood) is))
         (never-ignored takes.pod) refl just.cause
     by (inl (BySync takes true asked just)) = true≢false (sym (ap (λ (o : Option Taking). elim o [ None ↦ true | Some t ↦ t.lets_go ]) asked))
     by (inr lost) = released-took many_listed last_log 500 500 (omega arith) lost

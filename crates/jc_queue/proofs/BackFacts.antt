@@ -111,7 +111,8 @@ before_is (x ∷ xs) (suc i) k d within at =
     ∙ before_is xs i k d.1 (omega (arith, within)) at
 
 -- The key that is copied next.
-pub key-copied : (keys before after : List Key) (i next : ℕ) (k again : Key) → IsDistinct same_key keys → i < length keys → k ≡ get_or keys i k → take next keys ≡ take i keys ++ k ∷ [] → again ≡ k → before ≡ take i keys → after ≡ cond (has_key again before) before (before ++ again ∷ []) → after ≡ take next keys
+pub key-copied : (keys before after : List Key) (i next : ℕ) (k again : Key) → IsDistinct same_key keys → i < length keys → k ≡ get_or keys i k → take next keys ≡ take i keys ++ k ∷ [] → again ≡ k →
+    before ≡ take i keys → after ≡ cond (has_key again before) before (before ++ again ∷ []) → after ≡ take next keys
 key-copied keys before after i next k again d within at more a b e =
     e ∙ (λ j. cond (has_key (a j) (b j)) (b j) (b j ++ a j ∷ []))
     ∙ ap (λ c. cond c (take i keys) (take i keys ++ k ∷ [])) (before_is keys i k d within at)

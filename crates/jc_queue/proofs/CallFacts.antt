@@ -76,7 +76,9 @@ all_gots-more q (first ∷ calls) call =
     ∙ sym (append_assoc (gots_of q first) (all_gots (called q first) calls) (gots_of (after (called q first) calls) call))
 
 -- The first i calls are made, and then the one at i.
-pub stepped : (from q next : Queued) (calls : List Call) (i : ℕ) (call : Call) (keys more : List Key) (got : Option Key) → i < length calls → call ≡ get_or calls i call → q ≡ after from (take i calls) → keys ≡ keys_got from (take i calls) → next ≡ called q call → option_to_list got ≡ map (λ g. g.0) (gots_of q call) → more ≡ keys ++ option_to_list got → (next ≡ after from (take (i + 1) calls)) × (more ≡ keys_got from (take (i + 1) calls))
+pub stepped : (from q next : Queued) (calls : List Call) (i : ℕ) (call : Call) (keys more : List Key) (got : Option Key) → i < length calls → call ≡ get_or calls i call → q ≡ after from (take i calls)
+    → keys ≡ keys_got from (take i calls) → next ≡ called q call → option_to_list got ≡ map (λ g. g.0) (gots_of q call) → more ≡ keys ++ option_to_list got → (next ≡ after from (take (i + 1) calls)) ×
+    (more ≡ keys_got from (take (i + 1) calls))
 stepped from q next calls i call keys more got within at state keys_are made gets pushed =
     let longer : take (i + 1) calls ≡ take i calls ++ call ∷ [] = take_more calls i call within ∙ ap (λ c. take i calls ++ c ∷ []) (sym at) in (
       made ∙ ap (λ q. called q call) state ∙ sym (after-more from (take i calls) call) ∙ sym (ap (λ calls. after from calls) longer),

@@ -14,7 +14,8 @@ use Rattle.jc_queue.specs.Delayed.{AreCopied, earlier, first_of, is_before, key_
 use Rattle.jc_queue.specs.Queued.{has_key}
 
 -- The row at a place, or what is due first of the rows after it.
-pub first_from : (rows : List (Key × ℕ)) (after place chosen : ℕ) (other : Option ℕ) → after ≡ suc place → option_and_then (slice_get rows) other ≡ first_of (drop after rows) → slice_get rows chosen ≡ option_map (λ row. sooner row (option_and_then (slice_get rows) other)) (slice_get rows place) → slice_get rows chosen ≡ first_of (drop place rows)
+pub first_from : (rows : List (Key × ℕ)) (after place chosen : ℕ) (other : Option ℕ) → after ≡ suc place → option_and_then (slice_get rows) other ≡ first_of (drop after rows) → slice_get rows chosen
+    ≡ option_map (λ row. sooner row (option_and_then (slice_get rows) other)) (slice_get rows place) → slice_get rows chosen ≡ first_of (drop place rows)
 first_from rows after place chosen other next rest e =
     e ∙ ap (λ o. option_map (λ row. sooner row o) (slice_get rows place)) (rest ∙ ap (λ n. first_of (drop n rows)) next) ∙ at rows place
   where
@@ -58,7 +59,8 @@ row_there (first ∷ rows) (suc place) row e = by (same_key row.0 first.0) (row_
     by false h = h
 
 -- Without a key and its copy, each key that has a moment has a copy still.
-pub copied-taken : (moments left : List (Key × ℕ)) (copies others : List Key) (k : Key) → AreCopied moments copies → ((j : Key) → at same_key left j ≡ cond (same_key k j) None (at same_key moments j)) → ((j : Key) → has_key j others ≡ cond (same_key k j) false (has_key j copies)) → AreCopied left others
+pub copied-taken : (moments left : List (Key × ℕ)) (copies others : List Key) (k : Key) → AreCopied moments copies → ((j : Key) → at same_key left j ≡ cond (same_key k j) None (at same_key moments j))
+    → ((j : Key) → has_key j others ≡ cond (same_key k j) false (has_key j copies)) → AreCopied left others
 copied-taken moments left copies others k copied takes drops j there = by (same_key k j) (takes j) (drops j)
   where
     by : (b : Bool) → at same_key left j ≡ cond b None (at same_key moments j) → has_key j others ≡ cond b false (has_key j copies) → has_key j others ≡ true
@@ -140,6 +142,7 @@ insert-next (first ∷ rows) (suc i) row d e =
     ap (λ b. cond b ((first.0, row.1) ∷ take i rows) (first ∷ insert_entry same_key (take i rows) row.0 row.1)) other
     ∙ ap (λ rest. first ∷ rest) (insert-next rows i row d.1 e)
 
-pub row-copied : {X : Type 0} (rows before after : List (Key × X)) (i next : ℕ) (row : Key × X) (k : Key) (v : X) → IsDistinct same_key (keys_of rows) → Some row ≡ slice_get rows i → next ≡ suc i → k ≡ row.0 → v ≡ row.1 → before ≡ take i rows → after ≡ insert_entry same_key before k v → after ≡ take next rows
+pub row-copied : {X : Type 0} (rows before after : List (Key × X)) (i next : ℕ) (row : Key × X) (k : Key) (v : X) → IsDistinct same_key (keys_of rows) → Some row ≡ slice_get rows i → next ≡ suc i → k
+    ≡ row.0 → v ≡ row.1 → before ≡ take i rows → after ≡ insert_entry same_key before k v → after ≡ take next rows
 row-copied rows before after i next row k v d e n key value b a =
     a ∙ (λ j. insert_entry same_key (b j) (key j) (value j)) ∙ insert-next rows i row d e ∙ ap (λ n. take n rows) (sym n)

@@ -60,7 +60,8 @@ in_turn-first (row ∷ rows) f d e = by (first_of rows) refl e (λ s. in_turn-fi
     here : in_turn (row ∷ rows) ≡ row ∷ in_turn rows → in_turn (row ∷ rows) ≡ row ∷ in_turn (takes same_key (row ∷ rows) row.0)
     here e = e ∙ ap (λ b. row ∷ in_turn (cond b rows (row ∷ takes same_key rows row.0))) (sym (same_key-itself row.0))
 
-    by : (o : Option (Key × ℕ)) → first_of rows ≡ o → Some (sooner row o) ≡ Some f → ((s : Key × ℕ) → first_of rows ≡ Some s → in_turn rows ≡ s ∷ in_turn (takes same_key rows s.0)) → in_turn (row ∷ rows) ≡ f ∷ in_turn (takes same_key (row ∷ rows) f.0)
+    by : (o : Option (Key × ℕ)) → first_of rows ≡ o → Some (sooner row o) ≡ Some f → ((s : Key × ℕ) → first_of rows ≡ Some s → in_turn rows ≡ s ∷ in_turn (takes same_key rows s.0)) → in_turn
+        (row ∷ rows) ≡ f ∷ in_turn (takes same_key (row ∷ rows) f.0)
     by None o e ih =
         subst (λ (f : Key × ℕ). in_turn (row ∷ rows) ≡ f ∷ in_turn (takes same_key (row ∷ rows) f.0)) (of_some row f e)
         (here (ap (λ rows. put_in_turn row (in_turn rows)) (none rows o) ∙ ap (λ rows. row ∷ in_turn rows) (sym (none rows o))))
@@ -223,7 +224,8 @@ left_after-none d now e = ap (λ rows. record { moments = rows; failures = d.fai
     all [] e = refl
     all (row ∷ rows) e = by (is_due now row) e (all rows)
       where
-        by : (b : Bool) → cond b (row ∷ filter (is_due now) rows) (filter (is_due now) rows) ≡ [] → (filter (is_due now) rows ≡ [] → filter (λ row. not (is_due now row)) rows ≡ rows) → cond (not b) (row ∷ filter (λ row. not (is_due now row)) rows) (filter (λ row. not (is_due now row)) rows) ≡ row ∷ rows
+        by : (b : Bool) → cond b (row ∷ filter (is_due now) rows) (filter (is_due now) rows) ≡ [] → (filter (is_due now) rows ≡ [] → filter (λ row. not (is_due now row)) rows ≡ rows) → cond (not b)
+            (row ∷ filter (λ row. not (is_due now row)) rows) (filter (λ row. not (is_due now row)) rows) ≡ row ∷ rows
         by true e ih = absurd (omega (arith, (ap length e)))
         by false e ih = ap (λ rest. row ∷ rest) (ih e)
 

@@ -47,7 +47,8 @@ no_place test xs h e =
     true≢false (ap is_some (sym (e ∙ ap (λ b. cond b (Some (position_or_len test xs)) None) passes)))
 
 -- A queue with these lists is what `added` says.
-pub added-parts : (q : Queued) (k : Key) (line dirty processing : List Key) → has_key k q.dirty ≡ false → line ≡ cond (has_key k q.processing) q.line (q.line ++ k ∷ []) → dirty ≡ plus_key k q.dirty → processing ≡ q.processing → record { line = line; dirty = dirty; processing = processing } ≡ added q k
+pub added-parts : (q : Queued) (k : Key) (line dirty processing : List Key) → has_key k q.dirty ≡ false → line ≡ cond (has_key k q.processing) q.line (q.line ++ k ∷ []) → dirty ≡ plus_key k q.dirty →
+    processing ≡ q.processing → record { line = line; dirty = dirty; processing = processing } ≡ added q k
 added-parts q k line dirty processing clean l d p =
     (λ i. record { line = l i; dirty = d i; processing = p i })
     ∙ sym (ap (λ b. cond b q (record { line = cond (has_key k q.processing) q.line (q.line ++ k ∷ []); dirty = plus_key k q.dirty; processing = q.processing })) clean)
@@ -61,7 +62,8 @@ comes_in k copied line processing after before idle same e f =
     e ∙ (λ i. f i ++ same i ∷ []) ∙ sym (ap (λ b. cond b line (line ++ k ∷ [])) idle)
 
 -- A queue with these lists is what `finished` says.
-pub finished-parts : (q : Queued) (k : Key) (line processing : List Key) → line ≡ cond (has_key k q.dirty) (q.line ++ k ∷ []) q.line → processing ≡ without k q.processing → record { line = line; dirty = q.dirty; processing = processing } ≡ finished q k
+pub finished-parts : (q : Queued) (k : Key) (line processing : List Key) → line ≡ cond (has_key k q.dirty) (q.line ++ k ∷ []) q.line → processing ≡ without k q.processing →
+    record { line = line; dirty = q.dirty; processing = processing } ≡ finished q k
 finished-parts q k line processing l p = λ i. record { line = l i; dirty = q.dirty; processing = p i }
 
 -- The dirty key that was found is the key that was looked up.
@@ -83,7 +85,8 @@ not_missing k (x ∷ xs) h e = by (same_key k x) h e (not_missing k xs)
     by false h e rest = rest h e
 
 -- A queue with these lists is what `got` says.
-pub got-parts : (q : Queued) (k held : Key) (rest dirty processing : List Key) → q.line ≡ k ∷ rest → held ≡ k → dirty ≡ without k q.dirty → processing ≡ q.processing ++ held ∷ [] → record { line = rest; dirty = dirty; processing = processing } ≡ got q
+pub got-parts : (q : Queued) (k held : Key) (rest dirty processing : List Key) → q.line ≡ k ∷ rest → held ≡ k → dirty ≡ without k q.dirty → processing ≡ q.processing ++ held ∷ [] →
+    record { line = rest; dirty = dirty; processing = processing } ≡ got q
 got-parts q k held rest dirty processing l same d p =
     (λ i. record { line = rest; dirty = d i; processing = (p ∙ ap (λ j. q.processing ++ j ∷ []) same) i })
     ∙ ap (λ line. got_first line q) (sym l)

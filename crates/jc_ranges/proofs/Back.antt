@@ -83,7 +83,8 @@ pub rising_lower : (low high : ℕ) (rs : List Run) → low ≤ high → AreRisi
 rising_lower low high [] h a = tt
 rising_lower low high (r ∷ rs) h a = let above : high ≤ r.first = a.0.above in (record { above = omega arith; ordered = a.0.ordered; small = a.0.small }, a.1)
 
-singles_name : (low a n : ℕ) (rs : List Run) → low ≤ a → a + n ≤ suc GREATEST_INDEX → AreRising (a + n) rs → AreRising low (map single (range_with_len a n) ++ rs) × (flat_map numbers (map single (range_with_len a n) ++ rs) ≡ range_with_len a n ++ flat_map numbers rs)
+singles_name : (low a n : ℕ) (rs : List Run) → low ≤ a → a + n ≤ suc GREATEST_INDEX → AreRising (a + n) rs → AreRising low (map single (range_with_len a n) ++ rs) ×
+    (flat_map numbers (map single (range_with_len a n) ++ rs) ≡ range_with_len a n ++ flat_map numbers rs)
 singles_name low a zero rs h k r = (rising_lower low (a + zero) rs (omega arith) r, refl)
 singles_name low a (suc n) rs h k r =
     let same : a + suc n ≡ a + 1 + n = omega arith in
@@ -96,7 +97,8 @@ written_name : (low : ℕ) (rs : List Run) → AreRising low rs → AreRising lo
 written_name low [] a = (tt, refl)
 written_name low (r ∷ rs) a = by (ltb (suc r.first) r.last) (written_name (suc r.last) rs a.1)
   where
-    by : (b : Bool) → AreRising (suc r.last) (flat_map written rs) × (flat_map numbers (flat_map written rs) ≡ flat_map numbers rs) → AreRising low (cond b (r ∷ []) (map single (numbers r)) ++ flat_map written rs) × (flat_map numbers (cond b (r ∷ []) (map single (numbers r)) ++ flat_map written rs) ≡ numbers r ++ flat_map numbers rs)
+    by : (b : Bool) → AreRising (suc r.last) (flat_map written rs) × (flat_map numbers (flat_map written rs) ≡ flat_map numbers rs) → AreRising low
+        (cond b (r ∷ []) (map single (numbers r)) ++ flat_map written rs) × (flat_map numbers (cond b (r ∷ []) (map single (numbers r)) ++ flat_map written rs) ≡ numbers r ++ flat_map numbers rs)
     by true more = ((a.0, more.0), ap (λ z. numbers r ++ z) more.1)
     by false more =
         let above : low ≤ r.first = a.0.above in

@@ -58,14 +58,17 @@ pub run_skip : (r : Run) (left rest : ℕ) (xs : List ℕ) → left ≡ (suc r.l
 run_skip r left rest xs e = ap (slice_get (numbers r ++ xs)) e ∙ range_skip r.first (suc r.last - r.first) rest xs
 
 -- The numbers that are left from a run on.
-pub get_more : (rs : List Run) (place i left : ℕ) (d : Run) → StandApart 0 rs → i < length rs → slice_get (flat_map numbers rs) place ≡ slice_get (flat_map numbers (drop i rs)) left → (get_or rs i d).last - (get_or rs i d).first < left → slice_get (flat_map numbers rs) place ≡ slice_get (flat_map numbers (drop (i + 1) rs)) (left - ((get_or rs i d).last - (get_or rs i d).first + 1))
+pub get_more : (rs : List Run) (place i left : ℕ) (d : Run) → StandApart 0 rs → i < length rs → slice_get (flat_map numbers rs) place ≡ slice_get (flat_map numbers (drop i rs)) left →
+    (get_or rs i d).last - (get_or rs i d).first < left → slice_get (flat_map numbers rs) place ≡ slice_get (flat_map numbers (drop (i + 1) rs))
+    (left - ((get_or rs i d).last - (get_or rs i d).first + 1))
 get_more rs place i left d a h e k =
     let r = get_or rs i d in
     let at = run_at 0 rs i d a h in
     let ordered : r.first ≤ r.last = at.ordered in
     e ∙ ap (λ z. slice_get (flat_map numbers z) left) (drop_more rs i d h) ∙ run_skip r left (left - (r.last - r.first + 1)) (flat_map numbers (drop (i + 1) rs)) (omega arith)
 
-pub get_here : (rs : List Run) (place i left : ℕ) (d : Run) → StandApart 0 rs → i < length rs → slice_get (flat_map numbers rs) place ≡ slice_get (flat_map numbers (drop i rs)) left → left ≤ (get_or rs i d).last - (get_or rs i d).first → Some ((get_or rs i d).first + left) ≡ slice_get (flat_map numbers rs) place
+pub get_here : (rs : List Run) (place i left : ℕ) (d : Run) → StandApart 0 rs → i < length rs → slice_get (flat_map numbers rs) place ≡ slice_get (flat_map numbers (drop i rs)) left → left ≤
+    (get_or rs i d).last - (get_or rs i d).first → Some ((get_or rs i d).first + left) ≡ slice_get (flat_map numbers rs) place
 get_here rs place i left d a h e k =
     let at = run_at 0 rs i d a h in
     sym (e ∙ ap (λ z. slice_get (flat_map numbers z) left) (drop_more rs i d h) ∙ run_get (get_or rs i d) left (flat_map numbers (drop (i + 1) rs)) k at.ordered)

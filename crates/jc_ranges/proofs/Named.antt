@@ -92,7 +92,9 @@ names_no_two word i cut none r names =
           none r.first r.last lt small cuts.0 cuts.1
     ]
 
-pub names_pair : (word front back : List ℕ) (i : ℕ) (r : Option (ℕ × ℕ)) → CutAt 45 word i → front ≡ take i word → back ≡ drop (i + 1) word → MatchOption r ((m n : ℕ) → m < n → n ≤ GREATEST_INDEX → front ≡ decimal m → back ≢ decimal n) (λ pair. (pair.0 < pair.1) × (pair.1 ≤ GREATEST_INDEX) × (front ≡ decimal pair.0) × (back ≡ decimal pair.1)) → MatchOption r ((s : Run) → NamesRun 0 word s → ⊥) (λ pair. NamesRun 0 word (record { first = pair.0; last = pair.1 }))
+pub names_pair : (word front back : List ℕ) (i : ℕ) (r : Option (ℕ × ℕ)) → CutAt 45 word i → front ≡ take i word → back ≡ drop (i + 1) word → MatchOption r
+    ((m n : ℕ) → m < n → n ≤ GREATEST_INDEX → front ≡ decimal m → back ≢ decimal n) (λ pair. (pair.0 < pair.1) × (pair.1 ≤ GREATEST_INDEX) × (front ≡ decimal pair.0) × (back ≡ decimal pair.1)) →
+    MatchOption r ((s : Run) → NamesRun 0 word s → ⊥) (λ pair. NamesRun 0 word (record { first = pair.0; last = pair.1 }))
 names_pair word front back i None cut f b h = names_no_two word i cut (λ m n p q e d. h m n p q (f ∙ e) (b ∙ d))
 names_pair word front back i (Some pair) cut f b h = names_two word i pair.0 pair.1 cut h.0 h.1 (sym f ∙ h.2) (sym b ∙ h.3)
 

@@ -45,7 +45,8 @@ numbers_join : (first mid last : ℕ) → first ≤ suc mid → mid ≤ last →
 numbers_join first mid last h k = range_append first (suc mid - first) (suc last - suc mid) (suc last - first) (suc mid) (omega arith) (omega arith)
 
 -- A run before the others.
-before_others : (n : ℕ) (q : Run) (old new : List Run) → StandApart (suc (suc q.last)) new → q.first ≤ q.last → q.last < n → flat_map numbers new ≡ with_member n (flat_map numbers old) → flat_map numbers (q ∷ new) ≡ with_member n (flat_map numbers (q ∷ old))
+before_others : (n : ℕ) (q : Run) (old new : List Run) → StandApart (suc (suc q.last)) new → q.first ≤ q.last → q.last < n → flat_map numbers new ≡ with_member n (flat_map numbers old) →
+    flat_map numbers (q ∷ new) ≡ with_member n (flat_map numbers (q ∷ old))
 before_others n q old new a o h e =
     ap (λ z. numbers q ++ z) e ∙ sym (with_below n (numbers q) (flat_map numbers old) (each_weaker (λ x. x ≤ q.last) (λ x. x < n) (λ x k. omega arith) (numbers q) (run_greatest q o)))
 
@@ -53,7 +54,8 @@ above_others : (n low : ℕ) (rs : List Run) → StandApart low rs → n < low �
 above_others n low rs a h = with_above n (flat_map numbers rs) (each_weaker (λ x. low ≤ x) (λ x. n < x) (λ x k. omega arith) (flat_map numbers rs) (apart_least low rs a))
 
 -- The run before a place takes the number.
-pub put_before : (low n : ℕ) (rs : List Run) (i : ℕ) (d : Run) → n ≤ GREATEST_INDEX → StandApart low rs → i < length rs → n ≡ suc (get_or rs i d).last → AllByRecursion (λ r. r.last < n) (take (suc i) rs) → StandApart (suc (suc n)) (drop (suc i) rs) → Puts low n rs (set rs i (record { first = (get_or rs i d).first; last = n }))
+pub put_before : (low n : ℕ) (rs : List Run) (i : ℕ) (d : Run) → n ≤ GREATEST_INDEX → StandApart low rs → i < length rs → n ≡ suc (get_or rs i d).last → AllByRecursion (λ r. r.last < n)
+    (take (suc i) rs) → StandApart (suc (suc n)) (drop (suc i) rs) → Puts low n rs (set rs i (record { first = (get_or rs i d).first; last = n }))
 put_before low n [] i d s a h e b c = absurd (omega arith)
 put_before low n (q ∷ rs) zero d s a h e b c =
     let ordered : q.first ≤ q.last = a.0.ordered in
@@ -69,7 +71,8 @@ put_before low n (q ∷ rs) (suc i) d s a h e b c =
     record { apart = (a.0, more.apart); numbers = before_others n q rs _ more.apart a.0.ordered b.0 more.numbers }
 
 -- The runs round a place become one with the number.
-pub put_between : (low n : ℕ) (rs : List Run) (i : ℕ) (d o : Run) → StandApart low rs → suc i < length rs → n ≡ suc (get_or rs i d).last → (get_or rs (suc i) o).first ≡ suc n → AllByRecursion (λ r. r.last < n) (take (suc i) rs) → Puts low n rs (remove (set rs i (record { first = (get_or rs i d).first; last = (get_or rs (suc i) o).last })) (suc i))
+pub put_between : (low n : ℕ) (rs : List Run) (i : ℕ) (d o : Run) → StandApart low rs → suc i < length rs → n ≡ suc (get_or rs i d).last → (get_or rs (suc i) o).first ≡ suc n → AllByRecursion
+    (λ r. r.last < n) (take (suc i) rs) → Puts low n rs (remove (set rs i (record { first = (get_or rs i d).first; last = (get_or rs (suc i) o).last })) (suc i))
 put_between low n [] i d o a h e f b = absurd (omega arith)
 put_between low n (q ∷ []) zero d o a h e f b = absurd (omega arith)
 put_between low n (q ∷ s ∷ rs) zero d o a h e f b =
@@ -88,7 +91,8 @@ put_between low n (q ∷ rs) (suc i) d o a h e f b =
     record { apart = (a.0, more.apart); numbers = before_others n q rs _ more.apart a.0.ordered b.0 more.numbers }
 
 -- The run at a place takes the number.
-pub put_after : (low n : ℕ) (rs : List Run) (i : ℕ) (d : Run) → StandApart low rs → low ≤ n → i < length rs → (get_or rs i d).first ≡ suc n → AllByRecursion (λ r. suc r.last < n) (take i rs) → Puts low n rs (set rs i (record { first = n; last = (get_or rs i d).last }))
+pub put_after : (low n : ℕ) (rs : List Run) (i : ℕ) (d : Run) → StandApart low rs → low ≤ n → i < length rs → (get_or rs i d).first ≡ suc n → AllByRecursion (λ r. suc r.last < n) (take i rs) →
+    Puts low n rs (set rs i (record { first = n; last = (get_or rs i d).last }))
 put_after low n [] i d a l h e b = absurd (omega arith)
 put_after low n (q ∷ rs) zero d a l h e b =
     let ordered : q.first ≤ q.last = a.0.ordered in
@@ -160,7 +164,8 @@ push_alone low first last (r ∷ rs) l o s a b =
       below = (omega arith, more.below);
     }
 
-push_on : (low first last : ℕ) (rs : List Run) (i : ℕ) (d : Run) → first ≤ last → last ≤ GREATEST_INDEX → StandApart low rs → suc i ≡ length rs → first ≡ suc (get_or rs i d).last → AllByRecursion (λ r. r.last < first) rs → Pushes low first last rs (set rs i (record { first = (get_or rs i d).first; last = last }))
+push_on : (low first last : ℕ) (rs : List Run) (i : ℕ) (d : Run) → first ≤ last → last ≤ GREATEST_INDEX → StandApart low rs → suc i ≡ length rs → first ≡ suc (get_or rs i d).last → AllByRecursion
+    (λ r. r.last < first) rs → Pushes low first last rs (set rs i (record { first = (get_or rs i d).first; last = last }))
 push_on low first last [] i d o s a h e b = absurd (omega arith)
 push_on low first last (r ∷ []) zero d o s a h e b =
     let ordered : r.first ≤ r.last = a.0.ordered in
@@ -206,7 +211,8 @@ pub after_is : (n place : ℕ) (xs rs : List Run) (b : Bool) → xs ≡ rs → b
 after_is n place xs rs b same e = ap (λ z. joins_after n (slice_get z place)) (sym same) ∙ sym e
 
 -- The four cases of a number that is put.
-pub case_between : (n : ℕ) (rs : List Run) (place j : ℕ) (r s : Run) → place ≡ suc j → StandApart 0 rs → PartsAt n rs place → joins_before n rs place ≡ true → joins_after n (slice_get rs place) ≡ true → r ≡ get_or rs j r → s ≡ get_or rs place s → Puts 0 n rs (remove (set rs j (record { first = r.first; last = s.last })) place)
+pub case_between : (n : ℕ) (rs : List Run) (place j : ℕ) (r s : Run) → place ≡ suc j → StandApart 0 rs → PartsAt n rs place → joins_before n rs place ≡ true → joins_after n (slice_get rs place) ≡ true
+    → r ≡ get_or rs j r → s ≡ get_or rs place s → Puts 0 n rs (remove (set rs j (record { first = r.first; last = s.last })) place)
 case_between n rs place j r s e a p b c f g =
     let q = subst (λ m. PartsAt n rs m) e p in
     let within = subst (λ m. m < length rs) e (found_after n rs place c) in
@@ -219,7 +225,8 @@ case_between n rs place j r s e a p b c f g =
     (subst (λ m. Puts 0 n rs (remove (set rs j (record { first = m; last = s.last })) (suc j))) first
     (subst (λ m. Puts 0 n rs (remove (set rs j (record { first = (get_or rs j r).first; last = m })) (suc j))) last one))
 
-pub case_before : (n : ℕ) (rs : List Run) (place j : ℕ) (r : Run) → place ≡ suc j → n ≤ GREATEST_INDEX → StandApart 0 rs → PartsAt n rs place → has n (flat_map numbers rs) ≡ false → joins_before n rs place ≡ true → joins_after n (slice_get rs place) ≡ false → r ≡ get_or rs j r → Puts 0 n rs (set rs j (record { first = r.first; last = n }))
+pub case_before : (n : ℕ) (rs : List Run) (place j : ℕ) (r : Run) → place ≡ suc j → n ≤ GREATEST_INDEX → StandApart 0 rs → PartsAt n rs place → has n (flat_map numbers rs) ≡ false →
+    joins_before n rs place ≡ true → joins_after n (slice_get rs place) ≡ false → r ≡ get_or rs j r → Puts 0 n rs (set rs j (record { first = r.first; last = n }))
 case_before n rs place j r e small a p fresh b c f =
     let q = subst (λ m. PartsAt n rs m) e p in
     let within : suc j ≤ length rs = q.within in
@@ -228,26 +235,30 @@ case_before n rs place j r e small a p fresh b c f =
     let first : (get_or rs j r).first ≡ r.first = ap (λ (t : Run). t.first) (sym f) in
     subst (λ m. Puts 0 n rs (set rs j (record { first = m; last = n }))) first (put_before 0 n rs j r small a (omega arith) ends q.below after)
 
-pub case_after : (n : ℕ) (rs : List Run) (place : ℕ) (r : Run) → StandApart 0 rs → PartsAt n rs place → joins_before n rs place ≡ false → joins_after n (slice_get rs place) ≡ true → r ≡ get_or rs place r → Puts 0 n rs (set rs place (record { first = n; last = r.last }))
+pub case_after : (n : ℕ) (rs : List Run) (place : ℕ) (r : Run) → StandApart 0 rs → PartsAt n rs place → joins_before n rs place ≡ false → joins_after n (slice_get rs place) ≡ true → r
+    ≡ get_or rs place r → Puts 0 n rs (set rs place (record { first = n; last = r.last }))
 case_after n rs place r a p b c f =
     let within = found_after n rs place c in
     let last : (get_or rs place r).last ≡ r.last = ap (λ (t : Run). t.last) (sym f) in
     subst (λ m. Puts 0 n rs (set rs place (record { first = n; last = m }))) last
     (put_after 0 n rs place r a (omega arith) within (begins_at n rs place r within c) (strictly_below 0 n rs place p.within a p.below b))
 
-pub case_alone : (n : ℕ) (rs : List Run) (place : ℕ) → n ≤ GREATEST_INDEX → StandApart 0 rs → PartsAt n rs place → has n (flat_map numbers rs) ≡ false → joins_before n rs place ≡ false → joins_after n (slice_get rs place) ≡ false → Puts 0 n rs (insert rs place (single n))
+pub case_alone : (n : ℕ) (rs : List Run) (place : ℕ) → n ≤ GREATEST_INDEX → StandApart 0 rs → PartsAt n rs place → has n (flat_map numbers rs) ≡ false → joins_before n rs place ≡ false → joins_after n
+    (slice_get rs place) ≡ false → Puts 0 n rs (insert rs place (single n))
 case_alone n rs place small a p fresh b c =
     put_alone 0 n rs place small a (omega arith) p.within (strictly_below 0 n rs place p.within a p.below b)
     (apart_behind 0 n rs place a (sym (has_place 0 n rs place a p.below p.above) ∙ fresh) c)
 
 -- The two cases of numbers that are put behind the others.
-pub case_on : (first last : ℕ) (rs : List Run) (place j : ℕ) (r : Run) → place ≡ suc j → place ≡ length rs → first ≤ last → last ≤ GREATEST_INDEX → StandApart 0 rs → AllByRecursion (λ r. r.last < first) rs → joins_before first rs place ≡ true → r ≡ get_or rs j r → Pushes 0 first last rs (set rs j (record { first = r.first; last = last }))
+pub case_on : (first last : ℕ) (rs : List Run) (place j : ℕ) (r : Run) → place ≡ suc j → place ≡ length rs → first ≤ last → last ≤ GREATEST_INDEX → StandApart 0 rs → AllByRecursion
+    (λ r. r.last < first) rs → joins_before first rs place ≡ true → r ≡ get_or rs j r → Pushes 0 first last rs (set rs j (record { first = r.first; last = last }))
 case_on first last rs place j r e h o s a b c f =
     let ends = ends_at first rs j r (omega arith) (subst (λ m. joins_before first rs m ≡ true) e c) in
     let begin : (get_or rs j r).first ≡ r.first = ap (λ (t : Run). t.first) (sym f) in
     subst (λ m. Pushes 0 first last rs (set rs j (record { first = m; last = last }))) begin (push_on 0 first last rs j r o s a (omega arith) ends b)
 
-pub case_behind : (first last : ℕ) (rs : List Run) (place : ℕ) → place ≡ length rs → first ≤ last → last ≤ GREATEST_INDEX → StandApart 0 rs → AllByRecursion (λ r. r.last < first) rs → joins_before first rs place ≡ false → Pushes 0 first last rs (rs ++ (record { first = first; last = last }) ∷ [])
+pub case_behind : (first last : ℕ) (rs : List Run) (place : ℕ) → place ≡ length rs → first ≤ last → last ≤ GREATEST_INDEX → StandApart 0 rs → AllByRecursion (λ r. r.last < first) rs →
+    joins_before first rs place ≡ false → Pushes 0 first last rs (rs ++ (record { first = first; last = last }) ∷ [])
 case_behind first last rs place h o s a b c =
     let all = take_all place rs (omega arith) in
     let strict = strictly_below 0 first rs place (omega arith) a (subst (AllByRecursion (λ r. r.last < first)) (sym all) b) c in

@@ -90,7 +90,8 @@ names_once text xs ys h k =
     let same = runs_once 0 h.named k.named h.rising k.rising (sym hs ∙ ap elements (sym h.spelled ∙ k.spelled) ∙ ks) in
     h.members ∙ ap (flat_map numbers) same ∙ sym k.members
 
-none_broken : (low : ℕ) (rs before : List Run) (broken : List ℕ) (after : List (List ℕ)) → AreRising low rs → AreRising low before → map element rs ≡ map element before ++ broken ∷ after → ((r : Run) → AreRising low (before ++ r ∷ []) → broken ≢ element r) → ⊥
+none_broken : (low : ℕ) (rs before : List Run) (broken : List ℕ) (after : List (List ℕ)) → AreRising low rs → AreRising low before → map element rs ≡ map element before ++ broken ∷ after →
+    ((r : Run) → AreRising low (before ++ r ∷ []) → broken ≢ element r) → ⊥
 none_broken low [] [] broken after a b e none = cc
 none_broken low [] (s ∷ ss) broken after a b e none = cc
 none_broken low (r ∷ rs) [] broken after a b e none = let first : element r ≡ broken = cc in none r (a.0, tt) (sym first)
@@ -123,7 +124,8 @@ first_part rest (Some i) e = (parts (drop (i + 1) rest), parts_cut rest i (cut_s
 regroup : (es : List (List ℕ)) (e : List ℕ) (fs : List (List ℕ)) → es ++ e ∷ fs ≡ (es ++ e ∷ []) ++ fs
 regroup es e fs = sym (append_assoc es (e ∷ []) fs)
 
-pub read_more : (text rest members new : List ℕ) (low at i : ℕ) (r : Run) → ReadSoFar text rest members low at → CutAt 44 rest i → NamesRun low (take i rest) r → new ≡ members ++ numbers r → ReadSoFar text (drop (i + 1) rest) new (r.last + 1) (at + (i + 1))
+pub read_more : (text rest members new : List ℕ) (low at i : ℕ) (r : Run) → ReadSoFar text rest members low at → CutAt 44 rest i → NamesRun low (take i rest) r → new ≡ members ++ numbers r →
+    ReadSoFar text (drop (i + 1) rest) new (r.last + 1) (at + (i + 1))
 read_more text rest members new low at i r so cut names e =
     let done = so.done in
     let inside : i < length rest = cut.within in
@@ -167,25 +169,30 @@ read_broken text rest members low at e more so first none = record {
 }
 
 -- The part that the code reads as the first element of the rest.
-pub read_first_broken : (text rest members : List ℕ) (low at n : ℕ) (comma : Option ℕ) → ReadSoFar text rest members low at → comma ≡ position (λ b. eqb b 44) rest → n ≡ unwrap_or comma (length rest) → ((r : Run) → NamesRun low (take n rest) r → ⊥) → BreaksAt text at
+pub read_first_broken : (text rest members : List ℕ) (low at n : ℕ) (comma : Option ℕ) → ReadSoFar text rest members low at → comma ≡ position (λ b. eqb b 44) rest → n ≡ unwrap_or comma (length rest)
+    → ((r : Run) → NamesRun low (take n rest) r → ⊥) → BreaksAt text at
 read_first_broken text rest members low at n comma so is long none =
     let first = first_part rest comma is in
     read_broken text rest members low at (take n rest) first.0 so (first.1 ∙ ap (λ m. take m rest ∷ first.0) (sym long)) none
 
-pub read_to_end : (text rest members new : List ℕ) (low at n : ℕ) (comma : Option ℕ) (r : Run) → ReadSoFar text rest members low at → comma ≡ None → comma ≡ position (λ b. eqb b 44) rest → n ≡ unwrap_or comma (length rest) → NamesRun low (take n rest) r → new ≡ members ++ numbers r → NamesSet text new
+pub read_to_end : (text rest members new : List ℕ) (low at n : ℕ) (comma : Option ℕ) (r : Run) → ReadSoFar text rest members low at → comma ≡ None → comma ≡ position (λ b. eqb b 44) rest → n
+    ≡ unwrap_or comma (length rest) → NamesRun low (take n rest) r → new ≡ members ++ numbers r → NamesSet text new
 read_to_end text rest members new low at n comma r so end is long names e =
     let all : n ≡ length rest = long ∙ ap (λ o. unwrap_or o (length rest)) end in
     let whole : take n rest ≡ rest = take_all n rest (omega arith) in
     read_last text rest members new low at r so (cut_none 44 rest (sym is ∙ end)) (subst (λ w. NamesRun low w r) whole names) e
 
-pub read_to_comma : (text rest next members new : List ℕ) (low at n i : ℕ) (comma : Option ℕ) (r : Run) → ReadSoFar text rest members low at → comma ≡ Some i → comma ≡ position (λ b. eqb b 44) rest → n ≡ unwrap_or comma (length rest) → next ≡ drop (i + 1) rest → NamesRun low (take n rest) r → new ≡ members ++ numbers r → ReadSoFar text next new (r.last + 1) (at + (i + 1))
+pub read_to_comma : (text rest next members new : List ℕ) (low at n i : ℕ) (comma : Option ℕ) (r : Run) → ReadSoFar text rest members low at → comma ≡ Some i → comma ≡ position (λ b. eqb b 44) rest →
+    n ≡ unwrap_or comma (length rest) → next ≡ drop (i + 1) rest → NamesRun low (take n rest) r → new ≡ members ++ numbers r → ReadSoFar text next new (r.last + 1) (at + (i + 1))
 read_to_comma text rest next members new low at n i comma r so here is long e names d =
     let front : n ≡ i = long ∙ ap (λ o. unwrap_or o (length rest)) here in
     subst (λ (z : List ℕ). ReadSoFar text z new (r.last + 1) (at + (i + 1))) (sym e)
     (read_more text rest members new low at i r so (cut_some 44 rest i (sym is ∙ here)) (subst (λ m. NamesRun low (take m rest) r) front names) d)
 
 -- A text breaks the form at one place only.
-place_once : (low : ℕ) (before others : List Run) (broken other : List ℕ) (after more : List (List ℕ)) → AreRising low before → AreRising low others → map element before ++ broken ∷ after ≡ map element others ++ other ∷ more → ((r : Run) → AreRising low (before ++ r ∷ []) → broken ≢ element r) → ((r : Run) → AreRising low (others ++ r ∷ []) → other ≢ element r) → sum_by (λ r. length (element r) + 1) before ≡ sum_by (λ r. length (element r) + 1) others
+place_once : (low : ℕ) (before others : List Run) (broken other : List ℕ) (after more : List (List ℕ)) → AreRising low before → AreRising low others → map element before ++ broken ∷ after
+    ≡ map element others ++ other ∷ more → ((r : Run) → AreRising low (before ++ r ∷ []) → broken ≢ element r) → ((r : Run) → AreRising low (others ++ r ∷ []) → other ≢ element r) → sum_by
+    (λ r. length (element r) + 1) before ≡ sum_by (λ r. length (element r) + 1) others
 place_once low [] [] broken other after more a b e none few = refl
 place_once low [] (s ∷ ss) broken other after more a b e none few = let first : broken ≡ element s = cc in absurd (none s (b.0, tt) first)
 place_once low (r ∷ rs) [] broken other after more a b e none few = let first : other ≡ element r = cc in absurd (few r (a.0, tt) first)

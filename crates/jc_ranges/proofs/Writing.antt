@@ -15,7 +15,8 @@ text_start xs none out r rs cut ordered e w =
     let some = written_some r ordered in
     rw (cut, w, e, some.2, map-append element (some.0 ∷ some.1) more) (sym (join-append (element some.0) (map element some.1) (map element more)))
 
-text_more : (text out mid new : List ℕ) (r : Run) (rs : List Run) → r.first ≤ r.last → mid ≡ out ++ 44 ∷ [] → new ≡ mid ++ joined (written r) → out ++ behind (map element (flat_map written (r ∷ rs))) ≡ text → new ++ behind (map element (flat_map written rs)) ≡ text
+text_more : (text out mid new : List ℕ) (r : Run) (rs : List Run) → r.first ≤ r.last → mid ≡ out ++ 44 ∷ [] → new ≡ mid ++ joined (written r) → out ++ behind (map element (flat_map written (r ∷ rs)))
+    ≡ text → new ++ behind (map element (flat_map written rs)) ≡ text
 text_more text out mid new r rs ordered comma w h =
     let more = behind (map element (flat_map written rs)) in
     let some = written_some r ordered in
@@ -36,12 +37,14 @@ apart_rest rs a = subst (StandApart 0) (sym (take_rest rs 1)) (by rs a)
     by (r ∷ rs) a = apart_lower 0 (suc (suc r.last)) rs (omega arith) a.1
 
 -- The first run is written, then each of the others behind a comma, and then none is left.
-pub text_begin : (xs none out : List ℕ) (rs : List Run) (d : Run) → flat_map numbers rs ≡ xs → StandApart 0 rs → 0 < length rs → none ≡ [] → out ≡ none ++ joined (written (get_or rs 0 d)) → out ++ behind (map element (flat_map written (take (length rs - 1) (drop 1 rs)))) ≡ ranges_text xs
+pub text_begin : (xs none out : List ℕ) (rs : List Run) (d : Run) → flat_map numbers rs ≡ xs → StandApart 0 rs → 0 < length rs → none ≡ [] → out ≡ none ++ joined (written (get_or rs 0 d)) →
+    out ++ behind (map element (flat_map written (take (length rs - 1) (drop 1 rs)))) ≡ ranges_text xs
 text_begin xs none out [] d same a h n w = absurd (omega arith)
 text_begin xs none out (r ∷ rs) d same a h n w =
     ap (λ z. out ++ behind (map element (flat_map written z))) (take_rest (r ∷ rs) 1) ∙ text_start xs none out r rs (ap runs (sym same) ∙ runs_back 0 (r ∷ rs) a) a.0.ordered n w
 
-pub text_next : (text out mid new : List ℕ) (rs : List Run) (i : ℕ) (d : Run) → i < length rs → (get_or rs i d).first ≤ (get_or rs i d).last → mid ≡ out ++ 44 ∷ [] → new ≡ mid ++ joined (written (get_or rs i d)) → out ++ behind (map element (flat_map written (drop i rs))) ≡ text → new ++ behind (map element (flat_map written (drop (i + 1) rs))) ≡ text
+pub text_next : (text out mid new : List ℕ) (rs : List Run) (i : ℕ) (d : Run) → i < length rs → (get_or rs i d).first ≤ (get_or rs i d).last → mid ≡ out ++ 44 ∷ [] → new ≡ mid ++ joined
+    (written (get_or rs i d)) → out ++ behind (map element (flat_map written (drop i rs))) ≡ text → new ++ behind (map element (flat_map written (drop (i + 1) rs))) ≡ text
 text_next text out mid new rs i d h ordered comma w e =
     text_more text out mid new (get_or rs i d) (drop (i + 1) rs) ordered comma w (ap (λ z. out ++ behind (map element (flat_map written z))) (sym (drop_more rs i d h)) ∙ e)
 

@@ -24,7 +24,10 @@ use Rattle.jc_types.specs.declared.policies.Truth.{Truth}
 use Rattle.jc_types.specs.declared.policies.Truth.TheVariants.{True, False, Unknown}
 use Rattle.jc_types.specs.declared.specifications.Template.{Template}
 use Rattle.jc_reading.specs.Allowed.{IsCode, IsAllowedRequirement, IsAllowedRule, IsAllowedFailure}
-use Rattle.jc_manifest.specs.FailurePolicies.{action_named, operator_of, truth_of, is_action, is_operator, is_truth, operator_in, container_in, number_at, code_row, codes_from, codes_in, are_codes, values_refusal, exit_codes_refusal, exit_codes_in, is_type, pattern_refusal, type_in, truth_in, pattern_in, pattern_row, patterns_from, patterns_refusal, is_fail_index, action_in, is_no_empty_list, has_exit_codes, has_patterns, is_just_one, given_exit_codes_refusal, given_patterns_refusal, requirement_refusal, requirement_in, action_refusal, failure_rule_refusal, failure_rule_in, failure_rule_row, failure_rules_from, failure_rules_refusal, failure_rules_in, given_failure_refusal}
+use Rattle.jc_manifest.specs.FailurePolicies.{action_named, operator_of, truth_of, is_action, is_operator, is_truth, operator_in, container_in, number_at, code_row, codes_from, codes_in, are_codes, values_refusal, exit_codes_refusal}
+use Rattle.jc_manifest.specs.FailurePolicies.{exit_codes_in, is_type, pattern_refusal, type_in, truth_in, pattern_in, pattern_row, patterns_from, patterns_refusal, is_fail_index, action_in, is_no_empty_list, has_exit_codes, has_patterns}
+use Rattle.jc_manifest.specs.FailurePolicies.{is_just_one, given_exit_codes_refusal, given_patterns_refusal, requirement_refusal, requirement_in, action_refusal, failure_rule_refusal, failure_rule_in, failure_rule_row, failure_rules_from}
+use Rattle.jc_manifest.specs.FailurePolicies.{failure_rules_refusal, failure_rules_in, given_failure_refusal}
 use Rattle.jc_print.specs.PrintedMembers.{with_json_member, list_data}
 use Rattle.jc_print.specs.PrintedSpecs.{action_word, operator_word, truth_word, pattern_data, exit_codes_data, failure_rule_data, failure_data, rules_data}
 use Rattle.jc_rows.specs.ManifestRows.{Row, rule_row, each, reads, passes, given_text_row, object_in}

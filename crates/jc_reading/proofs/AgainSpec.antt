@@ -18,7 +18,8 @@ use Rattle.jc_rows.specs.PodCountRows.{completions_of, counts_in}
 use Rattle.jc_manifest.specs.FailurePolicies.{given_failure_refusal, failure_refusal, failure_rules_in, failure_in}
 use Rattle.jc_manifest.specs.IndexLimits.{index_limits_in, is_by_index}
 use Rattle.jc_reading.specs.Manifested.{manifest_data, metadata_data}
-use Rattle.jc_manifest.specs.Manifests.{replacement_of, is_replacement, usual_replacement, replacement_in, is_early, replacement_refusal, head_refusal, policies_refusal, spec_refusal, head_in, policies_in, spec_with, spec_in, metadata_part_refusal, spec_part_refusal, manifest_refusal, key_of, spec_of}
+use Rattle.jc_manifest.specs.Manifests.{replacement_of, is_replacement, usual_replacement, replacement_in, is_early, replacement_refusal, head_refusal, policies_refusal, spec_refusal, head_in, policies_in, spec_with, spec_in}
+use Rattle.jc_manifest.specs.Manifests.{metadata_part_refusal, spec_part_refusal, manifest_refusal, key_of, spec_of}
 use Rattle.jc_manifest.specs.Metadata.{type_refusal, metadata_refusal, name_in, namespace_in, key_in}
 use Rattle.jc_print.specs.PrintedSpecs.{rules_data, failure_data, success_data, replacement_word, spec_data}
 use Rattle.jc_rows.specs.ManifestRows.{rule_row, object_in, rows_of_given}

@@ -20,7 +20,8 @@ use Rattle.jc_rows.specs.PodCountRows.{completions_of}
 use Rattle.jc_print.specs.PrintedMembers.{with_json_member, number_data}
 use Rattle.jc_print.specs.PrintedSpecs.{rules_data, success_data, success_rule_data, with_success_rule}
 use Rattle.jc_rows.specs.ManifestRows.{rule_row, each, reads, passes}
-use Rattle.jc_manifest.specs.SuccessPolicies.{are_indexes, indexes_read, names_indexes, indexes_row, succeeded_indexes_in, is_reachable, count_in, count_row, count_refusal, says_something, success_rule_refusal, success_rule_in, success_rule_row, success_rules_from, success_rules_refusal, success_rules_in, given_success_refusal}
+use Rattle.jc_manifest.specs.SuccessPolicies.{are_indexes, indexes_read, names_indexes, indexes_row, succeeded_indexes_in, is_reachable, count_in, count_row, count_refusal, says_something, success_rule_refusal, success_rule_in}
+use Rattle.jc_manifest.specs.SuccessPolicies.{success_rule_row, success_rules_from, success_rules_refusal, success_rules_in, given_success_refusal}
 use Rattle.jc_rows.specs.Templates.{objects_row, list_in}
 use Rattle.jc_reading.proofs.AgainFailures.{rules_found, rules_listed}
 use Rattle.jc_reading.proofs.AgainHead.{given_text, no_text, text_passes, no_text_passes, whole as whole_count}

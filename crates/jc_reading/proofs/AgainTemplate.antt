@@ -19,7 +19,8 @@ use Rattle.jc_reading.specs.Manifested.{all_named, container_named, items_named,
 use Rattle.jc_print.specs.PrintedMembers.{with_json_member, texts_data}
 use Rattle.jc_print.specs.PrintedSpecs.{restart_word, template_data, with_template}
 use Rattle.jc_rows.specs.ManifestRows.{rule_row, each, reads, passes, text_row, object_row, object_in}
-use Rattle.jc_rows.specs.Templates.{never_restarts, restart_of, is_restart, restart_in, restart_refusal, restart_row, objects_row, list_in, given_list_in, init_count, are_right_many, containers_refusal, inits_refusal, is_new_label, name_row, container_name, names_row, names_in, all_names_refusal, all_containers_refusal, pod_refusal, names_of_both, all_names_in, template_in_pod, pod_path, pod_spec_in, template_refusal, template_in}
+use Rattle.jc_rows.specs.Templates.{never_restarts, restart_of, is_restart, restart_in, restart_refusal, restart_row, objects_row, list_in, given_list_in, init_count, are_right_many, containers_refusal, inits_refusal, is_new_label}
+use Rattle.jc_rows.specs.Templates.{name_row, container_name, names_row, names_in, all_names_refusal, all_containers_refusal, pod_refusal, names_of_both, all_names_in, template_in_pod, pod_path, pod_spec_in, template_refusal, template_in}
 use Rattle.jc_reading.proofs.AgainHead.{made, manifest_rows, pod_member}
 use Rattle.jc_reading.proofs.Found.{puts, get_found, member_found}
 use Rattle.jc_rows.proofs.RowFacts.{none_or}

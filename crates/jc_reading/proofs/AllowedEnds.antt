@@ -1,5 +1,6 @@
 -- The conditions and the ends that a line says are such as the formats allow.
-use Rattle.std.proofs.Common.{◌≡◌, ℕ, ℤ, ◌+◌, pos, negsuc, ◌<◌, ◌≤◌, List, [], ◌∷◌, length, Bool, true, false, ◌&&◌, cond, codes, Option, Some, None, option_and_then, IfSome, Result, Ok, Err, nat_lt, nat_le, refl, sym, subst, arith, true≢false, ltb-true, leb-true}
+use Rattle.std.proofs.Common.{◌≡◌, ℕ, ℤ, ◌+◌, pos, negsuc, ◌<◌, ◌≤◌, List, [], ◌∷◌, length, Bool, true, false, ◌&&◌, cond, codes, Option, Some, None, option_and_then, IfSome, Result, Ok, Err, nat_lt, nat_le, refl, sym, subst, arith}
+use Rattle.std.proofs.Common.{true≢false, ltb-true, leb-true}
 use Rattle.std.specs.List.{AllByRecursion as Each}
 use Rattle.std.specs.Prelude.{⊤, IfOk, int_le, ok_or, unwrap_or}
 use Rattle.std.proofs.lemmas.Bool.{and_parts}

@@ -12,7 +12,9 @@ use Rattle.jc_json.specs.Field.{Refusal, missing, wrong_type, out_of_range, ◌>
 use Rattle.jc_types.specs.declared.policies.Pattern.{Pattern}
 use Rattle.jc_types.specs.declared.policies.Requirement.TheVariants.{Conditions}
 use Rattle.jc_types.specs.declared.specifications.Template.{Template}
-use Rattle.jc_manifest.specs.FailurePolicies.{container_in, number_at, code_row, codes_from, codes_in, values_refusal, exit_codes_refusal, exit_codes_in, is_type, pattern_refusal, type_in, pattern_in, pattern_row, patterns_from, patterns_refusal, is_no_empty_list, has_exit_codes, has_patterns, is_just_one, given_exit_codes_refusal, given_patterns_refusal, requirement_refusal, requirement_in, action_refusal, failure_rule_refusal, failure_rule_in, failure_rule_row, failure_rules_from, failure_rules_refusal, failure_rules_in, given_failure_refusal, failure_refusal, failure_in}
+use Rattle.jc_manifest.specs.FailurePolicies.{container_in, number_at, code_row, codes_from, codes_in, values_refusal, exit_codes_refusal, exit_codes_in, is_type, pattern_refusal, type_in, pattern_in, pattern_row, patterns_from}
+use Rattle.jc_manifest.specs.FailurePolicies.{patterns_refusal, is_no_empty_list, has_exit_codes, has_patterns, is_just_one, given_exit_codes_refusal, given_patterns_refusal, requirement_refusal, requirement_in, action_refusal}
+use Rattle.jc_manifest.specs.FailurePolicies.{failure_rule_refusal, failure_rule_in, failure_rule_row, failure_rules_from, failure_rules_refusal, failure_rules_in, given_failure_refusal, failure_refusal, failure_in}
 use Rattle.jc_rows.specs.ManifestRows.{Row, rule_row, each, reads, passes, given_text_row, text_row, rows_of_given, object_in}
 use Rattle.jc_rows.specs.Templates.{list_in, is_among, is_new_label, name_row, container_name, names_row, names_in}
 use Rattle.jc_reading.specs.Allowed.{are_new_labels, IsCode, IsAllowedRequirement, IsAllowedRule, IsAllowedFailure}

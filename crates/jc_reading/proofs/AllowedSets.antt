@@ -1,5 +1,6 @@
 -- The sets and the success policy that an accepted manifest says are such as its table allows.
-use Rattle.std.proofs.Common.{◌≡◌, ℕ, ℤ, pos, negsuc, nat_abs, suc, ◌+◌, ◌≤◌, List, [], ◌∷◌, length, Bool, true, false, ◌&&◌, ◌||◌, cond, bytes_eq, codes, Option, Some, None, option_map, is_some, IfSome, Result, Ok, Err, refl, sym, ap, ap₂, ◌∙◌, subst, arith, true≢false}
+use Rattle.std.proofs.Common.{◌≡◌, ℕ, ℤ, pos, negsuc, nat_abs, suc, ◌+◌, ◌≤◌, List, [], ◌∷◌, length, Bool, true, false, ◌&&◌, ◌||◌, cond, bytes_eq, codes, Option, Some, None, option_map, is_some, IfSome, Result, Ok, Err, refl, sym, ap, ap₂}
+use Rattle.std.proofs.Common.{◌∙◌, subst, arith, true≢false}
 use Rattle.std.specs.List.{AllByRecursion as Each, find, flat_map}
 use Rattle.std.specs.Prelude.{int_le, nat_lt, nat_le, ok_or, option_and_then, unwrap_or}
 use Rattle.std.specs.Option.{option_map_or}
@@ -21,7 +22,8 @@ use Rattle.jc_log.specs.Requests.{is_indexed}
 use Rattle.jc_rows.specs.PodCountRows.{completions_of}
 use Rattle.jc_manifest.specs.IndexSets.{all_pairs, is_spelled, run_of, runs_of, set_of}
 use Rattle.jc_rows.specs.ManifestRows.{each, reads, passes, given_text_row, rows_of_given}
-use Rattle.jc_manifest.specs.SuccessPolicies.{are_indexes, indexes_read, names_indexes, indexes_row, succeeded_indexes_in, is_reachable, count_in, count_row, count_refusal, says_something, success_rule_refusal, success_rule_in, success_rule_row, success_rules_from, success_rules_refusal, success_rules_in, given_success_refusal, success_refusal, success_in}
+use Rattle.jc_manifest.specs.SuccessPolicies.{are_indexes, indexes_read, names_indexes, indexes_row, succeeded_indexes_in, is_reachable, count_in, count_row, count_refusal, says_something, success_rule_refusal, success_rule_in}
+use Rattle.jc_manifest.specs.SuccessPolicies.{success_rule_row, success_rules_from, success_rules_refusal, success_rules_in, given_success_refusal, success_refusal, success_in}
 use Rattle.jc_rows.specs.Templates.{list_in}
 use Rattle.jc_manifest.proofs.IndexSetFacts.{names_set}
 use Rattle.jc_reading.specs.Allowed.{IsAllowedCount, IsAllowedSet, IsAllowedSuccessRule}

@@ -23,7 +23,8 @@ use Rattle.jc_manifest.specs.Manifests.{head_in, head_refusal, key_of, manifest_
 use Rattle.jc_manifest.specs.Metadata.{key_in, metadata_refusal, name_in, namespace_in, type_refusal}
 use Rattle.jc_rows.specs.ManifestRows.{object_in, object_row, passes, text_row, given_text_row}
 use Rattle.jc_manifest.specs.SuccessPolicies.{success_in}
-use Rattle.jc_rows.specs.Templates.{all_containers_refusal, all_names_in, all_names_refusal, given_list_in, list_in, names_in, names_of_both, never_restarts, pod_path, pod_refusal, pod_spec_in, restart_refusal, template_in, template_in_pod, template_refusal}
+use Rattle.jc_rows.specs.Templates.{all_containers_refusal, all_names_in, all_names_refusal, given_list_in, list_in, names_in, names_of_both, never_restarts, pod_path, pod_refusal, pod_spec_in, restart_refusal, template_in, template_in_pod}
+use Rattle.jc_rows.specs.Templates.{template_refusal}
 use Rattle.jc_rows.specs.NameForms.{has_length_of_name, is_label, is_part, is_subdomain}
 use Rattle.jc_manifest.proofs.AcceptedFacts.{accepted_is_valid, parts, kept, passed}
 use Rattle.jc_reading.specs.Allowed.{are_new_labels, IsAllowedKey, IsAllowedSpec, IsAllowedSuccess, IsAllowedSuccessRule}

@@ -23,7 +23,8 @@ use Rattle.jc_reading.specs.Cuts.{behind_word, first_word_in}
 use Rattle.jc_reading.specs.Manifested.{manifest_data}
 use Rattle.jc_reading.specs.Proper.{AreAllowedEnds, IsAllowedChange, IsAllowedReport, IsPossibleSeat, IsProperAction, IsProperSystem}
 use Rattle.jc_reading.specs.Turned.{of_member, report_of}
-use Rattle.jc_reading.specs.LineReadings.{action_by, act_said, number_below, change_said, create_said, delete_said, ends_printed, fate_said, fault_said, job_if, printed_job, key_said, kind_said, digits_said, pod_said, report_said, reported_said, system_said, tag_said, update_said, verb_said, version_printed}
+use Rattle.jc_reading.specs.LineReadings.{action_by, act_said, number_below, change_said, create_said, delete_said, ends_printed, fate_said, fault_said, job_if, printed_job, key_said, kind_said, digits_said, pod_said, report_said}
+use Rattle.jc_reading.specs.LineReadings.{reported_said, system_said, tag_said, update_said, verb_said, version_printed}
 use Rattle.jc_reading.specs.Reads.{BeginsWith, IsProperRead, act_of_line, begun_read, event_said, front_text, if_printed, read_by, starts, system_by}
 use Rattle.jc_reading.specs.declared.reads.LineAct.TheVariants.{Command, System}
 use Rattle.jc_reading.specs.declared.reads.LineRead.{LineRead}

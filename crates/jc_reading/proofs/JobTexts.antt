@@ -16,7 +16,8 @@ use Rattle.jc_json.specs.Place.{path_at, path_to}
 use Rattle.jc_manifest.specs.FailurePolicies.{codes_in, container_in, exit_codes_in, operator_in, failure_in, failure_rule_in, failure_rules_from, failure_rules_in, has_exit_codes, pattern_in, patterns_from, requirement_in, type_in}
 use Rattle.jc_manifest.specs.Manifests.{head_in, policies_in, spec_in, spec_of}
 use Rattle.jc_print.specs.PrintedMembers.{number_data, texts_data, with_json_member}
-use Rattle.jc_print.specs.PrintedSpecs.{action_word, exit_codes_data, failure_data, failure_rule_data, mode_word, operator_word, pattern_data, replacement_word, restart_word, rules_data, spec_data, success_data, success_rule_data, template_data, truth_word, with_counts, with_index_limits, with_limits, with_policies, with_requirement, with_success_rule, with_template}
+use Rattle.jc_print.specs.PrintedSpecs.{action_word, exit_codes_data, failure_data, failure_rule_data, mode_word, operator_word, pattern_data, replacement_word, restart_word, rules_data, spec_data, success_data, success_rule_data}
+use Rattle.jc_print.specs.PrintedSpecs.{template_data, truth_word, with_counts, with_index_limits, with_limits, with_policies, with_requirement, with_success_rule, with_template}
 use Rattle.jc_ranges.specs.Texts.{ranges_text}
 use Rattle.jc_rows.specs.ManifestRows.{object_in}
 use Rattle.jc_rows.specs.Templates.{is_among, is_new_label, list_in}

@@ -1,5 +1,6 @@
 -- The commands of a script that was read are proper.
-use Rattle.std.proofs.Common.{◌≡◌, ℕ, ℤ, zero, suc, ◌+◌, ◌<◌, ◌≤◌, ◌^◌, pos, negsuc, nat_abs, List, [], ◌∷◌, ◌++◌, length, replicate, Bool, true, false, cond, ◌&&◌, nat_le, nat_lt, codes, Option, Some, None, option_map, option_and_then, IfSome, Result, Ok, Err, refl, sym, arith, true≢false, leb-true}
+use Rattle.std.proofs.Common.{◌≡◌, ℕ, ℤ, zero, suc, ◌+◌, ◌<◌, ◌≤◌, ◌^◌, pos, negsuc, nat_abs, List, [], ◌∷◌, ◌++◌, length, replicate, Bool, true, false, cond, ◌&&◌, nat_le, nat_lt, codes, Option, Some, None, option_map, option_and_then}
+use Rattle.std.proofs.Common.{IfSome, Result, Ok, Err, refl, sym, arith, true≢false, leb-true}
 use Rattle.std.specs.List.{AllByRecursion as Each}
 use Rattle.std.specs.Prelude.{IfOk, int_le, ok_or, unwrap_or}
 use Rattle.std.specs.Str.Lines.{strip_carriage_return}
@@ -24,7 +25,8 @@ use Rattle.jc_rows.specs.NameForms.{has_length_of_name, is_label, is_part, is_su
 use Rattle.jc_script.specs.declared.commands.Said.{Said}
 use Rattle.jc_script.specs.declared.verbs.Verb.{Verb}
 use Rattle.jc_script.specs.declared.verbs.Verb.TheVariants as verb
-use Rattle.jc_script.specs.Commands.{action_said, begin_in, clock_in, command_in, create_in, delete_in, deliver_in, fate_in, fault_in, fault_kind_in, finish_in, job_said, kind_in, lane_in, list_command_in, mark_in, object_says, phase_in, restart_command_in, said_unless, step_in, strip_in, sync_in, update_in, value_says}
+use Rattle.jc_script.specs.Commands.{action_said, begin_in, clock_in, command_in, create_in, delete_in, deliver_in, fate_in, fault_in, fault_kind_in, finish_in, job_said, kind_in, lane_in, list_command_in, mark_in, object_says, phase_in}
+use Rattle.jc_script.specs.Commands.{restart_command_in, said_unless, step_in, strip_in, sync_in, update_in, value_says}
 use Rattle.jc_script.specs.Fits.{NamesShape}
 use Rattle.jc_script.specs.TextLines.{lines_of}
 use Rattle.jc_script.specs.Scripts.{BadLine, commands_said, json_says, line_before, line_says, lines_say, most_commands, most_line_bytes, script_of, text_says}

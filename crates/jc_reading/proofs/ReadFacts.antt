@@ -1,5 +1,6 @@
 -- What is printed of a proper act is read back from its words.
-use Rattle.std.proofs.Common.{◌≡◌, ℕ, ◌+◌, ◌-◌, ◌*◌, ◌<◌, ◌≤◌, ◌^◌, ◌/◌, ◌%◌, ◌==◌, ℤ, pos, Bool, true, false, cond, ◌&&◌, ◌||◌, List, [], ◌∷◌, ◌++◌, length, take, codes, decimal, Option, Some, None, is_some, option_map, option_and_then, IfSome, refl, sym, ap, ap₂, ◌∙◌, arith, append_assoc, true≢false, le-leb, lt-ltb, ne_eqb, eqb-true}
+use Rattle.std.proofs.Common.{◌≡◌, ℕ, ◌+◌, ◌-◌, ◌*◌, ◌<◌, ◌≤◌, ◌^◌, ◌/◌, ◌%◌, ◌==◌, ℤ, pos, Bool, true, false, cond, ◌&&◌, ◌||◌, List, [], ◌∷◌, ◌++◌, length, take, codes, decimal, Option, Some, None, is_some, option_map, option_and_then}
+use Rattle.std.proofs.Common.{IfSome, refl, sym, ap, ap₂, ◌∙◌, arith, append_assoc, true≢false, le-leb, lt-ltb, ne_eqb, eqb-true}
 use Rattle.std.specs.Prelude.{nat_le, nat_lt, is_none}
 use Rattle.std.specs.Fmt.{signed_decimal}
 use Rattle.std.specs.List.{list_all, onto_first, slice_split}
@@ -37,7 +38,8 @@ use Rattle.jc_lines.specs.ChangeTexts.{ends_data, phase_change_data}
 use Rattle.jc_reading.specs.Cuts.{IsWord, behind_word, first_word_in}
 use Rattle.jc_reading.specs.Manifested.{manifest_data}
 use Rattle.jc_reading.specs.Proper.{IsPod, IsPossibleSeat, IsExit, IsProperAction, IsProperSystem, as_begin}
-use Rattle.jc_reading.specs.LineReadings.{action_read, act_said, number_below, change_said, digits_from, ends_printed, fault_said, is_digit, job_if, printed_job, key_if, key_said, kind_said, digits_said, parted, onto_front, pod_said, report_said, subdomain_if, system_said, tag_said, uid_at, verb_named, verb_said, version_from, version_printed}
+use Rattle.jc_reading.specs.LineReadings.{action_read, act_said, number_below, change_said, digits_from, ends_printed, fault_said, is_digit, job_if, printed_job, key_if, key_said, kind_said, digits_said, parted, onto_front, pod_said}
+use Rattle.jc_reading.specs.LineReadings.{report_said, subdomain_if, system_said, tag_said, uid_at, verb_named, verb_said, version_from, version_printed}
 use Rattle.jc_reading.specs.Turned.{of_member, report_of, ReadAsEnds, ReadsAsChange, ReadsAsJob, ReadsAsReport}
 use Rattle.jc_lines.specs.Events.{tag_text}
 use Rattle.jc_reading.specs.Reads.{IsProperOf, IsProperRead, act_of_line, begun_act, begun_read, event_said, front_text, if_printed, read_by, starts, system_read}

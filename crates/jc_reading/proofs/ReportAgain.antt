@@ -16,7 +16,8 @@ use Rattle.jc_members.specs.declared.causes.Cause.TheVariants.{Invalid}
 use Rattle.jc_members.specs.LineCauses.{read_as}
 use Rattle.jc_members.specs.Items.{all_said, each_said, then_each, with_front}
 use Rattle.jc_members.specs.Members.{tested, text_in, word_in}
-use Rattle.jc_members.specs.Phases.{condition_at, condition_members, condition_of, condition_truth, conditions_in, container_change, container_count, container_numbers, container_restarts, containers_in, entries_fit, entry_in, exit_in, given_names, member_names, names_in_either, phase_of, report_in, truth_said}
+use Rattle.jc_members.specs.Phases.{condition_at, condition_members, condition_of, condition_truth, conditions_in, container_change, container_count, container_numbers, container_restarts, containers_in, entries_fit, entry_in, exit_in}
+use Rattle.jc_members.specs.Phases.{given_names, member_names, names_in_either, phase_of, report_in, truth_said}
 use Rattle.jc_manifest.specs.FailurePolicies.{is_type, truth_of}
 use Rattle.jc_print.specs.PrintedMembers.{list_data, number_data, put_given, with_json_member}
 use Rattle.jc_print.specs.PrintedSpecs.{truth_word}

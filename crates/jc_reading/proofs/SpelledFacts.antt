@@ -1,5 +1,6 @@
 -- The values that a text spells: each text in them is Unicode, and the members of each object stand in ascending order.
-use Rattle.std.proofs.Common.{◌≡◌, ℕ, zero, suc, ◌+◌, ◌<◌, Bool, true, false, cond, ◌&&◌, ◌-◌, ◌==◌, nat_eq, take, List, [], ◌∷◌, ◌++◌, length, get_or, drop, Option, Some, None, IfSome, option_map, option_and_then, IsUtf8, Ordering, Less, Equal, Greater, nat_cmp, refl, sym, ap, ◌∙◌, subst, arith, append_assoc, eqb-true}
+use Rattle.std.proofs.Common.{◌≡◌, ℕ, zero, suc, ◌+◌, ◌<◌, Bool, true, false, cond, ◌&&◌, ◌-◌, ◌==◌, nat_eq, take, List, [], ◌∷◌, ◌++◌, length, get_or, drop, Option, Some, None, IfSome, option_map, option_and_then, IsUtf8, Ordering, Less}
+use Rattle.std.proofs.Common.{Equal, Greater, nat_cmp, refl, sym, ap, ◌∙◌, subst, arith, append_assoc, eqb-true}
 use Rattle.std.specs.Cmp.Lexicographic.{slice_cmp}
 use Rattle.std.specs.List.{starts_with}
 use Rattle.std.specs.Ordering.{match_ordering}
@@ -9,7 +10,8 @@ use lib.ListN.{length-append}
 use lib.Seq.{drop_at}
 use Rattle.json.specs.Ascii as ascii
 use Rattle.json.specs.Json as json
-use Rattle.json.specs.Lex.{Class, Lexeme, Mode, Place, quote, backslash, operator, space, other, operator_lexeme, after_comma, after_key, after_value, between, class, colon, comma, fresh, if_allowed, in_escape, in_string, in_word, begins_colon, lex, lex_byte, place_token, punctuate, string_token, token, tokens}
+use Rattle.json.specs.Lex.{Class, Lexeme, Mode, Place, quote, backslash, operator, space, other, operator_lexeme, after_comma, after_key, after_value, between, class, colon, comma, fresh, if_allowed, in_escape, in_string, in_word}
+use Rattle.json.specs.Lex.{begins_colon, lex, lex_byte, place_token, punctuate, string_token, token, tokens}
 use Rattle.json.specs.Text.{content, plain}
 use Rattle.json.specs.Token.{Token}
 use Rattle.json.specs.Word.{after_number, ends_word, head, is_operator, is_space, literal, number_before, word}

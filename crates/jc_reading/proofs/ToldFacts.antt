@@ -21,7 +21,8 @@ use Rattle.jc_types.specs.declared.policies.SuccessRule.{SuccessRule}
 use Rattle.jc_types.specs.declared.specifications.JobSpec.{JobSpec}
 use Rattle.jc_types.specs.declared.specifications.Template.{Template}
 use Rattle.jc_print.specs.PrintedMembers.{with_json_member, list_data, number_data}
-use Rattle.jc_print.specs.PrintedSpecs.{rules_data, pattern_data, exit_codes_data, with_requirement, failure_rule_data, failure_data, with_success_rule, success_rule_data, success_data, with_template, template_data, with_index_limits, with_limits, with_counts, with_policies, spec_data}
+use Rattle.jc_print.specs.PrintedSpecs.{rules_data, pattern_data, exit_codes_data, with_requirement, failure_rule_data, failure_data, with_success_rule, success_rule_data, success_data, with_template, template_data, with_index_limits}
+use Rattle.jc_print.specs.PrintedSpecs.{with_limits, with_counts, with_policies, spec_data}
 use Rattle.jc_reading.specs.Allowed.{IsAllowedRequirement, IsAllowedRule, IsAllowedFailure, IsAllowedSuccess, IsAllowedSuccessRule, IsAllowedSpec, IsCode}
 use Rattle.jc_reading.specs.Compact.{AreTold, HasTold, IsTold}
 use Rattle.jc_reading.proofs.CompactFacts.{compact_text_told, put_told}

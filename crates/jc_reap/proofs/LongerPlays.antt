@@ -20,7 +20,8 @@ use Rattle.jc_log.specs.Deeds.{Deed, act_of_command, act_of_event, deed}
 use Rattle.jc_runs.specs.Available.{available}
 use Rattle.jc_runs.specs.Diaries.{notes}
 use Rattle.jc_runs.specs.Numbers.{number}
-use Rattle.jc_runs.specs.Play.{Playing, after_begin, brings, brought_up, commanded, deeds_played, does_if, event_played, first_event, has_just_begun, is_command, next_step, nothing, on_and_on, past_of, rest_played, settled_down, stepped_if, stepped_through, whole_play, with_answer}
+use Rattle.jc_runs.specs.Play.{Playing, after_begin, brings, brought_up, commanded, deeds_played, does_if, event_played, first_event, has_just_begun, is_command, next_step, nothing, on_and_on, past_of, rest_played, settled_down, stepped_if}
+use Rattle.jc_runs.specs.Play.{stepped_through, whole_play, with_answer}
 use Rattle.jc_runs.specs.Registers.{register}
 use Rattle.jc_runs.specs.Replies.{gives}
 

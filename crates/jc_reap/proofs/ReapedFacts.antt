@@ -1,5 +1,6 @@
 -- What the commands of a reaper say.
-use Rattle.std.proofs.Common.{◌≡◌, ℕ, zero, suc, ◌+◌, ◌-◌, ◌<◌, ◌≤◌, ◌^◌, ◌==◌, nat_lt, Bool, true, false, cond, not, codes, List, [], ◌∷◌, ◌++◌, filter, find, length, replicate, slice_get, Option, Some, None, option_map, option_and_then, IfSome, Result, Ok, Err, refl, sym, subst, arith, ltb-true}
+use Rattle.std.proofs.Common.{◌≡◌, ℕ, zero, suc, ◌+◌, ◌-◌, ◌<◌, ◌≤◌, ◌^◌, ◌==◌, nat_lt, Bool, true, false, cond, not, codes, List, [], ◌∷◌, ◌++◌, filter, find, length, replicate, slice_get, Option, Some, None, option_map, option_and_then}
+use Rattle.std.proofs.Common.{IfSome, Result, Ok, Err, refl, sym, subst, arith, ltb-true}
 use Rattle.std.specs.List.{AllByRecursion as Each}
 use Rattle.std.specs.Prelude.{IfOk}
 use Rattle.std.specs.Str.Lines.{strip_carriage_return}

@@ -30,7 +30,8 @@ use Rattle.jc_states.specs.Pods.{goes, is_final, is_marked}
 use Rattle.jc_log.specs.Acts.{Act}
 use Rattle.jc_log.specs.Deeds.{Deed}
 use Rattle.jc_log.specs.Log.{Gone, Life, Live, is_lost, job_in, life, pod_in}
-use Rattle.jc_log.specs.Requests.{Answered, changed_spec, create_job_at, create_job_gives, delete_job_at, delete_job_gives, grown, is_other, is_unnamed, let_go_gives, made_pod, mark_pod_at, mark_pod_gives, pod_entry, release_gives, released, report_phase_at, report_phase_gives, report_unless, same_course_of, update_refusal, update_spec_at, update_spec_gives, update_unless, with_mark, with_report, without_finalizer, write_status_at}
+use Rattle.jc_log.specs.Requests.{Answered, changed_spec, create_job_at, create_job_gives, delete_job_at, delete_job_gives, grown, is_other, is_unnamed, let_go_gives, made_pod, mark_pod_at, mark_pod_gives, pod_entry, release_gives}
+use Rattle.jc_log.specs.Requests.{released, report_phase_at, report_phase_gives, report_unless, same_course_of, update_refusal, update_spec_at, update_spec_gives, update_unless, with_mark, with_report, without_finalizer, write_status_at}
 use Rattle.jc_log.proofs.PodFacts.{living-live}
 use Rattle.jc_log.proofs.WriteFacts.{life-uid}
 use Rattle.jc_plan.specs.Plans.{planned}

@@ -1,6 +1,7 @@
 -- No orphan is left at rest: a sync that saw the last entry of the pod, and the last one of a Job of its owner's key,
 -- has the pod released; so it does not end before the pod has lost its finalizer.
-use Rattle.std.proofs.Common.{◌≡◌, ℕ, suc, ◌≤◌, ◌<◌, ◌==◌, nat_le, nat_lt, Bool, true, false, cond, not, ◌&&◌, ◌||◌, List, [], ◌∷◌, find, length, map, Option, Some, None, is_some, option_and_then, refl, sym, ap, ◌∙◌, subst, arith, eqb-true, le-leb, ltb-true, true≢false, ◌⊎◌, inl, inr}
+use Rattle.std.proofs.Common.{◌≡◌, ℕ, suc, ◌≤◌, ◌<◌, ◌==◌, nat_le, nat_lt, Bool, true, false, cond, not, ◌&&◌, ◌||◌, List, [], ◌∷◌, find, length, map, Option, Some, None, is_some, option_and_then, refl, sym, ap, ◌∙◌, subst, arith, eqb-true}
+use Rattle.std.proofs.Common.{le-leb, ltb-true, true≢false, ◌⊎◌, inl, inr}
 use Rattle.std.specs.List.{list_any}
 use Rattle.std.specs.Option.{option_map_or, unwrap_or}
 use Rattle.std.proofs.lemmas.Bool.{and_from, cases_lt, ltb-false, or_left, or_right}

@@ -4,7 +4,8 @@ ghost use Rattle.std.specs.Prelude.{◌≡◌, ◌+◌, [], ◌||◌, nat_le, co
 ghost use Rattle.jc_json.specs.View.{view};
 ghost use Rattle.jc_json.specs.Place.{path_to};
 ghost use Rattle.jc_rows.specs.ManifestRows.{Checks, Reads, text_row, object_row, object_in};
-ghost use Rattle.jc_rows.specs.Templates.{restart_of, is_restart, restart_in, never_restarts, restart_row, restart_refusal, objects_row, list_in, given_list_in, init_count, containers_refusal, inits_refusal, is_among, name_row, container_name, names_row, names_in, all_names_refusal, names_of_both, all_containers_refusal, all_names_in, pod_refusal, template_in_pod, template_refusal, template_in};
+ghost use Rattle.jc_rows.specs.Templates.{restart_of, is_restart, restart_in, never_restarts, restart_row, restart_refusal, objects_row, list_in, given_list_in, init_count, containers_refusal, inits_refusal, is_among, name_row};
+ghost use Rattle.jc_rows.specs.Templates.{container_name, names_row, names_in, all_names_refusal, names_of_both, all_containers_refusal, all_names_in, pod_refusal, template_in_pod, template_refusal, template_in};
 
 use crate::refusals::{ManifestFault, broken};
 use crate::words::is_label;

@@ -21,7 +21,8 @@ use Rattle.jc_states.specs.Pods.{is_marked}
 use Rattle.jc_history.specs.Nodes.{NodeAct}
 use Rattle.jc_history.specs.Replies.{node_gives}
 use Rattle.jc_log.specs.Log.{job_in, next_version, pod_in}
-use Rattle.jc_log.specs.Requests.{Answered, accepted, changed_spec, create_job_at, create_job_gives, delete_job_at, delete_job_gives, is_other, let_go_at, mark_pod_at, mark_pod_gives, pod_entry, refused, release_at, release_gives, released, update_refusal, update_spec_at, update_spec_gives, update_unless, with_mark, with_spec, write_status_at}
+use Rattle.jc_log.specs.Requests.{Answered, accepted, changed_spec, create_job_at, create_job_gives, delete_job_at, delete_job_gives, is_other, let_go_at, mark_pod_at, mark_pod_gives, pod_entry, refused, release_at, release_gives, released}
+use Rattle.jc_log.specs.Requests.{update_refusal, update_spec_at, update_spec_gives, update_unless, with_mark, with_spec, write_status_at}
 use Rattle.jc_plan.specs.Plans.{planned}
 use Rattle.jc_ledger.specs.declared.flights.Flight.{Flight}
 use Rattle.jc_asks.specs.declared.asks.Ask.{Ask}

@@ -28,7 +28,8 @@ use Rattle.jc_members.specs.declared.names.Seat.{Seat}
 use Rattle.jc_script.specs.declared.verbs.Verb.{Verb}
 use Rattle.jc_script.specs.declared.verbs.Verb.TheVariants as verb
 use Rattle.jc_members.specs.LineCauses.{read_as}
-use Rattle.jc_script.specs.Commands.{said_unless, job_said, create_in, update_in, delete_in, fate_in, mark_in, strip_in, finish_in, phase_in, clock_in, list_command_in, deliver_in, begin_in, sync_in, step_in, restart_command_in, fault_in, kind_in, fault_kind_in, action_said, lane_in, command_in, object_says, value_says}
+use Rattle.jc_script.specs.Commands.{said_unless, job_said, create_in, update_in, delete_in, fate_in, mark_in, strip_in, finish_in, phase_in, clock_in, list_command_in, deliver_in, begin_in, sync_in, step_in, restart_command_in, fault_in}
+use Rattle.jc_script.specs.Commands.{kind_in, fault_kind_in, action_said, lane_in, command_in, object_says, value_says}
 use Rattle.jc_members.specs.EndMembers.{rightly_many, end_said_at, ends_said}
 use Rattle.jc_script.specs.Fits.{NamesShape}
 use Rattle.jc_members.specs.Items.{with_front, then_each, each_said}

@@ -3,7 +3,8 @@
 ghost use Rattle.std.specs.Prelude.{◌≡◌};
 ghost use Rattle.jc_json.specs.View.{view};
 ghost use Rattle.jc_members.specs.LineCauses.{Says};
-ghost use Rattle.jc_script.specs.Commands.{kind_named, fault_of, kind_in, fault_kind_in, create_in, update_in, delete_in, fate_in, mark_in, strip_in, finish_in, phase_in, clock_in, list_command_in, deliver_in, begin_in, sync_in, step_in, restart_command_in, fault_in, action_said, lane_in, command_in, object_says, value_says};
+ghost use Rattle.jc_script.specs.Commands.{kind_named, fault_of, kind_in, fault_kind_in, create_in, update_in, delete_in, fate_in, mark_in, strip_in, finish_in, phase_in, clock_in, list_command_in, deliver_in, begin_in, sync_in, step_in};
+ghost use Rattle.jc_script.specs.Commands.{restart_command_in, fault_in, action_said, lane_in, command_in, object_says, value_says};
 
 use crate::updates::{read_change, read_version};
 use crate::verbs::{Verb, read_verb};

@@ -8,7 +8,8 @@ use Rattle.jc_script.specs.Cause.{Cause}
 use Rattle.jc_script.specs.Scripts.{most_bytes}
 use Rattle.jc_words.specs.declared.words.Order.{Order}
 use Rattle.jc_words.specs.declared.words.Order.TheVariants.{Generate}
-use Rattle.jc_single.proofs.EndFacts.{EndsBad, EndsLong, all-written, bad-ends, bad-found, front-written, good-words, long-ends, long-taken, most-taken, no-line, none-taken, none-written, quiet-ends, read-rose, unread-ends, unread-kept, whole, whole-of, write-rose, is-whole, not-whole, stopped-not-front, stopped-not-whole}
+use Rattle.jc_single.proofs.EndFacts.{EndsBad, EndsLong, all-written, bad-ends, bad-found, front-written, good-words, long-ends, long-taken, most-taken, no-line, none-taken, none-written, quiet-ends, read-rose, unread-ends, unread-kept}
+use Rattle.jc_single.proofs.EndFacts.{whole, whole-of, write-rose, is-whole, not-whole, stopped-not-front, stopped-not-whole}
 use Rattle.jc_single.proofs.RunFacts.{fronted, not_bad, order_same, told}
 use Rattle.jc_single.specs.RunEnds.{Answers, Change, Front, RunHasEnded, HasRun, IsUnread, Ran, Refused, Stopped, Whole, Wrote}
 use Rattle.jc_single.specs.Played.{script_played, staging_of}

@@ -1,5 +1,6 @@
 -- What an index that is added or taken out does to indexes in ascending order.
-use Rattle.std.proofs.Common.{◌≡◌, ℕ, ◌+◌, ◌-◌, ◌<◌, ◌≤◌, zero, suc, nat_lt, nat_le, ◌==◌, Bool, true, false, cond, ◌&&◌, ◌||◌, List, [], ◌∷◌, filter, length, get_or, refl, sym, ap, subst, ◌∙◌, arith, true≢false, lt-ltb, le-ltb, ltb-true, ltb-false, eq-eqb, eqb-true, ne_eqb}
+use Rattle.std.proofs.Common.{◌≡◌, ℕ, ◌+◌, ◌-◌, ◌<◌, ◌≤◌, zero, suc, nat_lt, nat_le, ◌==◌, Bool, true, false, cond, ◌&&◌, ◌||◌, List, [], ◌∷◌, filter, length, get_or, refl, sym, ap, subst, ◌∙◌, arith, true≢false, lt-ltb, le-ltb, ltb-true}
+use Rattle.std.proofs.Common.{ltb-false, eq-eqb, eqb-true, ne_eqb}
 use Rattle.std.specs.List.{AllWithin, insert, list_any, remove}
 use Rattle.std.specs.Prelude.{OnSome, Option, Some, slice_index_or}
 use Rattle.std.specs.List.Sorted.{IsNonDecreasingBy}

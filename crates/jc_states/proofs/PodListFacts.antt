@@ -1,6 +1,7 @@
 -- Facts on lists of pods in ascending UID: what a put and a drop do to their order, to what is
 -- found in them and to how many they are.
-use Rattle.std.proofs.Common.{◌≡◌, ℕ, suc, ◌+◌, ◌<◌, ◌≤◌, ◌==◌, nat_lt, Bool, true, false, cond, not, ◌||◌, List, [], ◌∷◌, filter, find, length, Option, Some, None, is_some, refl, sym, ap, ◌∙◌, arith, lt-ltb, ltb-true, ltb-false, eqb-true, ne_eqb, true≢false}
+use Rattle.std.proofs.Common.{◌≡◌, ℕ, suc, ◌+◌, ◌<◌, ◌≤◌, ◌==◌, nat_lt, Bool, true, false, cond, not, ◌||◌, List, [], ◌∷◌, filter, find, length, Option, Some, None, is_some, refl, sym, ap, ◌∙◌, arith, lt-ltb, ltb-true, ltb-false, eqb-true}
+use Rattle.std.proofs.Common.{ne_eqb, true≢false}
 use Rattle.std.specs.List.{AllByRecursion as Each, list_any}
 use Rattle.std.proofs.lemmas.Bool.{cond-true, cond-false, eqb-false}
 use Rattle.std.proofs.lemmas.List.Filters.{length-filter_both}
@@ -26,7 +27,8 @@ rises_put low pod [] h r = (h, tt)
 rises_put low pod (q ∷ pods) h r =
     by (λ le. rises_put (q.uid.0 + 1) pod pods le r.1) (nat_lt pod.uid.0 q.uid.0) refl (pod.uid.0 == q.uid.0) refl
   where
-    by : (q.uid.0 + 1 ≤ pod.uid.0 → RisesFrom (q.uid.0 + 1) (put_pod pod pods)) → (lt : Bool) → nat_lt pod.uid.0 q.uid.0 ≡ lt → (eq : Bool) → (pod.uid.0 == q.uid.0) ≡ eq → RisesFrom low (cond lt (pod ∷ q ∷ pods) (cond eq (pod ∷ pods) (q ∷ put_pod pod pods)))
+    by : (q.uid.0 + 1 ≤ pod.uid.0 → RisesFrom (q.uid.0 + 1) (put_pod pod pods)) → (lt : Bool) → nat_lt pod.uid.0 q.uid.0 ≡ lt → (eq : Bool) → (pod.uid.0 == q.uid.0) ≡ eq → RisesFrom low
+        (cond lt (pod ∷ q ∷ pods) (cond eq (pod ∷ pods) (q ∷ put_pod pod pods)))
     by ih true l eq e = let below = ltb-true pod.uid.0 q.uid.0 l in (h, (omega (arith, below), r.1))
     by ih false l true e =
         let is = eqb-true pod.uid.0 q.uid.0 e in
@@ -63,7 +65,8 @@ pub among_put : (u : Uid) (pod : Pod) (pods : List Pod) → pod_among u (put_pod
 among_put u pod [] = refl
 among_put u pod (q ∷ pods) = by (among_put u pod pods) (nat_lt pod.uid.0 q.uid.0) (pod.uid.0 == q.uid.0) refl
   where
-    by : pod_among u (put_pod pod pods) ≡ cond (same_uid pod.uid u) (Some pod) (pod_among u pods) → (lt eq : Bool) → (pod.uid.0 == q.uid.0) ≡ eq → pod_among u (cond lt (pod ∷ q ∷ pods) (cond eq (pod ∷ pods) (q ∷ put_pod pod pods))) ≡ cond (same_uid pod.uid u) (Some pod) (cond (same_uid q.uid u) (Some q) (pod_among u pods))
+    by : pod_among u (put_pod pod pods) ≡ cond (same_uid pod.uid u) (Some pod) (pod_among u pods) → (lt eq : Bool) → (pod.uid.0 == q.uid.0) ≡ eq → pod_among u
+        (cond lt (pod ∷ q ∷ pods) (cond eq (pod ∷ pods) (q ∷ put_pod pod pods))) ≡ cond (same_uid pod.uid u) (Some pod) (cond (same_uid q.uid u) (Some q) (pod_among u pods))
     by ih true eq e = refl
     by ih false true e = replaced (same_uid pod.uid u) (same_uid q.uid u) (ap (λ v. same_uid v u) (same_uid-eq pod.uid q.uid e))
       where
@@ -88,7 +91,8 @@ among_drop u v [] = by (same_uid v u)
     by false = refl
 among_drop u v (q ∷ pods) = by (among_drop u v pods) (same_uid q.uid v) refl (same_uid q.uid u) refl (same_uid v u) refl
   where
-    by : pod_among u (drop_pod v pods) ≡ cond (same_uid v u) None (pod_among u pods) → (a : Bool) → same_uid q.uid v ≡ a → (b : Bool) → same_uid q.uid u ≡ b → (c : Bool) → same_uid v u ≡ c → pod_among u (cond (not a) (q ∷ drop_pod v pods) (drop_pod v pods)) ≡ cond c None (cond b (Some q) (pod_among u pods))
+    by : pod_among u (drop_pod v pods) ≡ cond (same_uid v u) None (pod_among u pods) → (a : Bool) → same_uid q.uid v ≡ a → (b : Bool) → same_uid q.uid u ≡ b → (c : Bool) → same_uid v u ≡ c →
+        pod_among u (cond (not a) (q ∷ drop_pod v pods) (drop_pod v pods)) ≡ cond c None (cond b (Some q) (pod_among u pods))
     by ih true s b t true w = ih ∙ cond-true (same_uid v u) None (pod_among u pods) w
     by ih true s true t false w = absurd (eqb-false v.0 u.0 w (sym (eqb-true q.uid.0 v.0 s) ∙ eqb-true q.uid.0 u.0 t))
     by ih true s false t false w = ih ∙ cond-false (same_uid v u) None (pod_among u pods) w

@@ -1,6 +1,7 @@
 -- Where the pod of a UID stands among pods in ascending UID, and what is written, inserted and taken
 -- out there.
-use Rattle.std.proofs.Common.{◌≡◌, ℕ, ◌+◌, ◌<◌, ◌≤◌, suc, zero, nat_lt, ◌==◌, Bool, true, false, cond, not, List, [], ◌∷◌, ◌++◌, All, length, get_or, set, take, Option, Some, None, is_some, refl, sym, ap, subst, ◌∙◌, arith, true≢false, lt-ltb, ltb-true, ltb-false, eqb-true, ne_eqb}
+use Rattle.std.proofs.Common.{◌≡◌, ℕ, ◌+◌, ◌<◌, ◌≤◌, suc, zero, nat_lt, ◌==◌, Bool, true, false, cond, not, List, [], ◌∷◌, ◌++◌, All, length, get_or, set, take, Option, Some, None, is_some, refl, sym, ap, subst, ◌∙◌, arith, true≢false}
+use Rattle.std.proofs.Common.{lt-ltb, ltb-true, ltb-false, eqb-true, ne_eqb}
 use Rattle.std.specs.List.{AllByRecursion as Each, AllWithin, insert, remove}
 use Rattle.std.specs.List.Sorted.{IsNonDecreasingBy}
 use Rattle.std.proofs.lemmas.Bool.{cond-true, cond-false, eqb-false}

@@ -1,5 +1,6 @@
 -- What a put and a drop do to the numbers of each owner, and how large these numbers are.
-use Rattle.std.proofs.Common.{◌≡◌, ℕ, ◌+◌, ◌-◌, ◌*◌, ◌<◌, ◌≤◌, ◌^◌, suc, nat_lt, ◌==◌, Bool, true, false, cond, not, ◌||◌, List, [], ◌∷◌, All, filter, length, sum_by, Some, None, is_some, refl, sym, ap, subst, ◌∙◌, arith, true≢false, lt-ltb, ltb-true, eqb-true}
+use Rattle.std.proofs.Common.{◌≡◌, ℕ, ◌+◌, ◌-◌, ◌*◌, ◌<◌, ◌≤◌, ◌^◌, suc, nat_lt, ◌==◌, Bool, true, false, cond, not, ◌||◌, List, [], ◌∷◌, All, filter, length, sum_by, Some, None, is_some, refl, sym, ap, subst, ◌∙◌, arith, true≢false}
+use Rattle.std.proofs.Common.{lt-ltb, ltb-true, eqb-true}
 use Rattle.std.specs.List.{AllByRecursion as Each, list_any}
 use Rattle.std.proofs.lemmas.Bool.{cond-true, eqb-false}
 use Rattle.std.proofs.lemmas.List.Elements.{All-from_recursion, recursion_from_All}
@@ -106,7 +107,8 @@ restarts-cons pod pods = by (is_open pod)
 -- One more pod is entered into the numbers.
 tally_as-cons : (owner : Uid) (pod : Pod) (pods : List Pod) → tally_as owner (pod ∷ pods) ≡ tally_with (tally_as owner pods) pod
 tally_as-cons owner pod pods =
-    same_numbers (tally_as owner (pod ∷ pods)) (tally_with (tally_as owner pods) pod) refl (omega arith) (length-filter-cons is_open pod pods) (length-filter-cons is_active pod pods) (length-filter-cons is_tracked_active pod pods) (length-filter-cons is_ending pod pods) (length-filter-cons is_ready pod pods)
+    same_numbers (tally_as owner (pod ∷ pods)) (tally_with (tally_as owner pods) pod) refl (omega arith) (length-filter-cons is_open pod pods) (length-filter-cons is_active pod pods)
+    (length-filter-cons is_tracked_active pod pods) (length-filter-cons is_ending pod pods) (length-filter-cons is_ready pod pods)
     (restarts-cons pod pods)
 
 -- One more pod counts among those of its owner.
@@ -124,7 +126,8 @@ add_swap n a b = omega arith
 -- Two pods may be entered in either order.
 entered-swap : (p q : Pod) (t : Tally) → tally_with (tally_with t q) p ≡ tally_with (tally_with t p) q
 entered-swap p q t =
-    same_numbers (tally_with (tally_with t q) p) (tally_with (tally_with t p) q) refl refl (add_swap t.open_pods _ _) (add_swap t.active _ _) (add_swap t.active_tracked _ _) (add_swap t.open_marked _ _) (add_swap t.ready _ _) (add_swap t.restarts _ _)
+    same_numbers (tally_with (tally_with t q) p) (tally_with (tally_with t p) q) refl refl (add_swap t.open_pods _ _) (add_swap t.active _ _) (add_swap t.active_tracked _ _)
+    (add_swap t.open_marked _ _) (add_swap t.ready _ _) (add_swap t.restarts _ _)
 
 with-swap : (owner : Uid) (p q : Pod) (t : Tally) → with_pod owner p (with_pod owner q t) ≡ with_pod owner q (with_pod owner p t)
 with-swap owner p q t = by (same_uid p.owner_uid owner) (same_uid q.owner_uid owner)

@@ -17,7 +17,9 @@ use Rattle.jc_types.specs.declared.replies.Field.TheVariants.{Completions, Paral
 use Rattle.jc_types.specs.declared.replies.Reply.{Reply}
 use Rattle.jc_types.specs.declared.replies.Reply.TheVariants.{AlreadyExists, BadStep, Conflict, Created, Final, Immutable, Invalid, NoContainer, NotFound, NotTracked, Released, Removed, Unchanged, Written}
 use Rattle.jc_types.specs.declared.specifications.JobSpec.{JobSpec}
-use Rattle.jc_log.specs.Requests.{Answered, accepted, changed_spec, create_job_at, create_job_gives, delete_job_at, delete_job_gives, gone_job, grown, is_above, is_immutable, is_other, is_unnamed, made_job, mark_pod_at, mark_pod_gives, pod_entry, refused, release_at, release_gives, released, report_phase_at, report_phase_gives, report_unless, same_course_of, update_refusal, update_spec_at, update_spec_gives, update_unless, with_mark, with_report, with_spec, without_finalizer}
+use Rattle.jc_log.specs.Requests.{Answered, accepted, changed_spec, create_job_at, create_job_gives, delete_job_at, delete_job_gives, gone_job, grown, is_above, is_immutable, is_other, is_unnamed, made_job, mark_pod_at, mark_pod_gives}
+use Rattle.jc_log.specs.Requests.{pod_entry, refused, release_at, release_gives, released, report_phase_at, report_phase_gives, report_unless, same_course_of, update_refusal, update_spec_at, update_spec_gives, update_unless, with_mark}
+use Rattle.jc_log.specs.Requests.{with_report, with_spec, without_finalizer}
 use Rattle.jc_log.specs.Deeds.{Deed}
 use Rattle.jc_log.specs.Log.{Live, job_in, life, next_uid, next_version, pod_in}
 use Rattle.jc_states.specs.Pods.{is_final, is_marked}

@@ -17,7 +17,8 @@ use Rattle.jc_types.specs.declared.replies.Reply.{Reply}
 use Rattle.jc_types.specs.declared.replies.Reply.TheVariants.{BadStep, Conflict, Final, Unchanged, Written}
 use Rattle.jc_types.specs.declared.specifications.JobSpec.{JobSpec}
 use Rattle.jc_types.specs.declared.statuses.JobStatus.{JobStatus}
-use Rattle.jc_log.specs.Requests.{Answered, accepted, changed_spec, create_job_at, create_job_gives, delete_job_at, delete_job_gives, is_other, is_unnamed, let_go_gives, mark_pod_gives, pod_entry, refused, release_gives, report_phase_at, report_phase_gives, report_unless, same_course_of, update_refusal, update_spec_at, update_spec_gives, update_unless, with_mark, with_report, with_spec, without_finalizer}
+use Rattle.jc_log.specs.Requests.{Answered, accepted, changed_spec, create_job_at, create_job_gives, delete_job_at, delete_job_gives, is_other, is_unnamed, let_go_gives, mark_pod_gives, pod_entry, refused, release_gives, report_phase_at}
+use Rattle.jc_log.specs.Requests.{report_phase_gives, report_unless, same_course_of, update_refusal, update_spec_at, update_spec_gives, update_unless, with_mark, with_report, with_spec, without_finalizer}
 use Rattle.jc_log.specs.Log.{Live, job_in, life, next_version, pod_in}
 use Rattle.jc_states.specs.Pods.{goes, is_final}
 use Rattle.jc_types.specs.Equality.{same_limits, same_phase}

@@ -20,7 +20,8 @@ use Rattle.jc_log.proofs.WriteFacts.{Stored-from_legal}
 use Rattle.jc_plan.specs.Accounts.{counted_in}
 use Rattle.jc_plan.specs.Plans.{planned}
 use Rattle.jc_plan.specs.Statuses.{first_value, second_value}
-use Rattle.jc_plan.proofs.ValueFacts.{first-completed, first-failed, first-failed_indexes, first-failed_list, first-index_failures, first-succeeded, first-succeeded_list, second-completed, second-failed, second-failed_indexes, second-failed_list, second-index_failures, second-succeeded, second-succeeded_list}
+use Rattle.jc_plan.proofs.ValueFacts.{first-completed, first-failed, first-failed_indexes, first-failed_list, first-index_failures, first-succeeded, first-succeeded_list, second-completed, second-failed, second-failed_indexes}
+use Rattle.jc_plan.proofs.ValueFacts.{second-failed_list, second-index_failures, second-succeeded, second-succeeded_list}
 use Rattle.jc_ledger.specs.declared.flights.Flight.{Flight}
 use Rattle.jc_ledger.specs.EventKinds.{StatusWrite, began, IsAccepted, CountsIn, CountsOut}
 use Rattle.jc_ledger.specs.Flights.{known, IsSent, Flies}

@@ -1,5 +1,6 @@
 -- What a write and a removal among pods in ascending UID leave of the open ones among them.
-use Rattle.std.proofs.Common.{◌≡◌, ℕ, ◌+◌, ◌<◌, ◌==◌, nat_lt, nat_le, nat_cmp, Less, Equal, Greater, Bool, true, false, cond, not, ◌&&◌, List, [], ◌∷◌, filter, find, map, slice_get, Option, Some, None, is_some, refl, sym, ap, subst, ◌∙◌, arith, true≢false, ltb-true, eqb-true, option_map}
+use Rattle.std.proofs.Common.{◌≡◌, ℕ, ◌+◌, ◌<◌, ◌==◌, nat_lt, nat_le, nat_cmp, Less, Equal, Greater, Bool, true, false, cond, not, ◌&&◌, List, [], ◌∷◌, filter, find, map, slice_get, Option, Some, None, is_some, refl, sym, ap, subst, ◌∙◌}
+use Rattle.std.proofs.Common.{arith, true≢false, ltb-true, eqb-true, option_map}
 use Rattle.std.specs.Ordering.{match_ordering}
 use Rattle.std.specs.Option.{option_map_or}
 use Rattle.std.specs.Set.{remove_key}

@@ -1,5 +1,6 @@
 -- What a look-up, a write and a removal among the rows of pods in ascending UID are among the pods.
-use Rattle.std.proofs.Common.{◌≡◌, ℕ, ◌+◌, ◌<◌, ◌≤◌, ◌==◌, nat_lt, nat_le, nat_cmp, Less, Equal, Greater, Bool, true, false, cond, not, List, [], ◌∷◌, filter, find, slice_get, Some, None, IsSome, is_some, refl, sym, ap, subst, ◌∙◌, arith, true≢false, ltb-true, eqb-true, ne_eqb, option_map}
+use Rattle.std.proofs.Common.{◌≡◌, ℕ, ◌+◌, ◌<◌, ◌≤◌, ◌==◌, nat_lt, nat_le, nat_cmp, Less, Equal, Greater, Bool, true, false, cond, not, List, [], ◌∷◌, filter, find, slice_get, Some, None, IsSome, is_some, refl, sym, ap, subst, ◌∙◌, arith}
+use Rattle.std.proofs.Common.{true≢false, ltb-true, eqb-true, ne_eqb, option_map}
 use Rattle.std.specs.Ordering.{match_ordering}
 use Rattle.std.specs.Map.{lookup, remove_entry, set_value}
 use Rattle.std.specs.BTreeMap.{insert_entry, is_at}

@@ -68,7 +68,8 @@ module _ {X : Type 0} where
   filter_filter test other [] = refl
   filter_filter test other (x ∷ xs) = by (other x) (filter_filter test other xs)
     where
-      by : (b : Bool) → filter test (filter other xs) ≡ filter (λ y. other y && test y) xs → filter test (cond b (x ∷ filter other xs) (filter other xs)) ≡ cond (b && test x) (x ∷ filter (λ y. other y && test y) xs) (filter (λ y. other y && test y) xs)
+      by : (b : Bool) → filter test (filter other xs) ≡ filter (λ y. other y && test y) xs → filter test (cond b (x ∷ filter other xs) (filter other xs)) ≡ cond (b && test x)
+          (x ∷ filter (λ y. other y && test y) xs) (filter (λ y. other y && test y) xs)
       by true rest = ap (λ ys. cond (test x) (x ∷ ys) ys) rest
       by false rest = rest
 

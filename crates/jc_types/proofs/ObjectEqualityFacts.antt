@@ -27,7 +27,8 @@ use Rattle.jc_types.specs.declared.specifications.Restart.TheVariants.{Never, On
 use Rattle.jc_types.specs.declared.specifications.Template.{Template}
 use Rattle.jc_types.specs.declared.syncs.Backoff.{Backoff}
 use Rattle.jc_types.specs.Keys.{same_key, same_uid}
-use Rattle.jc_types.specs.Equality.{same_bool, same_option, same_text, same_pattern, same_container, operator_place, action_place, mode_place, replacement_place, restart_place, phase_place, same_requirement, same_failure_rule, same_failure, same_success_rule, same_success, same_template, same_index_limits, same_limits, same_kinds, same_spec, same_job, same_origin, same_pod, same_backoff}
+use Rattle.jc_types.specs.Equality.{same_bool, same_option, same_text, same_pattern, same_container, operator_place, action_place, mode_place, replacement_place, restart_place, phase_place, same_requirement, same_failure_rule, same_failure}
+use Rattle.jc_types.specs.Equality.{same_success_rule, same_success, same_template, same_index_limits, same_limits, same_kinds, same_spec, same_job, same_origin, same_pod, same_backoff}
 use Rattle.jc_types.proofs.KeyFacts.{same_key-eq, same_key-itself}
 use Rattle.jc_types.proofs.EqualityFacts.{IsExact, bool-exact, containers-exact, exact_from, int-exact, nat-exact, numbers-exact, option-exact, patterns-exact, status-exact, uid-exact}
 

@@ -23,7 +23,8 @@ pub loop-preserved : goal.loop-preserved
 loop-preserved c =
     let fewer = due-fewer c.loop.delays.delays c.take_due.new.self.delays c.args.now c.in-Some.key c.loop.invariant.0.2 c.in-Some.ensures.key c.in-Some.ensures.left in
     let room = c.loop.invariant.1.0 in (
-      due-moves c.loop.queue.queue c.add_reserved.new.self.queue c.loop.delays.delays c.take_due.new.self.delays c.args.now c.in-Some.key c.args.queue.now.queue c.args.delays.now.delays c.loop.invariant.0 c.in-Some.ensures.key c.in-Some.ensures.left c.add_reserved.ensures.added,
+      due-moves c.loop.queue.queue c.add_reserved.new.self.queue c.loop.delays.delays c.take_due.new.self.delays c.args.now c.in-Some.key c.args.queue.now.queue c.args.delays.now.delays
+          c.loop.invariant.0 c.in-Some.ensures.key c.in-Some.ensures.left c.add_reserved.ensures.added,
       (omega (arith, fewer, room, c.add_reserved.ensures.room), c.take_due.ensures.room ∙ c.loop.invariant.1.1),
       omega (arith, fewer, c.loop.invariant.2),
     )

@@ -1,5 +1,6 @@
 -- All is told by how the run has ended.
-use Rattle.jc_ctl.proofs.DoneFacts.{audit_no_script_of, audit_not_full_of, bad_script_of, bad_words_of, complete_audit_of, complete_bad_script_of, complete_generated_of, complete_of, complete_on_threads_of, complete_too_long_of, front_of, generates_of, generates_only_of, headline_front_of, history_full_of, no_of, not_too_long_of, nothing_read_of, nothing_written_of, ok_of, read_fault_of, too_long_of, verdict_front_of, write_fault_of}
+use Rattle.jc_ctl.proofs.DoneFacts.{audit_no_script_of, audit_not_full_of, bad_script_of, bad_words_of, complete_audit_of, complete_bad_script_of, complete_generated_of, complete_of, complete_on_threads_of, complete_too_long_of, front_of}
+use Rattle.jc_ctl.proofs.DoneFacts.{generates_of, generates_only_of, headline_front_of, history_full_of, no_of, not_too_long_of, nothing_read_of, nothing_written_of, ok_of, read_fault_of, too_long_of, verdict_front_of, write_fault_of}
 use Rattle.jc_ctl.proofs.laws.runs_end_as_told.Goals as goal
 
 pub returns-clause-ok : goal.returns-clause-ok

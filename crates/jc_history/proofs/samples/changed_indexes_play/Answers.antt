@@ -1,5 +1,6 @@
 -- The plays of changed indexes.
-use Rattle.jc_history.proofs.IndexPlays.{elastic-replies, elastic-counts, elastic-completed, elastic-verdicts, failed_index-replies, failed_index-counts, failed_index-conditions, failed_index-failed, failed_index-verdicts, unfailing-replies, unfailing-conditions, unfailing-failed}
+use Rattle.jc_history.proofs.IndexPlays.{elastic-replies, elastic-counts, elastic-completed, elastic-verdicts, failed_index-replies, failed_index-counts, failed_index-conditions, failed_index-failed, failed_index-verdicts}
+use Rattle.jc_history.proofs.IndexPlays.{unfailing-replies, unfailing-conditions, unfailing-failed}
 use Rattle.jc_history.proofs.samples.changed_indexes_play.Goals as goal
 
 pub returns : goal.returns

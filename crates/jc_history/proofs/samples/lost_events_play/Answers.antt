@@ -1,4 +1,5 @@
-use Rattle.jc_history.proofs.SamplePlays.{one_pod-conditions, one_pod-verdicts, one_pod-replies, one_pod-counts, restart-replies, restart-counts, lagging_cache-replies, lagging_cache-counts, conflict-replies, conflict-counts, lost_status-replies, lost_status-counts, lost_creation-replies, lost_creation-counts, dropped_creation-replies, dropped_creation-counts}
+use Rattle.jc_history.proofs.SamplePlays.{one_pod-conditions, one_pod-verdicts, one_pod-replies, one_pod-counts, restart-replies, restart-counts, lagging_cache-replies, lagging_cache-counts, conflict-replies, conflict-counts}
+use Rattle.jc_history.proofs.SamplePlays.{lost_status-replies, lost_status-counts, lost_creation-replies, lost_creation-counts, dropped_creation-replies, dropped_creation-counts}
 use Rattle.jc_history.proofs.samples.lost_events_play.Goals as goal
 
 pub returns : goal.returns

@@ -1,4 +1,6 @@
-use Rattle.jc_history.proofs.SamplePlays.{marked_pod-verdicts, backoff_limit-conditions, failing_exit-conditions, deadline-conditions, restarted_container-conditions, deadline-indexes, suspension-conditions, marked_pod-replies, marked_pod-counts, replacement-replies, replacement-counts, backoff_limit-replies, backoff_limit-counts, failing_exit-replies, failing_exit-counts, deadline-replies, deadline-counts, restarted_container-replies, restarted_container-counts, suspension-replies, suspension-counts}
+use Rattle.jc_history.proofs.SamplePlays.{marked_pod-verdicts, backoff_limit-conditions, failing_exit-conditions, deadline-conditions, restarted_container-conditions, deadline-indexes, suspension-conditions, marked_pod-replies}
+use Rattle.jc_history.proofs.SamplePlays.{marked_pod-counts, replacement-replies, replacement-counts, backoff_limit-replies, backoff_limit-counts, failing_exit-replies, failing_exit-counts, deadline-replies, deadline-counts}
+use Rattle.jc_history.proofs.SamplePlays.{restarted_container-replies, restarted_container-counts, suspension-replies, suspension-counts}
 use Rattle.jc_history.proofs.samples.policies_play.Goals as goal
 
 pub returns : goal.returns

@@ -1,4 +1,5 @@
-use Rattle.jc_history.proofs.SamplePlays.{indexes-completed, indexes-verdicts, one_index_twice-completed, one_index_twice-verdicts, made_again-verdicts, indexes-replies, indexes-counts, one_index_twice-replies, one_index_twice-counts, late_let_go-replies, late_let_go-counts, made_again-replies, made_again-counts}
+use Rattle.jc_history.proofs.SamplePlays.{indexes-completed, indexes-verdicts, one_index_twice-completed, one_index_twice-verdicts, made_again-verdicts, indexes-replies, indexes-counts, one_index_twice-replies, one_index_twice-counts}
+use Rattle.jc_history.proofs.SamplePlays.{late_let_go-replies, late_let_go-counts, made_again-replies, made_again-counts}
 use Rattle.jc_history.proofs.samples.several_pods_play.Goals as goal
 
 pub returns : goal.returns

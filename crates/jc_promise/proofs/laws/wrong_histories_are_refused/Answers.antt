@@ -1,7 +1,9 @@
 -- What each of them is refused by.
-use Rattle.jc_promise.proofs.WrongFacts.{crowded_list-refused, early_fail_job-refused, early_release-refused, early_release-unlost, early_total-refused, failures_anew-refused, finalizer_vanishes-refused, ignored_counted-refused, index_past-refused, index_twice-refused, index_unfailed-refused, recount-refused, stale_pod_cache-refused, stale_write-refused, suspended_counted-refused, unseen_release-refused}
+use Rattle.jc_promise.proofs.WrongFacts.{crowded_list-refused, early_fail_job-refused, early_release-refused, early_release-unlost, early_total-refused, failures_anew-refused, finalizer_vanishes-refused, ignored_counted-refused}
+use Rattle.jc_promise.proofs.WrongFacts.{index_past-refused, index_twice-refused, index_unfailed-refused, recount-refused, stale_pod_cache-refused, stale_write-refused, suspended_counted-refused, unseen_release-refused}
 use Rattle.jc_promise.proofs.WrongSyncFacts.{early_end-refused, false_conflict-refused, forgotten_pod-refused, old_caches-refused, skipped_command-refused, stuck_job-refused, two_syncs-refused}
-use Rattle.jc_promise.proofs.WrongCauseFacts.{active_released-refused, failed_makes-refused, index_made_twice-refused, one_too_many-refused, overdue_makes-refused, same_status_written-refused, suspended_makes-refused, wanted_let_go-refused, wanted_marked-refused}
+use Rattle.jc_promise.proofs.WrongCauseFacts.{active_released-refused, failed_makes-refused, index_made_twice-refused, one_too_many-refused, overdue_makes-refused, same_status_written-refused, suspended_makes-refused, wanted_let_go-refused}
+use Rattle.jc_promise.proofs.WrongCauseFacts.{wanted_marked-refused}
 use Rattle.jc_promise.proofs.WrongRestFacts.{kept_orphan-refused, unmarked_pod-refused, unwritten_end-refused, wrong_status-refused}
 use Rattle.jc_promise.proofs.WrongRoomFacts.{left_over_released-refused}
 use Rattle.jc_promise.proofs.laws.wrong_histories_are_refused.Goals as goal

@@ -1,5 +1,6 @@
 -- All is told by how the run has ended.
-use Rattle.jc_single.proofs.WordFacts.{bad_script_is, bad_words_is, complete_bad_script_is, complete_generated_is, complete_is, complete_too_long_is, front_is, generates_is, generates_only_is, headline_front_is, history_full_is, no_audit_is, not_too_long_is, nothing_read_is, nothing_written_is, ok_is, read_fault_is, too_long_is, write_fault_is}
+use Rattle.jc_single.proofs.WordFacts.{bad_script_is, bad_words_is, complete_bad_script_is, complete_generated_is, complete_is, complete_too_long_is, front_is, generates_is, generates_only_is, headline_front_is, history_full_is}
+use Rattle.jc_single.proofs.WordFacts.{no_audit_is, not_too_long_is, nothing_read_is, nothing_written_is, ok_is, read_fault_is, too_long_is, write_fault_is}
 use Rattle.jc_single.proofs.laws.single_runs_end_as_told.Goals as goal
 
 pub returns-clause-ok : goal.returns-clause-ok

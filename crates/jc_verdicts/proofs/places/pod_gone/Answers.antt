@@ -7,7 +7,8 @@ pub returns : goal.returns
 returns c =
     λ older long are.
     record {
-      pods = pods-gone older c.args.place long c.args.places.now.pods.entries are.pods c.args.pod.now c.in-Some.owner c.add_place.new.lists.entries (sym c.in-Some.is ∙ c.swap_remove.ensures.value ∙ are.owners c.args.pod.now.uid) c.in_ok-add_place.ensures;
+      pods = pods-gone older c.args.place long c.args.places.now.pods.entries are.pods c.args.pod.now c.in-Some.owner c.add_place.new.lists.entries
+          (sym c.in-Some.is ∙ c.swap_remove.ensures.value ∙ are.owners c.args.pod.now.uid) c.in_ok-add_place.ensures;
       jobs = are.jobs;
       owners = owners-gone older c.args.places.now.owners.entries c.swap_remove.new.self.entries c.args.pod.now are.owners c.swap_remove.ensures.updates.0;
     }

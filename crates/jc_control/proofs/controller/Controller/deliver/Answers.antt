@@ -11,8 +11,30 @@ tell-requires-2-clause-few_pods c = λ k. subst (λ (seen : ControllerView). len
 -- The key that was added is taken back.
 pub returns-then-not-was_dirty-clause-kept : goal.returns-then-not-was_dirty-clause-kept
 returns-then-not-was_dirty-clause-kept c =
-    let old : ControllerView = record { schedule = record { jobs_at = c.self.inside.jobs.number; pods_at = c.self.inside.pods.number; queue = c.self.inside.queue.queue; delays = c.self.inside.delays.delays; known = c.self.inside.known }; jobs = c.self.inside.jobs.jobs; rows = c.self.inside.pods.rows } in
-    let seen : ControllerView = record { schedule = record { jobs_at = c.self-2.inside.jobs.number; pods_at = c.self-2.inside.pods.number; queue = c.self-2.inside.queue.queue; delays = c.self-2.inside.delays.delays; known = c.self-2.inside.known }; jobs = c.self-2.inside.jobs.jobs; rows = c.self-2.inside.pods.rows } in
+    let old : ControllerView = record {
+      schedule = record {
+        jobs_at = c.self.inside.jobs.number;
+        pods_at = c.self.inside.pods.number;
+        queue = c.self.inside.queue.queue;
+        delays =
+            c.self.inside.delays.delays;
+        known = c.self.inside.known;
+      };
+      jobs = c.self.inside.jobs.jobs;
+      rows = c.self.inside.pods.rows;
+    } in
+    let seen : ControllerView = record {
+      schedule = record {
+        jobs_at = c.self-2.inside.jobs.number;
+        pods_at = c.self-2.inside.pods.number;
+        queue = c.self-2.inside.queue.queue;
+        delays =
+            c.self-2.inside.delays.delays;
+        known = c.self-2.inside.known;
+      };
+      jobs = c.self-2.inside.jobs.jobs;
+      rows = c.self-2.inside.pods.rows;
+    } in
     taken_back old seen c.add.new.self.queue c.retract.new.self.queue c.in-Some.key.now c.is_dirty-was_dirty.ensures.queue (sym c.if-not-was_dirty.ensures.dirty)
     c.in_ok-add.ensures.added (c.self-2.view_is ∙ c.in-Err.ensures.kept) c.retract.ensures.retracted
     ∙ c.self.view_is

@@ -19,5 +19,6 @@ pub returns : goal.returns
 returns c =
     sym
     (ap (pod_among c.args.uid) (sym c.self.view_is)
-    ∙ found-shown c.args.uid c.self.inside.pods.items c.as_slice-pods.result.now c.place_from-place.result c.as_slice-pods.ensures.value c.place_from-place.ensures c.is_there.result c.is_there.ensures c.if-not-is_there.false c.index-pods-place.result c.self.invariant.tallies.rising
+    ∙ found-shown c.args.uid c.self.inside.pods.items c.as_slice-pods.result.now c.place_from-place.result c.as_slice-pods.ensures.value c.place_from-place.ensures c.is_there.result c.is_there.ensures
+    c.if-not-is_there.false c.index-pods-place.result c.self.invariant.tallies.rising
     (c.index-pods-place.is ∙ ap (λ all. get_or all c.place_from-place.result c.index-pods-place.result) c.as_slice-pods.ensures.value))

@@ -40,7 +40,8 @@ invariant_of-self-2 c =
           (absent-seen c.args.pod items c.args.self.now c.args.place c.self.view_is c.requires.place c.requires.absent)
           (omega (arith, c.requires.few_pods, ap length c.self.view_is)) few
           (subst (λ rows. (owner : Uid) → tally_in owner c.enter.new.rows.entries ≡ with_pod owner c.args.pod (tally_in owner rows)) c.in_ok-reserve-2.ensures.entries numbers));
-      odd = subst (λ pods. c.put_odd_and_enter.new.odd.keys ≡ odd_numbers pods) (sym put) (odd-put c.self.inside.pods.items c.self.inside.odd.keys c.self.invariant.tallies.rising c.self.invariant.odd c.args.pod c.put_odd_and_enter.new.odd.keys noted);
+      odd = subst (λ pods. c.put_odd_and_enter.new.odd.keys ≡ odd_numbers pods) (sym put) (odd-put c.self.inside.pods.items c.self.inside.odd.keys c.self.invariant.tallies.rising c.self.invariant.odd
+          c.args.pod c.put_odd_and_enter.new.odd.keys noted);
       held =
           subst (λ pods. AreHeld pods c.put_odd_and_enter.new.holders) (sym put)
           (held-inserted c.args.pod items c.self.inside.holders c.put_odd_and_enter.new.holders c.self.invariant.tallies.rising c.self.invariant.held

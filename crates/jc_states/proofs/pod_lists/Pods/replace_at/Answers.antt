@@ -56,7 +56,8 @@ invariant_of-self-2 c =
       tallies =
           subst (λ pods. KeepsTallies pods c.enter.new.rows.entries) (sym put)
           (kept-replaced c.args.pod c.deref-3.result.now items c.self.inside.tallies.entries c.leave-2.new.rows.entries c.enter.new.rows.entries c.self.invariant.tallies found lack few numbers);
-      odd = subst (λ pods. c.put_odd_and_enter.new.odd.keys ≡ odd_numbers pods) (sym put) (odd-put c.self.inside.pods.items c.self.inside.odd.keys c.self.invariant.tallies.rising c.self.invariant.odd c.args.pod c.put_odd_and_enter.new.odd.keys noted);
+      odd = subst (λ pods. c.put_odd_and_enter.new.odd.keys ≡ odd_numbers pods) (sym put) (odd-put c.self.inside.pods.items c.self.inside.odd.keys c.self.invariant.tallies.rising c.self.invariant.odd
+          c.args.pod c.put_odd_and_enter.new.odd.keys noted);
       held =
           subst (λ pods. AreHeld pods c.leave.new.self) (sym put)
           (held-replaced c.args.pod c.deref-2.result.now items c.self.inside.holders c.put_odd_and_enter.new.holders c.leave.new.self c.self.invariant.tallies.rising c.self.invariant.held before

@@ -31,7 +31,8 @@ index-requires-2 c =
 pub leave-requires-2 : goal.leave-requires-2
 leave-requires-2 c =
     let found =
-    found-shown c.args.uid c.self.inside.pods.items c.as_slice-pods.result.now c.place_from-place.result c.as_slice-pods.ensures.value c.place_from-place.ensures c.is_there.result c.is_there.ensures c.if-not-is_there.false c.index-2.result.now c.self.invariant.tallies.rising c.index-2.ensures ∙ ap Some (sym c.deref-2.ensures) in
+    found-shown c.args.uid c.self.inside.pods.items c.as_slice-pods.result.now c.place_from-place.result c.as_slice-pods.ensures.value c.place_from-place.ensures c.is_there.result c.is_there.ensures
+    c.if-not-is_there.false c.index-2.result.now c.self.invariant.tallies.rising c.index-2.ensures ∙ ap Some (sym c.deref-2.ensures) in
     kept-counts c.args.uid c.deref-2.result.now c.self.inside.pods.items c.self.inside.tallies.entries c.self.invariant.tallies found
 
 pub remove-requires-2 : goal.remove-requires-2
@@ -44,16 +45,20 @@ pub invariant_of-self : goal.invariant_of-self
 invariant_of-self c =
     let items = c.self.inside.pods.items in
     let found =
-    found-shown c.args.uid items c.as_slice-pods.result.now c.place_from-place.result c.as_slice-pods.ensures.value c.place_from-place.ensures c.is_there.result c.is_there.ensures c.if-not-is_there.false c.index-2.result.now c.self.invariant.tallies.rising c.index-2.ensures ∙ ap Some (sym c.deref-2.ensures) in
+    found-shown c.args.uid items c.as_slice-pods.result.now c.place_from-place.result c.as_slice-pods.ensures.value c.place_from-place.ensures c.is_there.result c.is_there.ensures
+    c.if-not-is_there.false c.index-2.result.now c.self.invariant.tallies.rising c.index-2.ensures ∙ ap Some (sym c.deref-2.ensures) in
     let before =
-    found-shown c.args.uid items c.as_slice-pods.result.now c.place_from-place.result c.as_slice-pods.ensures.value c.place_from-place.ensures c.is_there.result c.is_there.ensures c.if-not-is_there.false c.index.result.now c.self.invariant.tallies.rising c.index.ensures ∙ ap Some (sym c.deref.ensures) in
+    found-shown c.args.uid items c.as_slice-pods.result.now c.place_from-place.result c.as_slice-pods.ensures.value c.place_from-place.ensures c.is_there.result c.is_there.ensures
+    c.if-not-is_there.false c.index.result.now c.self.invariant.tallies.rising c.index.ensures ∙ ap Some (sym c.deref.ensures) in
     let dropped =
-    removed-shown c.args.uid items c.as_slice-pods.result.now c.place_from-place.result c.as_slice-pods.ensures.value c.place_from-place.ensures c.is_there.result c.is_there.ensures c.if-not-is_there.false c.remove-2.new.self.items c.self.invariant.tallies.rising c.remove-2.ensures.items in
+    removed-shown c.args.uid items c.as_slice-pods.result.now c.place_from-place.result c.as_slice-pods.ensures.value c.place_from-place.ensures c.is_there.result c.is_there.ensures
+    c.if-not-is_there.false c.remove-2.new.self.items c.self.invariant.tallies.rising c.remove-2.ensures.items in
     record {
       tallies =
           subst (λ pods. KeepsTallies pods c.leave-2.new.rows.entries) (sym dropped)
           (kept-left c.args.uid c.deref-2.result.now items c.self.inside.tallies.entries c.leave-2.new.rows.entries c.self.invariant.tallies found c.leave-2.ensures.numbers);
-      odd = subst (λ pods. c.remove.new.self.keys ≡ odd_numbers pods) (sym dropped) (odd-drop c.self.inside.pods.items c.self.inside.odd.keys c.self.invariant.tallies.rising c.self.invariant.odd c.args.uid c.remove.new.self.keys c.remove.ensures.keys);
+      odd = subst (λ pods. c.remove.new.self.keys ≡ odd_numbers pods) (sym dropped) (odd-drop c.self.inside.pods.items c.self.inside.odd.keys c.self.invariant.tallies.rising c.self.invariant.odd
+          c.args.uid c.remove.new.self.keys c.remove.ensures.keys);
       held =
           subst (λ pods. AreHeld pods c.leave.new.self) (sym dropped)
           (held-left c.args.uid c.deref.result.now items c.self.inside.holders c.leave.new.self c.self.invariant.tallies.rising c.self.invariant.held before c.leave.ensures);
@@ -63,9 +68,11 @@ pub returns-clause-taken : goal.returns-clause-taken
 returns-clause-taken c =
     sym
     (ap (pod_among c.args.uid) (sym c.self.view_is)
-    ∙ found-shown c.args.uid c.self.inside.pods.items c.as_slice-pods.result.now c.place_from-place.result c.as_slice-pods.ensures.value c.place_from-place.ensures c.is_there.result c.is_there.ensures c.if-not-is_there.false c.remove-2.result c.self.invariant.tallies.rising c.remove-2.ensures.value)
+    ∙ found-shown c.args.uid c.self.inside.pods.items c.as_slice-pods.result.now c.place_from-place.result c.as_slice-pods.ensures.value c.place_from-place.ensures c.is_there.result c.is_there.ensures
+    c.if-not-is_there.false c.remove-2.result c.self.invariant.tallies.rising c.remove-2.ensures.value)
 
 pub returns-clause-drops : goal.returns-clause-drops
 returns-clause-drops c =
-    removed-shown c.args.uid c.self.inside.pods.items c.as_slice-pods.result.now c.place_from-place.result c.as_slice-pods.ensures.value c.place_from-place.ensures c.is_there.result c.is_there.ensures c.if-not-is_there.false c.remove-2.new.self.items c.self.invariant.tallies.rising c.remove-2.ensures.items
+    removed-shown c.args.uid c.self.inside.pods.items c.as_slice-pods.result.now c.place_from-place.result c.as_slice-pods.ensures.value c.place_from-place.ensures c.is_there.result c.is_there.ensures
+    c.if-not-is_there.false c.remove-2.new.self.items c.self.invariant.tallies.rising c.remove-2.ensures.items
     ∙ ap (drop_pod c.args.uid) c.self.view_is

@@ -19,7 +19,8 @@ returns-then-not-has_calm-2-clause-pods c =
 -- A part of the pods rises.
 pub returns-then-not-has_calm-2-clause-rising : goal.returns-then-not-has_calm-2-clause-rising
 returns-then-not-has_calm-2-clause-rising c =
-    IfOk-weaker c.odd_pods.result (λ pods. pods.items ≡ filter is_at_odds c.args.self.now) (λ pods. IsRising pods.items) (λ pods are. subst IsRising (sym are) (rises_filter 0 is_at_odds c.args.self.now c.odd_pods.ensures.rising)) c.odd_pods.ensures.pods
+    IfOk-weaker c.odd_pods.result (λ pods. pods.items ≡ filter is_at_odds c.args.self.now) (λ pods. IsRising pods.items)
+    (λ pods are. subst IsRising (sym are) (rises_filter 0 is_at_odds c.args.self.now c.odd_pods.ensures.rising)) c.odd_pods.ensures.pods
 
 pub returns-clause-rising : goal.returns-clause-rising
 returns-clause-rising c =

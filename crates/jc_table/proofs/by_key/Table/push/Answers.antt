@@ -18,7 +18,8 @@ invariant_of-self-in-Ok g c =
 pub invariant_of-self-in-Err : goal.invariant_of-self-in-Err
 invariant_of-self-in-Err g c =
     subst (λ rows. AreNumbered g.K.PartialEq.eq rows c.insert-2.new.self.entries c.self.inside.next)
-    (sym (back g.K.PartialEq.eq c.self.inside.rows.entries c.self.inside.numbers.entries c.self.inside.next c.self.invariant (c.in_ok-copy.field-0, c.args.value) c.insert.new.self.entries c.remove.new.self.entries c.in_ok-insert.ensures.entries c.remove.ensures.entries))
+    (sym (back g.K.PartialEq.eq c.self.inside.rows.entries c.self.inside.numbers.entries c.self.inside.next c.self.invariant (c.in_ok-copy.field-0, c.args.value) c.insert.new.self.entries
+    c.remove.new.self.entries c.in_ok-insert.ensures.entries c.remove.ensures.entries))
     (subst (λ numbers. AreNumbered g.K.PartialEq.eq c.self.inside.rows.entries numbers c.self.inside.next) (sym c.in-Err.ensures.err) c.self.invariant)
 
 pub returns-clause-sets : goal.returns-clause-sets
@@ -56,6 +57,7 @@ returns-clause-kept g c =
           subst (λ r. OnErr r (c.match-insert.self ≡ c.args.self.now)) (sym w.result-is)
           (w.self-is
           ∙ ap values_of
-          (back g.K.PartialEq.eq c.self.inside.rows.entries c.self.inside.numbers.entries c.self.inside.next c.self.invariant (c.in_ok-copy.field-0, c.args.value) c.insert.new.self.entries w.remove.new.self.entries c.in_ok-insert.ensures.entries w.remove.ensures.entries)
+          (back g.K.PartialEq.eq c.self.inside.rows.entries c.self.inside.numbers.entries c.self.inside.next c.self.invariant (c.in_ok-copy.field-0, c.args.value) c.insert.new.self.entries
+          w.remove.new.self.entries c.in_ok-insert.ensures.entries w.remove.ensures.entries)
           ∙ c.self.view_is)
     ]
