@@ -5,7 +5,7 @@
 --                                      the seven reasons, in their order
 --     first_reason counted now job own   the first of them that holds, as a condition with its reason
 --     decided counted now job own      the same, unless how the Job will end is settled
---     decision_of basis counted        what is decided of the Job of a basis
+--     decide basis counted        what is decided of the Job of a basis
 use Rattle.std.specs.Prelude.{ℕ, ◌+◌, ◌==◌, nat_lt, nat_le, length, unwrap_or, Bool, true, false, not, ◌&&◌, ◌||◌, List, if◌then◌else◌, Option, Some, None, is_some, option_and_then}
 use Rattle.std.specs.List.{list_any}
 use Rattle.jc_types.specs.declared.objects.Job.{Job}
@@ -110,6 +110,6 @@ abbrev pub decided : CountIn → ℕ → Job → List Pod → Option (CondKind �
 decided counted now job own = if has_target job.status.conditions then None else first_reason counted now job own
 
 -- What a sync decides of its basis's Job.
-abbrev pub decision_of : Basis → CountIn → Option (CondKind × Reason)
-decision_of basis counted =
+abbrev pub decide : Basis → CountIn → Option (CondKind × Reason)
+decide basis counted =
     option_and_then (λ job. decided counted basis.now job (own_pods job basis.pods)) basis.job

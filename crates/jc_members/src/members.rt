@@ -22,7 +22,7 @@ fn is_known(known: &[&str], name: &str) -> bool
 }
 
 // Whether a name is one of the known ones, as their bytes.
-fn is_in(known: &[&str], name: &str) -> bool
+fn is_among(known: &[&str], name: &str) -> bool
     ensures { result ≡ is_among (map (λ k. k.now) known.now) name.now }
 {
     is_known(known, name)
@@ -34,7 +34,7 @@ fn is_unknown(known: &[&str], name: &str, value: &Value) -> bool
 {
     match value {
         Value::Null => false,
-        _ => !is_in(known, name),
+        _ => !is_among(known, name),
     }
 }
 

@@ -13,7 +13,7 @@ use crate::cuts::{Words, cut};
 use crate::parts::{read_changed, read_created, read_key, read_printed_ends, read_reported};
 use crate::reading::{
     Verb, number_below, read_fault, read_kind, read_number, read_pod, read_tag, read_verb,
-    read_version,
+    version_printed,
 };
 use jc_lines::{print_action, print_system};
 use jc_print::put_decimal;
@@ -58,7 +58,7 @@ fn read_update(alloc: Global, words: &Words<'_>) -> Result<Option<Action1>, Want
     let Some(key) = read_key(alloc, words.first)? else {
         return Ok(None);
     };
-    let Some(version) = read_version(words.second) else {
+    let Some(version) = version_printed(words.second) else {
         return Ok(None);
     };
     let Some(change) = read_changed(alloc, words.third)? else {

@@ -152,7 +152,7 @@ fn read_inits<'v, 'a>(
 }
 
 /// Whether a text is one of the names.
-pub fn is_in(names: &[Name], text: &str) -> bool
+pub fn is_among(names: &[Name], text: &str) -> bool
     ensures { result ≡ is_among names.now text.now }
 {
     names.iter().any(|name| name.as_str() == text)
@@ -175,7 +175,7 @@ fn read_name(
     if !is_label(text.as_bytes()) {
         return Err(broken(path, "name", 11));
     }
-    if is_in(others.as_slice(), text) || is_in(earlier.as_slice(), text) {
+    if is_among(others.as_slice(), text) || is_among(earlier.as_slice(), text) {
         return Err(broken(path, "name", 11));
     }
     Ok(Name::from_text(alloc, text)?)

@@ -242,7 +242,7 @@ impl Store {
     pub(super) fn next_uid(&self) -> Uid
         ensures { result ≡ next_uid self.now }
     {
-        Uid(self.born() + 1)
+        Uid(self.births() + 1)
     }
 
     // How many pods were made for an owner.
@@ -260,7 +260,7 @@ impl Store {
         ensures added { OnOk result (self.new ≡ JobPut job ∷ self.old) }
         ensures kept { OnErr result (self.new ≡ self.old) }
     {
-        let born = self.born() + 1;
+        let born = self.births() + 1;
         let job = Arc::new(self.alloc, job)?;
         let entry = Entry::JobPut(job.copy()?);
         let made = job.copy()?;
@@ -305,7 +305,7 @@ impl Store {
         ensures added { OnOk result (self.new ≡ PodPut pod ∷ self.old) }
         ensures kept { OnErr result (self.new ≡ self.old) }
     {
-        let born = self.born() + 1;
+        let born = self.births() + 1;
         let owner = pod.owner_uid;
         let count = self.made_for(owner);
         let more = count + 1;
@@ -362,7 +362,7 @@ impl Store {
     }
 
     // How many Jobs and pods were made. Each has an entry.
-    fn born(&self) -> u64
+    fn births(&self) -> u64
         ensures value { result ≡ births self.now }
         ensures small { result + 1 < 2 ^ 64 }
     {

@@ -1,6 +1,6 @@
 use Rattle.std.proofs.Common.{◌∙◌, sym, bytes_eq, List, ℕ, Bor}
 use Rattle.jc_types.proofs.ListFacts.{any_map}
-use Rattle.jc_members.proofs.members.is_in.Goals as goal
+use Rattle.jc_members.proofs.members.is_among.Goals as goal
 
 pub returns : goal.returns
 returns c =

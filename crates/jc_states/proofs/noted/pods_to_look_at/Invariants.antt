@@ -1,6 +1,6 @@
 use Rattle.std.proofs.Common.{◌≡◌, filter, take}
 use Rattle.jc_states.specs.Noted.{needs_look}
-use Rattle.jc_states.proofs.to_look_at.pods_to_look_at.Given as goal
+use Rattle.jc_states.proofs.noted.pods_to_look_at.Given as goal
 
 -- The pods so far are those before the index at which a sync has to look.
 abbrev pub invariant-loop-pod : goal.invariant-loop-pod

@@ -1,7 +1,7 @@
 use Rattle.std.proofs.Common.{arith, reverse, ap, length, ◌∙◌}
 use Rattle.jc_log.specs.Log.{births}
 use Rattle.jc_log.proofs.CountFacts.{births_within}
-use Rattle.jc_store.proofs.store.Store.born.Goals as goal
+use Rattle.jc_store.proofs.store.Store.births.Goals as goal
 
 pub returns-clause-value : goal.returns-clause-value
 returns-clause-value c = c.self.invariant.counted ∙ ap births c.self.view_is
