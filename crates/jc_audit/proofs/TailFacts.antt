@@ -26,13 +26,13 @@ log_fits seen log e few bound =
 
 -- ---- the first line
 
-pub first_reason : (b : ℕ) (bs : List ℕ) → whole_lines (b ∷ bs) ≡ take (line_len (b ∷ bs)) (b ∷ bs) ∷ whole_lines (drop (line_len (b ∷ bs)) (b ∷ bs))
-first_reason b [] = by (b == 10)
+pub first_line : (b : ℕ) (bs : List ℕ) → whole_lines (b ∷ bs) ≡ take (line_len (b ∷ bs)) (b ∷ bs) ∷ whole_lines (drop (line_len (b ∷ bs)) (b ∷ bs))
+first_line b [] = by (b == 10)
   where
     by : (t : Bool) → cond t ((b ∷ []) ∷ []) ((b ∷ []) ∷ []) ≡ take (cond t 1 1) (b ∷ []) ∷ whole_lines (drop (cond t 1 1) (b ∷ []))
     by true = refl
     by false = refl
-first_reason b (c ∷ cs) = by (b == 10) (first_reason c cs)
+first_line b (c ∷ cs) = by (b == 10) (first_line c cs)
   where
     by : (t : Bool) → whole_lines (c ∷ cs) ≡ take (line_len (c ∷ cs)) (c ∷ cs) ∷ whole_lines (drop (line_len (c ∷ cs)) (c ∷ cs))
         → cond t ((b ∷ []) ∷ whole_lines (c ∷ cs)) (byte_in_front b (whole_lines (c ∷ cs)))
@@ -61,7 +61,7 @@ line_within (b ∷ bs) = by (b == 10) (line_within bs)
 
 pub first_of : (bs : List ℕ) → 0 < length bs → whole_lines bs ≡ take (line_len bs) bs ∷ whole_lines (drop (line_len bs) bs)
 first_of [] some = absurd (omega (arith, some))
-first_of (b ∷ bs) some = first_reason b bs
+first_of (b ∷ bs) some = first_line b bs
 
 -- ---- lines against lines
 

@@ -39,7 +39,7 @@ use Rattle.jc_audit.specs.Walks.{Begins, GoesOn, NoneIsTaken, TakesLine, TakesCo
 use Rattle.jc_audit.proofs.AuditFacts.{many, long as long_both}
 use Rattle.jc_audit.proofs.OnlyFacts.{command_begins, command_proper, system_begins}
 use Rattle.jc_audit.proofs.TakeFacts.{clock_verb, command_of, fits, no_lane, same_action, same_number, same_system, same_verbs, system_read, verb_of}
-use Rattle.jc_audit.proofs.TailFacts.{first_reason, none_wanted}
+use Rattle.jc_audit.proofs.TailFacts.{first_line, none_wanted}
 use Rattle.jc_audit.proofs.WalkFacts.{walked}
 
 -- ---- one event
@@ -297,7 +297,7 @@ apart (b ∷ c ∷ bs) e xs = by (b == 10) (apart (c ∷ bs) e xs)
     by : (t : Bool) → whole_lines ((c ∷ bs) ++ xs) ≡ whole_lines (c ∷ bs) ++ whole_lines xs
         → cond t ((b ∷ []) ∷ whole_lines ((c ∷ bs) ++ xs)) (byte_in_front b (whole_lines ((c ∷ bs) ++ xs))) ≡ cond t ((b ∷ []) ∷ whole_lines (c ∷ bs)) (byte_in_front b (whole_lines (c ∷ bs))) ++ whole_lines xs
     by true ih = ap (λ l. (b ∷ []) ∷ l) ih
-    by false ih = ap (byte_in_front b) ih ∙ into b (whole_lines (c ∷ bs)) (take (line_len (c ∷ bs)) (c ∷ bs)) (whole_lines (drop (line_len (c ∷ bs)) (c ∷ bs))) (whole_lines xs) (first_reason c bs)
+    by false ih = ap (byte_in_front b) ih ∙ into b (whole_lines (c ∷ bs)) (take (line_len (c ∷ bs)) (c ∷ bs)) (whole_lines (drop (line_len (c ∷ bs)) (c ∷ bs))) (whole_lines xs) (first_line c bs)
 
 feed_ends : IsEnded (10 ∷ [])
 feed_ends = record { some = omega arith; ends = refl }

@@ -12,8 +12,8 @@ pub returns-in_err-take_line-clause-bad_line : goal.returns-in_err-take_line-cla
 returns-in_err-take_line-clause-bad_line c number cause e =
     let p = err_from_is_err_and c.from_residual.result c.from_residual.ensures.1 in
     ends_bad c.args.shape.now c.args.bytes.now c.lines.ttls c.lines.number (option_copied c.lines.left) c.in-Some.text.now
-    c.first_reason.result.0.now (option_copied c.first_reason.result.1) (record { number = number; cause = cause }) c.lines.invariant
-    (ap option_copied c.in-Some.is) c.first_reason.ensures.lines (c.in_err-take_line.ensures.bad number cause (cc (p.1, p.2)))
+    c.first_line.result.0.now (option_copied c.first_line.result.1) (record { number = number; cause = cause }) c.lines.invariant
+    (ap option_copied c.in-Some.is) c.first_line.ensures.lines (c.in_err-take_line.ensures.bad number cause (cc (p.1, p.2)))
 
 pub returns-clause-ttls : goal.returns-clause-ttls
 returns-clause-ttls c =
