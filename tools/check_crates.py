@@ -4,7 +4,10 @@
 No word of specs/ stands in two files, and no lemma of proofs/ is stated twice, be it with other names of its variables. A crate has at
 most 100 functions and 1,500 lines of src/, but one of plain data or of tests. No two types of crates that are not tests have one name,
 but those of SHARED_NAMES, and no function has over six parameters, but those of WIDE. A line of crates.txt names at most ten crates of
-this repository, and few paths lead down from a crate: some kits sum the files of a crate once for each.
+this repository, and few paths lead down from a crate: some kits sum the files of a crate once for each. No two crates have a
+specs file of one name. A line of a proof or of a definition has at most 250 columns, and a clause 300 characters. A function whose
+result is a word of specs/ has that word's name, or the word goes on with what it is of (`outcome`, `outcome_of`), or the function
+reads what the word says (`read_pod`, `pod_said`); but for those of OTHER_NAMES.
 """
 import glob
 import os
@@ -15,6 +18,7 @@ sys.dont_write_bytecode = True
 from checks import TOP, Checks, text_of
 
 MOST_FUNCTIONS, MOST_LINES, MOST_CRATES, MOST_PATHS, MOST_PARAMETERS = 100, 1500, 10, 160_000, 6
+MOST_COLUMNS, MOST_CHARACTERS = 250, 300
 # Those whose functions copy and compare what they declare, and those of tests.
 PLAIN = {"jc_types", "jc_stories"}
 WORD = re.compile(r"(?m)^(?:(?:abbrev|unfoldable) )?pub (?:(?:record|data|abbrev) )?([A-Za-z_][\w'-]*)")
@@ -42,6 +46,27 @@ WIDE = {
     "jc_verdicts/src/counting.rt take_in": "each is a list or a number that it counts on, of another owner",
     "jc_verdicts/src/seen.rt go_on": "the same lists, one level down",
     "jc_verdicts/src/seen.rt look": "the same lists, one level down",
+}
+# Functions that answer a word of another name, each with why.
+OTHER_NAMES = {
+    "held has_holders": "the call of a cluster; the word is of its registers",
+    "held bytes_held": "what a sink in memory has taken; the word is of its model",
+    "ready can_begin": "the call of a controller; `ready` is a field of a status",
+    "at number_of": "the number at which a cache stands",
+    "contains has": "std's name; the word is that of sets",
+    "below count_below": "the call of a set; the word is that of lists, too",
+    "is_dirty has_key": "of one list of the queue",
+    "is_processing has_key": "of another",
+    "take_due due_key": "it takes what `due` tells",
+    "store log_seen": "it hands out the store; the word is what its log says",
+    "count_new gained": "the number without the list",
+    "is_rule_met is_met": "the rule of a policy, by a set",
+    "read_put_fault turn_said": "one of the forms of a turn",
+    "start_at start_of": "of the Job of a basis",
+    "read_of_system of_words": "what of them is a system's",
+    "is_same_number same_option": "of two numbers that may be there",
+    "cache_at number_of": "of a member's controller",
+    "may_begin can_begin": "of a member's controller",
 }
 checks = Checks("crates")
 holds = checks.holds
@@ -160,6 +185,66 @@ def check_parameters():
         holds(f"{it} {what} {MOST_PARAMETERS} parameters", False)
 
 
+CLAUSE = re.compile(r"(?m)^\s*(?:requires|ensures|invariant)(?: \w+)? \{")
+RESULT = re.compile(r"result(?:\.now)? ≡ ([a-z][\w']*)((?: [\w.]+)+)$")
+
+
+def clauses(text, at, end):
+    """Returns the clauses between the places, without their braces."""
+    found = []
+    for it in CLAUSE.finditer(text, at, end):
+        depth, place = 1, it.end()
+        while depth:
+            depth += {"{": 1, "}": -1}.get(text[place], 0)
+            place += 1
+        found.append(re.sub(r"\s+", " ", text[it.end() : place - 1]).strip())
+    return found
+
+
+def check_clauses():
+    for path, text in sources():
+        for clause in clauses(text, 0, len(text)):
+            holds(f"{path}: a clause of {len(clause)} characters: {clause[:60]}", len(clause) <= MOST_CHARACTERS)
+
+
+def check_names():
+    """A function whose result is one word over its parameters has the word's name."""
+    words = {word for _, text in texts("*/specs/*.antt") for word in WORD.findall(text)}
+    used = set()
+    for path, text in sources():
+        renamed = dict(re.findall(r"(\w+) as (\w+)", text))
+        words_of = {late: early for early, late in renamed.items()}
+        heads = list(FUNCTION.finditer(text))
+        for it, after in zip(heads, heads[1:] + [None]):
+            name = re.compile(r"\w+").match(text, it.end())[0]
+            for clause in clauses(text, it.end(), after.start() if after else len(text)):
+                result = RESULT.match(clause)
+                word = result and words_of.get(result[1], result[1])
+                if word not in words:
+                    continue
+                read = name == "new" or name.startswith("read_") and word.endswith("_said")
+                is_named = word == name or word.startswith(f"{name}_") or read
+                if not is_named and f"{name} {word}" in OTHER_NAMES:
+                    used.add(f"{name} {word}")
+                    is_named = True
+                holds(f"{path}: {name} answers {word}", is_named)
+    for it in sorted(OTHER_NAMES.keys() - used):
+        holds(f"OTHER_NAMES has {it}, which no function needs", False)
+
+
+def check_files():
+    places = {}
+    for path, text in texts("*/specs/*.antt"):
+        if not path.endswith("/Lib.antt"):
+            places.setdefault(os.path.basename(path), []).append(path)
+    once("a specs file of the name", places)
+    for path, text in texts("*/**/*.antt"):
+        for number, line in enumerate(text.split("\n"), 1):
+            if len(line) > MOST_COLUMNS:
+                holds(f"{path}:{number} has {len(line)} columns", False)
+        holds(path, True)
+
+
 def check_sizes(crate):
     sources = texts(f"{crate}/src/**/*.rt")
     functions = sum(len(FUNCTION.findall(text)) for _, text in sources)
@@ -198,6 +283,9 @@ def check_crates():
 check_words()
 check_lemmas()
 check_types()
+check_files()
+check_clauses()
+check_names()
 check_parameters()
 check_crates()
 check_paths()

@@ -7,7 +7,7 @@ ghost use Rattle.jc_states.specs.UidLists.{uids_of};
 ghost use Rattle.jc_account.specs.Judged.{to_release};
 ghost use Rattle.jc_account.specs.Judgements.{first_left, has_place, is_to_go};
 
-use crate::rooms::{is_before, is_fit};
+use crate::rooms::{has_room_for, is_fit};
 use jc_failpol::{Outcome, has_ended, is_verdict, outcome, same_outcome};
 use jc_states::{is_listed, is_own};
 use jc_types::{Arc, Job, JobSpec, Pod, Uid, Uids, Want};
@@ -18,7 +18,7 @@ use std::alloc::Global;
 fn has_place(first: Option<Uid>, spec: &JobSpec, pod: &Pod) -> bool
     ensures { result ≡ has_place first spec.now pod.now }
 {
-    if is_before(first, pod.uid) {
+    if has_room_for(first, pod.uid) {
         return has_ended(spec, pod);
     }
     let outcome = outcome(spec, pod);

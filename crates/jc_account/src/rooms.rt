@@ -23,7 +23,7 @@ pub fn joins_list(mode: Mode, outcome: Outcome) -> bool
 }
 
 // Whether the UID is below the first for which there is no room.
-pub(crate) fn is_before(first: Option<Uid>, uid: Uid) -> bool
+pub(crate) fn has_room_for(first: Option<Uid>, uid: Uid) -> bool
     ensures { result ≡ has_room_for first uid }
 {
     match first {
@@ -36,7 +36,7 @@ pub(crate) fn is_before(first: Option<Uid>, uid: Uid) -> bool
 pub(crate) fn is_fit(mode: Mode, first: Option<Uid>, outcome: Outcome, uid: Uid) -> bool
     ensures { result ≡ is_fit mode first outcome uid }
 {
-    !joins_list(mode, outcome) || is_before(first, uid)
+    !joins_list(mode, outcome) || has_room_for(first, uid)
 }
 
 // Whether the pod is the Job's own and stays listed.

@@ -13,7 +13,7 @@ ghost use Rattle.jc_states.specs.PodLists.{IsRising};
 ghost use Rattle.jc_log.specs.Tables.{at};
 
 use crate::begins::{Begin, Lag, first_lag, later};
-use crate::ends::{Ending, SyncEnd, delay, is_lost, take_ending};
+use crate::ends::{Ending, SyncEnd, delay, forgets_caches, take_ending};
 use crate::queues::{move_due, told, with_jobs, with_owners};
 use jc_cache::{JobCache, PodCache};
 use jc_moment::Moment;
@@ -346,7 +346,7 @@ impl Controller {
         let (done, supply) = take_ending(&mut self.supplies, key);
         delay(&mut self.delays, key, supply, &end, now);
         self.queue.done(done);
-        if is_lost(&end) {
+        if forgets_caches(&end) {
             self.jobs.forget();
             self.pods.forget();
         }

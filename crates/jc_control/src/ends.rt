@@ -93,7 +93,7 @@ pub(crate) fn take_ending(endings: &mut Vec<Ending>, key: &Key) -> (Key, Supply)
 }
 
 // Whether the end forgets both caches.
-pub(crate) fn is_lost(end: &SyncEnd) -> bool
+pub(crate) fn forgets_caches(end: &SyncEnd) -> bool
     ensures { result ≡ forgets_caches end.now }
 {
     matches!(end, SyncEnd::Unavailable)

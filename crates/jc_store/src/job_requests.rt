@@ -5,7 +5,7 @@ ghost use Rattle.jc_log.specs.Log.{job_in};
 
 use super::Store;
 use super::new_objects::new_job;
-use super::spec_changes::{changed_spec, is_other, is_same_limits, refusal};
+use super::spec_changes::{changed_spec, is_other, same_limits, update_refusal};
 use super::statuses::same_status;
 use jc_moment::Moment;
 use jc_types::{Arc, Copied, Job, JobSpec, JobStatus, Key, Reply, SpecChange, Uid, Version, Want};
@@ -64,11 +64,11 @@ impl Store {
                 current: job.version,
             });
         }
-        if let Some(reply) = refusal(&*job.spec, change) {
+        if let Some(reply) = update_refusal(&*job.spec, change) {
             return Ok(reply);
         }
         let spec = changed_spec(&*job.spec, change)?;
-        if is_same_limits(&*job.spec, &spec) {
+        if same_limits(&*job.spec, &spec) {
             return Ok(Reply::Unchanged {
                 version: job.version,
             });

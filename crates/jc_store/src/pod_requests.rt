@@ -5,7 +5,7 @@ ghost use Rattle.jc_log.specs.Requests.{GivesOrKeeps, create_pod_gives, let_go_g
 use super::Store;
 use super::new_objects::new_pod;
 use super::pod_writes::{with_mark, without_finalizer};
-use super::reports::{first_unnamed, is_same_course, is_step_back, with_report};
+use super::reports::{first_unnamed, is_step_back, same_course_of, with_report};
 use jc_moment::Moment;
 use jc_states::{is_final, is_marked};
 use jc_types::{Copied, Job, Phase, PhaseChange, Reply, Uid, Version, Want};
@@ -135,7 +135,7 @@ impl Store {
         }
         let version = self.next_version();
         let changed = with_report(self.allocator(), found, version, change)?;
-        if is_same_course(found, &changed) {
+        if same_course_of(found, &changed) {
             return Ok(Reply::Unchanged {
                 version: found.version,
             });

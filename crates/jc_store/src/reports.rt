@@ -167,7 +167,7 @@ pub(super) fn is_step_back(from: Phase, to: Phase) -> bool
 }
 
 // Whether what a report may change agrees.
-pub(super) fn is_same_course(left: &Pod, right: &Pod) -> bool
+pub(super) fn same_course_of(left: &Pod, right: &Pod) -> bool
     ensures { result ≡ same_course_of left.now right.now }
 {
     same_phase(left.phase, right.phase)

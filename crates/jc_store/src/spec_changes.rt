@@ -7,7 +7,7 @@ use jc_manifest::{UpdateFault, check_update};
 use jc_types::{Copied, JobSpec, Reply, SpecChange, Version, Want};
 
 // Why the change may not be made, or nothing where it may.
-pub(super) fn refusal(old: &JobSpec, change: &SpecChange) -> Option<Reply>
+pub(super) fn update_refusal(old: &JobSpec, change: &SpecChange) -> Option<Reply>
     ensures { result ≡ update_refusal old.now change.now }
 {
     match check_update(old, change) {
@@ -41,7 +41,7 @@ fn given_or(given: Option<u32>, old: Option<u32>) -> Option<u32>
 }
 
 // Whether the members that a change may give agree.
-pub(super) fn is_same_limits(left: &JobSpec, right: &JobSpec) -> bool
+pub(super) fn same_limits(left: &JobSpec, right: &JobSpec) -> bool
     ensures { result ≡ same_limits left.now right.now }
 {
     left.parallelism == right.parallelism

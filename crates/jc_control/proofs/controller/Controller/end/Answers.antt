@@ -34,8 +34,8 @@ invariant_of-self c =
     c.args.now c.len-waiting.ensures.queue busy c.take_ending-done.ensures.left c.delay.ensures.delays c.delay.ensures.room
     (c.done.ensures.finished ∙ ap (λ k. finished c.self.inside.queue.queue k) c.take_ending-done.ensures.done) c.done.ensures.room c.self.invariant
 
-pub invariant_of-self-else-is_lost : goal.invariant_of-self-else-is_lost
-invariant_of-self-else-is_lost c =
+pub invariant_of-self-else-forgets_caches : goal.invariant_of-self-else-forgets_caches
+invariant_of-self-else-forgets_caches c =
     let key = c.args.key.now in
     let busy = ap (λ (c : ControllerView). has_key key c.schedule.queue.processing) c.self.view_is ∙ c.requires.processing in
     provided_done c.self.inside.queue c.done.new.self c.self.inside.delays c.delay.new.delays c.self.inside.known c.self.inside.supplies.items c.take_ending-done.new.endings.items key c.args.end
