@@ -61,7 +61,6 @@ OTHER_NAMES = {
     "store log_seen": "it hands out the store; the word is what its log says",
     "count_new gained": "the number without the list",
     "is_rule_met is_met": "the rule of a policy, by a set",
-    "read_put_fault turn_said": "one of the forms of a turn",
     "start_at start_of": "of the Job of a basis",
     "read_of_system of_words": "what of them is a system's",
     "is_same_number same_option": "of two numbers that may be there",
