@@ -1,9 +1,7 @@
 //! The type of the cluster, and one event.
 
 ghost use Rattle.std.specs.Prelude.{◌≡◌, ◌↔◌, ◌<◌, ◌≤◌, ◌^◌, [], Err, IfOk, IsTrue, OnErr, OnOk, false, length, map};
-ghost use Rattle.std.specs.List.{AllByRecursion as Each};
-ghost use Rattle.jc_types.specs.declared.actions.Command.{Command};
-ghost use Rattle.jc_runs.specs.ValidActions.{IsValidAction};
+ghost use Rattle.jc_runs.specs.ValidActions.{AreValidCommands};
 ghost use Rattle.jc_runs.specs.Seen.{Admits, act_seen, happened, reply_seen};
 ghost use Rattle.jc_play.specs.Plays.{IsScriptFor};
 ghost use Rattle.jc_play.specs.ApplyFault.TheVariants.{HistoryFull};
@@ -47,7 +45,7 @@ impl Cluster {
     /// # Errors
     /// `Want` where there is no memory for it.
     pub fn new(alloc: Global, script: Script, shape: Shape) -> Result<Cluster, Want>
-        requires valid_actions { Each (λ (command : Command). IsValidAction command.action) script.commands }
+        requires valid_actions { AreValidCommands script.commands }
         requires fits_shape { IsScriptFor script shape }
         requires fits { length script.commands < 2 ^ 32 }
         requires few_events { shape.events ≤ 200000 }

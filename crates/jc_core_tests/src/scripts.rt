@@ -1,13 +1,11 @@
 //! Scripts of a text, and the shape for which they are read.
 
 ghost use Rattle.std.specs.Prelude.{IfOk, IsTrue};
-ghost use Rattle.std.specs.List.{AllByRecursion as Each};
-ghost use Rattle.jc_types.specs.declared.actions.Command.{Command};
 ghost use Rattle.jc_log.specs.Deeds.{act_of_action};
 ghost use Rattle.jc_history.specs.Available.{IsOrderly};
 ghost use Rattle.jc_history.specs.Legal.{IsOfShape};
 ghost use Rattle.jc_runs.specs.Seen.{deeds_seen};
-ghost use Rattle.jc_runs.specs.ValidActions.{IsValidAction};
+ghost use Rattle.jc_runs.specs.ValidActions.{AreValidCommands};
 ghost use Rattle.jc_shared.specs.Plays.{IsScriptFor};
 
 use jc_moment::Moment;
@@ -59,7 +57,7 @@ fn is_proper(script: &Script, shape: &Shape) -> bool
 // `Fail` where it is none.
 fn script_of(rt: &impl Abort, alloc: Global, text: &str, shape: &Shape) -> Result<Script, Fail>
     ensures valid_actions { IfOk result (λ script.
-        Each (λ (command : Command). IsValidAction command.action) script.commands) }
+        AreValidCommands script.commands) }
     ensures fits_shape { IfOk result (λ script. IsScriptFor script shape.now) }
 {
     assert!(rt; text.len() < 1_000_000, "the script is short");

@@ -3,7 +3,7 @@
 ghost use Rattle.std.specs.Prelude.{◌≡◌, ◌<◌, ◌≤◌, ◌^◌, Err, IfOk, IfSome, IsErrOf, IsOkAnd, false, length, true, ℕ};
 ghost use Rattle.std.specs.List.{AllByRecursion as Each};
 ghost use Rattle.jc_types.specs.declared.actions.Command.{Command};
-ghost use Rattle.jc_single.specs.ValidActions.{IsValidAction};
+ghost use Rattle.jc_single.specs.ValidActions.{AreValidCommands};
 ghost use Rattle.jc_single.specs.Available.{IsOrderly};
 ghost use Rattle.jc_single.specs.Plays.{IsScriptFor};
 ghost use Rattle.jc_single.specs.Seen.{deeds_seen};
@@ -33,8 +33,7 @@ use std::thread::Threads;
 
 // What is printed of the cluster of a run on threads that has ended.
 fn told(alloc: Global, cluster: &Cluster, full: bool) -> Result<Output, Want>
-    requires valid_actions { Each (λ (command : Command). IsValidAction command.action)
-        cluster.now.seen.script.commands }
+    requires valid_actions { AreValidCommands cluster.now.seen.script.commands }
     requires some_controllers { 0 < cluster.now.seen.shape.controllers }
     requires some_workers { 0 < cluster.now.seen.shape.workers }
     requires few_events { cluster.now.seen.shape.events ≤ 200000 }
@@ -71,7 +70,7 @@ fn run_locked<R: Threads + Wait + Sync, G: Gate + Sync>(
     lock: LockKind,
     play: Play<'_>,
 ) -> Result<Cluster, ThreadsFault>
-    requires valid_actions { Each (λ (command : Command). IsValidAction command.action) play.script.now.commands }
+    requires valid_actions { AreValidCommands play.script.now.commands }
     requires fits_shape { IsScriptFor play.script.now play.shape.now }
     ensures { EndsRun play.entry.script.now play.entry.shape.now result }
 {
@@ -101,7 +100,7 @@ fn run_by<R: Threads + Wait + Sync, G: Gate + Sync>(
     lock: LockKind,
     play: Play<'_>,
 ) -> Result<Ended, Want>
-    requires valid_actions { Each (λ (command : Command). IsValidAction command.action) play.script.now.commands }
+    requires valid_actions { AreValidCommands play.script.now.commands }
     requires fits_shape { IsScriptFor play.script.now play.shape.now }
     ensures { IfOk result (λ ended.
         IsEndOfRun play.entry.script.now play.entry.shape.now ended.cluster.seen ended.full) }
@@ -125,7 +124,7 @@ fn threaded_report<R: Threads + Wait + Sync, G: Gate + Sync>(
     lock: LockKind,
     play: Play<'_>,
 ) -> Result<Output, Want>
-    requires valid_actions { Each (λ (command : Command). IsValidAction command.action) play.script.now.commands }
+    requires valid_actions { AreValidCommands play.script.now.commands }
     requires fits_shape { IsScriptFor play.script.now play.shape.now }
     requires lanes { Each (λ (command : Command). command.lane < 2 ^ 8) play.script.now.commands }
     requires fit_shape { IsFitShape play.shape.now }

@@ -3,7 +3,7 @@ use Rattle.std.proofs.Common.{◌≡◌, ◌≢◌, ◌⊎◌, inl, inr, refl, �
 use Rattle.std.specs.List.{AllByRecursion as Each, range_with_len}
 use Rattle.jc_types.specs.declared.actions.Action1.TheVariants.{Settle}
 use Rattle.jc_types.specs.declared.actions.Command.{Command}
-use Rattle.jc_states.specs.ValidActions.{IsValidAction}
+use Rattle.jc_states.specs.ValidActions.{AreValidCommands, IsValidAction}
 use Rattle.jc_gen.proofs.Fit.{spec_is_valid, some_end}
 use Rattle.jc_gen.specs.Generated.{IsGenerated, creation, fate_command, generated, job_commands, job_ends, on_first_lane}
 
@@ -35,7 +35,7 @@ ends_are_some : (number i : ℕ) → job_ends number i ≢ []
 ends_are_some number i none = let some = some_end number i in absurd (omega (arith, some, ap length none))
 
 pub each_is_valid : (number jobs pods : ℕ) → 1 ≤ pods → pods ≤ 20
-    → Each (λ (command : Command). IsValidAction command.action) (generated number jobs pods).commands
+    → AreValidCommands (generated number jobs pods).commands
 each_is_valid number jobs pods some few =
     each_command (λ (command : Command). IsValidAction command.action) number jobs pods
     (λ i within. spec_is_valid number pods i some few) (λ i within. ends_are_some number i) tt

@@ -2,7 +2,7 @@
 
 ghost use Rattle.std.specs.Prelude.{◌≡◌, ◌+◌, ◌*◌, ◌<◌, ◌≤◌, ◌^◌, ℕ, length};
 ghost use Rattle.std.specs.List.{AllByRecursion as Each};
-ghost use Rattle.jc_states.specs.ValidActions.{IsValidAction};
+ghost use Rattle.jc_states.specs.ValidActions.{AreValidCommands};
 ghost use Rattle.jc_types.specs.ValidSpecs.{IsValidSpec};
 ghost use Rattle.jc_ranges.specs.declared.bounds.TheConstants.{GREATEST_INDEX};
 ghost use Rattle.jc_types.specs.declared.actions.Command.{Command};
@@ -27,8 +27,7 @@ pub fn generated_commands_are_valid()
         → Each (λ (command : Command). IsGenerated number jobs pods command)
         (generated number jobs pods).commands }
     ensures valid { (number jobs pods : ℕ) → 1 ≤ pods → pods ≤ 20
-        → Each (λ (command : Command). IsValidAction command.action)
-        (generated number jobs pods).commands }
+        → AreValidCommands (generated number jobs pods).commands }
 {}
 
 /// The constants of the rules that definitions cite from the code by their names: of uncounted pods, `parallelism`,

@@ -2,7 +2,6 @@
 use Rattle.std.proofs.Common.{◌≡◌, ℕ, ◌+◌, ◌<◌, ◌^◌, true, false, List, [], ◌∷◌, ◌++◌, length, map, Result, Ok, Err, Option, refl, sym, subst, arith, true≢false}
 use Rattle.std.specs.Prelude.{OnErr, OnOk}
 use Rattle.std.specs.Result.{is_err}
-use Rattle.std.specs.List.{AllByRecursion as Each}
 use Rattle.jc_types.specs.declared.actions.Command.{Command}
 use Rattle.jc_types.specs.declared.actions.End.{End}
 use Rattle.jc_types.specs.declared.actions.Script.{Script}
@@ -11,7 +10,7 @@ use Rattle.jc_types.specs.declared.objects.Key.{Key}
 use Rattle.jc_types.specs.declared.runs.Past.{Past}
 use Rattle.jc_types.specs.declared.runs.Shape.{Shape}
 use Rattle.jc_log.specs.Deeds.{Deed, deed}
-use Rattle.jc_runs.specs.ValidActions.{IsValidAction}
+use Rattle.jc_runs.specs.ValidActions.{AreValidCommands, IsValidAction}
 use Rattle.jc_history.specs.Legal.{InLanes}
 use Rattle.jc_lanes.specs.LongerScripts.{longer}
 use Rattle.jc_lanes.specs.Places.{HasPlaces}
@@ -19,7 +18,7 @@ use Rattle.jc_runs.specs.Machines.{IsMachine}
 use Rattle.jc_runs.specs.Teams.{Team}
 use Rattle.jc_machine.specs.MachineKept.{IsMachineKept, fates_in}
 
-each_more : (cs : List Command) (c : Command) → Each (λ (command : Command). IsValidAction command.action) cs → IsValidAction c.action → Each (λ (command : Command). IsValidAction command.action) (cs ++ c ∷ [])
+each_more : (cs : List Command) (c : Command) → AreValidCommands cs → IsValidAction c.action → AreValidCommands (cs ++ c ∷ [])
 each_more [] c all one = (one, tt)
 each_more (d ∷ cs) c all one = (all.0, each_more cs c all.1 one)
 

@@ -5,7 +5,6 @@ use Rattle.std.proofs.lemmas.List.{length-reverse, map-append, reverse-append}
 use Rattle.std.specs.Option.{unwrap_or}
 use Rattle.std.specs.List.{AllByRecursion as Each}
 use Rattle.jc_bounds.proofs.OrderFacts.{each-slice as each_at}
-use Rattle.jc_types.specs.declared.actions.Command.{Command}
 use Rattle.jc_types.specs.declared.actions.End.{End}
 use Rattle.jc_types.specs.declared.actions.Script.{Script}
 use Rattle.jc_types.specs.declared.objects.Entry.{Entry}
@@ -21,7 +20,7 @@ use Rattle.jc_runs.specs.Once.{AllJustified, OnceAtEach}
 use Rattle.jc_history.specs.Legal.{IsHistory, IsLegal}
 use Rattle.jc_runs.specs.Fates.{Fates, WithFate}
 use Rattle.jc_runs.specs.Machines.{IsMachine}
-use Rattle.jc_runs.specs.ValidActions.{IsValidAction}
+use Rattle.jc_runs.specs.ValidActions.{AreValidCommands}
 use Rattle.jc_runs.specs.Seen.{IsCluster, Seen, deeds_in, deeds_seen, log_seen}
 use Rattle.jc_runs.specs.Teams.{KnowsNothing, Team}
 use Rattle.jc_machine.specs.MachineKept.{IsMachineKept, fates_in}
@@ -34,7 +33,7 @@ pub starts : (script : Script) (shape : Shape) (items : List Past) (next : List 
     ≡ shape.controllers → Each (KnowsNothing shape.workers) teams
     → ((shape : Shape) (teams : List Team) → length teams ≡ shape.controllers → ((c : ℕ) (team : Team) → slice_get teams c ≡ Some team → KnowsNothing shape.workers team) → IsMachine shape [] [] teams (λ k. None) shape.start)
     → HasPlaces script.commands [] next → length script.commands < 2 ^ 32
-    → Each (λ (command : Command). IsValidAction command.action) script.commands → shape.events ≤ 200000
+    → AreValidCommands script.commands → shape.events ≤ 200000
     → IsMachineKept script shape (reverse items) next log teams rows shape.start
 starts script shape items next log teams rows none empty unsaid count fresh start places fits fine bound =
     subst (λ items. IsMachineKept script shape (reverse items) next log teams rows shape.start) (sym none)

@@ -5,7 +5,7 @@ ghost use Rattle.std.specs.List.{AllByRecursion as Each};
 ghost use Rattle.jc_types.specs.declared.actions.Command.{Command};
 ghost use Rattle.jc_types.specs.declared.objects.Job.{Job};
 ghost use Rattle.jc_types.specs.declared.objects.Key.{Key};
-ghost use Rattle.jc_runs.specs.ValidActions.{IsValidAction};
+ghost use Rattle.jc_runs.specs.ValidActions.{AreValidCommands, IsValidAction};
 ghost use Rattle.jc_log.specs.Log.{job_in};
 ghost use Rattle.jc_runs.specs.Once.{AllJustified, OnceAtEach};
 ghost use Rattle.jc_history.specs.Diaries.{moment};
@@ -88,7 +88,7 @@ impl Machine {
     /// # Errors
     /// `Want` where there is no memory for it.
     pub fn new(alloc: Global, script: Script, shape: Shape) -> Result<Machine, Want>
-        requires valid_actions { Each (λ (command : Command). IsValidAction command.action) script.commands }
+        requires valid_actions { AreValidCommands script.commands }
         requires fits { length script.commands < 2 ^ 32 }
         requires few_events { shape.events ≤ 200000 }
         ensures { IfOk result (λ c. c ≡ record { script = script; shape = shape; pasts = [] }) }

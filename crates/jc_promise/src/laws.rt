@@ -11,7 +11,7 @@ ghost use Rattle.jc_types.specs.declared.objects.Pod.{Pod};
 ghost use Rattle.jc_types.specs.declared.runs.History.{History};
 ghost use Rattle.jc_types.specs.declared.runs.Shape.{Shape};
 ghost use Rattle.jc_causes.specs.Conditions.{has_end};
-ghost use Rattle.jc_runs.specs.ValidActions.{IsValidAction};
+ghost use Rattle.jc_runs.specs.ValidActions.{AreValidCommands};
 ghost use Rattle.jc_rest.specs.Owners.{is_foreign};
 ghost use Rattle.jc_log.specs.Deeds.{deeds};
 ghost use Rattle.jc_log.specs.Log.{job_in, pod_in};
@@ -58,7 +58,7 @@ use jc_runs::{
 /// its lanes, with any number of controllers and workers, all promises hold (KEP-2307).
 pub fn legal_histories_keep_the_promises()
     ensures { (script : Script) (shape : Shape) (history : History)
-        → Each (λ (command : Command). IsValidAction command.action) script.commands
+        → AreValidCommands script.commands
         → 0 < shape.controllers → 0 < shape.workers → shape.events ≤ 200000
         → IsHistory script shape history → KeepsPromises script shape history }
 {

@@ -14,7 +14,7 @@ ghost use Rattle.jc_types.specs.declared.runs.Shape.{Shape};
 ghost use Rattle.jc_log.specs.Acts.{Act};
 ghost use Rattle.jc_log.specs.Deeds.{Deed, act_of_action};
 ghost use Rattle.jc_log.specs.Log.{jobs_in};
-ghost use Rattle.jc_runs.specs.ValidActions.{IsValidAction};
+ghost use Rattle.jc_runs.specs.ValidActions.{AreValidCommands};
 ghost use Rattle.jc_runs.specs.Legal.{IsLegal, IsOfShape};
 ghost use Rattle.jc_runs.specs.Play.{Playing, deeds_played, is_command, rest_played, whole_play};
 ghost use Rattle.jc_core.specs.Plays.{IsScriptFor};
@@ -34,7 +34,7 @@ use jc_runs::{allowed_updates_stay_valid, valid_scripts_ask_valid};
 /// script that can be played can be played with them behind it. They stand on lane 0.
 pub fn reaped_commands_fit()
     ensures valid { (seen : Seen) (ttls : List (Option ℕ))
-        → Each (λ (command : Command). IsValidAction command.action) (reap_list seen ttls) }
+        → AreValidCommands (reap_list seen ttls) }
     ensures within { (shape : Shape) (seen : Seen) (ttls : List (Option ℕ))
         → Each (λ (command : Command). IsOfShape shape (act_of_action command.action))
         (reap_list seen ttls) }
@@ -136,7 +136,7 @@ pub fn longer_scripts_play_on()
 pub fn collecting_plays_are_due()
     ensures { (front : List Command) (shape : Shape) (ttls : List (Option ℕ))
         → IsScriptFor (record { commands = front }) shape
-        → Each (λ (command : Command). IsValidAction command.action) front
+        → AreValidCommands front
         → let seen = seen_at_end (record { commands = front }) shape in
         let longer = front ++ reap_list seen ttls in
         let last = whole_play (record { commands = longer }) shape in

@@ -1,6 +1,5 @@
 -- A script whose Jobs are valid makes histories whose Jobs are.
 use Rattle.std.proofs.Common.{ℕ, zero, suc, List, [], ◌∷◌, slice_get}
-use Rattle.std.specs.List.{AllByRecursion as Each}
 use Rattle.jc_types.specs.declared.actions.Action1.{Action1}
 use Rattle.jc_types.specs.declared.actions.Action1.TheVariants as action
 use Rattle.jc_types.specs.declared.actions.Command.{Command}
@@ -12,7 +11,7 @@ use Rattle.jc_types.specs.declared.runs.Sys.{Sys}
 use Rattle.jc_types.specs.declared.runs.Sys.TheVariants as sys
 use Rattle.jc_log.specs.Deeds.{act_of_action, act_of_command, act_of_event, act_of_system}
 use Rattle.jc_runs.specs.Machines.{AllAskValid, AsksValid}
-use Rattle.jc_states.specs.ValidActions.{IsValidAction}
+use Rattle.jc_states.specs.ValidActions.{AreValidCommands, IsValidAction}
 use Rattle.jc_runs.specs.Seen.{deeds_in}
 
 action_valid : (a : Action1) → IsValidAction a → AsksValid (act_of_action a)
@@ -27,13 +26,13 @@ system_valid (sys.Step controller worker) = tt
 system_valid sys.Node = tt
 system_valid (sys.Clock add) = tt
 
-command_valid : (commands : List Command) (n : ℕ) → Each (λ (command : Command). IsValidAction command.action) commands → AsksValid (act_of_command (slice_get commands n))
+command_valid : (commands : List Command) (n : ℕ) → AreValidCommands commands → AsksValid (act_of_command (slice_get commands n))
 command_valid [] zero fine = tt
 command_valid [] (suc n) fine = tt
 command_valid (command ∷ commands) zero fine = action_valid command.action fine.0
 command_valid (command ∷ commands) (suc n) fine = command_valid commands n fine.1
 
-pub asks_valid : (script : Script) (pasts : List Past) → Each (λ (command : Command). IsValidAction command.action) script.commands → AllAskValid (deeds_in script pasts)
+pub asks_valid : (script : Script) (pasts : List Past) → AreValidCommands script.commands → AllAskValid (deeds_in script pasts)
 asks_valid script [] fine = tt
 asks_valid script (past ∷ pasts) fine = (by past.event, asks_valid script pasts fine)
   where

@@ -5,13 +5,11 @@
 --     Admits seen event                the event may come next
 --     happened seen event              once it has
 use Rattle.std.specs.Prelude.{ℕ, ◌≤◌, List, [], ◌∷◌, length, map}
-use Rattle.std.specs.List.{AllByRecursion as Each}
 use Rattle.jc_log.specs.Acts as does
 use Rattle.jc_history.specs.Available.{is_quiescent}
 use Rattle.jc_history.specs.Legal.{ComesNext, InLanes, IsOfShape, MaySettle}
 use Rattle.jc_control.specs.Schedules.{log_end}
 use Rattle.jc_history.specs.Replies.{log_after, log_given, reply_given}
-use Rattle.jc_types.specs.declared.actions.Command.{Command}
 use Rattle.jc_types.specs.declared.actions.Script.{Script}
 use Rattle.jc_types.specs.declared.objects.Entry.{Entry}
 use Rattle.jc_types.specs.declared.replies.Reply.{Reply}
@@ -20,7 +18,7 @@ use Rattle.jc_types.specs.declared.runs.Past.{Past}
 use Rattle.jc_types.specs.declared.runs.Shape.{Shape}
 use Rattle.jc_log.specs.Acts.{Act}
 use Rattle.jc_log.specs.Deeds.{Deed, act_of_event, deed}
-use Rattle.jc_states.specs.ValidActions.{IsValidAction}
+use Rattle.jc_states.specs.ValidActions.{AreValidCommands}
 use Rattle.jc_runs.specs.Fates.{Fates}
 use Rattle.jc_runs.specs.Machines.{IsMachine}
 use Rattle.jc_runs.specs.Teams.{Team}
@@ -49,7 +47,7 @@ pub record IsCluster (script : Script) (shape : Shape) (pasts : List Past) (log 
   pub run : IsMachine shape (deeds_in script pasts) log teams fates now
   pub lanes : InLanes script.commands pasts
   pub few : length pasts ≤ shape.events
-  pub fine : Each (λ (command : Command). IsValidAction command.action) script.commands
+  pub fine : AreValidCommands script.commands
   pub bound : shape.events ≤ 200000
 
 -- What the event does.

@@ -3,7 +3,6 @@
 
 ghost use Rattle.std.specs.Prelude.{◌≡◌, ◌≤◌, ◌^◌, ◌∷◌, ◌++◌, [], None, IsSome, List, Some, length, slice_get, true, ℕ};
 ghost use Rattle.std.specs.List.{AllByRecursion as Each};
-ghost use Rattle.jc_types.specs.declared.actions.Command.{Command};
 ghost use Rattle.jc_types.specs.declared.actions.Script.{Script};
 ghost use Rattle.jc_types.specs.declared.objects.Entry.{Entry};
 ghost use Rattle.jc_types.specs.declared.objects.Job.{Job};
@@ -33,7 +32,7 @@ ghost use Rattle.jc_runs.specs.Conflicts.{AreToldLater};
 ghost use Rattle.jc_runs.specs.Fates.{Fates};
 ghost use Rattle.jc_runs.specs.QuietRuns.{IsAtNext, IsQuietSync, WritesNoStatus};
 ghost use Rattle.jc_runs.specs.Machines.{AllAskValid, IsMachine};
-ghost use Rattle.jc_states.specs.ValidActions.{IsValidAction};
+ghost use Rattle.jc_states.specs.ValidActions.{AreValidCommands};
 ghost use Rattle.jc_runs.specs.Seen.{deeds_in};
 ghost use Rattle.jc_runs.specs.Teams.{KnowsNothing, Team};
 
@@ -99,7 +98,7 @@ pub fn conflicts_tell_later_versions()
 /// creates.
 pub fn valid_scripts_ask_valid()
     ensures { (script : Script) (pasts : List Past)
-        → Each (λ (command : Command). IsValidAction command.action) script.commands
+        → AreValidCommands script.commands
         → AllAskValid (deeds_in script pasts) }
 {}
 

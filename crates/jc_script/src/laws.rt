@@ -5,7 +5,7 @@ ghost use Rattle.std.specs.Prelude.{◌≡◌, ◌<◌, ◌≤◌, ℕ, List, Ok
 ghost use Rattle.std.specs.List.{AllByRecursion as Each};
 ghost use Rattle.jc_types.specs.declared.actions.Command.{Command};
 ghost use Rattle.jc_types.specs.declared.runs.Shape.{Shape};
-ghost use Rattle.jc_states.specs.ValidActions.{IsValidAction};
+ghost use Rattle.jc_states.specs.ValidActions.{AreValidCommands};
 ghost use Rattle.jc_script.specs.Fits.{NamesShape};
 ghost use Rattle.jc_script.specs.Scripts.{most_commands, script_of};
 
@@ -14,7 +14,7 @@ ghost use Rattle.jc_script.specs.Scripts.{most_commands, script_of};
 pub fn scripts_fit_their_shape()
     ensures valid { (shape : Shape) (text : List ℕ) (commands : List Command)
         → script_of shape text ≡ Ok commands
-        → Each (λ (command : Command). IsValidAction command.action) commands }
+        → AreValidCommands commands }
     ensures within { (shape : Shape) (text : List ℕ) (commands : List Command)
         → 0 < shape.controllers → 0 < shape.workers → script_of shape text ≡ Ok commands
         → Each (λ (command : Command). NamesShape shape command.action) commands }

@@ -2,8 +2,7 @@
 
 ghost use Rattle.std.specs.Prelude.{◌≡◌, ◌<◌, ◌≤◌, ◌^◌, [], Err, IfOk, IfSome, IsErrOf, length};
 ghost use Rattle.std.specs.List.{AllByRecursion as Each, list_any};
-ghost use Rattle.jc_types.specs.declared.actions.Command.{Command};
-ghost use Rattle.jc_runs.specs.ValidActions.{IsValidAction};
+ghost use Rattle.jc_runs.specs.ValidActions.{AreValidCommands};
 ghost use Rattle.jc_history.specs.Available.{IsOrderly};
 ghost use Rattle.jc_runs.specs.Seen.{deeds_seen};
 ghost use Rattle.jc_seats.specs.Plays.{IsScriptFor};
@@ -85,7 +84,7 @@ fn run_named<J: Naming + Send + Sync, R: Threads + Wait + Sync, G: Gate + Sync>(
 ) -> Result<Cluster, ThreadsFault>
     requires script { play.script.now ≡ J.script }
     requires shape { play.shape.now ≡ J.shape }
-    requires valid_actions { Each (λ (command : Command). IsValidAction command.action) play.script.now.commands }
+    requires valid_actions { AreValidCommands play.script.now.commands }
     requires fits_shape { IsScriptFor play.script.now play.shape.now }
     ensures { EndsRun play.entry.script.now play.entry.shape.now result }
 {
@@ -122,7 +121,7 @@ pub fn run_threads<R: Threads + Wait + Sync, G: Gate + Sync>(
 ) -> Result<Cluster, ThreadsFault>
     requires some_threads { 1 ≤ threads }
     requires few_threads { threads ≤ 16 }
-    requires valid_actions { Each (λ (command : Command). IsValidAction command.action) script.now.commands }
+    requires valid_actions { AreValidCommands script.now.commands }
     requires fits_shape { IsScriptFor script.now shape.now }
     requires fits { length script.now.commands < 2 ^ 32 }
     requires few_events { shape.now.events ≤ 200000 }

@@ -1,10 +1,8 @@
 //! A run on several threads, whose players share one cluster by a turn lock.
 
 ghost use Rattle.std.specs.Prelude.{◌≡◌, ◌<◌, ◌≤◌, ◌^◌, Err, IfOk, IfSome, IsErrOf, IsSome, true, false, length, reverse};
-ghost use Rattle.std.specs.List.{AllByRecursion as Each};
-ghost use Rattle.jc_types.specs.declared.actions.Command.{Command};
 ghost use Rattle.jc_runs.specs.Bases.{CanPlan};
-ghost use Rattle.jc_runs.specs.ValidActions.{IsValidAction};
+ghost use Rattle.jc_runs.specs.ValidActions.{AreValidCommands};
 ghost use Rattle.jc_runs.specs.Seen.{deeds_seen};
 ghost use Rattle.jc_history.specs.Available.{IsOrderly};
 ghost use Rattle.jc_seats.specs.Plays.{IsScriptFor};
@@ -203,7 +201,7 @@ fn run_seats<J: Naming + Send + Sync, R: Threads + Wait + Sync, G: Gate + Sync>(
 fn open<J: Naming>(alloc: Global, play: Play<'_>) -> Option<(TurnLock<Kept<J>>, LockSeats)>
     requires script { play.script.now ≡ J.script }
     requires shape { play.shape.now ≡ J.shape }
-    requires valid_actions { Each (λ (command : Command). IsValidAction command.action) play.script.now.commands }
+    requires valid_actions { AreValidCommands play.script.now.commands }
     requires fits_shape { IsScriptFor play.script.now play.shape.now }
     ensures count { IfSome result (λ made. made.0.seats ≡ play.entry.threads) }
     ensures fresh { IfSome result (λ made. made.1 ≡ fresh_seats made.0.name 0 play.entry.threads) }
@@ -267,7 +265,7 @@ fn played<J: Naming + Send + Sync, R: Threads + Wait + Sync, G: Gate + Sync>(
 ) -> Option<Cluster>
     requires script { play.script.now ≡ J.script }
     requires shape { play.shape.now ≡ J.shape }
-    requires valid_actions { Each (λ (command : Command). IsValidAction command.action) play.script.now.commands }
+    requires valid_actions { AreValidCommands play.script.now.commands }
     requires fits_shape { IsScriptFor play.script.now play.shape.now }
     ensures named { IfSome result (λ cluster. IsOfName J.script J.shape cluster.seen) }
     ensures orderly { IfSome result
@@ -286,7 +284,7 @@ fn run_named<J: Naming + Send + Sync, R: Threads + Wait + Sync, G: Gate + Sync>(
 ) -> Result<Cluster, ThreadsFault>
     requires script { play.script.now ≡ J.script }
     requires shape { play.shape.now ≡ J.shape }
-    requires valid_actions { Each (λ (command : Command). IsValidAction command.action) play.script.now.commands }
+    requires valid_actions { AreValidCommands play.script.now.commands }
     requires fits_shape { IsScriptFor play.script.now play.shape.now }
     ensures { EndsRun play.entry.script.now play.entry.shape.now result }
 {
@@ -312,7 +310,7 @@ pub fn run_turn<R: Threads + Wait + Sync, G: Gate + Sync>(
 ) -> Result<Cluster, ThreadsFault>
     requires some_threads { 1 ≤ threads }
     requires few_threads { threads ≤ 16 }
-    requires valid_actions { Each (λ (command : Command). IsValidAction command.action) script.now.commands }
+    requires valid_actions { AreValidCommands script.now.commands }
     requires fits_shape { IsScriptFor script.now shape.now }
     requires fits { length script.now.commands < 2 ^ 32 }
     requires few_events { shape.now.events ≤ 200000 }

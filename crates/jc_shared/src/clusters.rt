@@ -1,9 +1,7 @@
 //! Clusters that are shared: a new one, and one of which nobody holds anything any more.
 
 ghost use Rattle.std.specs.Prelude.{◌≡◌};
-ghost use Rattle.std.specs.List.{AllByRecursion as Each};
-ghost use Rattle.jc_types.specs.declared.actions.Command.{Command};
-ghost use Rattle.jc_runs.specs.ValidActions.{IsValidAction};
+ghost use Rattle.jc_runs.specs.ValidActions.{AreValidCommands};
 ghost use Rattle.jc_seats.specs.Plays.{IsScriptFor};
 ghost use Rattle.jc_history.specs.Available.{IsOrderly};
 ghost use Rattle.jc_runs.specs.Seen.{deeds_seen};
@@ -20,7 +18,7 @@ use std::alloc::Global;
 pub(crate) fn new_kept<J: Naming>(alloc: Global, play: Play<'_>) -> Result<Kept<J>, Want>
     requires script { play.script.now ≡ J.script }
     requires shape { play.shape.now ≡ J.shape }
-    requires valid_actions { Each (λ (command : Command). IsValidAction command.action) play.script.now.commands }
+    requires valid_actions { AreValidCommands play.script.now.commands }
     requires fits_shape { IsScriptFor play.script.now play.shape.now }
 {
     let cluster = Cluster::new(alloc, play.script.copy()?, *play.shape)?;

@@ -9,7 +9,7 @@ use Rattle.jc_types.specs.declared.actions.Script.{Script}
 use Rattle.jc_types.specs.declared.runs.History.{History}
 use Rattle.jc_types.specs.declared.runs.Past.{Past}
 use Rattle.jc_types.specs.declared.runs.Shape.{Shape}
-use Rattle.jc_promise.specs.ValidActions.{IsValidAction}
+use Rattle.jc_promise.specs.ValidActions.{AreValidCommands, IsValidAction}
 use Rattle.jc_promise.specs.Deeds.{act_of_action, deeds}
 use Rattle.jc_promise.specs.Available.{is_quiescent}
 use Rattle.jc_promise.specs.Legal.{IsOfShape}
@@ -38,7 +38,7 @@ both P [] ys a b = b
 both P (x ∷ xs) ys a b = (a.0, both P xs ys a.1 b)
 
 abbrev pub AreValid : List Command → Type 0
-AreValid commands = Each (λ (command : Command). IsValidAction command.action) commands
+AreValid commands = AreValidCommands commands
 
 -- The lanes of the commands are bytes.
 abbrev pub AreByteLanes : List Command → Type 0

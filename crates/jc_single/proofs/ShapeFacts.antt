@@ -6,7 +6,7 @@ use Rattle.jc_types.specs.declared.actions.Action1.TheVariants as act
 use Rattle.jc_types.specs.declared.actions.Command.{Command}
 use Rattle.jc_types.specs.declared.actions.Script.{Script}
 use Rattle.jc_types.specs.declared.runs.Shape.{Shape}
-use Rattle.jc_promise.specs.ValidActions.{IsValidAction}
+use Rattle.jc_promise.specs.ValidActions.{AreValidCommands}
 use Rattle.jc_promise.specs.Deeds.{act_of_action}
 use Rattle.jc_promise.specs.Legal.{IsOfShape}
 use Rattle.jc_promise.specs.Plays.{AreWithin, IsScriptFor}
@@ -67,10 +67,10 @@ generated_within shape number jobs pods commands = each-of by commands
 -- ---- scripts that are generated ones
 
 pub generated_is_fine : (number jobs pods : ℕ) (script : Script) → script ≡ generated number jobs pods
-    → Each (λ (command : Command). IsValidAction command.action) (generated number jobs pods).commands
-    → Each (λ (command : Command). IsValidAction command.action) script.commands
+    → AreValidCommands (generated number jobs pods).commands
+    → AreValidCommands script.commands
 generated_is_fine number jobs pods script e =
-    subst (λ (s : Script). Each (λ (command : Command). IsValidAction command.action) s.commands) (sym e)
+    subst (λ (s : Script). AreValidCommands s.commands) (sym e)
 
 pub generated_is_proper : (shape : Shape) (number jobs pods : ℕ) (script : Script) → script ≡ generated number jobs pods
     → Each (λ (command : Command). IsGenerated number jobs pods command) (generated number jobs pods).commands

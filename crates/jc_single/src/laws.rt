@@ -9,7 +9,7 @@ ghost use Rattle.jc_types.specs.declared.actions.Command.{Command};
 ghost use Rattle.jc_types.specs.declared.actions.Script.{Script};
 ghost use Rattle.jc_types.specs.declared.runs.History.{History};
 ghost use Rattle.jc_types.specs.declared.runs.Shape.{Shape};
-ghost use Rattle.jc_promise.specs.ValidActions.{IsValidAction};
+ghost use Rattle.jc_promise.specs.ValidActions.{AreValidCommands};
 ghost use Rattle.jc_promise.specs.Play.{is_full, play_of};
 ghost use Rattle.jc_promise.specs.Plays.{IsScriptFor};
 ghost use Rattle.jc_reap.specs.TtlLines.{ttls_of};
@@ -39,12 +39,12 @@ use jc_words::orders_fit;
 pub fn plays_tell_their_history()
     ensures history { (script : Script) (shape : Shape) (history : History)
         → history.events.items ≡ play_of script shape
-        → Each (λ (command : Command). IsValidAction command.action) script.commands
+        → AreValidCommands script.commands
         → IsScriptFor script shape → 0 < shape.controllers → 0 < shape.workers → shape.events ≤ 200000
         → IsReportOf history 0 script shape (is_full script shape)
         (report_printed script shape).text }
     ensures report { (script : Script) (shape : Shape)
-        → Each (λ (command : Command). IsValidAction command.action) script.commands
+        → AreValidCommands script.commands
         → Each (λ (command : Command). command.lane < 2 ^ 8) script.commands
         → IsScriptFor script shape → 0 < shape.controllers → shape.controllers ≤ 2 ^ 32
         → 0 < shape.workers → shape.workers ≤ 2 ^ 32 → shape.events ≤ 200000

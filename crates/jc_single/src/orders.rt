@@ -1,9 +1,7 @@
 //! What is asked for, made of what was read.
 
 ghost use Rattle.std.specs.Prelude.{◌≡◌, ◌<◌, ◌≤◌, ◌^◌, Err, IfOk, IsErrOf, Ok, length, reverse, ℕ};
-ghost use Rattle.std.specs.List.{AllByRecursion as Each};
-ghost use Rattle.jc_types.specs.declared.actions.Command.{Command};
-ghost use Rattle.jc_promise.specs.ValidActions.{IsValidAction};
+ghost use Rattle.jc_promise.specs.ValidActions.{AreValidCommands};
 ghost use Rattle.jc_promise.specs.Plays.{IsScriptFor};
 ghost use Rattle.jc_promise.specs.Seen.{log_seen};
 ghost use Rattle.jc_report.specs.Reports.{report_text, summary_of};
@@ -65,7 +63,7 @@ fn print_summary(alloc: Global, played: &Played) -> Result<Output, Want>
 /// The report of the play of a script. What was played is not given back piece by piece, which takes a tenth of the
 /// time: the program prints the report and ends.
 pub(crate) fn script_answer(alloc: Global, script: Script, shape: Shape) -> Result<Output, Want>
-    requires valid_actions { Each (λ (command : Command). IsValidAction command.action) script.commands }
+    requires valid_actions { AreValidCommands script.commands }
     requires fits_shape { IsScriptFor script shape }
     requires fits { length script.commands < 2 ^ 32 }
     requires few_events { shape.events ≤ 200000 }

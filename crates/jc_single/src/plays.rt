@@ -1,9 +1,7 @@
 //! The play of a whole script on one thread.
 
 ghost use Rattle.std.specs.Prelude.{◌≡◌, ◌<◌, ◌≤◌, ◌^◌, IfOk, false, length};
-ghost use Rattle.std.specs.List.{AllByRecursion as Each};
-ghost use Rattle.jc_types.specs.declared.actions.Command.{Command};
-ghost use Rattle.jc_promise.specs.ValidActions.{IsValidAction};
+ghost use Rattle.jc_promise.specs.ValidActions.{AreValidCommands};
 ghost use Rattle.jc_promise.specs.Play.{rest_played, whole_play};
 ghost use Rattle.jc_promise.specs.Plays.{IsScriptFor};
 ghost use Rattle.jc_report.specs.Turns.{playing_of};
@@ -38,7 +36,7 @@ fn play_out(cluster: &mut Cluster) -> Result<bool, Want>
 
 /// Plays the whole script in a new cluster.
 pub(crate) fn play_whole(alloc: Global, script: Script, shape: Shape) -> Result<Played, Want>
-    requires valid_actions { Each (λ (command : Command). IsValidAction command.action) script.commands }
+    requires valid_actions { AreValidCommands script.commands }
     requires fits_shape { IsScriptFor script shape }
     requires fits { length script.commands < 2 ^ 32 }
     requires few_events { shape.events ≤ 200000 }

@@ -2,9 +2,8 @@
 //! reaper behind it.
 
 ghost use Rattle.std.specs.Prelude.{◌≡◌, ◌<◌, ◌≤◌, ◌++◌, ◌^◌, Err, IfOk, IsErrOf, Ok, OnOk, false, length, true, ℕ};
-ghost use Rattle.std.specs.List.{AllByRecursion as Each};
 ghost use Rattle.jc_types.specs.declared.actions.Command.{Command};
-ghost use Rattle.jc_promise.specs.ValidActions.{IsValidAction};
+ghost use Rattle.jc_promise.specs.ValidActions.{AreValidCommands};
 ghost use Rattle.jc_promise.specs.Available.{is_quiescent};
 ghost use Rattle.jc_promise.specs.Plays.{IsScriptFor, ends_in_settle};
 ghost use Rattle.jc_promise.specs.Seen.{deeds_seen, log_seen};
@@ -87,7 +86,7 @@ fn last_of(alloc: Global, played: &Played, ttls: &Ttls) -> Result<Script, Want>
 // The script that is played last. The cluster of the first play is given up at the end, so that two are never there at
 // once.
 fn last_script(alloc: Global, script: Script, ttls: &Ttls, shape: &Shape) -> Result<Script, Want>
-    requires valid_actions { Each (λ (command : Command). IsValidAction command.action) script.commands }
+    requires valid_actions { AreValidCommands script.commands }
     requires fits_shape { IsScriptFor script shape.now }
     requires fits { length script.commands < 2 ^ 32 }
     requires few_ttls { length ttls.now ≤ length script.commands }
@@ -108,7 +107,7 @@ fn settled_answer(
     ttls: &Ttls,
     shape: &Shape,
 ) -> Result<Output, Want>
-    requires valid_actions { Each (λ (command : Command). IsValidAction command.action) script.commands }
+    requires valid_actions { AreValidCommands script.commands }
     requires fits_shape { IsScriptFor script shape.now }
     requires few_commands { length script.commands ≤ most_commands }
     requires few_ttls { length ttls.now ≤ length script.commands }

@@ -3,12 +3,12 @@ use Rattle.std.proofs.Common.{List, [], ◌∷◌, ◌<◌, ◌^◌, arith}
 use Rattle.std.specs.List.{AllByRecursion as Each}
 use Rattle.jc_types.specs.declared.actions.Action1.{Action1}
 use Rattle.jc_types.specs.declared.actions.Command.{Command}
-use Rattle.jc_single.specs.ValidActions.{IsValidAction}
+use Rattle.jc_single.specs.ValidActions.{AreValidCommands, IsValidAction}
 use Rattle.jc_audit.specs.Proper.{IsProperAction, IsProperCommand}
 use Rattle.jc_ctl.proofs.laws.audited_reports_keep_the_promises.Goals as goal
 
 valid-of : ((action : Action1) → IsProperAction action → IsValidAction action) → (commands : List Command)
-    → Each IsProperCommand commands → Each (λ (command : Command). IsValidAction command.action) commands
+    → Each IsProperCommand commands → AreValidCommands commands
 valid-of valid [] h = tt
 valid-of valid (command ∷ commands) h = (valid command.action h.0.action, valid-of valid commands h.1)
 

@@ -4,7 +4,7 @@ use Rattle.std.specs.List.{AllByRecursion as Each}
 use Rattle.jc_types.specs.declared.actions.Command.{Command}
 use Rattle.jc_types.specs.declared.actions.Script.{Script}
 use Rattle.jc_types.specs.declared.runs.Shape.{Shape}
-use Rattle.jc_single.specs.ValidActions.{IsValidAction}
+use Rattle.jc_single.specs.ValidActions.{AreValidCommands}
 use Rattle.jc_shared.proofs.LeftFacts.{ended-as}
 use Rattle.jc_ctl.proofs.LeftFacts.{report_of}
 use Rattle.jc_ctl.proofs.threaded.threaded_report.Goals as goal
@@ -28,7 +28,7 @@ pub told-requires-clause-lanes : goal.told-requires-clause-lanes
 told-requires-clause-lanes g c = subst (λ (s : Script). Each (λ (command : Command). command.lane < 2 ^ 8) s.commands) (sym c.in_ok-ended.ensures.left.script_is) c.requires.lanes
 
 pub told-requires-clause-valid_actions : goal.told-requires-clause-valid_actions
-told-requires-clause-valid_actions g c = subst (λ (s : Script). Each (λ (command : Command). IsValidAction command.action) s.commands) (sym c.in_ok-ended.ensures.left.script_is) c.requires.valid_actions
+told-requires-clause-valid_actions g c = subst (λ (s : Script). AreValidCommands s.commands) (sym c.in_ok-ended.ensures.left.script_is) c.requires.valid_actions
 
 pub told-requires-clause-ended : goal.told-requires-clause-ended
 told-requires-clause-ended g c =
