@@ -1,7 +1,8 @@
 -- What counts of a Job of a legal history, and of its own pods.
-use Rattle.std.proofs.Common.{◌≡◌, ◌⊎◌, inl, inr, true, false, not, List, length, Option, Some, None, is_some, IfSome, refl, sym, ap, ◌∙◌, subst, arith, true≢false}
+use Rattle.std.proofs.Common.{◌≡◌, ◌⊎◌, inl, inr, true, false, not, List, [], length, Option, Some, None, is_some, IfSome, refl, sym, ap, ◌∙◌, subst, arith, true≢false}
 use Rattle.std.specs.List.{AllByRecursion as Each}
 use Rattle.std.proofs.lemmas.Bool.{and_from, and_parts, false_from_ne_true, not-true, or_cases}
+use Rattle.std.proofs.lemmas.Option.{same_Some as some_is}
 use Rattle.jc_ranges.specs.Sets.{IsIncreasing}
 use Rattle.jc_types.proofs.KeyFacts.{same_uid-eq}
 use Rattle.jc_types.proofs.ListFacts.{Each-both, Each-filter, Each-passes, Each-weaker, find_passes}
@@ -25,7 +26,7 @@ use Rattle.jc_states.specs.Pods.{is_active, is_final, is_marked, is_open}
 use Rattle.jc_states.specs.UidLists.{is_in}
 use Rattle.jc_states.proofs.PodListFacts.{rises_filter}
 use Rattle.jc_log.specs.Deeds.{Deed}
-use Rattle.jc_log.specs.Log.{Live, entry_at, job_in, life, pods_in, pods_under, upto}
+use Rattle.jc_log.specs.Log.{Live, entry_at, job_in, life, made_for, pods_in, pods_under, upto}
 use Rattle.jc_log.specs.Requests.{changed_spec, update_refusal}
 use Rattle.jc_log.specs.Writes.{Stored}
 use Rattle.jc_log.proofs.LastingFacts.{step_on}
@@ -50,6 +51,8 @@ use Rattle.jc_runs.specs.Replies.{log_given}
 use Rattle.jc_runs.specs.Machines.{AllAskValid}
 use Rattle.jc_runs.proofs.LegalRuns.{legal_run}
 use Rattle.jc_making.specs.Making.{IsCounted}
+use Rattle.jc_counted.proofs.TargetFacts.{ended-by}
+use Rattle.jc_counted.proofs.UnmadeFacts.{none-own}
 
 -- A pod that is active was so before.
 was-active : (old new : Pod) → PodStep old new → is_active new ≡ true → is_active old ≡ true
@@ -144,12 +147,39 @@ module _ (deeds : List Deed) (log : List Entry) (flights : List Flight) (t : Tie
   }
 
 -- What an update that is not refused gives is valid.
-abbrev Stay : Type 0
+abbrev pub Stay : Type 0
 Stay = (spec : JobSpec) (change : SpecChange) → IsValidSpec spec → update_refusal spec change ≡ None → IsValidSpec (changed_spec spec change)
 
 pub legal-counted : Stay → (shape : Shape) (deeds : List Deed) → IsLegal shape deeds → AllAskValid deeds → (k : Key) (job : Job) → job_in k (log_given shape deeds) ≡ Some job
-    → (has_end job.status.conditions ≡ true → has_target job.status.conditions ≡ true) → IsCounted job (own_pods job (pods_under k (log_given shape deeds)))
-legal-counted stay shape deeds legal valid k job there ended =
+    → IsCounted job (own_pods job (pods_under k (log_given shape deeds)))
+legal-counted stay shape deeds legal valid k job there =
     let m = legal_run stay shape deeds legal valid in
     subst (λ log. IsCounted job (own_pods job (pods_under k log))) m.run.log_is
-    (counted deeds m.log _ m.run.syncs.tied m.run.plannable k job (ap (job_in k) m.run.log_is ∙ there) ended)
+    (counted deeds m.log _ m.run.syncs.tied m.run.plannable k job (ap (job_in k) m.run.log_is ∙ there) (ended-by shape deeds k job there))
+
+-- ---- the UIDs of Jobs that are there
+
+one-key : (log : List Entry) → Stored log → (k l : Key) (one other : Job) → job_in k log ≡ Some one → job_in l log ≡ Some other → same_uid one.uid other.uid ≡ true → k ≡ l
+one-key log stored k l one other there too same =
+    sym (job_in-key k log one there) ∙ first.step.key
+    ∙ ap (λ (j : Job). j.key) (some_is first.made second.made (sym first.is_made ∙ ap (λ u. made_as u log) (same_uid-eq one.uid other.uid same) ∙ second.is_made))
+    ∙ sym second.step.key ∙ job_in-key l log other too
+  where
+    first : WasMade log one
+    first = job_in-was_made k log one stored there
+
+    second : WasMade log other
+    second = job_in-was_made l log other stored too
+
+pub legal-one-key : Stay → (shape : Shape) (deeds : List Deed) → IsLegal shape deeds → AllAskValid deeds → (k l : Key) (one other : Job) → job_in k (log_given shape deeds) ≡ Some one → job_in l (log_given shape deeds) ≡ Some other
+    → same_uid one.uid other.uid ≡ true → k ≡ l
+legal-one-key stay shape deeds legal valid =
+    let m = legal_run stay shape deeds legal valid in
+    one-key (log_given shape deeds) (subst Stored m.run.log_is (Stored-from_legal m.log m.run.syncs.tied.legal))
+
+-- ---- Jobs without pods
+
+pub legal-none-own : Stay → (shape : Shape) (deeds : List Deed) → IsLegal shape deeds → AllAskValid deeds → (job : Job) → made_for job.uid (log_given shape deeds) ≡ 0 → own_pods job (pods_under job.key (log_given shape deeds)) ≡ []
+legal-none-own stay shape deeds legal valid job =
+    let m = legal_run stay shape deeds legal valid in
+    none-own (log_given shape deeds) job (subst Stored m.run.log_is (Stored-from_legal m.log m.run.syncs.tied.legal))

@@ -1,1 +1,3 @@
+pub mod TargetFacts
+pub mod UnmadeFacts
 pub mod CountedFacts

@@ -3,4 +3,4 @@
 
 mod laws;
 
-pub use laws::jobs_are_counted;
+pub use laws::{ended_jobs_have_a_target, jobs_are_counted, keys_have_their_own_jobs};
