@@ -7,8 +7,10 @@ use Rattle.jc_types.specs.declared.objects.Entry.{Entry}
 use Rattle.jc_types.specs.declared.runs.Shape.{Shape}
 use Rattle.jc_log.specs.Requests.{grown}
 use Rattle.jc_log.specs.Deeds.{Deed}
-use Rattle.jc_history.specs.Follows.{Agrees, FollowsHistory, TakesNoNote}
-use Rattle.jc_history.specs.Legal.{IsLegal, IsLegalNext}
+use Rattle.jc_history.specs.Agrees.{IsScheduleOf}
+use Rattle.jc_history.specs.Diaries.{notes}
+use Rattle.jc_history.specs.Follows.{Agrees, AllAgree, ClusterWorld, FollowsHistory, TakesNoNote, cluster_after}
+use Rattle.jc_history.specs.Legal.{IsLegalNext}
 use Rattle.jc_history.specs.Replies.{gives, log_given}
 use Rattle.jc_history.proofs.DeedSteps.{untouched}
 
@@ -22,12 +24,11 @@ holds-after shape past d con h = by (gives shape past (log_given shape past) d.a
     by (Some e) = grown-holds e (log_given shape past) con h
 
 -- A controller that takes no note of the deed.
-pub quiet-agrees : (shape : Shape) (past : List Deed) (d : Deed) (c : ℕ) (con : ControllerView) → IsLegal shape past
-    → TakesNoNote shape past d c → Agrees shape past (log_given shape past) c con
-    → Agrees shape (d ∷ past) (log_given shape (d ∷ past)) c con
-quiet-agrees shape past d c con legal q a = record {
-  schedule = untouched shape c past d legal con.schedule q.goes_on q.nothing a.schedule;
-  holds = holds-after shape past d con a.holds;
+pub quiet-agrees : (w : ClusterWorld) (d : Deed) (cons : List ControllerView) (c : ℕ) (con : ControllerView) → FollowsHistory w
+    → TakesNoNote w.shape w.deeds d c → Agrees w c con → Agrees (cluster_after d w cons) c con
+quiet-agrees w d cons c con f q a = record {
+  schedule = untouched w.shape c w.deeds d f.legal con.schedule q.goes_on q.nothing (subst (λ log. IsScheduleOf (notes w.shape c w.deeds log) con.schedule) f.log_is a.schedule);
+  holds = holds-after w.shape w.deeds d con (subst (λ log. MirrorsLog log con) f.log_is a.holds);
 }
 
 -- What stands in a list with one element set.
@@ -47,31 +48,29 @@ set-cases (z ∷ xs) (suc i) (suc c) x y e = by (set-cases xs i c x y e)
     by (inr h) = inr (λ s. h.0 (omega (arith, s)), h.1)
 
 -- No controller takes note: commands to the store, and the node.
-pub follows-store : (shape : Shape) (past : List Deed) (d : Deed) (log : List Entry) (cons : List ControllerView)
-    → FollowsHistory shape past log cons → IsLegalNext shape past d → ((c : ℕ) → TakesNoNote shape past d c)
-    → FollowsHistory shape (d ∷ past) (log_given shape (d ∷ past)) cons
-follows-store shape past d log cons f next q = record {
+pub follows-store : (w : ClusterWorld) (d : Deed) → FollowsHistory w → IsLegalNext w.shape w.deeds d → ((c : ℕ) → TakesNoNote w.shape w.deeds d c)
+    → FollowsHistory (cluster_after d w w.cons)
+follows-store w d f next q = record {
   legal = (next, f.legal);
   log_is = refl;
-  each = λ c con e. quiet-agrees shape past d c con f.legal (q c) (subst (λ log. Agrees shape past log c con) f.log_is (f.each c con e));
+  each = λ c con e. quiet-agrees w d w.cons c con f (q c) (f.each c con e);
 }
 
 -- One controller takes note: its list, delivery, begin, step or restart.
-pub follows-one : (shape : Shape) (past : List Deed) (d : Deed) (log : List Entry) (cons : List ControllerView) (i : ℕ)
-    (new : ControllerView) → FollowsHistory shape past log cons → IsLegalNext shape past d
-    → ((c : ℕ) → (c ≡ i → ⊥) → TakesNoNote shape past d c)
-    → Agrees shape (d ∷ past) (log_given shape (d ∷ past)) i new → FollowsHistory shape (d ∷ past) (log_given shape (d ∷ past)) (set cons i new)
-follows-one shape past d log cons i new f next q a = record {
+pub follows-one : (w : ClusterWorld) (d : Deed) (i : ℕ) (new : ControllerView) → FollowsHistory w → IsLegalNext w.shape w.deeds d
+    → ((c : ℕ) → (c ≡ i → ⊥) → TakesNoNote w.shape w.deeds d c)
+    → Agrees (cluster_after d w (set w.cons i new)) i new → FollowsHistory (cluster_after d w (set w.cons i new))
+follows-one w d i new f next q a = record {
   legal = (next, f.legal);
   log_is = refl;
-  each = λ c con e. by c con (set-cases cons i c new con e);
+  each = λ c con e. by c con (set-cases w.cons i c new con e);
 }
   where
-    by : (c : ℕ) (con : ControllerView) → ((c ≡ i) × (con ≡ new)) ⊎ ((c ≡ i → ⊥) × (slice_get cons c ≡ Some con)) → Agrees shape (d ∷ past) (log_given shape (d ∷ past)) c con
-    by c con (inl h) = subst (λ j. Agrees shape (d ∷ past) (log_given shape (d ∷ past)) j con) (sym h.0) (subst (Agrees shape (d ∷ past) (log_given shape (d ∷ past)) i) (sym h.1) a)
-    by c con (inr h) = quiet-agrees shape past d c con f.legal (q c h.0) (subst (λ log. Agrees shape past log c con) f.log_is (f.each c con h.1))
+    by : (c : ℕ) (con : ControllerView) → ((c ≡ i) × (con ≡ new)) ⊎ ((c ≡ i → ⊥) × (slice_get w.cons c ≡ Some con)) → Agrees (cluster_after d w (set w.cons i new)) c con
+    by c con (inl h) = subst (λ j. Agrees (cluster_after d w (set w.cons i new)) j con) (sym h.0) (subst (Agrees (cluster_after d w (set w.cons i new)) i) (sym h.1) a)
+    by c con (inr h) = quiet-agrees w d (set w.cons i new) c con f (q c h.0) (f.each c con h.1)
 
 -- All controllers take note: the clock.
-pub follows-all : (shape : Shape) (past : List Deed) (d : Deed) (log : List Entry) (cons news : List ControllerView) → FollowsHistory shape past log cons → IsLegalNext shape past d
-    → ((c : ℕ) (new : ControllerView) → slice_get news c ≡ Some new → Agrees shape (d ∷ past) (log_given shape (d ∷ past)) c new) → FollowsHistory shape (d ∷ past) (log_given shape (d ∷ past)) news
-follows-all shape past d log cons news f next each = record { legal = (next, f.legal); log_is = refl; each = each }
+pub follows-all : (w : ClusterWorld) (d : Deed) (news : List ControllerView) → FollowsHistory w → IsLegalNext w.shape w.deeds d
+    → AllAgree (cluster_after d w news) → FollowsHistory (cluster_after d w news)
+follows-all w d news f next each = record { legal = (next, f.legal); log_is = refl; each = each }

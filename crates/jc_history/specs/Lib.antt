@@ -16,6 +16,7 @@ pub mod Bounds
 pub mod Play
 pub mod ActsAlone
 pub mod Follows
+pub mod Occasions
 pub mod Samples
 pub mod SampleScripts
 pub mod SampleReplies

@@ -1,4 +1,6 @@
-//! Laws on histories. Each function is empty: what it ensures holds of every history, and its callers may cite it.
+//! Laws on histories. Each function is empty: what it ensures holds of every history, and its callers
+//! may cite it. An occasion is a deed that comes after others, and a controller that may note it. A
+//! cluster's world is a history of deeds and its log, both newest first, with the controllers.
 
 ghost use Rattle.std.specs.Prelude.{◌≡◌, ◌∷◌, ◌++◌, [], List, None, Option, Some, length, ℕ, set, slice_get, true};
 ghost use Rattle.jc_asks.specs.Readings.{next_ask, steps_of};
@@ -10,7 +12,6 @@ ghost use Rattle.jc_control.specs.declared.ends.SyncEnd.{SyncEnd};
 ghost use Rattle.jc_control.specs.declared.ends.SyncEnd.TheVariants as how;
 ghost use Rattle.jc_ledger.specs.EventKinds.{began};
 ghost use Rattle.jc_ledger.specs.Syncs.{sync_of};
-ghost use Rattle.jc_log.specs.Acts.{Act};
 ghost use Rattle.jc_log.specs.Acts as does;
 ghost use Rattle.jc_log.specs.Deeds.{Deed};
 ghost use Rattle.jc_log.specs.Log.{entry_at, pods_in};
@@ -35,16 +36,17 @@ ghost use Rattle.jc_history.specs.ActsAlone.{SameActs};
 ghost use Rattle.jc_history.specs.Agrees.{IsScheduleOf, IsQueued};
 ghost use Rattle.jc_history.specs.Available.{IsOrderly};
 ghost use Rattle.jc_history.specs.Bounds.{AreTold};
-ghost use Rattle.jc_history.specs.Diaries.{all_jobs, end_by, moment, notes, on_step};
-ghost use Rattle.jc_history.specs.Follows.{Agrees, AllAgree, FollowsHistory, TakesNoNote};
+ghost use Rattle.jc_history.specs.Diaries.{all_jobs, moment, notes, on_step};
+ghost use Rattle.jc_history.specs.Follows.{Agrees, AllAgree, ClusterWorld, FollowsHistory, TakesNoNote, cluster_after};
 ghost use Rattle.jc_history.specs.Fresh.{begin};
 ghost use Rattle.jc_history.specs.Legal.{IsLegal, IsLegalNext};
 ghost use Rattle.jc_history.specs.Lines.{OnlyAdds, line, waits};
-ghost use Rattle.jc_history.specs.Notes.{Asked, Began, Ended, Expired, Faulted, Listed, Note, SentBack, Ticked, Told};
+ghost use Rattle.jc_history.specs.Notes.{Began, Ended, Expired, Faulted, Listed, Note, SentBack, Ticked, Told};
 ghost use Rattle.jc_history.specs.Numbers.{number};
+ghost use Rattle.jc_history.specs.Occasions.{Exchange, GoesOver, HasDeed, HasLegalPast, IsExchanged, Occasion, WorkerPast, begin_before, diary_asked, diary_before, diary_with, end_asked, log_before, log_with, moment_before, notes_read, register_read};
 ghost use Rattle.jc_history.specs.Play.{nothing, whole_play};
-ghost use Rattle.jc_history.specs.Registers.{AllFit, HaveOwnKeys, asks_status, made, pending, register};
-ghost use Rattle.jc_history.specs.Replies.{AppendsNothing, begin_now, diary, log_after, log_given, notes_with_begin, reply_of_begin, step_done, step_gives};
+ghost use Rattle.jc_history.specs.Registers.{AllFit, HaveOwnKeys, made, pending, register};
+ghost use Rattle.jc_history.specs.Replies.{diary, log_given, notes_with_begin, reply_of_begin, step_done, step_gives};
 
 /// At first nothing is there.
 pub fn notes_say()
@@ -68,20 +70,20 @@ pub fn idle_has_no_notes()
 /// A note that adds keys, as they are listed, told or due, that gets one, sends one back or ends a sync: what a
 /// controller's queue is after the turn is what the notes say.
 pub fn queue_follows_the_notes()
-    ensures added { (note : Note) (older : List Note) (keys : List Key) (schedule new : Schedule)
-        → OnlyAdds note older keys → IsQueued older schedule
-        → new.queue ≡ all_added schedule.queue keys → IsQueued (note ∷ older) new }
-    ensures began { (older : List Note) (schedule new : Schedule) (k : Key) (rest : List Key)
-        (worker : ℕ) (basis : Basis) → IsQueue schedule.queue → IsQueued older schedule
-        → line older ≡ k ∷ rest → basis.key ≡ k → new.queue ≡ got schedule.queue
+    ensures added { (note : Note) (older : List Note) (keys : List Key) (old new : Schedule)
+        → OnlyAdds note older keys → IsQueued older old
+        → new.queue ≡ all_added old.queue keys → IsQueued (note ∷ older) new }
+    ensures began { (older : List Note) (old new : Schedule) (k : Key) (rest : List Key)
+        (worker : ℕ) (basis : Basis) → IsQueue old.queue → IsQueued older old
+        → line older ≡ k ∷ rest → basis.key ≡ k → new.queue ≡ got old.queue
         → IsQueued (Began worker basis ∷ older) new }
-    ensures sent { (older : List Note) (schedule new : Schedule) (k : Key) (rest : List Key)
-        → IsQueue schedule.queue → IsQueued older schedule → line older ≡ k ∷ rest
-        → new.queue ≡ sent_back schedule.queue → IsQueued (SentBack k ∷ older) new }
-    ensures ended { (older : List Note) (schedule new : Schedule) (worker : ℕ) (basis : Basis)
-        (end : SyncEnd) (now : ℕ) → IsQueue schedule.queue → IsQueued older schedule
-        → has_key basis.key schedule.queue.processing ≡ true
-        → new.queue ≡ finished schedule.queue basis.key
+    ensures sent { (older : List Note) (old new : Schedule) (k : Key) (rest : List Key)
+        → IsQueue old.queue → IsQueued older old → line older ≡ k ∷ rest
+        → new.queue ≡ sent_back old.queue → IsQueued (SentBack k ∷ older) new }
+    ensures ended { (older : List Note) (old new : Schedule) (worker : ℕ) (basis : Basis)
+        (end : SyncEnd) (now : ℕ) → IsQueue old.queue → IsQueued older old
+        → has_key basis.key old.queue.processing ≡ true
+        → new.queue ≡ finished old.queue basis.key
         → IsQueued (Ended worker basis end now ∷ older) new }
 {}
 
@@ -137,13 +139,13 @@ pub fn syncs_have_their_own_keys()
         → AllFit (on_step worker now o r ++ notes) }
 {}
 
-/// In a legal history the versions that were told are places of its log, and no note changes where the log grows.
+/// In a legal history the versions that were told are places of its log, and no note changes where the
+/// log grows by a deed.
 pub fn notes_stay_as_the_log_grows()
     ensures told { (shape : Shape) (deeds : List Deed) → IsLegal shape deeds
         → AreTold (length (log_given shape deeds)) deeds }
-    ensures stays { (shape : Shape) (c : ℕ) (past : List Deed) (act : Act) → IsLegal shape past
-        → notes shape c past (log_after shape past (log_given shape past) act)
-        ≡ diary shape c past }
+    ensures stays { (o : Occasion) → HasLegalPast o
+        → notes o.shape o.controller o.past (log_with o) ≡ diary_before o }
 {}
 
 /// The notes of a legal history fit.
@@ -154,87 +156,57 @@ pub fn legal_notes_fit()
 
 /// What a controller has goes over from deed to deed of a legal history.
 pub fn deeds_are_kept()
-    ensures untouched { (shape : Shape) (c : ℕ) (past : List Deed) (d : Deed) → IsLegal shape past
-        → (schedule : Schedule) → TakesNoNote shape past d c
-        → IsScheduleOf (diary shape c past) schedule → IsScheduleOf (diary shape c (d ∷ past)) schedule }
-    ensures restarted { (shape : Shape) (c : ℕ) (past : List Deed) (d : Deed) → IsLegal shape past
-        → d.act ≡ does.Restart c → IsScheduleOf (diary shape c (d ∷ past)) idle }
-    ensures listed_jobs { (shape : Shape) (c : ℕ) (past : List Deed) (d : Deed)
-        → IsLegal shape past → (schedule : Schedule)
-        → d.act ≡ does.List c Jobs → d.reply ≡ reply.Listed (log_end (log_given shape past))
-        → AppendsNothing shape past d → IsScheduleOf (diary shape c past) schedule
-        → IsScheduleOf (diary shape c (d ∷ past))
-        (listed_jobs schedule (all_jobs (log_given shape past))
-        (log_end (log_given shape past))) }
-    ensures listed_pods { (shape : Shape) (c : ℕ) (past : List Deed) (d : Deed)
-        → IsLegal shape past → (schedule : Schedule)
-        → d.act ≡ does.List c Pods → d.reply ≡ reply.Listed (log_end (log_given shape past))
-        → AppendsNothing shape past d → IsScheduleOf (diary shape c past) schedule
-        → IsScheduleOf (diary shape c (d ∷ past))
-        (listed_pods schedule (pods_in (log_given shape past))
-        (log_end (log_given shape past))) }
-    ensures told { (shape : Shape) (c : ℕ) (past : List Deed) (d : Deed) → IsLegal shape past
-        → (schedule : Schedule) (kind : Kind) (version : Version) (entry : Entry)
-        → d.act ≡ does.Deliver c kind → d.reply ≡ reply.Delivered version
-        → entry_at version.0 (log_given shape (d ∷ past)) ≡ Some entry
-        → IsScheduleOf (diary shape c past) schedule
-        → IsScheduleOf (diary shape c (d ∷ past)) (delivered schedule kind entry version) }
-    ensures expired { (shape : Shape) (c : ℕ) (past : List Deed) (d : Deed) → IsLegal shape past
-        → (schedule : Schedule) (kind : Kind) (floor : Version)
-        → d.act ≡ does.Deliver c kind → d.reply ≡ reply.Expired floor
-        → IsScheduleOf (diary shape c past) schedule
-        → IsScheduleOf (diary shape c (d ∷ past)) (forgot schedule kind) }
-    ensures began { (shape : Shape) (c : ℕ) (past : List Deed) (d : Deed) → IsLegal shape past
-        → (con : ControllerView) (worker : ℕ) → d.act ≡ does.Begin c worker
-        → d.reply ≡ reply_of_begin (begin_now shape c past) → AppendsNothing shape past d
-        → IsScheduleOf (diary shape c past) con.schedule → MirrorsLog (log_given shape past) con
-        → IsScheduleOf (diary shape c (d ∷ past)) (begun (moment shape past) con).schedule }
-    ensures ticked { (shape : Shape) (c : ℕ) (past : List Deed) (d : Deed) → IsLegal shape past
-        → (schedule : Schedule) (add now : ℕ) → d.act ≡ does.Clock add → d.reply ≡ reply.Now now
-        → IsScheduleOf (diary shape c past) schedule
-        → IsScheduleOf (diary shape c (d ∷ past)) (clocked schedule now) }
-    ensures finished { (shape : Shape) (c : ℕ) (past : List Deed) (d : Deed) → IsLegal shape past
-        → (schedule : Schedule) (worker : ℕ) (basis : Basis)
-        → d.act ≡ does.Step c worker → d.reply ≡ reply.Ended
-        → register worker (diary shape c past) ≡ Some basis
-        → IsScheduleOf (diary shape c past) schedule
-        → IsScheduleOf (diary shape c (d ∷ past)) (ended schedule basis.key
-        (how.Ended (planned basis).next) (moment shape past)) }
-    ensures goes_on { (shape : Shape) (c : ℕ) (past : List Deed) (d : Deed) → IsLegal shape past
-        → (schedule : Schedule) (worker : ℕ) (basis : Basis) (asked : Request) (given : Answer)
-        → d.act ≡ does.Step c worker → d.reply ≡ reply.Stepped asked given
-        → register worker (diary shape c past) ≡ Some basis
-        → end_by (asks_status asked) given ≡ None
-        → IsScheduleOf (Asked worker basis asked given ∷ diary shape c past) schedule
-        → IsScheduleOf (diary shape c (d ∷ past)) schedule }
-    ensures breaks_off { (shape : Shape) (c : ℕ) (past : List Deed) (d : Deed) → IsLegal shape past
-        → (schedule : Schedule) (worker : ℕ) (basis : Basis) (asked : Request) (given : Answer)
-        (end : SyncEnd) → d.act ≡ does.Step c worker → d.reply ≡ reply.Stepped asked given
-        → register worker (diary shape c past) ≡ Some basis
-        → end_by (asks_status asked) given ≡ Some end
-        → IsScheduleOf (Asked worker basis asked given ∷ diary shape c past) schedule
-        → has_key basis.key schedule.queue.processing ≡ true
-        → IsScheduleOf (diary shape c (d ∷ past)) (ended schedule basis.key end (moment shape past)) }
+    ensures untouched { (o : Occasion) (old : Schedule) → HasLegalPast o
+        → TakesNoNote o.shape o.past o.deed o.controller → GoesOver o old old }
+    ensures restarted { (o : Occasion) → HasLegalPast o
+        → o.deed.act ≡ does.Restart o.controller → IsScheduleOf (diary_with o) idle }
+    ensures listed_jobs { (o : Occasion) (old : Schedule)
+        → HasDeed o (does.List o.controller Jobs) (reply.Listed (log_end (log_before o)))
+        → log_with o ≡ log_before o → GoesOver o old
+        (listed_jobs old (all_jobs (log_before o)) (log_end (log_before o))) }
+    ensures listed_pods { (o : Occasion) (old : Schedule)
+        → HasDeed o (does.List o.controller Pods) (reply.Listed (log_end (log_before o)))
+        → log_with o ≡ log_before o → GoesOver o old
+        (listed_pods old (pods_in (log_before o)) (log_end (log_before o))) }
+    ensures told { (o : Occasion) (old : Schedule) (kind : Kind) (version : Version)
+        (entry : Entry) → HasDeed o (does.Deliver o.controller kind) (reply.Delivered version)
+        → entry_at version.0 (log_with o) ≡ Some entry
+        → GoesOver o old (delivered old kind entry version) }
+    ensures expired { (o : Occasion) (old : Schedule) (kind : Kind) (floor : Version)
+        → HasDeed o (does.Deliver o.controller kind) (reply.Expired floor)
+        → GoesOver o old (forgot old kind) }
+    ensures began { (o : Occasion) (con : ControllerView) (worker : ℕ)
+        → HasDeed o (does.Begin o.controller worker) (reply_of_begin (begin_before o))
+        → log_with o ≡ log_before o → MirrorsLog (log_before o) con
+        → GoesOver o con.schedule (begun (moment_before o) con).schedule }
+    ensures ticked { (o : Occasion) (old : Schedule) (add now : ℕ)
+        → HasDeed o (does.Clock add) (reply.Now now) → GoesOver o old (clocked old now) }
+    ensures finished { (o : Occasion) (old : Schedule) (worker : ℕ) (basis : Basis)
+        → HasDeed o (does.Step o.controller worker) reply.Ended
+        → register worker (diary_before o) ≡ Some basis → GoesOver o old
+        (ended old basis.key (how.Ended (planned basis).next) (moment_before o)) }
+    ensures goes_on { (o : Occasion) (x : Exchange) (old : Schedule) → IsExchanged o x
+        → end_asked x ≡ None → IsScheduleOf (diary_asked o x) old → IsScheduleOf (diary_with o) old }
+    ensures breaks_off { (o : Occasion) (x : Exchange) (old : Schedule) (end : SyncEnd)
+        → IsExchanged o x → end_asked x ≡ Some end → IsScheduleOf (diary_asked o x) old
+        → has_key x.basis.key old.queue.processing ≡ true
+        → IsScheduleOf (diary_with o) (ended old x.basis.key end (moment_before o)) }
 {}
 
-/// A cluster follows its history: one law for the events of which no controller takes note, one for those of
-/// one controller, and one for those of all.
+/// A cluster follows its history: one law for the events of which no controller takes note, one for
+/// those of one controller, and one for those of all.
 pub fn clusters_follow_their_history()
-    ensures store { (shape : Shape) (past : List Deed) (d : Deed) (log : List Entry)
-        (cons : List ControllerView) → FollowsHistory shape past log cons
-        → IsLegalNext shape past d → ((c : ℕ) → TakesNoNote shape past d c)
-        → FollowsHistory shape (d ∷ past) (log_given shape (d ∷ past)) cons }
-    ensures one { (shape : Shape) (past : List Deed) (d : Deed) (log : List Entry)
-        (cons : List ControllerView) (i : ℕ) (new : ControllerView)
-        → FollowsHistory shape past log cons → IsLegalNext shape past d
-        → ((c : ℕ) → (c ≡ i → ⊥) → TakesNoNote shape past d c)
-        → Agrees shape (d ∷ past) (log_given shape (d ∷ past)) i new
-        → FollowsHistory shape (d ∷ past) (log_given shape (d ∷ past)) (set cons i new) }
-    ensures all { (shape : Shape) (past : List Deed) (d : Deed) (log : List Entry)
-        (cons news : List ControllerView)
-        → FollowsHistory shape past log cons → IsLegalNext shape past d
-        → AllAgree shape (d ∷ past) (log_given shape (d ∷ past)) news
-        → FollowsHistory shape (d ∷ past) (log_given shape (d ∷ past)) news }
+    ensures store { (w : ClusterWorld) (d : Deed) → FollowsHistory w
+        → IsLegalNext w.shape w.deeds d → ((c : ℕ) → TakesNoNote w.shape w.deeds d c)
+        → FollowsHistory (cluster_after d w w.cons) }
+    ensures one { (w : ClusterWorld) (d : Deed) (i : ℕ) (new : ControllerView)
+        → FollowsHistory w → IsLegalNext w.shape w.deeds d
+        → ((c : ℕ) → (c ≡ i → ⊥) → TakesNoNote w.shape w.deeds d c)
+        → Agrees (cluster_after d w (set w.cons i new)) i new
+        → FollowsHistory (cluster_after d w (set w.cons i new)) }
+    ensures all { (w : ClusterWorld) (d : Deed) (news : List ControllerView)
+        → FollowsHistory w → IsLegalNext w.shape w.deeds d
+        → AllAgree (cluster_after d w news) → FollowsHistory (cluster_after d w news) }
 {}
 
 /// The acts of a legal history determine it.
@@ -243,15 +215,13 @@ pub fn acts_determine_a_history()
         → SameActs xs ys → xs ≡ ys }
 {}
 
-/// The sync of a worker's register is the one that the ledger takes for the worker's, and what it has made is what the
-/// deeds tell of the worker since its last begin.
+/// The sync of a worker's register is the one that the ledger takes for the worker's, and what it has
+/// made is what the deeds tell of the worker since its last begin.
 pub fn registers_are_the_ledgers_syncs()
-    ensures sync { (shape : Shape) (c w : ℕ) (past : List Deed) (log : List Entry) (basis : Basis)
-        → register w (notes shape c past log) ≡ Some basis
-        → sync_of c w past ≡ Some (began basis) }
-    ensures made { (shape : Shape) (c w : ℕ) (past : List Deed) (log : List Entry) (basis : Basis)
-        → register w (notes shape c past log) ≡ Some basis
-        → made w (notes shape c past log) ≡ steps_of c w past }
+    ensures sync { (p : WorkerPast) (basis : Basis) → register_read p ≡ Some basis
+        → sync_of p.controller p.worker p.deeds ≡ Some (began basis) }
+    ensures made { (p : WorkerPast) (basis : Basis) → register_read p ≡ Some basis
+        → made p.worker (notes_read p) ≡ steps_of p.controller p.worker p.deeds }
 {}
 
 /// A sync that sends the version of these steps, and whose next request is theirs, makes its step as the table of

@@ -28,7 +28,7 @@ use Rattle.jc_history.specs.Notes.{Note, Began, newest}
 use Rattle.jc_history.specs.Registers.{backoff, register, register_told}
 use Rattle.jc_history.specs.Replies.{begin_gives, diary, gives, log_given}
 use Rattle.jc_order.proofs.EndFacts.{end-begins}
-use Rattle.jc_runs.specs.QuietRuns.{AreSteps, BeginsCurrent, IsAtNext, IsQuietSync, WritesNoStatus}
+use Rattle.jc_runs.specs.QuietRuns.{AreSteps, BeginsCurrent, IsAtNext, IsQuietSync, SyncRun, WritesNoStatus, backoff_at_begin, log_at_begin, log_at_end, status_due}
 use Rattle.jc_runs.specs.Machines.{AllAskValid}
 use Rattle.jc_runs.specs.Seen.{Seen, deeds_in, deeds_seen, happened, log_seen, past_seen, reply_seen}
 use Rattle.jc_machine.specs.DiariesSeen.{diary_seen}
@@ -37,15 +37,13 @@ use Rattle.jc_machine.specs.SyncsSeen.{StartsCurrent, IsLast, StepsOn, StepsWith
 -- ---- what the laws of syncs on current caches say
 
 abbrev pub EndsWell : Type 0
-EndsWell = (shape : Shape) (c w : ℕ) (d : Deed) (past : List Deed) (k : Key) (job : Job) (last : Deed) (run : List Deed) → IsQuietSync shape c w d past k job last run → last.reply ≡ reply.Ended
+EndsWell = (s : SyncRun) → IsQuietSync s → s.last.reply ≡ reply.Ended
 
 abbrev pub ComesToNext : Type 0
-ComesToNext = (shape : Shape) (c w : ℕ) (d : Deed) (past : List Deed) (k : Key) (job : Job) (last : Deed) (run : List Deed) → IsQuietSync shape c w d past k job last run
-    → IsAtNext (log_given shape (last ∷ run ++ d ∷ past)) (log_given shape (d ∷ past)) (moment shape past) (backoff k (diary shape c past)) k job
+ComesToNext = (s : SyncRun) → IsQuietSync s → IsAtNext (log_at_end s) (log_at_begin s) (moment s.shape s.past) (backoff_at_begin s) s.key s.job
 
 abbrev pub WritesNothing : Type 0
-WritesNothing = (shape : Shape) (c w : ℕ) (d : Deed) (past : List Deed) (k : Key) (job : Job) (last : Deed) (run : List Deed) → IsQuietSync shape c w d past k job last run
-    → next_status (moment shape past) (backoff k (diary shape c past)) job (own_pods job (pods_under k (log_given shape (d ∷ past)))) ≡ job.status → Each (λ (x : Deed). WritesNoStatus x.reply) (last ∷ run)
+WritesNothing = (s : SyncRun) → IsQuietSync s → status_due s ≡ s.job.status → Each (λ (x : Deed). WritesNoStatus x.reply) (s.last ∷ s.run)
 
 -- ---- of lists
 
@@ -125,6 +123,20 @@ module _ (old : Seen) (c w : ℕ) (k : Key) (job : Job) (cur : StartsCurrent old
 
     -- ---- the whole sync
 
+    -- The deeds of the sync, up to this last one.
+    abbrev sync_run : Past → List Past → SyncRun
+    sync_run last run = record {
+      shape = old.shape;
+      controller = c;
+      worker = w;
+      key = k;
+      job = job;
+      past = past;
+      begin = d;
+      run = deeds_in old.script run;
+      last = deed old.script last;
+    }
+
     module _ (ends : EndsWell) (comes : ComesToNext) (nothing : WritesNothing) where
       -- What came of it.
       pub record Reached (new : Seen) (run : List Past) : Type 0 where
@@ -136,18 +148,18 @@ module _ (old : Seen) (c w : ℕ) (k : Key) (job : Job) (cur : StartsCurrent old
           → register w (diary old.shape c (deeds_in old.script run ++ d ∷ past)) ≡ None → Reached (record { script = old.script; shape = old.shape; pasts = run ++ begun ∷ old.pasts }) run
       reached-at [] steps legal-new valid free = absurd (true≢false (sym busy ∙ ap is_some free))
       reached-at (last ∷ run) steps legal-new valid free = record {
-        ended = λ r is. sym (ap (λ o. unwrap_or o r) is) ∙ ends old.shape c w d past k job (deed old.script last) (deeds_in old.script run) quiet;
+        ended = λ r is. sym (ap (λ o. unwrap_or o r) is) ∙ ends (sync_run last run) quiet;
         next =
             subst (λ deeds. IsAtNext (log_given old.shape deeds) log (moment old.shape past) (backoff k (diary_seen old c)) k job) (sym (map-append (deed old.script) (last ∷ run) (begun ∷ old.pasts)))
             (subst (λ l. IsAtNext (log_given old.shape (deeds_in old.script (last ∷ run) ++ d ∷ past)) l (moment old.shape past) (backoff k (diary_seen old c)) k job) same-log
-            (comes old.shape c w d past k job (deed old.script last) (deeds_in old.script run) quiet));
+            (comes (sync_run last run) quiet));
         silent = λ same. silent-pasts (deed old.script) (λ p. refl) (last ∷ run)
-            (nothing old.shape c w d past k job (deed old.script last) (deeds_in old.script run) quiet
+            (nothing (sync_run last run) quiet
             (ap (λ l. next_status (moment old.shape past) (backoff k (diary_seen old c)) job
             (own_pods job (pods_under k l))) same-log ∙ same));
       }
         where
-          quiet : IsQuietSync old.shape c w d past k job (deed old.script last) (deeds_in old.script run)
+          quiet : IsQuietSync (sync_run last run)
           quiet = record {
             begins = current (legal-before old.shape (deeds_in old.script (last ∷ run)) (d ∷ past) legal-new);
             legal = legal-new;

@@ -30,7 +30,7 @@ use Rattle.jc_history.proofs.DiaryFacts.{legal-told, notes-stay}
 use Rattle.jc_history.proofs.LegalFacts.{notes-next}
 use Rattle.jc_order.proofs.HonestFacts.{longer-log}
 use Rattle.jc_order.proofs.RetryFacts.{step-reply}
-use Rattle.jc_runs.specs.QuietRuns.{AreSteps, BeginsCurrent, IsAtNext, IsQuietSync, WritesNoStatus}
+use Rattle.jc_runs.specs.QuietRuns.{AreSteps, BeginsCurrent, IsAtNext, IsQuietSync, SyncRun, WritesNoStatus, backoff_at_begin, log_at_begin, log_at_end, status_due}
 use Rattle.jc_runs.specs.Machines.{AllAskValid}
 use Rattle.jc_promise.specs.QuietEnds.{EndsAtNext, GoesOn, IsOver, RunsQuietly, SyncsWell}
 
@@ -165,7 +165,11 @@ module _ (shape : Shape) (c w : ℕ) (d : Deed) (past : List Deed) (k : Key) (jo
   run-steps [] l s g = tt
   run-steps (x ∷ some) l s g = (s.0, in-use shape c w x (some ++ d ∷ past) l.0 s.0 GoesOn (λ h. h) g.0, run-steps some l.1 s.1 g.1)
 
-  sync : IsQuietSync shape c w d past k job last run
+  -- Its deeds.
+  abbrev sync_run : SyncRun
+  sync_run = record { shape = shape; controller = c; worker = w; key = k; job = job; past = past; begin = d; run = run; last = last }
+
+  sync : IsQuietSync sync_run
   sync = record {
     begins = begins;
     legal = legal-sync;
@@ -197,17 +201,13 @@ module _ (shape : Shape) (c w : ℕ) (d : Deed) (past : List Deed) (k : Key) (jo
 
 -- What the law says of a quiet sync.
 pub record Law : Type 0 where
-  pub ended : (shape : Shape) (c w : ℕ) (d : Deed) (past : List Deed) (k : Key) (job : Job) (last : Deed) (run : List Deed) → IsQuietSync shape c w d past k job last run → last.reply ≡ reply.Ended
-  pub next : (shape : Shape) (c w : ℕ) (d : Deed) (past : List Deed) (k : Key) (job : Job) (last : Deed) (run : List Deed) → IsQuietSync shape c w d past k job last run
-      → IsAtNext (log_given shape (last ∷ run ++ d ∷ past)) (log_given shape (d ∷ past)) (moment shape past) (backoff k (diary shape c past)) k job
-  pub nothing : (shape : Shape) (c w : ℕ) (d : Deed) (past : List Deed) (k : Key) (job : Job) (last : Deed) (run : List Deed) → IsQuietSync shape c w d past k job last run
-      → next_status (moment shape past) (backoff k (diary shape c past)) job (own_pods job (pods_under k (log_given shape (d ∷ past)))) ≡ job.status
-      → Each (λ (x : Deed). WritesNoStatus x.reply) (last ∷ run)
+  pub ended : (s : SyncRun) → IsQuietSync s → s.last.reply ≡ reply.Ended
+  pub next : (s : SyncRun) → IsQuietSync s → IsAtNext (log_at_end s) (log_at_begin s) (moment s.shape s.past) (backoff_at_begin s) s.key s.job
+  pub nothing : (s : SyncRun) → IsQuietSync s → status_due s ≡ s.job.status → Each (λ (x : Deed). WritesNoStatus x.reply) (s.last ∷ s.run)
 
 pub syncs-well : Law → (shape : Shape) (deeds : List Deed) → IsLegal shape deeds → AllAskValid deeds → SyncsWell shape deeds (log_given shape deeds)
 syncs-well law shape deeds legal valid c w d past k job last run later e quiet =
+    let its : IsQuietSync (record { shape = shape; controller = c; worker = w; key = k; job = job; past = past; begin = d; run = run; last = last }) =
+    sync shape c w d past k job last run later (log_given shape deeds) (ap (log_given shape) e) (subst (IsLegal shape) e legal) (subst AllAskValid e valid) quiet in
     ends shape c w d past k job last run later (log_given shape deeds) (ap (log_given shape) e) (subst (IsLegal shape) e legal) (subst AllAskValid e valid) quiet
-    (law.ended shape c w d past k job last run its) (law.next shape c w d past k job last run its) (law.nothing shape c w d past k job last run its)
-  where
-    its : IsQuietSync shape c w d past k job last run
-    its = sync shape c w d past k job last run later (log_given shape deeds) (ap (log_given shape) e) (subst (IsLegal shape) e legal) (subst AllAskValid e valid) quiet
+    (law.ended _ its) (law.next _ its) (law.nothing _ its)

@@ -15,14 +15,11 @@ use Rattle.jc_types.specs.declared.replies.Reply.TheVariants as reply
 use Rattle.jc_types.specs.declared.runs.Shape.{Shape}
 use Rattle.jc_types.specs.declared.specifications.JobSpec.{JobSpec}
 use Rattle.jc_states.specs.declared.bases.Basis.{Basis}
-use Rattle.jc_states.specs.Bases.{own_pods}
 use Rattle.jc_types.specs.ValidSpecs.{IsValidSpec}
-use Rattle.jc_log.specs.Log.{pods_under}
 use Rattle.jc_log.specs.Deeds.{Deed}
 use Rattle.jc_log.specs.Requests.{changed_spec, refused, update_refusal}
 use Rattle.jc_log.specs.Writes.{Stored}
 use Rattle.jc_log.proofs.WriteFacts.{Stored-from_legal}
-use Rattle.jc_plan.specs.Next.{next_status}
 use Rattle.jc_asks.specs.Sends.{new_sync}
 use Rattle.jc_asks.specs.Steps.{Sync}
 use Rattle.jc_sync.specs.AllRegisters.{HasSyncs, Registers, put_at, register_at}
@@ -30,9 +27,8 @@ use Rattle.jc_sync.proofs.BeginFacts.{begun_syncs}
 use Rattle.jc_history.specs.Diaries.{moment, notes}
 use Rattle.jc_history.specs.Fresh.{basis as basis_of}
 use Rattle.jc_history.specs.Legal.{IsLegal}
-use Rattle.jc_history.specs.Registers.{backoff}
-use Rattle.jc_history.specs.Replies.{diary, log_given}
-use Rattle.jc_runs.specs.QuietRuns.{BeginsCurrent, IsAtNext, IsQuietSync, WritesNoStatus}
+use Rattle.jc_history.specs.Replies.{log_given}
+use Rattle.jc_runs.specs.QuietRuns.{BeginsCurrent, IsAtNext, IsQuietSync, SyncRun, WritesNoStatus, backoff_at_begin, deeds_at_begin, deeds_at_end, log_at_begin, log_at_end, status_due}
 use Rattle.jc_runs.specs.Machines.{AllAskValid, IsTeam}
 use Rattle.jc_runs.specs.Teams.{begin_reply, registers_of}
 use Rattle.jc_runs.proofs.BeginFacts.{begin_gives-at, begun_basis}
@@ -153,12 +149,19 @@ valid_before : (run past : List Deed) → AllAskValid (run ++ past) → AllAskVa
 valid_before [] past valid = valid
 valid_before (d ∷ run) past valid = valid_before run past valid.1
 
-module _ (stay : Stay) (shape : Shape) (c w : ℕ) (d : Deed) (past : List Deed) (k : Key) (job : Job) (last : Deed) (run : List Deed) (q : IsQuietSync shape c w d past k job last run) where
-  registers : Registered shape c w d past k job
-  registers = registered shape c w d past k job q.begins (legal_run stay shape past q.begins.legal.1 (valid_before (last ∷ run) (d ∷ past) q.valid).1)
+module _ (stay : Stay) (s : SyncRun) (q : IsQuietSync s) where
+  registers : Registered s.shape s.controller s.worker s.begin s.past s.key s.job
+  registers =
+      registered s.shape s.controller s.worker s.begin s.past s.key s.job q.begins
+      (legal_run stay s.shape s.past q.begins.legal.1 (valid_before (s.last ∷ s.run) (deeds_at_begin s) q.valid).1)
 
-  pub comes_to_next : (last.reply ≡ reply.Ended) × IsAtNext (log_given shape (last ∷ run ++ d ∷ past)) (log_given shape (d ∷ past)) (moment shape past) (backoff k (diary shape c past)) k job
-  comes_to_next = comes-to-next shape c w d past k job registers.rs registers.is last run q.legal q.steps (legal_stored stay shape (last ∷ run ++ d ∷ past) q.legal q.valid) q.free
+  stored : Stored (log_at_end s)
+  stored = legal_stored stay s.shape (deeds_at_end s) q.legal q.valid
 
-  pub writes_nothing : next_status (moment shape past) (backoff k (diary shape c past)) job (own_pods job (pods_under k (log_given shape (d ∷ past)))) ≡ job.status → Each (λ (x : Deed). WritesNoStatus x.reply) (last ∷ run)
-  writes_nothing same = writes-nothing shape c w d past k job registers.rs registers.is last run q.legal q.steps (legal_stored stay shape (last ∷ run ++ d ∷ past) q.legal q.valid) q.free same
+  pub comes_to_next : (s.last.reply ≡ reply.Ended) × IsAtNext (log_at_end s) (log_at_begin s) (moment s.shape s.past) (backoff_at_begin s) s.key s.job
+  comes_to_next =
+      comes-to-next s.shape s.controller s.worker s.begin s.past s.key s.job registers.rs registers.is s.last s.run q.legal q.steps stored q.free
+
+  pub writes_nothing : status_due s ≡ s.job.status → Each (λ (x : Deed). WritesNoStatus x.reply) (s.last ∷ s.run)
+  writes_nothing same =
+      writes-nothing s.shape s.controller s.worker s.begin s.past s.key s.job registers.rs registers.is s.last s.run q.legal q.steps stored q.free same

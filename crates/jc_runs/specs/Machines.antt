@@ -2,6 +2,9 @@
 --     AreWorkers notes rs fs         the workers have the syncs and the faults that the notes tell
 --     IsTeam shape deeds log c team  a controller with its workers has what the history says of it
 --     IsMachine shape deeds log ..   all have, with the log, the fates of pods and the moment
+--     MachineWorld                   a history so far, and what a machine has after it
+--     IsOfMachine m                  it is what the history says
+--     WorksOn m c team w sync        the worker of the controller has this sync under way
 --     AllAskValid deeds              each Job that a deed creates has a valid specification
 use Rattle.std.specs.Prelude.{◌≡◌, ℕ, ◌≤◌, List, length, slice_get, Option, Some}
 use Rattle.std.specs.List.{AllByRecursion as Each}
@@ -56,6 +59,24 @@ pub record IsMachine (shape : Shape) (deeds : List Deed) (log : List Entry) (tea
   pub syncs : HasSyncs deeds log (registers_of teams)
   pub plannable : IsPlannable log
   pub short : length log ≤ length deeds
+
+-- A history so far, of this shape: its deeds, its log, both newest first, and what a machine then has.
+pub record MachineWorld : Type 0 where
+  pub shape : Shape
+  pub deeds : List Deed
+  pub log : List Entry
+  pub teams : List Team
+  pub fates : Fates
+  pub now : ℕ
+
+-- All of it is what the history says.
+abbrev pub IsOfMachine : MachineWorld → Type 0
+IsOfMachine m = IsMachine m.shape m.deeds m.log m.teams m.fates m.now
+
+-- The controller of the number has this team, and the team's worker has this sync under way.
+pub record WorksOn (m : MachineWorld) (c : ℕ) (team : Team) (w : ℕ) (sync : Sync) : Type 0 where
+  pub team_is : slice_get m.teams c ≡ Some team
+  pub sync_is : slice_get team.registers w ≡ Some (Some sync)
 
 -- A Job that the act creates has a valid specification.
 abbrev pub AsksValid : Act → Type 0

@@ -1,7 +1,11 @@
 -- A sync that begins on current caches, and the steps of its worker, one after the other.
 --     AreSteps shape c w run past      each deed of the run is a step of the worker's sync
 --     BeginsCurrent shape c w d ..     the deed begins a sync on caches that saw the whole log
---     IsQuietSync shape c w d ..       from this begin on came the worker's steps alone
+--     SyncRun                          the deeds of a sync, what came before, and whose it is
+--     deeds_at_begin, deeds_at_end     the deeds up to its begin, and up to its last step
+--     log_at_begin, log_at_end         the logs of these
+--     backoff_at_begin, status_due     the Job's failures at the begin, and the status that was next then
+--     IsQuietSync s                    from its begin on came the worker's steps alone
 --     IsAtNext log old now ..          the Job has its next status; what had ended and was not left over is released
 --     WritesNoStatus reply             the reply tells of no request for a status
 use Rattle.std.specs.Prelude.{◌≡◌, ℕ, true, false, List, [], ◌∷◌, ◌++◌, find, Some, None, is_some}
@@ -18,12 +22,14 @@ use Rattle.jc_types.specs.declared.objects.Pod.{Pod}
 use Rattle.jc_types.specs.declared.replies.Reply.{Reply}
 use Rattle.jc_types.specs.declared.replies.Reply.TheVariants as reply
 use Rattle.jc_types.specs.declared.runs.Shape.{Shape}
+use Rattle.jc_types.specs.declared.statuses.JobStatus.{JobStatus}
 use Rattle.jc_types.specs.declared.syncs.Backoff.{Backoff}
 use Rattle.jc_log.specs.Deeds.{Deed}
 use Rattle.jc_types.specs.Keys.{same_uid}
 use Rattle.jc_log.specs.Log.{is_lost, job_in, life, pods_under}
+use Rattle.jc_history.specs.Diaries.{moment}
 use Rattle.jc_history.specs.Legal.{IsLegal}
-use Rattle.jc_history.specs.Registers.{asks_status, pending, register}
+use Rattle.jc_history.specs.Registers.{asks_status, backoff, pending, register}
 use Rattle.jc_history.specs.Replies.{diary, log_given}
 use Rattle.jc_runs.specs.Machines.{AllAskValid}
 use Rattle.jc_control.specs.Schedules.{log_end}
@@ -48,15 +54,52 @@ pub record BeginsCurrent (shape : Shape) (c w : ℕ) (d : Deed) (past : List Dee
   pub there : job_in k (log_given shape (d ∷ past)) ≡ Some job
   pub no_fault : pending w (diary shape c past) ≡ None
 
--- From this begin on came the steps of the worker alone, up to the last one; then its register is
--- free.
-pub record IsQuietSync (shape : Shape) (c w : ℕ) (d : Deed) (past : List Deed) (k : Key)
-    (job : Job) (last : Deed) (run : List Deed) : Type 0 where
-  pub begins : BeginsCurrent shape c w d past k job
-  pub legal : IsLegal shape (last ∷ run ++ d ∷ past)
-  pub valid : AllAskValid (last ∷ run ++ d ∷ past)
-  pub steps : AreSteps shape c w (last ∷ run) (d ∷ past)
-  pub free : register w (diary shape c (last ∷ run ++ d ∷ past)) ≡ None
+-- The deeds of a sync, newest first as all are: those before it, its begin, its steps and the last of them. Whose
+-- it is: the controller's, the worker's, and that of the key's Job.
+pub record SyncRun : Type 0 where
+  pub shape : Shape
+  pub controller : ℕ
+  pub worker : ℕ
+  pub key : Key
+  pub job : Job
+  pub past : List Deed
+  pub begin : Deed
+  pub run : List Deed
+  pub last : Deed
+
+-- The deeds up to its begin.
+abbrev pub deeds_at_begin : SyncRun → List Deed
+deeds_at_begin s = s.begin ∷ s.past
+
+-- And up to its last step.
+abbrev pub deeds_at_end : SyncRun → List Deed
+deeds_at_end s = s.last ∷ s.run ++ s.begin ∷ s.past
+
+-- The log at its begin.
+abbrev pub log_at_begin : SyncRun → List Entry
+log_at_begin s = log_given s.shape (deeds_at_begin s)
+
+-- And at its end.
+abbrev pub log_at_end : SyncRun → List Entry
+log_at_end s = log_given s.shape (deeds_at_end s)
+
+-- What the controller knew of the Job's failures as it began.
+abbrev pub backoff_at_begin : SyncRun → Backoff
+backoff_at_begin s = backoff s.key (diary s.shape s.controller s.past)
+
+-- The status that was next then.
+abbrev pub status_due : SyncRun → JobStatus
+status_due s =
+    next_status (moment s.shape s.past) (backoff_at_begin s) s.job
+    (own_pods s.job (pods_under s.key (log_at_begin s)))
+
+-- From its begin on came the steps of the worker alone, up to the last one; then its register is free.
+pub record IsQuietSync (s : SyncRun) : Type 0 where
+  pub begins : BeginsCurrent s.shape s.controller s.worker s.begin s.past s.key s.job
+  pub legal : IsLegal s.shape (deeds_at_end s)
+  pub valid : AllAskValid (deeds_at_end s)
+  pub steps : AreSteps s.shape s.controller s.worker (s.last ∷ s.run) (deeds_at_begin s)
+  pub free : register s.worker (diary s.shape s.controller (deeds_at_end s)) ≡ None
 
 -- The Job has the status that was next when the log was the old one, and each of its pods that had
 -- ended then and was not left over is not tracked.

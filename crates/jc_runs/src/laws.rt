@@ -1,21 +1,20 @@
 //! Laws on runs of a cluster. Each function is empty: what it ensures holds of every run, and its
-//! callers may cite it.
+//! callers may cite it. A machine's world is a history of deeds and its log, both newest first,
+//! with all that a machine then has.
 
-ghost use Rattle.std.specs.Prelude.{◌≡◌, ◌≤◌, ◌^◌, ◌∷◌, ◌++◌, [], None, IsSome, List, Some, length, slice_get, true, ℕ};
+ghost use Rattle.std.specs.Prelude.{◌≡◌, ◌≤◌, ◌^◌, ◌∷◌, [], None, IsSome, List, Some, length, slice_get, true, ℕ};
 ghost use Rattle.std.specs.List.{AllByRecursion as Each};
 ghost use Rattle.jc_types.specs.declared.actions.Script.{Script};
-ghost use Rattle.jc_types.specs.declared.objects.Entry.{Entry};
 ghost use Rattle.jc_types.specs.declared.objects.Job.{Job};
 ghost use Rattle.jc_types.specs.declared.objects.Key.{Key};
 ghost use Rattle.jc_types.specs.declared.replies.Reply.TheVariants as reply;
 ghost use Rattle.jc_types.specs.declared.runs.Past.{Past};
 ghost use Rattle.jc_types.specs.declared.runs.Shape.{Shape};
 ghost use Rattle.jc_states.specs.declared.bases.Basis.{Basis};
-ghost use Rattle.jc_states.specs.Bases.{CanPlan, own_pods};
+ghost use Rattle.jc_states.specs.Bases.{CanPlan};
 ghost use Rattle.jc_log.specs.Deeds.{Deed};
-ghost use Rattle.jc_log.specs.Log.{job_in, pods_under};
+ghost use Rattle.jc_log.specs.Log.{job_in};
 ghost use Rattle.jc_control.specs.Queued.{has_key};
-ghost use Rattle.jc_plan.specs.Next.{next_status};
 ghost use Rattle.jc_plan.specs.Plans.{IsDated};
 ghost use Rattle.jc_control.specs.ControllerCalls.{begun};
 ghost use Rattle.jc_control.specs.declared.begins.Begin.TheVariants.{Begun};
@@ -26,12 +25,11 @@ ghost use Rattle.jc_asks.specs.declared.asks.Ask.{Ask};
 ghost use Rattle.jc_history.specs.Diaries.{moment, notes};
 ghost use Rattle.jc_history.specs.Legal.{IsLegal};
 ghost use Rattle.jc_history.specs.Registers.{backoff};
-ghost use Rattle.jc_history.specs.Replies.{diary, log_given};
+ghost use Rattle.jc_history.specs.Replies.{log_given};
 ghost use Rattle.jc_sync.specs.StepEffects.{IsLaterThan};
 ghost use Rattle.jc_runs.specs.Conflicts.{AreToldLater};
-ghost use Rattle.jc_runs.specs.Fates.{Fates};
-ghost use Rattle.jc_runs.specs.QuietRuns.{IsAtNext, IsQuietSync, WritesNoStatus};
-ghost use Rattle.jc_runs.specs.Machines.{AllAskValid, IsMachine};
+ghost use Rattle.jc_runs.specs.QuietRuns.{IsAtNext, IsQuietSync, SyncRun, WritesNoStatus, backoff_at_begin, log_at_begin, log_at_end, status_due};
+ghost use Rattle.jc_runs.specs.Machines.{AllAskValid, IsMachine, IsOfMachine, MachineWorld, WorksOn};
 ghost use Rattle.jc_states.specs.ValidActions.{AreValidCommands};
 ghost use Rattle.jc_runs.specs.Seen.{deeds_in};
 ghost use Rattle.jc_runs.specs.Teams.{KnowsNothing, Team};
@@ -59,14 +57,11 @@ pub fn runs_start()
 
 /// In a run each sync that begins can be planned, and the key of each sync under way is processing.
 pub fn syncs_can_go_on()
-    ensures planned { (shape : Shape) (past : List Deed) (log : List Entry) (teams : List Team)
-        (fates : Fates) (now : ℕ) → IsMachine shape past log teams fates now → (c : ℕ) (team : Team)
-        → slice_get teams c ≡ Some team → length past ≤ 200000 → (basis : Basis)
-        → (begun now team.con).answer ≡ Begun basis → IsSome basis.job → CanPlan basis }
-    ensures processing { (shape : Shape) (past : List Deed) (log : List Entry) (teams : List Team)
-        (fates : Fates) (now : ℕ) → IsMachine shape past log teams fates now → (c : ℕ) (team : Team)
-        → slice_get teams c ≡ Some team → (w : ℕ) (sync : Sync)
-        → slice_get team.registers w ≡ Some (Some sync)
+    ensures planned { (m : MachineWorld) → IsOfMachine m → (c : ℕ) (team : Team)
+        → slice_get m.teams c ≡ Some team → length m.deeds ≤ 200000 → (basis : Basis)
+        → (begun m.now team.con).answer ≡ Begun basis → IsSome basis.job → CanPlan basis }
+    ensures processing { (m : MachineWorld) → IsOfMachine m
+        → (c : ℕ) (team : Team) (w : ℕ) (sync : Sync) → WorksOn m c team w sync
         → has_key sync.flight.basis.key team.con.schedule.queue.processing ≡ true }
 {}
 
@@ -75,23 +70,18 @@ pub fn syncs_can_go_on()
 /// ignored, was active, or its index was complete or not below the completions. So no ended pod lost
 /// its finalizer uncounted that needs a count, but by a command.
 pub fn runs_count_once()
-    ensures at_each { (shape : Shape) (deeds : List Deed) (log : List Entry) (teams : List Team)
-        (fates : Fates) (now : ℕ) → IsMachine shape deeds log teams fates now
-        → OnceAtEach deeds log }
-    ensures justified { (shape : Shape) (deeds : List Deed) (log : List Entry) (teams : List Team)
-        (fates : Fates) (now : ℕ) → IsMachine shape deeds log teams fates now
-        → (k : Key) (job : Job) → job_in k log ≡ Some job → AllJustified job deeds log }
+    ensures at_each { (m : MachineWorld) → IsOfMachine m → OnceAtEach m.deeds m.log }
+    ensures justified { (m : MachineWorld) → IsOfMachine m
+        → (k : Key) (job : Job) → job_in k m.log ≡ Some job → AllJustified job m.deeds m.log }
 {}
 
 /// In a run a status write or a let-go of a sync that is refused as a conflict is told a later
 /// version than it sent.
 pub fn conflicts_tell_later_versions()
-    ensures { (shape : Shape) (deeds : List Deed) (log : List Entry) (teams : List Team)
-        (fates : Fates) (now : ℕ) → IsMachine shape deeds log teams fates now
-        → (c : ℕ) (team : Team) → slice_get teams c ≡ Some team
-        → (w : ℕ) (sync : Sync) → slice_get team.registers w ≡ Some (Some sync)
-        → (ask : Ask) (left : List Ask) → sync.left ≡ ask ∷ left
-        → IsLaterThan (version_sent sync.flight.sends ask) (answered_to log now sync.flight ask) }
+    ensures { (m : MachineWorld) → IsOfMachine m
+        → (c : ℕ) (team : Team) (w : ℕ) (sync : Sync) → WorksOn m c team w sync
+        → (ask : Ask) (left : List Ask) → sync.left ≡ ask ∷ left → IsLaterThan
+        (version_sent sync.flight.sends ask) (answered_to m.log m.now sync.flight ask) }
 {}
 
 /// Where each Job that a script creates has a valid specification, so has each that a history of it
@@ -128,18 +118,11 @@ pub fn legal_histories_tell_later_versions()
 /// begin, and each of its pods that had ended then and was not left over for a later sync has lost its
 /// finalizer. Where the Job had its next status already, no status is written.
 pub fn quiet_syncs_reach_the_next_status()
-    ensures ended { (shape : Shape) (c w : ℕ) (d : Deed) (past : List Deed) (k : Key) (job : Job)
-        (last : Deed) (run : List Deed) → IsQuietSync shape c w d past k job last run
-        → last.reply ≡ reply.Ended }
-    ensures next { (shape : Shape) (c w : ℕ) (d : Deed) (past : List Deed) (k : Key) (job : Job)
-        (last : Deed) (run : List Deed) → IsQuietSync shape c w d past k job last run
-        → IsAtNext (log_given shape (last ∷ run ++ d ∷ past)) (log_given shape (d ∷ past))
-        (moment shape past) (backoff k (diary shape c past)) k job }
-    ensures nothing { (shape : Shape) (c w : ℕ) (d : Deed) (past : List Deed) (k : Key) (job : Job)
-        (last : Deed) (run : List Deed) → IsQuietSync shape c w d past k job last run
-        → next_status (moment shape past) (backoff k (diary shape c past)) job
-        (own_pods job (pods_under k (log_given shape (d ∷ past)))) ≡ job.status
-        → Each (λ x. WritesNoStatus x.reply) (last ∷ run) }
+    ensures ended { (s : SyncRun) → IsQuietSync s → s.last.reply ≡ reply.Ended }
+    ensures next { (s : SyncRun) → IsQuietSync s → IsAtNext (log_at_end s) (log_at_begin s)
+        (moment s.shape s.past) (backoff_at_begin s) s.key s.job }
+    ensures nothing { (s : SyncRun) → IsQuietSync s → status_due s ≡ s.job.status
+        → Each (λ x. WritesNoStatus x.reply) (s.last ∷ s.run) }
 {
     allowed_updates_stay_valid();
 }

@@ -4,7 +4,7 @@ use Rattle.jc_runs.proofs.laws.quiet_syncs_reach_the_next_status.Goals as goal
 
 pub returns : goal.returns
 returns c = record {
-  ended = λ shape controller w d past k job last run q. (comes_to_next c.allowed_updates_stay_valid.ensures shape controller w d past k job last run q).0;
-  next = λ shape controller w d past k job last run q. (comes_to_next c.allowed_updates_stay_valid.ensures shape controller w d past k job last run q).1;
+  ended = λ s q. (comes_to_next c.allowed_updates_stay_valid.ensures s q).0;
+  next = λ s q. (comes_to_next c.allowed_updates_stay_valid.ensures s q).1;
   nothing = writes_nothing c.allowed_updates_stay_valid.ensures;
 }

@@ -7,17 +7,27 @@ use Rattle.jc_machine.proofs.machine.Machine.history.Goals as goal
 pub returns-clause-once : goal.returns-clause-once
 returns-clause-once c =
     once_seen c.self.inside.script c.self.inside.shape c.self.inside.history.events.items c.self.inside.store c.self.inside.members.items (fates_in c.self.inside.fates) c.self.inside.clock c.args.self.now c.self.invariant.machine.run c.self.view_is
-    (c.runs_count_once.ensures.at_each c.self.inside.shape
-    (deeds_in c.self.inside.script (reverse c.self.inside.history.events.items)) c.self.inside.store
-    c.self.inside.members.items (fates_in c.self.inside.fates) c.self.inside.clock c.self.invariant.machine.run)
+    (c.runs_count_once.ensures.at_each (record {
+      shape = c.self.inside.shape;
+      deeds = deeds_in c.self.inside.script (reverse c.self.inside.history.events.items);
+      log = c.self.inside.store;
+      teams = c.self.inside.members.items;
+      fates = fates_in c.self.inside.fates;
+      now = c.self.inside.clock;
+    }) c.self.invariant.machine.run)
 
 pub returns-clause-justified : goal.returns-clause-justified
 returns-clause-justified c = justified_seen c.self.inside.script c.self.inside.shape c.self.inside.history.events.items
     c.self.inside.store c.self.inside.members.items (fates_in c.self.inside.fates) c.self.inside.clock c.args.self.now
     c.self.invariant.machine.run c.self.view_is
-    (c.runs_count_once.ensures.justified c.self.inside.shape
-    (deeds_in c.self.inside.script (reverse c.self.inside.history.events.items)) c.self.inside.store
-    c.self.inside.members.items (fates_in c.self.inside.fates) c.self.inside.clock c.self.invariant.machine.run)
+    (c.runs_count_once.ensures.justified (record {
+      shape = c.self.inside.shape;
+      deeds = deeds_in c.self.inside.script (reverse c.self.inside.history.events.items);
+      log = c.self.inside.store;
+      teams = c.self.inside.members.items;
+      fates = fates_in c.self.inside.fates;
+      now = c.self.inside.clock;
+    }) c.self.invariant.machine.run)
 
 pub returns-clause-follows : goal.returns-clause-follows
 returns-clause-follows c =
