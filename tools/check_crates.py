@@ -60,6 +60,8 @@ OTHER_NAMES = {
     "take_due due_key": "it takes what `due` tells",
     "store log_seen": "it hands out the store; the word is what its log says",
     "count_new gained": "the number without the list",
+    "decide decision_of": "the call of a sync; the word is of what it counted",
+    "is_due is_in": "in the list of those that are due, by halving",
     "is_rule_met is_met": "the rule of a policy, by a set",
     "start_at start_of": "of the Job of a basis",
     "read_of_system of_words": "what of them is a system's",
@@ -221,7 +223,7 @@ def check_names():
                 word = result and words_of.get(result[1], result[1])
                 if word not in words:
                     continue
-                read = name == "new" or name.startswith("read_") and word.endswith("_said")
+                read = name == "new" or name.startswith("read_") and (word.endswith("_said") or name == f"read_printed_{word[:-8]}")
                 is_named = word == name or word.startswith(f"{name}_") or read
                 if not is_named and f"{name} {word}" in OTHER_NAMES:
                     used.add(f"{name} {word}")

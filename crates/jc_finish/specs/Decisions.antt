@@ -1,11 +1,11 @@
 -- What settles how a Job will end (batch/v1, KEP-3329, KEP-3850, KEP-3998). `counted` is what the sync has counted, `now` its
 -- moment, and `own` are the Job's own pods.
---     exceeds limit restarts           so many restarts are too many under the limit
+--     restarts_too_often limit restarts           so many restarts are too many under the limit
 --     is_failed_by_pod, is_past_limit, is_overdue, is_past_most, is_failed_by_indexes, is_policy_met, is_complete
 --                                      the seven reasons, in their order
 --     first_reason counted now job own   the first of them that holds, as a condition with its reason
 --     decided counted now job own      the same, unless how the Job will end is settled
---     decide basis counted        what is decided of the Job of a basis
+--     decision_of basis counted        what is decided of the Job of a basis
 use Rattle.std.specs.Prelude.{ℕ, ◌+◌, ◌==◌, nat_lt, nat_le, length, unwrap_or, Bool, true, false, not, ◌&&◌, ◌||◌, List, if◌then◌else◌, Option, Some, None, is_some, option_and_then}
 use Rattle.std.specs.List.{list_any}
 use Rattle.jc_types.specs.declared.objects.Job.{Job}
@@ -33,8 +33,8 @@ use Rattle.jc_finish.specs.Starts.{end_after, start_of}
 -- ---- too many restarts
 
 -- As many restarts as the limit are too many, but under the limit 0 the first is.
-abbrev pub exceeds : ℕ → ℕ → Bool
-exceeds limit restarts = if limit == 0 then nat_lt 0 restarts else nat_le limit restarts
+abbrev pub restarts_too_often : ℕ → ℕ → Bool
+restarts_too_often limit restarts = if limit == 0 then nat_lt 0 restarts else nat_le limit restarts
 
 -- The containers of the pods start anew after a failure.
 abbrev pub restarts_on_failure : Restart → Bool
@@ -51,7 +51,7 @@ is_failed_by_pod spec own = list_any (λ pod. is_tracked pod && fails_job spec p
 abbrev pub is_past_limit : ℕ → JobSpec → List Pod → Bool
 is_past_limit failed spec own =
     nat_lt spec.backoff_limit failed
-    || (restarts_on_failure spec.template.restart && exceeds spec.backoff_limit (restarts_of own))
+    || (restarts_on_failure spec.template.restart && restarts_too_often spec.backoff_limit (restarts_of own))
 
 -- The second, where there is one, has come.
 abbrev pub has_come : Option ℕ → ℕ → Bool
@@ -110,6 +110,6 @@ abbrev pub decided : CountIn → ℕ → Job → List Pod → Option (CondKind �
 decided counted now job own = if has_target job.status.conditions then None else first_reason counted now job own
 
 -- What a sync decides of its basis's Job.
-abbrev pub decide : Basis → CountIn → Option (CondKind × Reason)
-decide basis counted =
+abbrev pub decision_of : Basis → CountIn → Option (CondKind × Reason)
+decision_of basis counted =
     option_and_then (λ job. decided counted basis.now job (own_pods job basis.pods)) basis.job

@@ -5,9 +5,9 @@ ghost use Rattle.std.specs.List.{list_any};
 ghost use Rattle.jc_states.specs.Bases.{own_pods};
 ghost use Rattle.jc_types.specs.Counts.{counts as counts_of};
 ghost use Rattle.jc_failpol.specs.FailJob.{is_fail_job};
-ghost use Rattle.jc_finish.specs.Decisions.{decided, decide, first_reason, is_complete, is_enough, is_failed_by_indexes, is_failed_by_pod, is_overdue, is_past_limit, is_past_most, is_policy_met, restarts_on_failure};
+ghost use Rattle.jc_finish.specs.Decisions.{decided, decision_of, first_reason, is_complete, is_enough, is_failed_by_indexes, is_failed_by_pod, is_overdue, is_past_limit, is_past_most, is_policy_met, restarts_on_failure};
 
-use crate::restarts::exceeds;
+use crate::restarts::restarts_too_often;
 use crate::start::start_of;
 use jc_failpol::fails_job;
 use jc_moment::Moment;
@@ -73,7 +73,7 @@ fn is_past_limit(job: &Job, pods: &Pods, failed: u64) -> bool
     let limit = job.spec.backoff_limit;
     failed > u64::from(limit)
         || restarts_on_failure(job.spec.template.restart)
-            && exceeds(limit, count_restarts(job, pods))
+            && restarts_too_often(limit, count_restarts(job, pods))
 }
 
 // Whether so many seconds have passed since the start.
@@ -200,7 +200,7 @@ pub fn decide(basis: &Basis, counted: &CountIn) -> Option<(CondKind, Reason)>
     requires few_pods { length basis.now.pods < 2 ^ 31 }
     requires failed { (counts_of counted.now).0 < 2 ^ 64 }
     requires succeeded { (counts_of counted.now).1 < 2 ^ 64 }
-    ensures { result ≡ decide basis.entry.now counted.now }
+    ensures { result ≡ decision_of basis.entry.now counted.now }
 {
     let job = basis.job.as_ref()?;
     decided(basis.now, job, &*basis.pods, counted)

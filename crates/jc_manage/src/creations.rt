@@ -7,7 +7,7 @@ ghost use Rattle.jc_states.specs.Bases.{is_own, own_pods};
 ghost use Rattle.jc_types.specs.Counts.{counts as counts_of};
 ghost use Rattle.jc_manage.specs.Creations.{creatable, free, front, holds, is_done_index, job_lacks, job_wants, keepers, keeps, keeps_own, lacking, looked_for, wanted};
 
-use crate::unheld::{are_kept_as_taken, untaken_indexes};
+use crate::unheld::{are_kept_as_held, unheld_indexes};
 use jc_states::{Pods, count_tracked_active, is_active, is_ending, is_own};
 use jc_types::{Arc, CountIn, Indexes, Job, JobSpec, Mode, Pod, Replacement, Want, counts};
 use std::alloc::Global;
@@ -238,9 +238,9 @@ fn first_free(
         (free (unwrap_or job.now.spec.completions 0) counted.now
         (keepers job.now.spec.replacement (own_pods job.now pods.now))))) }
 {
-    if are_kept_as_taken(job, pods) {
+    if are_kept_as_held(job, pods) {
         let completions = job.spec.completions.unwrap_or(0);
-        return untaken_indexes(alloc, completions, job.uid, pods, counted, most);
+        return unheld_indexes(alloc, completions, job.uid, pods, counted, most);
     }
     least_free(alloc, job, pods.as_slice(), counted, most)
 }

@@ -62,7 +62,7 @@ pub(crate) fn marks(alloc: Global, target: bool, job: &Job, pods: &Pods) -> Resu
         return Ok(Uids::new(alloc));
     }
     // An active pod without the finalizer is noted.
-    let noted = pods.noted(job.uid, &[], &[])?;
+    let noted = pods.to_look_at(job.uid, &[], &[])?;
     let uids = marked(alloc, target, job, noted.as_slice())?;
     list_of(alloc, uids.as_slice())
 }
@@ -98,7 +98,7 @@ fn claim_own(holders: &mut HashMap<u32, Uid>, job: &Job, pod: &Pod) -> Result<()
 }
 
 // Of each index the active tracked pod of smallest UID that holds it.
-fn oldest_takers(alloc: Global, job: &Job, pods: &[Arc<Pod>]) -> Result<HashMap<u32, Uid>, Want>
+fn oldest_holders(alloc: Global, job: &Job, pods: &[Arc<Pod>]) -> Result<HashMap<u32, Uid>, Want>
     ensures { IfOk result (λ holders.
         AreOldest (own_tracked job.now pods.now) (λ index. get nat_eq holders index)) }
 {
@@ -110,13 +110,13 @@ fn oldest_takers(alloc: Global, job: &Job, pods: &[Arc<Pod>]) -> Result<HashMap<
 }
 
 // Of each index of an Indexed Job the active tracked pod of smallest UID that holds it.
-fn takers_of(alloc: Global, job: &Job, pods: &[Arc<Pod>]) -> Result<HashMap<u32, Uid>, Want>
+fn holders_of(alloc: Global, job: &Job, pods: &[Arc<Pod>]) -> Result<HashMap<u32, Uid>, Want>
     ensures { IfOk result (λ holders. job.now.spec.mode ≡ Indexed
         → AreOldest (own_tracked job.now pods.now) (λ index. get nat_eq holders index)) }
 {
     match job.spec.mode {
         Mode::NonIndexed => Ok(HashMap::new(alloc)),
-        Mode::Indexed => oldest_takers(alloc, job, pods),
+        Mode::Indexed => oldest_holders(alloc, job, pods),
     }
 }
 
@@ -257,7 +257,7 @@ fn surplus(
         return Ok(Vec::new(alloc));
     }
     let listed = pods.as_slice();
-    let holders = takers_of(alloc, job, listed)?;
+    let holders = holders_of(alloc, job, listed)?;
     let ranks = ranks_of(alloc, job, listed, counted, &holders)?;
     let least = least_to_go(ranks, job_wants(job, pods, counted));
     going(alloc, job, listed, counted, &holders, least)

@@ -23,7 +23,7 @@ fn has_pod_in_run(owner: Uid, pods: &Pods, runs: &[Run]) -> bool
         (tracked_active_pods (pods_for owner pods.now))) runs.now }
 {
     runs.iter()
-        .any(|run| pods.takes_between(owner, run.first, run.last))
+        .any(|run| pods.holds_between(owner, run.first, run.last))
 }
 
 // Whether an active tracked pod of the owner has one of the indexes.
@@ -51,7 +51,7 @@ fn has_needless(job: &Job, pods: &Pods, counted: &CountIn) -> bool
         (own_tracked job.now pods.now) }
 {
     let completions = job.spec.completions.unwrap_or(0);
-    has_done(job.uid, pods, counted) || pods.takes_from(job.uid, completions)
+    has_done(job.uid, pods, counted) || pods.holds_from(job.uid, completions)
 }
 
 // Whether a pod of the Job may be spare.

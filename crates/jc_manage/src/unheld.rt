@@ -27,7 +27,7 @@ fn keep_active_only(job: &Job, pods: &Pods) -> bool
 }
 
 // Whether an index is kept from new pods just where an active tracked pod of the Job has it.
-pub(crate) fn are_kept_as_taken(job: &Job, pods: &Pods) -> bool
+pub(crate) fn are_kept_as_held(job: &Job, pods: &Pods) -> bool
     ensures { result ≡ true → (n : ℕ)
         → holds (keepers job.now.spec.replacement (own_pods job.now pods.now)) n
         ≡ list_any (has_index_in n n) (tracked_active_pods (own_pods job.now pods.now)) }
@@ -36,11 +36,11 @@ pub(crate) fn are_kept_as_taken(job: &Job, pods: &Pods) -> bool
 }
 
 // Whether the index is not settled, and no active tracked pod of the owner has it.
-fn is_untaken(owner: Uid, pods: &Pods, counted: &CountIn, index: u32) -> bool
+fn is_unheld(owner: Uid, pods: &Pods, counted: &CountIn, index: u32) -> bool
     ensures { result ≡ (not (is_done_index counted.now index) && not (list_any
         (has_index_in index index) (tracked_active_pods (pods_for owner pods.now)))) }
 {
-    !is_done_index(counted, index) && !pods.takes_between(owner, index, index)
+    !is_done_index(counted, index) && !pods.holds_between(owner, index, index)
 }
 
 // Adds the index, where it is not settled, no active tracked pod has it and there are not so many yet.
@@ -59,7 +59,7 @@ fn offer(
         then indexes.old ++ Some index ∷ [] else indexes.old)
         else indexes.old)) }
 {
-    if !is_untaken(owner, pods, counted, index) {
+    if !is_unheld(owner, pods, counted, index) {
         return Ok(());
     }
     if (indexes.len() as u64) < most {
@@ -94,7 +94,7 @@ fn past_done(counted: &CountIn, from: u32, end: u32) -> u32
 
 // Where one comes from this index by going past settled ones, and then past those that active tracked pods
 // of the owner have; at most the end.
-fn past_done_and_taken(owner: Uid, pods: &Pods, counted: &CountIn, from: u32, end: u32) -> u32
+fn past_done_and_held(owner: Uid, pods: &Pods, counted: &CountIn, from: u32, end: u32) -> u32
     requires { from ≤ end }
     ensures above { from ≤ result }
     ensures within { result ≤ end }
@@ -103,12 +103,12 @@ fn past_done_and_taken(owner: Uid, pods: &Pods, counted: &CountIn, from: u32, en
         (has_index_in n n) (tracked_active_pods (pods_for owner pods.now)))) ≡ false }
 {
     let from = past_done(counted, from, end);
-    pods.first_free_from(owner, from, end)
+    pods.first_unheld(owner, from, end)
 }
 
 // The least indexes below `completions` that are not settled and that no active tracked pod of the owner
 // has, and at most so many.
-pub(crate) fn untaken_indexes(
+pub(crate) fn unheld_indexes(
     alloc: Global,
     completions: u32,
     owner: Uid,
@@ -129,7 +129,7 @@ pub(crate) fn untaken_indexes(
             return Ok(indexes);
         }
         offer(&mut indexes, index, owner, pods, counted, most)?;
-        index = past_done_and_taken(owner, pods, counted, index + 1, completions);
+        index = past_done_and_held(owner, pods, counted, index + 1, completions);
     }
     Ok(indexes)
 }

@@ -113,7 +113,7 @@ fn raised(job: &Job, pods: &Pods, uids: &[Uid]) -> Result<IndexCounts, Want>
         ≡ raise_each job.now.spec.failure job.now.status.index_failures
         (newly_failed (own_pods job.now pods.now) uids.now)) }
 {
-    let noted = pods.noted(job.uid, uids, &[])?;
+    let noted = pods.to_look_at(job.uid, uids, &[])?;
     raise_each(job, uids, noted.as_slice())
 }
 

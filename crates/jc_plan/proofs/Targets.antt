@@ -7,7 +7,7 @@ use Rattle.jc_types.specs.declared.statuses.Reason.{Reason}
 use Rattle.jc_states.specs.declared.bases.Basis.{Basis}
 use Rattle.jc_types.specs.declared.syncs.CountIn.{CountIn}
 use Rattle.jc_states.specs.Bases.{own_pods}
-use Rattle.jc_finish.specs.Decisions.{decided, decide}
+use Rattle.jc_finish.specs.Decisions.{decided, decision_of}
 use Rattle.jc_finish.specs.Settled.{is_target_kind}
 use Rattle.jc_finish.proofs.DecisionFacts.{decided_target}
 
@@ -22,7 +22,7 @@ target-kind counted now job own = by (decided counted now job own) refl
     by None e = tt
     by (Some target) e = (decided_target counted now job own target e).0
 
-pub decision-kind : (basis : Basis) (counted : CountIn) → IsTarget (decide basis counted)
+pub decision-kind : (basis : Basis) (counted : CountIn) → IsTarget (decision_of basis counted)
 decision-kind basis counted = by basis.job
   where
     by : (job : Option Job) → IsTarget (option_and_then (λ job. decided counted basis.now job (own_pods job basis.pods)) job)

@@ -16,7 +16,7 @@ fn is_orphan(basis: &Basis, pod: &Pod) -> bool
 }
 
 // Whether the UID is one of these, found by halving.
-fn is_in(due: &[Uid], uid: Uid) -> bool
+fn is_due(due: &[Uid], uid: Uid) -> bool
     requires { Ascends due.now }
     ensures { result ≡ is_in uid due.now }
 {
@@ -29,7 +29,7 @@ fn is_owed(due: &[Uid], pod: &Pod) -> bool
     requires { Ascends due.now }
     ensures { result ≡ is_owed due.now pod.now }
 {
-    pod.tracked && is_in(due, pod.uid)
+    pod.tracked && is_due(due, pod.uid)
 }
 
 // Whether the pod loses its finalizer, where these are the UIDs that the Job is to release.
@@ -88,6 +88,6 @@ pub fn released(alloc: Global, basis: &Basis, due: &Uids) -> Result<Uids, Want>
         return Ok(Uids::new(alloc));
     }
     // Those that the Job is to release are noted by their UID, and orphans are another owner's.
-    let noted = basis.pods.noted(job.uid, due, &[])?;
+    let noted = basis.pods.to_look_at(job.uid, due, &[])?;
     released_of(alloc, basis, due, noted.as_slice())
 }

@@ -26,7 +26,7 @@ use Rattle.jc_history.specs.Play.{first_event}
 use Rattle.jc_order.proofs.AvailFacts.{Is, IsOf, all-within, any-here, any-later, each-flat}
 use Rattle.jc_runs.specs.Seen.{Seen, deeds_seen, log_seen}
 use Rattle.jc_play.specs.Actors.{CanCome}
-use Rattle.jc_play.specs.Slots.{is_untaken, unheld_seen}
+use Rattle.jc_play.specs.Slots.{is_unheld, unheld_seen}
 use Rattle.jc_play.specs.declared.slots.Slot.{Slot}
 use Rattle.jc_play.proofs.ActorFacts.{comes}
 use Rattle.jc_play.proofs.FirstFacts.{first-found, first-none}
@@ -59,7 +59,7 @@ module _ (seen : Seen) where
 
   -- The first that is left can come.
   pub unheld-comes : (slots : List Slot) (found : Option Event) → found ≡ first_event (unheld_seen slots seen) → IfSome found (λ event. CanCome seen event)
-  unheld-comes slots found e = subst (λ o. IfSome o (λ event. CanCome seen event)) (sym e) (first-comes (unheld_seen slots seen) (Each-filter Comes (is_untaken slots) events_of all-come))
+  unheld-comes slots found e = subst (λ o. IfSome o (λ event. CanCome seen event)) (sym e) (first-comes (unheld_seen slots seen) (Each-filter Comes (is_unheld slots) events_of all-come))
 
 -- ---- where nothing is left
 
@@ -82,19 +82,19 @@ filter-flat test f (x ∷ xs) = filter-append test (f x) (flat_map f xs) ∙ ap 
 
 module _ (slots : List Slot) where
   abbrev Passes : Sys → Type 0
-  Passes event = is_untaken slots event ≡ true
+  Passes event = is_unheld slots event ≡ true
 
   abbrev left : List Sys → List Sys
-  left events = filter (is_untaken slots) events
+  left events = filter (is_unheld slots) events
 
   module _ (f : ℕ → List Sys) (n : ℕ) where
     -- None is left of all.
     pub left-none : ((k : ℕ) → k < n → first_event (left (f k)) ≡ None) → first_event (left (flat_map f (below n))) ≡ None
-    left-none h = ap first_event (filter-flat (is_untaken slots) f (below n)) ∙ first-none (λ k. left (f k)) n h
+    left-none h = ap first_event (filter-flat (is_unheld slots) f (below n)) ∙ first-none (λ k. left (f k)) n h
 
     -- The first of those of which one is left.
     pub left-found : (i : ℕ) (event : Event) → i < n → ((k : ℕ) → k < i → first_event (left (f k)) ≡ None) → first_event (left (f i)) ≡ Some event → first_event (left (flat_map f (below n))) ≡ Some event
-    left-found i event lt h e = ap first_event (filter-flat (is_untaken slots) f (below n)) ∙ first-found (λ k. left (f k)) n i event lt h e
+    left-found i event lt h e = ap first_event (filter-flat (is_unheld slots) f (below n)) ∙ first-found (λ k. left (f k)) n i event lt h e
 
   -- ---- what is left of all: lists, deliveries, begins, the node and the clock stay
 
@@ -143,31 +143,31 @@ module _ (slots : List Slot) where
     clock-passes (Some due) = (refl, tt)
 
     lists-left : left lists ≡ lists
-    lists-left = filter_all (is_untaken slots) lists (each-flat Passes (λ c. list_events (of c) c) 0 shape.controllers (λ c from lt.
+    lists-left = filter_all (is_unheld slots) lists (each-flat Passes (λ c. list_events (of c) c) 0 shape.controllers (λ c from lt.
         Each-append Passes (list_event c Jobs (number Jobs (of c))) (list_event c Pods (number Pods (of c))) (list-passes c Jobs (number Jobs (of c))) (list-passes c Pods (number Pods (of c)))))
 
     deliveries-left : left deliveries ≡ deliveries
-    deliveries-left = filter_all (is_untaken slots) deliveries (each-flat Passes (λ c. delivery_events (of c) log c) 0 shape.controllers (λ c from lt.
+    deliveries-left = filter_all (is_unheld slots) deliveries (each-flat Passes (λ c. delivery_events (of c) log c) 0 shape.controllers (λ c from lt.
         Each-append Passes (delivery_event log c Jobs (number Jobs (of c))) (delivery_event log c Pods (number Pods (of c))) (delivery-passes c Jobs (number Jobs (of c))) (delivery-passes c Pods (number Pods (of c)))))
 
     begins-left : left begins ≡ begins
-    begins-left = filter_all (is_untaken slots) begins (each-flat Passes (λ c. begin_events (of c) log shape.workers c) 0 shape.controllers (λ c from lt. begin-passes c (may_begin (of c) log) (free_worker (of c) shape.workers)))
+    begins-left = filter_all (is_unheld slots) begins (each-flat Passes (λ c. begin_events (of c) log shape.workers c) 0 shape.controllers (λ c from lt. begin-passes c (may_begin (of c) log) (free_worker (of c) shape.workers)))
 
     node-left : left node ≡ node
-    node-left = filter_all (is_untaken slots) node (node-passes (is_some (node_step log (fate past))))
+    node-left = filter_all (is_unheld slots) node (node-passes (is_some (node_step log (fate past))))
 
     -- All that is left but for the clock.
     pub but-clock-left : left (but_clock shape past log) ≡ lists ++ (deliveries ++ (left steps ++ (begins ++ node)))
     but-clock-left =
-        filter-append (is_untaken slots) lists (deliveries ++ (steps ++ (begins ++ node)))
+        filter-append (is_unheld slots) lists (deliveries ++ (steps ++ (begins ++ node)))
         ∙ ap (λ ls. ls ++ left (deliveries ++ (steps ++ (begins ++ node)))) lists-left
         ∙ ap (λ rest. lists ++ rest) (
-        filter-append (is_untaken slots) deliveries (steps ++ (begins ++ node))
+        filter-append (is_unheld slots) deliveries (steps ++ (begins ++ node))
         ∙ ap (λ ds. ds ++ left (steps ++ (begins ++ node))) deliveries-left
         ∙ ap (λ rest. deliveries ++ rest) (
-        filter-append (is_untaken slots) steps (begins ++ node)
+        filter-append (is_unheld slots) steps (begins ++ node)
         ∙ ap (λ rest. left steps ++ rest) (
-        filter-append (is_untaken slots) begins node
+        filter-append (is_unheld slots) begins node
         ∙ ap (λ bs. bs ++ left node) begins-left
         ∙ ap (λ rest. begins ++ rest) node-left)))
 
@@ -179,7 +179,7 @@ module _ (slots : List Slot) where
   left-or-clock : (events clock : List Sys) (found other : Option Event) → Each Passes clock → found ≡ first_event (left events) → other ≡ first_event events
       → first_event (left (or_clock events clock)) ≡ cond (is_some found || is_some other) found (first_event clock)
   left-or-clock [] clock found other all e g =
-      ap first_event (filter_all (is_untaken slots) clock all) ∙ sym (ap (λ o. cond (is_some o || is_some other) o (first_event clock)) e ∙ ap (λ o. cond (is_some o) None (first_event clock)) g)
+      ap first_event (filter_all (is_unheld slots) clock all) ∙ sym (ap (λ o. cond (is_some o || is_some other) o (first_event clock)) e ∙ ap (λ o. cond (is_some o) None (first_event clock)) g)
   left-or-clock (x ∷ xs) clock found other all e g = sym e ∙ by found ∙ ap (λ o. cond (is_some found || is_some o) found (first_event clock)) (sym g)
     where
       by : (found : Option Event) → found ≡ cond (is_some found || true) found (first_event clock)

@@ -1,7 +1,7 @@
 -- Registers, as the seats of a threaded run see them: some are held, and their steps wait.
 --     is_slot_of c w slot          it is the register of the controller's worker
 --     has_holder slots c w            a seat holds that register
---     is_untaken slots event        the event is not the step of a register that is held
+--     is_unheld slots event        the event is not the step of a register that is held
 --     unheld_seen slots seen       what is available, but for such steps
 use Rattle.std.specs.Prelude.{ℕ, ◌==◌, Bool, true, not, ◌&&◌, List, filter, is_some}
 use Rattle.std.specs.List.{list_any}
@@ -20,11 +20,11 @@ abbrev pub has_holder : List Slot → ℕ → ℕ → Bool
 has_holder slots c w = list_any (λ (slot : Slot). is_slot_of c w slot && is_some slot.holder) slots
 
 -- The event is not the step of a register that is held.
-abbrev pub is_untaken : List Slot → Sys → Bool
-is_untaken slots (sys.Step c w) = not (has_holder slots c w)
-is_untaken slots other = true
+abbrev pub is_unheld : List Slot → Sys → Bool
+is_unheld slots (sys.Step c w) = not (has_holder slots c w)
+is_unheld slots other = true
 
 -- What is available, but for the steps of registers that are held.
 abbrev pub unheld_seen : List Slot → Seen → List Sys
 unheld_seen slots seen =
-    filter (is_untaken slots) (available seen.shape (deeds_seen seen) (log_seen seen))
+    filter (is_unheld slots) (available seen.shape (deeds_seen seen) (log_seen seen))

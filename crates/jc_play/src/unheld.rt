@@ -7,7 +7,7 @@ ghost use Rattle.jc_history.specs.Available.{below, but_clock, step_event, step_
 ghost use Rattle.jc_history.specs.Play.{first_event};
 ghost use Rattle.jc_runs.specs.Seen.{deeds_seen, log_seen};
 ghost use Rattle.jc_play.specs.Actors.{CanCome};
-ghost use Rattle.jc_play.specs.Slots.{has_holder, is_untaken, unheld_seen};
+ghost use Rattle.jc_play.specs.Slots.{has_holder, is_unheld, unheld_seen};
 
 use crate::next::{clock_event, first_begin, first_delivery, first_list, first_step, node_event};
 use crate::slots::Slot;
@@ -25,7 +25,7 @@ fn has_holder(slots: &[Slot], controller: u32, worker: u32) -> bool
 fn unheld_step(machine: &Machine, slots: &[Slot], controller: u32, worker: u32) -> Option<Event>
     requires of_shape { controller < machine.now.shape.controllers }
     requires worker { worker < machine.now.shape.workers }
-    ensures { result ≡ first_event (filter (is_untaken slots.now)
+    ensures { result ≡ first_event (filter (is_unheld slots.now)
         (step_event (diary_seen machine.now controller) controller worker)) }
 {
     if machine.is_free(controller, worker) || has_holder(slots, controller, worker) {
@@ -38,7 +38,7 @@ fn unheld_step(machine: &Machine, slots: &[Slot], controller: u32, worker: u32) 
 // The first such step of the controller's workers.
 fn controller_unheld_steps(machine: &Machine, slots: &[Slot], controller: u32) -> Option<Event>
     requires { controller < machine.now.shape.controllers }
-    ensures { result ≡ first_event (filter (is_untaken slots.now)
+    ensures { result ≡ first_event (filter (is_unheld slots.now)
         (step_events (diary_seen machine.now controller) machine.now.shape.workers controller)) }
 {
     for worker in 0..machine.shape().workers {
@@ -51,7 +51,7 @@ fn controller_unheld_steps(machine: &Machine, slots: &[Slot], controller: u32) -
 
 // The first such step of all.
 fn first_unheld_step(machine: &Machine, slots: &[Slot]) -> Option<Event>
-    ensures { result ≡ first_event (filter (is_untaken slots.now) (flat_map
+    ensures { result ≡ first_event (filter (is_unheld slots.now) (flat_map
         (λ c. step_events (diary_seen machine.now c) machine.now.shape.workers c)
         (below machine.now.shape.controllers))) }
 {
@@ -65,7 +65,7 @@ fn first_unheld_step(machine: &Machine, slots: &[Slot]) -> Option<Event>
 
 // What there is but for the clock and the steps of registers that are held.
 fn but_clock_unheld(machine: &Machine, slots: &[Slot]) -> Option<Event>
-    ensures { result ≡ first_event (filter (is_untaken slots.now)
+    ensures { result ≡ first_event (filter (is_unheld slots.now)
         (but_clock machine.now.shape (deeds_seen machine.now) (log_seen machine.now))) }
 {
     if let Some(event) = first_list(machine) {
@@ -86,7 +86,7 @@ fn but_clock_unheld(machine: &Machine, slots: &[Slot]) -> Option<Event>
 // What there is but for the clock, where nothing else of it is left than the steps of registers that
 // are held: such a step.
 fn held_step(machine: &Machine, slots: &[Slot]) -> Option<Event>
-    requires { first_event (filter (is_untaken slots.now)
+    requires { first_event (filter (is_unheld slots.now)
         (but_clock machine.now.shape (deeds_seen machine.now) (log_seen machine.now))) ≡ None }
     ensures { result ≡ first_event (but_clock machine.now.shape (deeds_seen machine.now)
         (log_seen machine.now)) }

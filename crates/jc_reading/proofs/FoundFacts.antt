@@ -25,7 +25,7 @@ use Rattle.jc_reading.specs.Proper.{AreAllowedEnds, IsAllowedChange, IsAllowedRe
 use Rattle.jc_reading.specs.Turned.{of_member, report_of}
 use Rattle.jc_reading.specs.LineReadings.{action_by, act_said, number_below, change_said, create_said, delete_said, ends_printed, fate_said, fault_said, job_if, printed_job, key_said, kind_said, digits_said, pod_said, report_said}
 use Rattle.jc_reading.specs.LineReadings.{reported_said, system_said, tag_said, update_said, verb_said, version_printed}
-use Rattle.jc_reading.specs.Reads.{BeginsWith, IsProperRead, act_of_line, begun_read, event_said, front_text, if_printed, read_by, starts, system_by}
+use Rattle.jc_reading.specs.Reads.{BeginsWith, IsProperRead, act_of_line, begun_read, event_said, front_text, if_printed, read_by, begins_with, system_by}
 use Rattle.jc_reading.specs.declared.reads.LineAct.TheVariants.{Command, System}
 use Rattle.jc_reading.specs.declared.reads.LineRead.{LineRead}
 use Rattle.jc_reading.specs.declared.reading.Verb.{Verb}
@@ -251,7 +251,7 @@ proper_of word text None r tag e =
     let q = said_by (λ v. system_said v first second) (verb_said (first_word_in text)) p.0 p.1 in
     subst IsProperRead p.2 (found_system first second p.0 q.0 q.2)
 
-begins : (front line : List ℕ) → starts front line ≡ true → line ≡ front ++ drop (length front) line
+begins : (front line : List ℕ) → begins_with front line ≡ true → line ≡ front ++ drop (length front) line
 begins front line e =
     sym (take-append-drop (length front) line)
     ∙ ap (λ l. l ++ drop (length front) line) (sym ((bytes_decides front (take (length front) line)).0 e))
@@ -264,8 +264,8 @@ event_found line r e =
     let p = said_by (if_printed line) (option_and_then (λ lane. read_by lane text) (tag_said word)) r e in
     let q = said_by (λ lane. read_by lane text) (tag_said word) p.0 p.1 in
     let front : ℕ → List ℕ = λ n. front_text n p.0.lane (act_of_line p.0.act) in
-    let m = said_by (λ n. cond (starts (front n) line) (Some p.0) None) (digits_said (first_word_in line)) r p.2 in
-    let s = tested_by (starts (front m.0) line) p.0 r m.2 in
+    let m = said_by (λ n. cond (begins_with (front n) line) (Some p.0) None) (digits_said (first_word_in line)) r p.2 in
+    let s = tested_by (begins_with (front m.0) line) p.0 r m.2 in
     let rest = drop (length (front m.0)) line in
     let is : line ≡ front m.0 ++ rest = begins (front m.0) line s.0 in
     subst (λ (r : LineRead). IsProperRead r × BeginsWith line r) s.1

@@ -42,7 +42,7 @@ use Rattle.jc_reading.specs.LineReadings.{action_read, act_said, number_below, c
 use Rattle.jc_reading.specs.LineReadings.{report_said, subdomain_if, system_said, tag_said, uid_at, verb_named, verb_said, version_from, version_printed}
 use Rattle.jc_reading.specs.Turned.{of_member, report_of, ReadAsEnds, ReadsAsChange, ReadsAsJob, ReadsAsReport}
 use Rattle.jc_lines.specs.Events.{tag_text}
-use Rattle.jc_reading.specs.Reads.{IsProperOf, IsProperRead, act_of_line, begun_act, begun_read, event_said, front_text, if_printed, read_by, starts, system_read}
+use Rattle.jc_reading.specs.Reads.{IsProperOf, IsProperRead, act_of_line, begun_act, begun_read, event_said, front_text, if_printed, read_by, begins_with, system_read}
 use Rattle.jc_reading.specs.declared.reads.LineAct.{LineAct}
 use Rattle.jc_reading.specs.declared.reads.LineAct.TheVariants.{Command, System}
 use Rattle.jc_reading.specs.declared.reads.LineRead.{LineRead}
@@ -422,7 +422,7 @@ begun_does (Command (act.PutFault c w f)) = refl
 begun_does (Command act.Settle) = refl
 begun_does (System s) = refl
 
-starts_front : (front rest : List ℕ) → starts front (front ++ rest) ≡ true
+starts_front : (front rest : List ℕ) → begins_with front (front ++ rest) ≡ true
 starts_front front rest = (bytes_decides front (take (length front) (front ++ rest))).1 (sym (take_front front rest))
 
 read_again : (lane : Option ℕ) (a : LineAct) (more : List ℕ) → IsProperOf lane a
@@ -449,6 +449,6 @@ event_again n read rest few proper =
     let tagged : first_word_in (behind_word line) ≡ tag = ap first_word_in one ∙ first_word tag _ (tag_word read.lane) in
     ap₂ (λ t r. option_and_then (if_printed line) (option_and_then (λ lane. read_by lane r) (tag_said t))) tagged two
     ∙ ap (option_and_then (if_printed line)) (read_again read.lane read.act more proper)
-    ∙ ap (option_and_then (λ m. cond (starts (front_text m read.lane (act_of_line (begun_act read.act))) line) (Some (begun_read read)) None)) number
-    ∙ ap (λ d. cond (starts (front_text n read.lane d) line) (Some (begun_read read)) None) (begun_does read.act)
+    ∙ ap (option_and_then (λ m. cond (begins_with (front_text m read.lane (act_of_line (begun_act read.act))) line) (Some (begun_read read)) None)) number
+    ∙ ap (λ d. cond (begins_with (front_text n read.lane d) line) (Some (begun_read read)) None) (begun_does read.act)
     ∙ ap (λ b. cond b (Some (begun_read read)) None) (starts_front (front_text n read.lane (act_of_line read.act)) rest)

@@ -64,13 +64,13 @@ read_by lane text =
     (first_word_in (behind_word (behind_word (behind_word text))))
 
 -- The line begins with that text.
-abbrev pub starts : List ℕ → List ℕ → Bool
-starts front line = bytes_eq front (take (length front) line)
+abbrev pub begins_with : List ℕ → List ℕ → Bool
+begins_with front line = bytes_eq front (take (length front) line)
 
 abbrev pub if_printed : List ℕ → LineRead → Option LineRead
 if_printed line read =
     option_and_then
-    (λ n. if starts (front_text n read.lane (act_of_line read.act)) line then Some read else None)
+    (λ n. if begins_with (front_text n read.lane (act_of_line read.act)) line then Some read else None)
     (digits_said (first_word_in line))
 
 -- What is read of the line, where the line is what is printed of it.

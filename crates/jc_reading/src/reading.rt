@@ -40,7 +40,7 @@ pub fn read_pod(word: &[u8]) -> Option<Uid>
 }
 
 /// The version that an update wants, or that any will do.
-pub fn version_printed(word: &[u8]) -> Option<Option<Version>>
+pub fn read_printed_version(word: &[u8]) -> Option<Option<Version>>
     ensures { result ≡ version_printed word.now }
 {
     match word {

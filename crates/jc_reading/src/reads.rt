@@ -5,7 +5,7 @@ ghost use Rattle.jc_lines.specs.Events.{tag_text};
 ghost use Rattle.jc_lines.specs.ActTexts.{act_text};
 ghost use Rattle.jc_reading.specs.Cuts.{first_word_in};
 ghost use Rattle.jc_reading.specs.LineReadings.{action_by, act_said, create_said, delete_said, fate_said, plain_said, reported_said, system_said, tag_said, turn_said, update_said};
-ghost use Rattle.jc_reading.specs.Reads.{BeginsWith, IsProperRead, act_of_line, begun_read, event_said, front_text, if_printed, of_words, starts, system_by};
+ghost use Rattle.jc_reading.specs.Reads.{BeginsWith, IsProperRead, act_of_line, begun_read, event_said, front_text, if_printed, of_words, begins_with, system_by};
 ghost use Rattle.jc_reading.specs.declared.reading.Verb.TheVariants as verb;
 ghost use Rattle.jc_reading.specs.declared.reads.LineRead.{LineRead};
 
@@ -13,7 +13,7 @@ use crate::cuts::{Words, cut};
 use crate::parts::{read_changed, read_created, read_key, read_printed_ends, read_reported};
 use crate::reading::{
     Verb, number_below, read_fault, read_kind, read_number, read_pod, read_tag, read_verb,
-    version_printed,
+    read_printed_version,
 };
 use jc_lines::{print_action, print_system};
 use jc_print::put_decimal;
@@ -58,7 +58,7 @@ fn read_update(alloc: Global, words: &Words<'_>) -> Result<Option<Action1>, Want
     let Some(key) = read_key(alloc, words.first)? else {
         return Ok(None);
     };
-    let Some(version) = version_printed(words.second) else {
+    let Some(version) = read_printed_version(words.second) else {
         return Ok(None);
     };
     let Some(change) = read_changed(alloc, words.third)? else {
@@ -315,8 +315,8 @@ fn front(alloc: Global, number: u64, read: &LineRead) -> Result<String, Want>
 }
 
 // Whether the line begins with that text.
-fn starts(line: &[u8], front: &[u8]) -> bool
-    ensures { result ≡ starts front.now line.now }
+fn begins_with(line: &[u8], front: &[u8]) -> bool
+    ensures { result ≡ begins_with front.now line.now }
 {
     line.starts_with(front)
 }
@@ -324,10 +324,10 @@ fn starts(line: &[u8], front: &[u8]) -> bool
 // Whether the line begins with what is printed of that.
 fn is_printed(alloc: Global, number: u64, read: &LineRead, line: &[u8]) -> Result<bool, Want>
     ensures { IfOk result (λ yes. yes
-        ≡ starts (front_text number read.now.lane (act_of_line read.now.act)) line.now) }
+        ≡ begins_with (front_text number read.now.lane (act_of_line read.now.act)) line.now) }
 {
     let text = front(alloc, number, read)?;
-    Ok(starts(line, text.as_bytes()))
+    Ok(begins_with(line, text.as_bytes()))
 }
 
 // What was read of the line that has this first word, where the line begins with what is printed of

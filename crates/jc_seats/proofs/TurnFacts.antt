@@ -17,7 +17,7 @@ use Rattle.jc_core.specs.Places.{AreUsedUp, most_lanes}
 use Rattle.jc_core.specs.Actors.{IsOfActor}
 use Rattle.jc_core.specs.Actor.TheVariants as actor
 use Rattle.jc_core.specs.Slot.{Slot}
-use Rattle.jc_core.specs.Slots.{has_holder, is_slot_of, is_untaken, unheld_seen}
+use Rattle.jc_core.specs.Slots.{has_holder, is_slot_of, is_unheld, unheld_seen}
 use Rattle.jc_core.specs.Turns.{is_quiescent_seen}
 use Rattle.jc_core.proofs.SystemFacts.{quiet}
 use Rattle.jc_seats.specs.declared.players.Player.{Player}
@@ -37,13 +37,13 @@ none-held (slot ∷ slots) c w h = by (is_slot_of c w slot) (is_some slot.holder
     by false false h ih = ih h
 
 module _ (slots : List Slot) (h : list_any (λ (slot : Slot). is_some slot.holder) slots ≡ false) where
-  unheld : (event : Sys) → is_untaken slots event ≡ true
+  unheld : (event : Sys) → is_unheld slots event ≡ true
   unheld (sys.Step c w) = ap not (none-held slots c w h)
   unheld other = refl
 
-  all-unheld : (events : List Sys) → filter (is_untaken slots) events ≡ events
+  all-unheld : (events : List Sys) → filter (is_unheld slots) events ≡ events
   all-unheld [] = refl
-  all-unheld (e ∷ es) = ap (λ b. cond b (e ∷ filter (is_untaken slots) es) (filter (is_untaken slots) es)) (unheld e) ∙ ap (λ more. e ∷ more) (all-unheld es)
+  all-unheld (e ∷ es) = ap (λ b. cond b (e ∷ filter (is_unheld slots) es) (filter (is_unheld slots) es)) (unheld e) ∙ ap (λ more. e ∷ more) (all-unheld es)
 
   -- Where nothing but the steps of held registers is available, nothing is.
   pub rests : (seen : Seen) → first_event (unheld_seen slots seen) ≡ None → is_quiescent_seen seen ≡ true

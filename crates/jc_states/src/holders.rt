@@ -34,7 +34,7 @@ impl Model for Holders {
 }
 
 // The index that the pod holds: that of an active one with the finalizer.
-fn taken_index(pod: &Pod) -> Option<u32>
+fn held_index(pod: &Pod) -> Option<u32>
     ensures { result ≡ (if is_tracked_active pod.now then pod.now.index else None) }
 {
     if is_tracked_active(pod) {
@@ -66,7 +66,7 @@ impl Holders {
     }
 
     // Whether a pod of the owner holds an index from the first up to the last.
-    pub(crate) fn takes_between(&self, owner: Uid, first: u32, last: u32) -> bool
+    pub(crate) fn holds_between(&self, owner: Uid, first: u32, last: u32) -> bool
         ensures { result ≡ list_any (is_between first last) (held_by owner self.now) }
     {
         match self.rows.get(&owner) {
@@ -76,7 +76,7 @@ impl Holders {
     }
 
     // Whether a pod of the owner holds this index or a greater one.
-    pub(crate) fn takes_from(&self, owner: Uid, first: u32) -> bool
+    pub(crate) fn holds_from(&self, owner: Uid, first: u32) -> bool
         ensures { result ≡ list_any (λ n. nat_le first n) (held_by owner self.now) }
     {
         match self.rows.get(&owner) {
@@ -86,7 +86,7 @@ impl Holders {
     }
 
     // The least index from this one on that no pod of the owner holds; the end where there is none below it.
-    pub(crate) fn first_free_from(&self, owner: Uid, from: u32, end: u32) -> u32
+    pub(crate) fn first_unheld(&self, owner: Uid, from: u32, end: u32) -> u32
         requires { from ≤ end }
         ensures above { from ≤ result }
         ensures within { result ≤ end }
@@ -109,7 +109,7 @@ impl Holders {
             ≡ held_in owner n self.old + (if holds_index owner n pod.now then 1 else 0)) }
         ensures kept { OnErr result (self.new ≡ self.old) }
     {
-        match taken_index(pod) {
+        match held_index(pod) {
             None => Ok(()),
             Some(index) => self.add(pod.owner_uid, index),
         }
@@ -120,7 +120,7 @@ impl Holders {
         ensures { (owner : Uid) → (n : ℕ) → held_in owner n self.new
             ≡ held_in owner n self.old - (if holds_index owner n pod.now then 1 else 0) }
     {
-        if let Some(index) = taken_index(pod) {
+        if let Some(index) = held_index(pod) {
             self.remove(pod.owner_uid, index);
         }
     }

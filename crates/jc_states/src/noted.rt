@@ -49,5 +49,5 @@ pub(crate) fn pods_to_look_at(
             noted.push(pod.copy()?)?;
         }
     }
-    Ok(to_look_at)
+    Ok(noted)
 }

@@ -16,7 +16,7 @@ use crate::holders::Holders;
 use crate::odds::put_odd;
 use crate::pods::is_at_odds;
 use crate::tallies::{Tally, enter, leave, tally_in};
-use crate::to_look_at::{noted_among, odd_among};
+use crate::noted::{odd_among, pods_to_look_at};
 use indexmap::IndexMap;
 use jc_types::{Arc, Copied, Pod, Same, Uid, Want};
 use std::alloc::Global;
@@ -193,7 +193,7 @@ impl Pods {
         if self.are_all_of(owner) && !self.has_calm(uids) && !self.has_calm(more) {
             return self.odd_pods();
         }
-        noted_among(self.alloc, self.as_slice(), owner, uids, more)
+        pods_to_look_at(self.alloc, self.as_slice(), owner, uids, more)
     }
 
     // Whether all pods were made for the owner. It goes over no pod.
@@ -262,26 +262,26 @@ impl Pods {
 
     /// Whether an active pod with the finalizer of the owner has an index from the first up to the last. It
     /// goes over no pod.
-    pub fn takes_between(&self, owner: Uid, first: u32, last: u32) -> bool
+    pub fn holds_between(&self, owner: Uid, first: u32, last: u32) -> bool
         ensures { result
             ≡ list_any (has_index_in first last) (tracked_active_pods (pods_for owner self.now)) }
     {
-        self.holders.takes_between(owner, first, last)
+        self.holders.holds_between(owner, first, last)
     }
 
     /// Whether an active pod with the finalizer of the owner has this index or a greater one. It goes over
     /// no pod.
-    pub fn takes_from(&self, owner: Uid, first: u32) -> bool
+    pub fn holds_from(&self, owner: Uid, first: u32) -> bool
         ensures { result
             ≡ list_any (λ pod. option_map_or (λ index. nat_le first index) pod.index false)
             (tracked_active_pods (pods_for owner self.now)) }
     {
-        self.holders.takes_from(owner, first)
+        self.holders.holds_from(owner, first)
     }
 
     /// The least index from the first one on that no active pod with the finalizer of the owner has; the end
     /// where there is none below it. It goes over no pod.
-    pub fn first_free_from(&self, owner: Uid, from: u32, end: u32) -> u32
+    pub fn first_unheld(&self, owner: Uid, from: u32, end: u32) -> u32
         requires { from ≤ end }
         ensures above { from ≤ result }
         ensures within { result ≤ end }
@@ -290,7 +290,7 @@ impl Pods {
         ensures free { result < end → list_any (has_index_in result result)
             (tracked_active_pods (pods_for owner self.now)) ≡ false }
     {
-        self.holders.first_free_from(owner, from, end)
+        self.holders.first_unheld(owner, from, end)
     }
 
     /// Adds a pod whose UID is above all others.

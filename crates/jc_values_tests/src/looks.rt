@@ -62,7 +62,7 @@ fn row_of(made: Made) -> PodRow {
 
 // The UIDs of the pods at which a sync of the Job of UID 1 looks, where these are listed.
 fn noted(alloc: Global, pods: &Pods, listed: &[Uid]) -> Result<Vec<u64>, Want> {
-    let noted = pods.noted(Uid(1), listed, &[])?;
+    let noted = pods.to_look_at(Uid(1), listed, &[])?;
     noted.iter().map(|pod| pod.uid.0).collect(alloc)
 }
 
@@ -79,8 +79,8 @@ fn check_rows(rt: &impl Abort, alloc: Global, pods: &mut Pods) -> Result<(), Fai
         put(rt, pods, Arc::new(alloc, pod)?)?;
         assert!(rt; noted(alloc, pods, &[])?.as_slice() == *wanted);
         assert_eq!(rt; pods.shares_index(Uid(1)), *shares);
-        assert_eq!(rt; pods.takes_between(Uid(1), 3, 5), *holds);
-        assert_eq!(rt; pods.first_free_from(Uid(1), 3, 10), *free);
+        assert_eq!(rt; pods.holds_between(Uid(1), 3, 5), *holds);
+        assert_eq!(rt; pods.first_unheld(Uid(1), 3, 10), *free);
     }
     Ok(())
 }
@@ -89,9 +89,9 @@ fn check_found(rt: &impl Abort, alloc: Global, pods: &Pods) -> Result<(), Fail> 
     let listed = noted(alloc, pods, &[Uid(2), Uid(5)])?;
     assert!(rt; listed.as_slice() == [2, 3, 4, 9].as_slice());
     assert!(rt; pods.get(Uid(2)).is_some() && pods.get(Uid(5)).is_none());
-    assert!(rt; pods.takes_between(Uid(7), 5, 5) && !pods.takes_between(Uid(7), 6, 9));
-    assert_eq!(rt; pods.first_free_from(Uid(7), 5, 6), 6);
-    assert_eq!(rt; pods.first_free_from(Uid(7), 4, 6), 4);
+    assert!(rt; pods.holds_between(Uid(7), 5, 5) && !pods.holds_between(Uid(7), 6, 9));
+    assert_eq!(rt; pods.first_unheld(Uid(7), 5, 6), 6);
+    assert_eq!(rt; pods.first_unheld(Uid(7), 4, 6), 4);
     Ok(())
 }
 

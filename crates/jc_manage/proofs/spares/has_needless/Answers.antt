@@ -17,4 +17,4 @@ returns-else-has_done c =
     let tracked = own_tracked c.args.job.now c.args.pods.now in
     let completions : c.unwrap_or-completions.result ≡ unwrap_or c.args.job.now.spec.completions 0 = c.unwrap_or-completions.ensures ∙ ap (λ (spec : JobSpec). unwrap_or spec.completions 0) c.deref.ensures in
     any-second (is_done_index c.args.counted.now) (λ n. nat_le (unwrap_or c.args.job.now.spec.completions 0) n) tracked c.has_done.result _ c.if-has_done.false c.has_done.ensures
-    (c.takes_from.ensures ∙ ap (λ (m : ℕ). list_any (λ (pod : Pod). option_map_or (λ n. nat_le m n) pod.index false) tracked) completions)
+    (c.holds_from.ensures ∙ ap (λ (m : ℕ). list_any (λ (pod : Pod). option_map_or (λ n. nat_le m n) pod.index false) tracked) completions)

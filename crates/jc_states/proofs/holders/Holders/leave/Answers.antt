@@ -6,7 +6,7 @@ use Rattle.jc_states.proofs.holders.Holders.leave.Goals as goal
 pub returns-in-Some : goal.returns-in-Some
 returns-in-Some c owner n =
     c.remove.ensures owner n
-    ∙ ap (λ b. held_in owner n c.args.self.now - cond b 1 0) (sym (holds-index owner n c.in-Some.index c.args.pod.now (sym c.taken_index.ensures ∙ c.in-Some.is)))
+    ∙ ap (λ b. held_in owner n c.args.self.now - cond b 1 0) (sym (holds-index owner n c.in-Some.index c.args.pod.now (sym c.held_index.ensures ∙ c.in-Some.is)))
 
 pub returns-in_default : goal.returns-in_default
-returns-in_default c owner n = none-left owner n (held_in owner n c.args.self.now) c.args.pod.now (sym c.taken_index.ensures ∙ c.in_default.is)
+returns-in_default c owner n = none-left owner n (held_in owner n c.args.self.now) c.args.pod.now (sym c.held_index.ensures ∙ c.in_default.is)

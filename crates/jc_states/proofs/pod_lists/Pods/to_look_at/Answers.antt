@@ -24,6 +24,6 @@ returns-then-not-has_calm-2-clause-rising c =
 
 pub returns-clause-rising : goal.returns-clause-rising
 returns-clause-rising c =
-    IfOk-weaker c.noted_among.result (λ pods. pods.items ≡ filter (needs_look c.args.owner c.args.uids.now c.args.more.now) c.as_slice.result.now) (λ pods. IsRising pods.items)
+    IfOk-weaker c.pods_to_look_at.result (λ pods. pods.items ≡ filter (needs_look c.args.owner c.args.uids.now c.args.more.now) c.as_slice.result.now) (λ pods. IsRising pods.items)
     (λ pods are. subst IsRising (sym are) (rises_filter 0 (needs_look c.args.owner c.args.uids.now c.args.more.now) c.as_slice.result.now (subst IsRising (sym c.as_slice.ensures.pods) c.as_slice.ensures.rising)))
-    c.noted_among.ensures
+    c.pods_to_look_at.ensures

@@ -6,15 +6,15 @@ use Rattle.jc_states.specs.Tallies.{pods_for}
 use Rattle.jc_manage.specs.Creations.{is_done_index}
 use Rattle.jc_manage.proofs.Sequences.{free-enough, free-next}
 use Rattle.jc_manage.proofs.UnheldFacts.{found-skip}
-use Rattle.jc_manage.proofs.unheld.untaken_indexes.Goals as goal
+use Rattle.jc_manage.proofs.unheld.unheld_indexes.Goals as goal
 
 pub loop-index-preserved : goal.loop-index-preserved
 loop-index-preserved c =
     let counted = c.args.counted.now in
     let tracked = tracked_active_pods (pods_for c.args.owner c.args.pods.now) in
     let test : ℕ → Bool = λ n. not (is_done_index counted n) && not (list_any (has_index_in n n) tracked) in (
-      c.past_done_and_taken-index.ensures.within,
-      found-skip test c.args.most (c.loop-index.index + 1) _ _ c.past_done_and_taken-index.ensures.above c.past_done_and_taken-index.ensures.between
+      c.past_done_and_held-index.ensures.within,
+      found-skip test c.args.most (c.loop-index.index + 1) _ _ c.past_done_and_held-index.ensures.above c.past_done_and_held-index.ensures.between
           (free-next test c.args.most c.loop-index.index _ _ c.loop-index.invariant.1 c.in_ok-offer.ensures),
     )
 

@@ -5,7 +5,7 @@ use Rattle.jc_states.specs.Bases.{is_own}
 use Rattle.jc_states.specs.Pods.{is_tracked_active}
 use Rattle.jc_manage.specs.LetGoes.{is_earlier}
 use Rattle.jc_manage.specs.Ranks.{has_older}
-use Rattle.jc_manage.proofs.let_goes.oldest_takers.Given as goal
+use Rattle.jc_manage.proofs.let_goes.oldest_holders.Given as goal
 
 -- The holders so far answer as the own active tracked pods before this one do.
 abbrev pub invariant-loop-pod : goal.invariant-loop-pod

@@ -1,7 +1,7 @@
 use Rattle.std.proofs.Common.{sym, ◌∙◌}
 use Rattle.jc_states.specs.Bases.{own_pods}
 use Rattle.jc_manage.proofs.UnheldFacts.{kept-held}
-use Rattle.jc_manage.proofs.unheld.are_kept_as_taken.Goals as goal
+use Rattle.jc_manage.proofs.unheld.are_kept_as_held.Goals as goal
 
 pub returns-then-count_active-count_tracked_active : goal.returns-then-count_active-count_tracked_active
 returns-then-count_active-count_tracked_active c so =

@@ -7,7 +7,7 @@ use Rattle.jc_types.proofs.ListFacts.{any_filter}
 use Rattle.jc_states.specs.Pods.{is_tracked_active}
 use Rattle.jc_manage.specs.LetGoes.{is_earlier}
 use Rattle.jc_manage.proofs.Sequences.{any-next}
-use Rattle.jc_manage.proofs.let_goes.oldest_takers.Goals as goal
+use Rattle.jc_manage.proofs.let_goes.oldest_holders.Goals as goal
 
 pub returns : goal.returns
 returns c =

@@ -4,7 +4,7 @@ use Rattle.jc_states.specs.Holders.{has_index_in}
 use Rattle.jc_states.specs.Pods.{tracked_active_pods}
 use Rattle.jc_states.specs.Tallies.{pods_for}
 use Rattle.jc_manage.specs.Creations.{is_done_index}
-use Rattle.jc_manage.proofs.unheld.untaken_indexes.Given as goal
+use Rattle.jc_manage.proofs.unheld.unheld_indexes.Given as goal
 
 -- The indexes so far are the first unheld ones below this one.
 abbrev pub invariant-loop-index : goal.invariant-loop-index

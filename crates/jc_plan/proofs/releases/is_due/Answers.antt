@@ -4,7 +4,7 @@ use Rattle.std.proofs.lemmas.Fn.{always_returns_same}
 use Rattle.std.proofs.lemmas.List.Sorted.{IsPartitionedBy-ltb}
 use Rattle.jc_types.specs.declared.numbers.Uid.{Uid}
 use Rattle.jc_states.proofs.UidPlaceFacts.{in-past, in-read, place_in-splits, uids-ascend}
-use Rattle.jc_plan.proofs.releases.is_in.Goals as goal
+use Rattle.jc_plan.proofs.releases.is_due.Goals as goal
 
 pub returns-then-place-due : goal.returns-then-place-due
 returns-then-place-due c =
