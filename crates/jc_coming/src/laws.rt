@@ -29,8 +29,9 @@ pub fn bases_of_the_whole_log_show_all()
         → ShowsAll notes log (basis notes log now key (log_end log) (log_end log)) }
 {}
 
-/// **A written status is no draft any more.** Where a plan asks for no pod its first status is the next one of its Job;
-/// with it written fewer statuses are to come, and nothing is left to write: no second status, and no other first one.
+/// **A written status is no draft any more.** Where a plan makes, marks, lets go and releases no pod its first status
+/// is the next one of its Job; with it written fewer statuses are to come, and nothing is left to write: no second
+/// status, and no other first one.
 pub fn a_written_status_is_no_draft()
     ensures fewer { (log : List Entry) (job : Job) (basis : Basis) (status : JobStatus)
         → basis.job ≡ Some job → job_in basis.key log ≡ Some job

@@ -37,13 +37,13 @@ pub fn no_ended_pod_is_forgotten_at_rest()
     allowed_updates_stay_valid();
 }
 
-/// In each legal history, of each pod that ever was there of a Job that is there, where it is without its
-/// finalizer now, or gone, one of the deeds took it: just before this deed the pod had it, and just after
-/// it not. It was a command that stripped this pod, or a release or let-go of this pod by a sync, and the
-/// sync had a cause: the pod was judged by an earlier write of the Job's status; or it needs no count,
-/// since its failure is ignored, it was active and was let go, or its index was complete or is none of
-/// the Job's. So at rest each pod that has ended and that no command stripped is in the Job's counts, or
-/// needs no count.
+/// In each legal history, of each pod that ever was there of a Job that is there, where it is
+/// without its finalizer now, or gone, one of the deeds took it: just before this deed the pod had
+/// it, and just after it not. It was a command that stripped this pod, or a release or let-go of
+/// this pod by a sync, and the sync had a cause: the pod was judged by an earlier write of the
+/// Job's status; or it needs no count, since its failure is ignored, it was active and was let go,
+/// or it has succeeded and its index was complete or past the completions. So at rest each pod that
+/// has ended and that no command stripped is in the Job's counts, or needs no count.
 pub fn finalizers_are_lost_with_a_cause()
     ensures { (shape : Shape) (deeds : List Deed) → IsLegal shape deeds → AllAskValid deeds
         → (k : Key) (job : Job) → job_in k (log_given shape deeds) ≡ Some job
