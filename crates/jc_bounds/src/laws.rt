@@ -71,7 +71,7 @@ pub fn pods_that_are_made_fit()
         → IsMade shape d.act (log_given shape past) (diary shape 0 past) pod }
 {}
 
-/// What keeps a Job that has ended as it is: its status is at rest and its pods are closed, and a
+/// What keeps a Job that has ended as it is: its status is final and its pods are closed, and a
 /// sync that is under way makes no pod and writes no status of it any more.
 pub fn histories_keep_ends()
     ensures { (shape : Shape) (deeds : List Deed) → shape.controllers ≡ 1 → IsLegal shape deeds

@@ -17,7 +17,7 @@ ghost use Rattle.jc_making.specs.Making.{IsCounted};
 
 use jc_runs::allowed_updates_stay_valid;
 
-/// **Where a Job has ended, how it ends is settled**: in any history a target stands among the conditions of each Job with
+/// **Where a Job has ended, how it ends is decided**: in any history a target stands among the conditions of each Job with
 /// an end. A new Job has neither, an update keeps the status, and a plan sets an end only behind a target.
 pub fn ended_jobs_have_a_target()
     ensures { (shape : Shape) (past : List Deed) (k : Key) (job : Job)

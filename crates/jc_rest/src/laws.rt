@@ -53,9 +53,9 @@ pub fn finalizers_are_lost_with_a_cause()
 }
 
 /// **At rest no Job is stuck (batch/v1)**: where nothing is available any more, each Job that is there has
-/// ended; or how it will end is not settled, and it waits for something that only the outside can give: it is
+/// ended; or how it will end is not decided, and it waits for something that only the outside can give: it is
 /// suspended, it may run no pod, it has as many active pods as it wants and nothing says how one of them will
-/// end, or its pods are held back past the last moment. So it is for each controller that has added the Job's
+/// end, or its pods are delayed past the last moment. So it is for each controller that has added the Job's
 /// key since its pod cache last skipped entries of the log.
 ///
 /// Without that it can be false: where the last pod of a Job comes to its end and leaves the log between
