@@ -55,9 +55,9 @@ pub fn unwritten_plans_name_moments_to_come()
         → is_moment_to_come basis.now log notes basis.key m ≡ true }
 {}
 
-/// **The clock brings nothing new.** With it no more statuses are to come, since a status becomes a draft only where a
-/// deadline has passed that was ahead, and no more moments. Where no key is in line and no moment has passed, no more
-/// keys are to come, and fewer where a delay was due.
+/// **The clock brings nothing new.** With it no more statuses are to come, up to the last moment, since a status
+/// becomes a draft only where a deadline has passed that was ahead, and no more moments. Where no key is in line and no
+/// moment has passed, no more keys are to come, and fewer where a delay was due.
 pub fn the_clock_brings_nothing_new()
     ensures statuses { (now later : ℕ) (log : List Entry) → now ≤ later → later < end_of_moments
         → statuses_to_come later log ≤ statuses_to_come now log }
