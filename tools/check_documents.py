@@ -5,7 +5,7 @@ Each link leads to a file, and to a heading where it names one. Each path in bac
 and PROVED.md have the crates in the order of crates.txt, MAP.md all of them, and PROVED.md no call or clause that its crate
 does not have. No crate stands on one that MAP.md keeps it apart from. The table of what is proved again in CHANGING.md is the
 one of crates.txt, and its recipes name each file that has the word of their change. GLOSSARY.md names of each word a file that
-has it. Prose is at most 120 wide.
+has it, and DEFINITIONS.md names the files of the crates that their section names. Prose is at most 120 wide.
 """
 import functools
 import glob
@@ -197,6 +197,19 @@ def check_names():
                 holds(f"{page}: there is no {name}", name.split("::")[-1] in known)
 
 
+def check_definitions():
+    """A file that DEFINITIONS.md names stands in a crate that its section names, and in the one that it is said to be of."""
+    page, owners = "docs/DEFINITIONS.md", {}
+    for path in glob.glob(f"{TOP}/crates/*/*/**/*.antt", recursive=True):
+        owners.setdefault(os.path.basename(path), set()).add(os.path.relpath(path, f"{TOP}/crates").split("/")[0])
+    for part in text_of(page).split("\n## ")[1:]:
+        heading, of_section = part.partition("\n")[0], set(re.findall(r"jc_\w+", part))
+        for name in sorted(set(re.findall(r"`([A-Z]\w+\.antt)`", part))):
+            holds(f"{page}: {heading}: no crate of it has {name}", bool(owners.get(name, set()) & of_section))
+        for name, crate in re.findall(r"`([A-Z]\w+\.antt)`\s+of\s+`?(jc_\w+)", part):
+            holds(f"{page}: {heading}: {crate} has no {name}", crate in owners.get(name, set()))
+
+
 def check_counts():
     """bench/README.md says how many crates and edits there are."""
     edits = [it.split("/")[-3] for it in glob.glob(f"{TOP}/crates/*/must-fail/*.edit")]
@@ -288,6 +301,7 @@ def main():
     check_folder()
     check_proved()
     check_names()
+    check_definitions()
     check_counts()
     check_glossary()
     check_again()

@@ -130,12 +130,12 @@ module _ (job : Job) (own : List Pod) where
         left_failed = length (with Failed over);
       }
 
--- What is counted in of the noted pods is what is counted in of all.
+-- What is counted in of the pods to look at is what is counted in of all.
 pub counted-noted : (job : Job) (pods : List Pod) → counted_in job (filter (is_noted_of job) pods) ≡ counted_in job pods
 unfolding counted_in
 counted-noted job pods = ap (counted_of job) (own-part job (is_noted_of job) pods) ∙ same-counted job (own_pods job pods)
 
--- What was noted for a sync of the Job: it counts the same of these, and what counting asks of all pods holds of them.
+-- What is to look at for a sync of the Job: it counts the same of these, and what counting asks of all pods holds of them.
 module _ (job : Job) (pods some : List Pod) (us vs : List Uid) (of_s : us ≡ job.status.uncounted_succeeded) (of_f : vs ≡ job.status.uncounted_failed)
     (are : some ≡ filter (needs_look job.uid us vs) pods) where
   some-is : some ≡ filter (is_noted_of job) pods

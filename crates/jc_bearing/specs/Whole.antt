@@ -30,8 +30,9 @@ use Rattle.jc_making.specs.Grants.{AllGranted, job_left}
 abbrev pub at_version : Version → Job → Job
 at_version version job = record job { version = version }
 
--- The Job has the status that the plan leaves, and is else as it was. Its own pods are what the plan makes of them, with
--- the new ones; of these so many were made as it was to make.
+-- The Job has the status that the plan leaves, and is else as it was, but for its version. Its own pods are those that
+-- were there, as the plan has them, but for some that lost their finalizer and are gone, with the new ones; of these so
+-- many were made as it was to make.
 pub record HasAllFor (log : List Entry) (basis : Basis) (job : Job) (new : List Entry) : Type 0 where
   pub version : Version
   pub job_is : job_in basis.key new ≡ Some (at_version version (job_left (planned basis) job))

@@ -26,11 +26,12 @@ ghost use Rattle.jc_bearing.specs.Whole.{DoesAll, RunsWhole, SawLog};
 use jc_runs::allowed_updates_stay_valid;
 
 /// **A sync that runs alone does all that it plans, and then it is calm again**: where a settle begins a sync in a calm
-/// state and no fault is pending for its worker, there are so many events, all of them lists, deliveries and steps of that
-/// sync, after which it is calm. Its Job has the status that the plan leaves, and is else as it was. The Job's own pods are
-/// those that were there, as the plan has them, and behind them the new ones, one for each index that the plan has. Each
-/// other Job is as it was, and so are the pods that were made for Jobs of other keys. The moment is the same, and no fault
-/// is new.
+/// state behind a legal history whose Jobs were created with valid specifications, and no fault is pending for its
+/// worker, there are so many events, all of them lists, deliveries and steps of that sync, after which it is calm. Its
+/// Job has the status that the plan leaves, and is else as it was, but for its version. The Job's own pods are those
+/// that were there, as the plan has them, but for some that lost their finalizer and are gone, and behind them the new
+/// ones, one for each index that the plan has. Each other Job is as it was, and so are the pods that were made for Jobs
+/// of other keys. The moment is the same, and no fault is new.
 pub fn whole_syncs_do_what_they_plan()
     ensures { (shape : Shape) (past : List Deed) (c w : ℕ) (basis : Basis) (begin : Deed)
         → 0 < shape.workers → IsLegal shape past → AllAskValid past → IsCalm shape past
@@ -56,8 +57,9 @@ pub fn whole_syncs_make_no_pod_beyond()
         → pods_at_most ends new job ≡ pods_at_most ends log job }
 {}
 
-/// **And neither does what the node does**, to one of the Job's pods or to another: it starts, restarts, succeeds, fails, or
-/// is stopped, and may be gone then. Such a deed leaves them no more, where the pods of the Job's key have fates.
+/// **A deed of the node allows no more pods of a Job**, be it to one of the Job's pods or to another, which starts,
+/// restarts, succeeds, fails, or is stopped, and may be gone then: those that were made and those that may still be are
+/// together no more after it, where the pods of the Job's key have fates and what counts of the Job is in order.
 pub fn the_node_allows_no_more_pods()
     ensures { (shape : Shape) (past : List Deed) (d : Deed) (ends : List End) (job : Job)
         → d.act ≡ does.Node → fate past job.key ≡ Some ends

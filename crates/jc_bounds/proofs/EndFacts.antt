@@ -186,7 +186,7 @@ module _ (log : List Entry) (stored : Stored log) (neat : AlwaysHaveIndexTotals 
     place : Where log (planned b) (made u old) ask
     place = where-is log (planned b) (made u old) ask next winding.progress
 
-    -- Where the sync is not silent, its Job has no end.
+    -- Where the sync asks for more than releases, its Job has no end.
     pub unended : (seen job : Job) → b.job ≡ Some seen → job_in b.key log ≡ Some job → job.uid ≡ seen.uid → is_quiet ask ≡ false → (has_end job.status.conditions ≡ false) × (has_end seen.status.conditions ≡ false)
     unended seen job there is same loud = (at (has_end job.status.conditions) refl, before (has_end seen.status.conditions) refl)
       where

@@ -160,7 +160,7 @@ made-key log pod k job legal there uid =
     owner-key k (length (PodPut pod ∷ log)) (length (PodPut pod ∷ log)) (PodPut pod ∷ log) job pod legal (ap (job_in k) all ∙ there)
     (ap (life pod.uid) all ∙ cond-true (same_uid pod.uid pod.uid) (Live pod) (life pod.uid log) (same_uid-itself pod.uid)) uid
 
--- A Job that has ended is shut.
+-- A Job that has ended has nothing open.
 pub final-shut : (log : List Entry) (notes : List Note) → Legal log → KnowsEnds log notes → (k : Key) (job : Job) → job_in k log ≡ Some job → has_end job.status.conditions ≡ true → HasNothingOpen log job
 final-shut log notes legal h k job there end =
     let fin = h.finished k job there end in

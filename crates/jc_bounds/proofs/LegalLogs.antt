@@ -1,4 +1,4 @@
--- The log of a legal history of one controller is legal, and its Jobs are neat.
+-- The log of a legal history of one controller is legal, and its Jobs have index totals.
 use Rattle.std.proofs.Common.{◌≡◌, ℕ, zero, suc, ◌+◌, ◌-◌, ◌==◌, nat_lt, Bool, true, false, cond, not, ◌&&◌, List, [], ◌∷◌, length, map, Option, Some, None, IfSome, is_some, refl, sym, ap, ◌∙◌, subst, true≢false, arith}
 use Rattle.jc_log.specs.Acts as does
 use Rattle.jc_plan.specs.Accounts.{counted_in, counted_out, released_of}
@@ -79,7 +79,7 @@ IsNeatEntry other = Unit {0}
 abbrev Climbs : List IndexCount → Type 0
 Climbs counts = IsIncreasing (map (λ (count : IndexCount). count.index) counts)
 
--- Neat by mode, limit and status.
+-- Index totals by mode, limit and status.
 same-neat : (old new : Job) → new.spec.mode ≡ old.spec.mode → new.spec.per_index ≡ old.spec.per_index → new.status ≡ old.status → HasIndexTotals old → HasIndexTotals new
 same-neat old new mode limit status h = record {
   none = λ m. ap (λ (s : JobStatus). s.uncounted_succeeded) status ∙ h.none (sym mode ∙ m);

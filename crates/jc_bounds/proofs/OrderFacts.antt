@@ -225,7 +225,7 @@ progress-more log log' plan made keep (Early le) = Early le
 progress-more log log' plan made keep (Late done rest split is lost) = Late done rest split is (Each-weaker (λ u. is_lost (life u log) ≡ true) (λ u. is_lost (life u log') ≡ true) keep done lost)
 progress-more log log' plan made keep (AtEnd none) = AtEnd none
 
--- ---- a silent sync
+-- ---- a sync that has releases alone left to ask
 
 abbrev pub is_quiet : Ask → Bool
 is_quiet (MakePod index) = false
@@ -284,6 +284,6 @@ module _ (plan : Planned) (made : List (Request × Answer)) (ask : Ask) (next : 
           let a = cons-head (ReleasePod u) ask (map ReleasePod rest) (drop (suc (length made)) (asks plan made)) e in
           Rests rest (left-same plan made (as_request ask) given (λ v. ap (λ x. lets_go_of v (as_request x)) (sym a)) ∙ sym (cons-tail (ReleasePod u) ask (map ReleasePod rest) (drop (suc (length made)) (asks plan made)) e))
 
-  -- Once the last request but for releases was made, the sync is silent.
+  -- Once the last request but for releases was made, the sync has releases alone left to ask.
   pub silent-after : (given : Answer) → ((u : Uid) → lets_go_of u (as_request ask) ≡ false) → (rest : List Uid) → drop (suc (length made)) (asks plan made) ≡ map ReleasePod rest → AsksReleasesOnly plan (more made (as_request ask) given)
   silent-after given none rest tail = Rests rest (left-same plan made (as_request ask) given none ∙ tail)

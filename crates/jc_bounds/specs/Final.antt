@@ -1,12 +1,12 @@
 -- What a legal history of one controller keeps of Jobs that have ended, over the log and the
 -- controller's notes.
---     IsClosed own           none of the pods is open, or has its finalizer
---     IsFinished log k job   the Job is at rest, its pods closed from the key's last work on
---     IsFinishedAt log k     so is the key's Job, where it has ended
---     IsOverFor ..           what is known of a sync of a Job that is there
---     IsKnownSync log made b   what is known of a worker's sync
---     KnowsEnds log notes      what is known of all Jobs and of all syncs
---     AlwaysHaveIndexTotals log            at each version each Job is neat
+--     IsClosed own               none of the pods is open, or has its finalizer
+--     IsFinished log k job       its status is final, its pods closed from the key's last work on
+--     IsFinishedAt log k         so is the key's Job, where it has ended
+--     IsOverFor ..               what is known of a sync of a Job that is there
+--     IsKnownSync log made b     what is known of a worker's sync
+--     KnowsEnds log notes        what is known of all Jobs and of all syncs
+--     AlwaysHaveIndexTotals log  at each version each Job has index totals
 use Rattle.std.specs.Prelude.{◌≡◌, ℕ, ◌≤◌, true, false, List, length, Some}
 use Rattle.std.specs.List.{AllByRecursion as Each, list_any}
 use Rattle.jc_types.specs.declared.objects.Entry.{Entry}
@@ -32,7 +32,7 @@ pub record IsClosed (own : List Pod) : Type 0 where
   pub opens : list_any is_open own ≡ false
   pub tracks : list_any is_tracked own ≡ false
 
--- The Job is at rest, and from the key's last work on its pods are closed.
+-- The status of the Job is final, and from the key's last work on its pods are closed.
 pub record IsFinished (log : List Entry) (k : Key) (job : Job) : Type 0 where
   pub rests : IsFinalStatus job.status
   pub closed : (m : ℕ) → m ≤ length log → last_work k log ≤ m

@@ -15,7 +15,7 @@ use Rattle.jc_bounds.specs.Fitting.{IsMade}
 use Rattle.jc_bounds.specs.KeptEnds.{IsLeftAlone, HasNothingOpen, StatusesStand}
 
 -- A pod that comes into the log with the deed fits. A Job that had ended is left alone. After the
--- deed each Job that has ended is shut, and its status is the one with which it ended.
+-- deed each Job that has ended has nothing open, and its status is the one with which it ended.
 pub record KeepsBounds (shape : Shape) (past : List Deed) (d : Deed) : Type 0 where
   pub fits : (pod : Pod) → log_given shape (d ∷ past) ≡ PodPut pod ∷ log_given shape past
       → life pod.uid (log_given shape past) ≡ Never

@@ -1,5 +1,5 @@
 -- What a history keeps of a Job that has ended.
---     HasNothingOpen log job               nothing is listed, and its pods are closed
+--     HasNothingOpen log job       nothing is listed, and its pods are closed
 --     IsLeftAlone log log' k job   the deed makes no pod of it and does not change its status
 --     StatusesStand log            its status is the same at each later version
 use Rattle.std.specs.Prelude.{◌≡◌, ℕ, true, List, ◌∷◌, Some}

@@ -1,11 +1,11 @@
 -- Where a sync stands among its requests.
---     early, late plan           the requests before the first status, and those from it on
---     second_writes plan         the write of the second status, where the plan has one
---     asks_left plan made        what is left to ask
---     AreLost log uids           the pods have lost their finalizer
---     Progress log plan made     before the first status; or among the releases, where the pods of
---                                those before have lost their finalizer; or at the end
---     AsksReleasesOnly plan made         the sync makes no pod and writes no status any more
+--     early, late plan            the requests before the first status, and those from it on
+--     second_writes plan          the write of the second status, where the plan has one
+--     asks_left plan made         what is left to ask
+--     AreLost log uids            the pods have lost their finalizer
+--     Progress log plan made      before the first status; or among the releases, where the pods of
+--                                 those before have lost their finalizer; or at the end
+--     AsksReleasesOnly plan made  the sync makes no pod and writes no status any more
 use Rattle.std.specs.Prelude.{◌≡◌, ◌≤◌, true, List, [], ◌++◌, length, map, drop, None}
 use Rattle.std.specs.List.{AllByRecursion as Each, flat_map}
 use Rattle.std.specs.Option.{option_to_list}

@@ -59,11 +59,10 @@ pub fn histories_are_bounded()
         → IsBounded (log_given shape deeds) (diary shape 0 deeds) }
 {}
 
-/// No pod is made beyond the Job's parallelism (batch/v1): each pod that comes into
-/// the log is made by the step of a worker whose sync's Job has fewer active pods with a finalizer than
-/// may run at once;
-/// where pods are replaced only once they have ended (KEP-3939), fewer that are open. So it is also
-/// where the reply to the creation is lost.
+/// No pod is made beyond the Job's parallelism (batch/v1): each pod that comes into the log is made
+/// by the step of a worker whose sync's Job has fewer active pods with a finalizer than may run at
+/// once; where pods are replaced only once they have ended (KEP-3939), fewer open ones with a
+/// finalizer. So it is also where the reply to the creation is lost.
 pub fn pods_that_are_made_fit()
     ensures { (shape : Shape) (past : List Deed) (d : Deed) (pod : Pod)
         → shape.controllers ≡ 1 → IsLegal shape (d ∷ past)
@@ -72,7 +71,7 @@ pub fn pods_that_are_made_fit()
         → IsMade shape d.act (log_given shape past) (diary shape 0 past) pod }
 {}
 
-/// What keeps a Job that has ended as it is: its status is at rest and its pods are closed, and a
+/// What keeps a Job that has ended as it is: its status is final and its pods are closed, and a
 /// sync that is under way makes no pod and writes no status of it any more.
 pub fn histories_keep_ends()
     ensures { (shape : Shape) (deeds : List Deed) → shape.controllers ≡ 1 → IsLegal shape deeds

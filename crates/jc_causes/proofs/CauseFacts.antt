@@ -100,7 +100,7 @@ module _ (basis : Basis) where
         free = record { below = fits.below; free = lacks.1 };
       }
 
-    -- What the Job would make at once, and what of it is not held back.
+    -- What the Job would make at once, and what of it is not delayed.
     creations : (d s h : Bool) → is_decided job basis ≡ d → job.spec.suspend ≡ s → is_delayed_until (opening (backoff_in basis counted)) basis.now ≡ h
         → Each (IsIndexFor job) (cond (d || s) [] (new_pods job.spec.mode (job_lacks job own counted) frees))
         → Each (MayMake job basis 0) (cond h [] (cond (d || s) [] (new_pods job.spec.mode (job_lacks job own counted) frees)))

@@ -1,5 +1,5 @@
 -- Why a sync may ask what it asks, by what it saw of the cluster (batch/v1, KEP-2214, KEP-3850, KEP-3939).
---     is_decided job basis            how the Job ends is settled: a target stands, or the sync decides one
+--     is_decided job basis            how the Job ends is decided: a target stands, or the sync decides one
 --     tracked_in job basis            the Job's pods that the sync sees active, with their finalizer
 --     made_by steps                   how many pods the sync has asked for by these steps
 --     MayMake job basis n index       a pod may be made, behind n others
@@ -38,7 +38,7 @@ use Rattle.jc_plan.specs.Statuses.{accounted, decided_in, first_value, is_end_de
 use Rattle.jc_history.specs.Registers.{made, register}
 use Rattle.jc_history.specs.Replies.{diary}
 
--- How the Job ends is settled: a target stands, or the sync decides one now, by a policy, a limit, the deadline, or since
+-- How the Job ends is decided: a target stands, or the sync decides one now, by a policy, a limit, the deadline, or since
 -- enough pods have succeeded.
 abbrev pub is_decided : Job → Basis → Bool
 is_decided job basis = is_end_decided job (decided_in job basis)
@@ -67,7 +67,7 @@ makes_pod other = false
 abbrev pub made_by : List (Request × Answer) → ℕ
 made_by steps = count_by (λ step. makes_pod step.0) steps
 
--- A pod may be made, behind n others of the sync: how the Job ends is not settled, and it is not suspended; it lacks more
+-- A pod may be made, behind n others of the sync: how the Job ends is not decided, and it is not suspended; it lacks more
 -- than these, by what it wants, what it has, and the completions that are left; no delay after failures holds its pods
 -- back; and a pod of an Indexed Job has a free index.
 pub record MayMake (job : Job) (basis : Basis) (n : ℕ) (index : Option ℕ) : Type 0 where
@@ -80,7 +80,7 @@ pub record MayMake (job : Job) (basis : Basis) (n : ℕ) (index : Option ℕ) : 
 
 -- ---- pods that are stopped
 
--- A pod of the Job may be marked at once: it is active, and how its Job ends is settled, or it has no finalizer.
+-- A pod of the Job may be marked at once: it is active, and how its Job ends is decided, or it has no finalizer.
 pub record MayMark (job : Job) (basis : Basis) (u : Uid) : Type 0 where
   pub pod : Pod
   pub seen : Contains (own_pods job basis.pods) pod
@@ -101,7 +101,7 @@ pub data IsUnwanted (job : Job) (basis : Basis) (pod : Pod) : Type 0 where
       → is_one_of (length rest - job_wants job (own_pods job basis.pods) (accounted job basis)) job.spec.mode rest pod
       ≡ true → IsUnwanted job basis pod
 
--- A pod of the Job may be let go: it is active and has its finalizer, how its Job ends is not settled, and it is not
+-- A pod of the Job may be let go: it is active and has its finalizer, how its Job ends is not decided, and it is not
 -- wanted.
 pub record MayLetGo (job : Job) (basis : Basis) (u : Uid) : Type 0 where
   pub pod : Pod

@@ -25,7 +25,7 @@ use Rattle.jc_history.specs.Notes.{Note, Began, Ended}
 use Rattle.jc_history.specs.Registers.{backoff}
 use Rattle.jc_coming.specs.Drafts.{is_ahead}
 
--- The deadline of a Job by the start time that its status has; none where it is suspended or its end is settled. Of
+-- The deadline of a Job by the start time that its status has; none where it is suspended or its end is decided. Of
 -- a Job that starts or is resumed only now it is not the one in force: that one moves with the clock.
 abbrev pub deadline_by_status : Job → Option ℕ
 deadline_by_status job =
@@ -36,7 +36,7 @@ deadline_by_status job =
 abbrev pub with_deadlines : ℕ → List Entry → List (Key × Job)
 with_deadlines now log = filter (λ row. is_ahead now (deadline_by_status row.1)) (jobs_in log)
 
--- The Jobs that are held back: the opening of the controller's backoff is ahead.
+-- The Jobs that are delayed: the opening of the controller's backoff is ahead.
 abbrev pub held_back : ℕ → List Entry → List Note → List (Key × Job)
 held_back now log notes = filter (λ row. is_ahead now (opening (backoff row.0 notes))) (jobs_in log)
 

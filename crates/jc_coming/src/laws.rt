@@ -29,8 +29,9 @@ pub fn bases_of_the_whole_log_show_all()
         → ShowsAll notes log (basis notes log now key (log_end log) (log_end log)) }
 {}
 
-/// **A written status is no draft any more.** Where a plan asks for no pod its first status is the next one of its Job;
-/// with it written fewer statuses are to come, and nothing is left to write: no second status, and no other first one.
+/// **A written status is no draft any more.** Where a plan makes, marks, lets go and releases no pod its first status
+/// is the next one of its Job; with it written fewer statuses are to come, and nothing is left to write: no second
+/// status, and no other first one.
 pub fn a_written_status_is_no_draft()
     ensures fewer { (log : List Entry) (job : Job) (basis : Basis) (status : JobStatus)
         → basis.job ≡ Some job → job_in basis.key log ≡ Some job
@@ -54,9 +55,9 @@ pub fn unwritten_plans_name_moments_to_come()
         → is_moment_to_come basis.now log notes basis.key m ≡ true }
 {}
 
-/// **The clock brings nothing new.** With it no more statuses are to come, since a status becomes a draft only where a
-/// deadline has passed that was ahead, and no more moments. Where no key is in line and no moment has passed, no more
-/// keys are to come, and fewer where a delay was due.
+/// **The clock brings nothing new.** With it no more statuses are to come, up to the last moment, since a status
+/// becomes a draft only where a deadline has passed that was ahead, and no more moments. Where no key is in line and no
+/// moment has passed, no more keys are to come, and fewer where a delay was due.
 pub fn the_clock_brings_nothing_new()
     ensures statuses { (now later : ℕ) (log : List Entry) → now ≤ later → later < end_of_moments
         → statuses_to_come later log ≤ statuses_to_come now log }

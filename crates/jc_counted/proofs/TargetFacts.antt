@@ -1,4 +1,4 @@
--- Where a Job of the log has ended, how it ends is settled.
+-- Where a Job of the log has ended, how it ends is decided.
 use Rattle.std.proofs.Common.{◌≡◌, ◌≢◌, ◌⊎◌, inl, inr, ℕ, ℤ, ◌+◌, ◌-◌, ◌==◌, nat_lt, Bool, true, false, cond, not, ◌&&◌, List, [], ◌∷◌, ◌++◌, length, find, Option, Some, None, option_map, IfSome, refl, subst}
 use Rattle.std.specs.List.{AllByRecursion as Each}
 use Rattle.std.specs.Option.{option_or, option_to_list, unwrap_or}

@@ -17,7 +17,7 @@ ghost use Rattle.jc_making.specs.Making.{IsCounted};
 
 use jc_runs::allowed_updates_stay_valid;
 
-/// **Where a Job has ended, how it ends is settled**: in any history a target stands among the conditions of each Job with
+/// **Where a Job has ended, how it ends is decided**: in any history a target stands among the conditions of each Job with
 /// an end. A new Job has neither, an update keeps the status, and a plan sets an end only behind a target.
 pub fn ended_jobs_have_a_target()
     ensures { (shape : Shape) (past : List Deed) (k : Key) (job : Job)
@@ -25,7 +25,8 @@ pub fn ended_jobs_have_a_target()
         → has_end job.status.conditions ≡ true → has_target job.status.conditions ≡ true }
 {}
 
-/// Jobs that are there under different keys have different UIDs.
+/// In each legal history whose Jobs were created with valid specifications, Jobs that are there under different keys
+/// have different UIDs.
 pub fn keys_have_their_own_jobs()
     ensures { (shape : Shape) (past : List Deed) → IsLegal shape past → AllAskValid past
         → (k l : Key) (one other : Job) → job_in k (log_given shape past) ≡ Some one
@@ -35,9 +36,9 @@ pub fn keys_have_their_own_jobs()
     allowed_updates_stay_valid();
 }
 
-/// **What counts of each Job of a legal history is in order**: its specification is valid, it has a target where it has
-/// ended, its completed indexes and those of its failures ascend, an Indexed one lists no success and each of its pods has
-/// an index, and no pod that it lists is active.
+/// **What counts of each Job of a legal history whose Jobs were created with valid specifications is in order**: its
+/// specification is valid, it has a target where it has ended, its completed indexes and those of its failures ascend,
+/// an Indexed one lists no success and each of its pods has an index, and no pod that it lists is active.
 pub fn jobs_are_counted()
     ensures { (shape : Shape) (past : List Deed) → IsLegal shape past → AllAskValid past
         → (k : Key) (job : Job) → job_in k (log_given shape past) ≡ Some job

@@ -12,10 +12,11 @@ ghost use Rattle.jc_ends.specs.Podless.{LeavesPods};
 
 use jc_runs::allowed_updates_stay_valid;
 
-/// **No busy loop**: behind any legal history a settle in which the node does nothing and no sync asks for a pod comes to
-/// where nothing is available, for any number of controllers and workers, with lagging caches, faults that are pending,
-/// and syncs that are under way when it begins. With each turn the first of these numbers that changes falls: the faults
-/// that are pending, the statuses, the moments and the keys that are still to come.
+/// **No busy loop**: behind any legal history whose Jobs were created with valid specifications a settle in which the
+/// node does nothing and no sync asks to make, mark, let go or release a pod comes to where nothing is available, for
+/// any number of controllers and workers, with lagging caches, faults that are pending, and syncs that are under way
+/// when it begins. With each turn the first of these numbers that changes falls: the faults that are pending, the
+/// statuses, the moments and the keys that are still to come.
 pub fn settles_without_pods_end()
     ensures { (shape : Shape) (past : List Deed) → IsLegal shape past → AllAskValid past
         → 0 < shape.workers → IsMoment shape.start → LeavesPods shape past

@@ -1,11 +1,11 @@
--- What settles how a Job will end (batch/v1, KEP-3329, KEP-3850, KEP-3998). `counted` is what the sync has counted, `now` its
+-- What decides how a Job will end (batch/v1, KEP-3329, KEP-3850, KEP-3998). `counted` is what the sync has counted, `now` its
 -- moment, and `own` are the Job's own pods.
---     restarts_too_often limit restarts           so many restarts are too many under the limit
+--     restarts_too_often limit restarts  so many restarts are too many under the limit
 --     is_failed_by_pod, is_past_limit, is_overdue, is_past_most, is_failed_by_indexes, is_policy_met, is_complete
---                                      the seven reasons, in their order
+--                                        the seven reasons, in their order
 --     first_reason counted now job own   the first of them that holds, as a condition with its reason
---     decided counted now job own      the same, unless how the Job will end is settled
---     decision_of basis counted        what is decided of the Job of a basis
+--     decided counted now job own        the same, unless how the Job will end is decided
+--     decision_of basis counted          what is decided of the Job of a basis
 use Rattle.std.specs.Prelude.{ℕ, ◌+◌, ◌==◌, nat_lt, nat_le, length, unwrap_or, Bool, true, false, not, ◌&&◌, ◌||◌, List, if◌then◌else◌, Option, Some, None, is_some, option_and_then}
 use Rattle.std.specs.List.{list_any}
 use Rattle.jc_types.specs.declared.objects.Job.{Job}
@@ -105,7 +105,7 @@ first_reason counted now job own =
     else if is_complete (counts counted).1 job.spec own then Some (SuccessCriteriaMet, reason.CompletionsReached)
     else None
 
--- Nothing is decided anew where how the Job will end is settled.
+-- Nothing is decided anew where how the Job will end is decided.
 abbrev pub decided : CountIn → ℕ → Job → List Pod → Option (CondKind × Reason)
 decided counted now job own = if has_target job.status.conditions then None else first_reason counted now job own
 

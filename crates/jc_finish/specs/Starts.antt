@@ -12,7 +12,7 @@ use Rattle.jc_types.specs.declared.statuses.JobStatus.{JobStatus}
 use Rattle.jc_states.specs.declared.bases.Basis.{Basis}
 use Rattle.jc_states.specs.Conditions.{stands, has_target, has_end}
 
--- The Job is not suspended, how it will end is not settled, it has not ended, and either it never started
+-- The Job is not suspended, how it will end is not decided, it has not ended, and either it never started
 -- or it was suspended until now.
 abbrev pub begins : Bool → Option ℕ → List Condition → Bool
 begins suspend start conditions =
@@ -29,7 +29,7 @@ end_after None start = None
 end_after (Some seconds) None = None
 end_after (Some seconds) (Some start) = Some (start + seconds)
 
--- The moment of the deadline of a Job that is not suspended and whose end is not settled.
+-- The moment of the deadline of a Job that is not suspended and whose end is not decided.
 abbrev pub deadline_of : ℕ → JobSpec → JobStatus → Option ℕ
 deadline_of now spec status =
     if spec.suspend || has_target status.conditions then None

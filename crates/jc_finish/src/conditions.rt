@@ -139,7 +139,7 @@ fn with_target(
     }
 }
 
-// Whether a condition of the kind settles how a Job will end.
+// Whether a condition of the kind decides how a Job will end.
 fn is_target_kind(kind: CondKind) -> bool
     ensures { result ≡ is_target_kind kind }
 {

@@ -1,4 +1,4 @@
-//! What settles how a Job will end.
+//! What decides how a Job will end.
 
 ghost use Rattle.std.specs.Prelude.{◌≡◌, ◌+◌, ◌<◌, ◌^◌, length, nat_le};
 ghost use Rattle.std.specs.List.{list_any};
@@ -180,7 +180,7 @@ fn decided(now: Moment, job: &Job, pods: &Pods, counted: &CountIn) -> Option<(Co
     first_reason(now, job, pods, counted)
 }
 
-/// What settles how the basis's Job will end, as a condition and its reason (batch/v1, KEP-3329,
+/// What decides how the basis's Job will end, as a condition and its reason (batch/v1, KEP-3329,
 /// KEP-3850, KEP-3998). None where a target stands already, and where none of these holds; the first that holds
 /// decides:
 ///

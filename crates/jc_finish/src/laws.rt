@@ -23,8 +23,8 @@ ghost use Rattle.jc_failpol.specs.Rules.{action_of};
 ghost use Rattle.jc_finish.specs.Decisions.{decided, is_failed_by_pod};
 ghost use Rattle.jc_finish.specs.Settled.{is_target_kind, settled};
 
-/// How a Job will end is settled once, and what settles it is a target. A tracked pod of the Job's for
-/// which the failure policy fails the Job settles it at once: such a pod has failed, and the policy's
+/// How a Job will end is decided once, and what decides it is a target. A tracked pod of the Job's for
+/// which the failure policy fails the Job decides it at once: such a pod has failed, and the policy's
 /// action for it is FailJob.
 pub fn ends_are_decided_once()
     ensures once { (counted : CountIn) (now : ℕ) (job : Job) (own : List Pod)

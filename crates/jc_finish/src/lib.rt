@@ -1,5 +1,5 @@
 //! When a Job starts and how it ends (batch/v1, KEP-3329, KEP-3998): its start time and its deadline,
-//! what settles its end, and its conditions.
+//! what decides its end, and its conditions.
 #![tactic(auto)]
 
 mod conditions;

@@ -122,7 +122,7 @@ module _ (job : Job) (basis : Basis) (rising : IsRising basis.pods) where
             has = record { own = at.1; active = h.active; at = sym (ap (λ (r : Uid × Version). r.1) h.here) };
           }
 
-  -- No pod is marked and let go: where the end of the Job is settled none is let go.
+  -- No pod is marked and let go: where the end of the Job is decided none is let go.
   marked-stay : Each (λ u. Each (λ row. same_uid u row.0 ≡ false) (wants_in job basis).let_goes) (wants_in job basis).marks
   marked-stay =
       Each-weaker (IsPod basis.pods (IsMarked job target)) (λ u. Each (λ row. same_uid u row.0 ≡ false) (wants_in job basis).let_goes)

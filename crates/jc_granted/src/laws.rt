@@ -67,9 +67,10 @@ pub fn granted_syncs_go_on()
         → register w (diary shape c (d ∷ past)) ≡ None }
 {}
 
-/// **In a settle no request is refused without a fault**: of a sync that began there, and before whose next request no
-/// fault is pending, the next step's request is granted and its entry appended, or none is left and the sync ends. So
-/// it meets no conflict, no object that is gone, and none that it would leave as it is.
+/// **In a settle no request is refused without a fault**, behind each legal history whose Jobs were created with valid
+/// specifications: of a sync that began there, and before whose next request no fault is pending, the next step's
+/// request is granted and its entry appended, or none is left and the sync ends. So it meets no conflict, no object
+/// that is gone, and none that it would leave as it is.
 pub fn requests_in_a_settle_are_granted()
     ensures { (shape : Shape) (run past : List Deed) (c w : ℕ) (basis : Basis) (d : Deed)
         → IsLegal shape (run ++ past) → AllAskValid (run ++ past) → 0 < shape.workers
@@ -83,10 +84,11 @@ pub fn requests_in_a_settle_are_granted()
     allowed_updates_stay_valid();
 }
 
-/// **And where it ends, all that it planned is so**: each pod to mark is marked, each to let go has lost its finalizer
-/// and is marked, each to release has lost it; so many pods more of its Job were made as it was to make; and its Job
-/// has the second status of what it saw. That is the next status of the Job, and no own pod that had ended and was not
-/// left over has its finalizer.
+/// **Where a sync that began in a settle ends, all that it planned is so**, behind each legal history whose Jobs were
+/// created with valid specifications: each pod to mark is marked, each to let go has lost its finalizer and is marked,
+/// each to release has lost it; so many pods more of its Job were made as it was to make; and its Job has the second
+/// status of what it saw. That is the next status of the Job, and no own pod that had ended and was not left over has
+/// its finalizer.
 pub fn syncs_in_a_settle_do_what_they_plan()
     ensures plan { (shape : Shape) (run past : List Deed) (c w : ℕ) (basis : Basis) (d : Deed)
         → IsLegal shape (run ++ past) → AllAskValid (run ++ past) → 0 < shape.workers

@@ -3,7 +3,7 @@
 --     MaySettle act quiescent      a settle comes only where nothing is available
 --     IsLegalNext shape past d     the deed is what the table of events gives after the past
 --     IsLegal shape deeds          each deed is
---     lane_places, next_command      the places of a lane's commands in the script, and that of the next
+--     lane_places, next_command    the places of a lane's commands in the script, and that of the next
 --     InLanes script events        each command came as its lane's next one
 --     AreUsed script events        no lane has a command left
 --     IsHistory script shape h     all together

@@ -96,7 +96,7 @@ no-earlier (Some m) (Some n) e = by (nat_le m n) e
     by true e = e
     by false e = absurd (true≢false (ap is_some e))
 
--- What nothing makes is nothing at all, or is held back for ever.
+-- What nothing makes is nothing at all, or is delayed for ever.
 held : (o : Option ℕ) (now : ℕ) (made : List (Option ℕ)) → creates o now made ≡ [] → next o now made ≡ None → (made ≡ []) ⊎ ((second : ℕ) × (o ≡ Some second) × (end_of_moments ≤ second))
 held None now made c n = inl c
 held (Some second) now made c n = by (nat_lt now second) c n
@@ -158,7 +158,7 @@ module _ (job : Job) (basis : Basis) (this : basis.job ≡ Some job) (rises : Is
       none-mapped (λ (p : Pod). p.uid) (is_to_mark (is_end_decided job (decided_in job basis))) (own_pods job basis.pods) (sym (plan-marks basis job this) ∙ asks.idles.marks)
 
   module _ (none-ending : list_any is_ending (own_pods job basis.pods) ≡ false) where
-    -- ---- how it will end is not settled
+    -- ---- how it will end is not decided
 
     -- Where it is, no pod is active, since it would be marked; so none is open.
     settled-open : is_end_decided job (decided_in job basis) ≡ true → list_any is_open (own_pods job basis.pods) ≡ false
@@ -195,7 +195,7 @@ module _ (job : Job) (basis : Basis) (this : basis.job ≡ Some job) (rises : Is
         settles false e (Some x) i h = inr (ap (λ (o : Option (CondKind × Reason)). is_some o) i)
         settles false e None i h = absurd (true≢false (sym h))
 
-    -- How the Job ends is not settled, since else it would have its end.
+    -- How the Job ends is not decided, since else it would have its end.
     unsettled : is_end_decided job (decided_in job basis) ≡ false
     unsettled = by (is_end_decided job (decided_in job basis)) refl
       where

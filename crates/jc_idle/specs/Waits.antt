@@ -2,7 +2,7 @@
 --     AsksNothing plan     the plan has no request, and names no moment
 --     HasEnough job pods   as many of the pods are active and tracked as the Job wants by its status
 --     Waits job basis      an own pod is ending; or no target stands, and it is suspended, may run no pod, has as many
---                          active pods as it wants, or its pods are held back for ever
+--                          active pods as it wants, or its pods are delayed for ever
 use Rattle.std.specs.Prelude.{◌≡◌, ℕ, ◌≤◌, true, false, List, [], length, Some, None}
 use Rattle.std.specs.List.{list_any}
 use Rattle.jc_moment.specs.Range.{end_of_moments}

@@ -12,7 +12,7 @@ ghost use Rattle.jc_idle.specs.Waits.{AsksNothing, Waits};
 
 /// **A plan that asks for nothing waits for something.** Over a valid Job that has not ended, a plan that has no
 /// request and names no moment finds a pod of the Job that is marked and still open. Or how the Job will end is
-/// not settled, and it is suspended, or it may run no pod, or it has as many active tracked pods as it wants and
+/// not decided, and it is suspended, or it may run no pod, or it has as many active tracked pods as it wants and
 /// one at least, or the moment before which no pod is made lies past the last one.
 pub fn idle_plans_wait()
     ensures { (job : Job) (basis : Basis)

@@ -95,7 +95,7 @@ AllFly-drop log front dropped back h =
 
 -- ---- what ties a ledger
 
--- A record stays sound.
+-- A record stays true.
 pub IsTrueRecord-more : (made : Job) (e : Entry) (log : List Entry) (r : Record) → IsTrueRecord made log r → IsTrueRecord made (e ∷ log) r
 IsTrueRecord-more made e log r s = record {
   before = s.before;

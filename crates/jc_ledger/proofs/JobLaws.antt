@@ -96,7 +96,7 @@ nothing_found u r h = true≢false (sym (ap is_some h))
 in_empty : (u : Uid) (uids : List Uid) → uids ≡ [] → is_in u uids ≡ false
 in_empty u uids empty = ap (is_in u) empty
 
--- The lists of a new status are sound.
+-- The lists of a new status are ordered.
 HasOrderedLists-new : (job : Job) → IsEmpty job.status → HasOrderedLists job
 HasOrderedLists-new job e = record {
   failed = subst Ascends (sym e.uncounted_failed) tt;
@@ -189,7 +189,7 @@ tied_created d past log flights job t c = tied_job d past log flights job t c.wr
 
 -- ---- a Job is updated
 
--- Sound lists stay so.
+-- Ordered lists stay so.
 HasOrderedLists-same : (old job : Job) → job.status ≡ old.status → job.spec.mode ≡ old.spec.mode → HasOrderedLists old → HasOrderedLists job
 HasOrderedLists-same old job status mode t = record {
   failed = subst (λ (st : JobStatus). Ascends st.uncounted_failed) (sym status) t.failed;

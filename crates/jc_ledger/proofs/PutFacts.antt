@@ -142,7 +142,7 @@ module _ (made : Job) (log : List Entry) (ledger after : Ledger) (job : Job) (po
       subst (λ (rs : List Record). IsJudged rs u outcome v) (sym p.records)
       (IsJudged-more u ledger.records (map (recorded job seen (suc (length log))) judges) outcome v v (omega arith) j)
 
-  -- The record of a pod that the write judges is sound.
+  -- The record of a pod that the write judges is true.
   sound_new : (pod : Pod) → IsChosen made log ledger.records seen pod → IsTrueRecord made (JobPut new ∷ log) (recorded job seen (suc (length log)) pod)
   sound_new pod c =
       let within = p.seen in
@@ -157,7 +157,7 @@ module _ (made : Job) (log : List Entry) (ledger after : Ledger) (job : Job) (po
         verdict = ap is_verdict same ∙ c.verdict;
       }
 
-  -- Each record is sound.
+  -- Each record is true.
   sound_found : (u : Uid) (r : Record) → Found (IsChosen made log ledger.records seen) u ledger.records job seen (suc (length log)) r → IsTrueRecord made (JobPut new ∷ log) r
   sound_found u r (Old e) = IsTrueRecord-more made (JobPut new) log r (p.ties.sound u r e)
   sound_found u r (New none pod uid has is) = subst (IsTrueRecord made (JobPut new ∷ log)) (sym is) (sound_new pod has)
@@ -181,7 +181,7 @@ module _ (made : Job) (log : List Entry) (ledger after : Ledger) (job : Job) (po
   now_new other h =
       subst (IsCurrent (JobPut new ∷ log) after) (same_Some new other (sym (job_in-newest made.key log new p.key) ∙ h)) current_new
 
-  -- The Jobs that were put are tidy.
+  -- The Jobs that were put have ordered lists.
   tidy_placed : (v : ℕ) (other : Job) → other.uid ≡ made.uid → Placed v log new other → HasOrderedLists other
   tidy_placed v other uid (Here at is) = subst HasOrderedLists is p.tidy
   tidy_placed v other uid (Below e) = p.ties.tidy v other e uid

@@ -515,7 +515,7 @@ module _ (made : Job) (log : List Entry) (ledger : Ledger) (job : Job) (pods : L
   lost_now u r (New none pod uid j is) l =
       absurd (true≢false (sym (ap (λ m. joins_list m (outcome_of job.spec pod)) (sym mode_of_new) ∙ ap (λ (x : Record). joins_list new.spec.mode x.outcome) (sym is) ∙ l) ∙ j.3))
 
-  -- The new status is tidy.
+  -- The new status has ordered lists.
   tidy_new : HasOrderedLists new
   tidy_new = record {
     failed = subst Ascends (sym none_failed) tt;

@@ -2,7 +2,7 @@
 -- step it is. `flight` is that sync, as it was before the event.
 --     StatusWrite                 a sync writes a status: what goes with it
 --     FinalizerWrite              a sync takes the finalizer of a pod: what goes with it
---     AppendsNoEntry d log               the deed appended nothing, and what began is within the log
+--     AppendsNoEntry d log        the deed appended nothing, and what began is within the log
 --     IsWritten d log             the deed appended one entry, and nothing began
 --     IsPlain d                   the deed is no write of a status and takes no finalizer
 --     IsEmpty status              the status of a new Job

@@ -1,8 +1,8 @@
 -- What ties the ledger to the log, from event to event: the invariant of counting once. It speaks of a flat
 -- list of syncs under way, and of no controller, worker, queue or moment.
 --     made_as j log                  the Job of the UID as it was made, with what never changes of it
---     HasOrderedLists job              the two lists ascend, are apart and short, and fit the completion mode
---     IsTrueRecord made log r             a record is what the log says of its pod
+--     HasOrderedLists job            the two lists ascend, are apart and short, and fit the completion mode
+--     IsTrueRecord made log r        a record is what the log says of its pod
 --     IsListing records v status     what the status of version v lists was judged by then
 --     IsCurrent ..                   what is known of the Job as it is now
 --     TiesJob made log ledger        all that ties the ledger of a Job

@@ -1,12 +1,12 @@
 -- What a sync on one thread appends: a begin, and the steps of its worker until it has no sync.
---     begin_event c w, stepping_event c w     the events of the system
+--     begin_event c w, stepping_event c w  the events of the system
 --     StepsOn c w old new                 from the old to the new the worker made steps alone
 --     IsSynced c w old new                so it did after a begin, or nothing happened
 --     IsLast reply pasts                  the reply to the newest event
 --     tells_begin reply                   a sync began
---     StartsCurrent seen c w k job            nothing keeps a sync of the worker from the key's next status
+--     StartsCurrent seen c w k job        nothing keeps a sync of the worker from the key's next status
 --     next_seen seen c k job              that status
---     StepsWithoutStatus c w old new            steps that wrote no status
+--     StepsWithoutStatus c w old new      steps that wrote no status
 use Rattle.std.specs.Prelude.{◌≡◌, ℕ, Bool, true, false, List, ◌++◌, None, Some, map, slice_get}
 use Rattle.std.specs.List.{AllByRecursion as Each}
 use Rattle.jc_types.specs.declared.replies.Reply.{Reply}

@@ -126,11 +126,11 @@ impl Machine {
         &self.shape
     }
 
-    /// What happened, in order. The history is legal, its commands came in the order of their lanes,
-    /// and after each of its events each pod was counted once (KEP-2307). A sync took a finalizer of a
-    /// pod of a Job that is there only where the pod was judged before, or is ignored, was active, or
-    /// its index was complete or not below the completions: so no ended pod that needs a count lost it
-    /// uncounted, but by a command.
+    /// What happened, in order. The history is legal, its commands came in the order of their
+    /// lanes, and after each of its events each pod was counted once (KEP-2307). A sync took a
+    /// finalizer of a pod of a Job that is there only where the pod was judged before, or is
+    /// ignored, was active and was let go, or has succeeded and its index was complete or past the
+    /// completions: so no ended pod that needs a count lost it uncounted, but by a command.
     ///
     /// Where the shape has a single controller: no pod was made beyond a Job's parallelism (batch/v1), since
     /// each pod fitted when it was made, also one whose reply was lost. And a Job

@@ -49,7 +49,7 @@ module _ (ends : List End) (made : ℕ) (job : Job) (basis : Basis) (this : basi
   abbrev Lower : Type 0
   Lower = creations_left ends (made + new) later now + new ≤ creations_left ends made job own
 
-  -- A plan makes none where how the Job ends is settled, or it is suspended.
+  -- A plan makes none where how the Job ends is decided, or it is suspended.
   none-made : (is_end_decided job (decided_in job basis) || job.spec.suspend) ≡ true → new ≡ 0
   none-made h =
       ap length (plan-creates basis job this)

@@ -117,7 +117,7 @@ abbrev pub may_be_made : List End → ℕ → Job → List Pod → ℕ
 may_be_made ends made job own =
     (places job own - min (length (of_use job own)) job.spec.parallelism) + misses ends made own
 
--- None, where how the Job ends is settled, or it is suspended.
+-- None, where a target stands or the Job is suspended.
 abbrev pub creations_left : List End → ℕ → Job → List Pod → ℕ
 creations_left ends made job own =
     if has_target job.status.conditions || job.spec.suspend then 0 else may_be_made ends made job own

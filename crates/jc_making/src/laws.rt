@@ -42,9 +42,9 @@ pub fn small_jobs_are_worked_out()
         (runs_as 1 (Some 0) pod ∷ runs_as 2 (Some 0) pod ∷ []) ≡ 2 }
 {}
 
-/// What counts of a Job is the same before a sync and after it, once all its requests are granted, whatever these are: what
-/// moves from pods to lists and from lists to totals counts before and after. Of a Job that is not Indexed these are its
-/// successes, and of an Indexed one the completed indexes.
+/// What counts of a Job is the same before a sync and after it, once all its requests are granted, whatever these are:
+/// what moves from pods to lists and from lists to totals counts before and after. Of a Job that is not Indexed these
+/// are its successes, and of an Indexed one that has not ended and lists no success the completed indexes.
 pub fn plans_keep_what_counts()
     ensures successes { (job : Job) (basis : Basis) (made : ℕ) (now : List Pod)
         → basis.job ≡ Some job → IsRising basis.pods → job.spec.mode ≡ NonIndexed
@@ -58,10 +58,10 @@ pub fn plans_keep_what_counts()
         ≡ completed_now job (own_pods job basis.pods) }
 {}
 
-/// **How many pods a Job may still make is bounded, and falls with each pod that is made.** Where the last of the ends is a
-/// success, a plan leaves, once all its requests are granted, as many fewer to be made as it makes pods; and one that makes
-/// none, but lets pods go, marks or releases them, leaves no more. So from then on no more pods are made for the Job than may
-/// be made now, if nobody interferes.
+/// **How many pods a Job may still make is bounded, and falls with each pod that is made.** Where the last of the ends
+/// is a success, a plan leaves, once all its requests are granted, at least as many fewer to be made as it makes pods;
+/// and one that makes none, but lets pods go, marks or releases them, leaves no more. What that means of a settle is
+/// `settles_make_no_pod_beyond` of `jc_bounded`.
 pub fn plans_use_up_what_may_be_made()
     ensures { (ends : List End) (made : ℕ) (job : Job) (basis : Basis) (now : List Pod)
         → basis.job ≡ Some job → IsRising basis.pods → IsCounted job (own_pods job basis.pods)

@@ -1,4 +1,4 @@
--- Where a Job's end is not settled, the pods that are marked at once are among those at which a sync has to look.
+-- Where a Job's end is not decided, the pods that are marked at once are among those at which a sync has to look.
 use Rattle.std.proofs.Common.{◌≡◌, ◌+◌, ◌≤◌, Bool, true, false, not, cond, ◌&&◌, ◌||◌, List, [], ◌∷◌, filter, length, refl, ap, ◌∙◌, arith, true≢false}
 use Rattle.std.proofs.lemmas.Bool.{and_parts}
 use Rattle.jc_types.specs.declared.numbers.Uid.{Uid}

@@ -54,7 +54,7 @@ creatable-numbered target job own counted =
     none_or true h = tt
     none_or false h = h
 
--- What is held back keeps what holds of each.
+-- What is delayed keeps what holds of each.
 pub creates-numbered : (job : Job) (opening : Option ℕ) (now : ℕ) (made : List (Option ℕ)) → All (IsIndexFor job) made → All (IsIndexFor job) (creates opening now made)
 creates-numbered job opening now made h =
     All-from_recursion (IsIndexFor job) (creates opening now made) (by (is_delayed_until opening now) (recursion_from_All (IsIndexFor job) made h))

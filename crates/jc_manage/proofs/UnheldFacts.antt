@@ -80,11 +80,11 @@ found-skip test most a b found le none is =
     let whole : a + (b - a) ≡ b = omega (arith, le) in
     is ∙ ap (λ ns. map (λ n. Some n) (take most ns)) (sym (filter-skip test a (b - a) (λ n low high. none n low (omega (arith, le, high)))) ∙ ap (λ n. filter test (range_with_len 0 n)) whole)
 
--- No new pod may have an index that is settled.
+-- No new pod may have an index that is done.
 pub settled-not_free : (settled held : Bool) → settled ≡ true → (not settled && not held) ≡ false
 settled-not_free settled held h = ap (λ b. not b && not held) h
 
--- Nor one that is held.
+-- Nor one that is taken.
 pub held-not_free : (settled held : Bool) → held ≡ true → (not settled && not held) ≡ false
 held-not_free true held h = refl
 held-not_free false held h = ap not h

@@ -3,7 +3,7 @@
 --     backoff_after backoff counted now   both
 --     pause n                             the seconds to wait after n failures in a row
 --     opening backoff                     the second before which no pod is made, if there is one
---     is_delayed_until opening now            it has not come
+--     is_delayed_until opening now        it has not come
 use Rattle.std.specs.Prelude.{ℕ, ◌+◌, ◌*◌, ◌-◌, ◌^◌, ◌==◌, nat_lt, min, Bool, false, if◌then◌else◌, Option, Some, None}
 use Rattle.std.specs.Option.{option_map}
 use Rattle.jc_types.specs.declared.syncs.Backoff.{Backoff}

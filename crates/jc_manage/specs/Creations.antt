@@ -4,7 +4,7 @@
 --     holds pods n                        one of the pods has the index n
 --     keeps_own job n pod                 the pod is the Job's own, and keeps the index n
 --     keepers replacement own             the pods that keep their index from new ones
---     is_done_index counted n          the index is completed, or it has failed
+--     is_done_index counted n             the index is completed, or it has failed
 --     free completions counted kept       the indexes that a new pod may have, in order
 --     new_pods mode n free                the indexes of n new pods; none for pods without one
 --     IsIndexFor job index                a new pod of the Job may have the index
@@ -71,11 +71,11 @@ keeps_own job n pod = is_own job pod && (keeps job.spec.replacement pod && has_i
 abbrev pub keepers : Replacement → List Pod → List Pod
 keepers replacement own = filter (keeps replacement) own
 
--- The index is settled: it is completed, or it has failed.
+-- The index is done: it is completed, or it has failed.
 abbrev pub is_done_index : CountIn → ℕ → Bool
 is_done_index counted n = has n counted.completed || has n counted.failed_indexes
 
--- A new pod may have the index: it is not settled, and no pod keeps it.
+-- A new pod may have the index: it is not done, and no pod keeps it.
 abbrev pub is_free : CountIn → List Pod → ℕ → Bool
 is_free counted kept n = not (is_done_index counted n) && not (holds kept n)
 
@@ -94,7 +94,7 @@ pub record IsIndexFor (job : Job) (index : Option ℕ) : Type 0 where
   pub numbered : job.spec.mode ≡ Indexed → is_some index ≡ true
   pub below : IfSome index (λ i. i < unwrap_or job.spec.completions 0)
 
--- What the Job would make at once; nothing where its end is settled or it is suspended.
+-- What the Job would make at once; nothing where its end is decided or it is suspended.
 abbrev pub creatable : Bool → Job → List Pod → CountIn → List (Option ℕ)
 creatable target job own counted =
     if target || job.spec.suspend then []

@@ -1,7 +1,7 @@
 -- Which pods a Job stops (batch/v1, KEP-2307, KEP-2214). `own` are the Job's own pods, `tracked` those of them that
 -- are active and tracked.
 --     marks target own                    the pods that are marked for deletion at once
---     is_needless completions counted n   no pod of the index is of use: it is settled, or past the completions
+--     is_needless completions counted n   no pod of the index is of use: it is done, or past the completions
 --     is_spare mode needless tracked p    the pod's index is one of these, or another holds it by right
 --     remaining mode needless tracked     those that are not spare
 --     goes_before mode q p                where there are too many, q goes before p
@@ -31,7 +31,7 @@ use Rattle.jc_manage.specs.Creations.{is_done_index, job_wants}
 abbrev pub own_tracked : Job → List Pod → List Pod
 own_tracked job pods = tracked_active_pods (own_pods job pods)
 
--- The pod is marked at once: it is active and has no finalizer, or the Job's end is settled.
+-- The pod is marked at once: it is active and has no finalizer, or the Job's end is decided.
 abbrev pub is_to_mark : Bool → Pod → Bool
 is_to_mark target pod = is_active pod && (target || not (is_tracked pod))
 
@@ -91,7 +91,7 @@ surplus mode needless wanted tracked = filter (is_let_go mode needless wanted tr
 abbrev pub seen : Pod → Uid × Version
 seen pod = (pod.uid, pod.version)
 
--- Those of the active tracked pods that go. All of them where the Job is suspended; none where its end is settled,
+-- Those of the active tracked pods that go. All of them where the Job is suspended; none where its end is decided,
 -- since they are marked then.
 abbrev pub going : Bool → Job → List Pod → CountIn → List Pod
 going target job own counted =

@@ -148,7 +148,7 @@ pub(crate) fn is_done_index(counted: &CountIn, index: u32) -> bool
     counted.completed.contains(index) || counted.failed_indexes.contains(index)
 }
 
-// Adds the index, where it is neither settled nor kept and there are not so many yet.
+// Adds the index, where it is neither done nor kept and there are not so many yet.
 fn offer(
     indexes: &mut Indexes,
     index: u32,
@@ -171,7 +171,7 @@ fn offer(
     Ok(())
 }
 
-// The least indexes below `completions` that are neither settled nor kept, and at most so many.
+// The least indexes below `completions` that are neither done nor kept, and at most so many.
 fn free_indexes(
     alloc: Global,
     completions: u32,

@@ -47,7 +47,7 @@ fn has_stray(job: &Job, pods: &Pods) -> bool
 }
 
 // The UIDs of the Job's own pods that are marked for deletion at once: the active ones without the
-// finalizer, and all active ones where the Job's end is settled.
+// finalizer, and all active ones where the Job's end is decided.
 //
 // # Errors
 // `Want` where there is no memory for them.
@@ -61,7 +61,7 @@ pub(crate) fn marks(alloc: Global, target: bool, job: &Job, pods: &Pods) -> Resu
     if !has_stray(job, pods) {
         return Ok(Uids::new(alloc));
     }
-    // An active pod without the finalizer is noted.
+    // An active pod without the finalizer is to look at.
     let noted = pods.to_look_at(job.uid, &[], &[])?;
     let uids = marked(alloc, target, job, noted.as_slice())?;
     list_of(alloc, uids.as_slice())

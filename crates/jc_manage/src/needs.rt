@@ -34,7 +34,7 @@ fn next(opening: Option<u64>, now: Moment, creatable: &Indexes) -> Option<Moment
     None
 }
 
-// What the Job makes, and the moment of what is held back. Of what is held back it matters only whether there
+// What the Job makes, and the moment of what is delayed. Of what is delayed it matters only whether there
 // is some.
 //
 // # Errors
@@ -99,7 +99,7 @@ fn wants_of(
 }
 
 /// What a sync wants of the pods of its Job (batch/v1, KEP-2307, KEP-2214, KEP-3939), from what it has
-/// counted; `target` says that the Job's end is settled, before this sync or by it.
+/// counted; `target` says that the Job's end is decided, before this sync or by it.
 ///
 /// Pods are made as far as active tracked ones are lacking: with completions as many as may run at once,
 /// and no more than are left to succeed, without indexes that have failed; without, as many as may run at once until one has succeeded.
@@ -111,7 +111,7 @@ fn wants_of(
 /// Active pods without the finalizer are marked. Active tracked pods are let go where the Job is
 /// suspended, where another pod of smaller UID holds their index, where that is completed, has failed or is
 /// not below the completions, and where they are too many: those of the greatest indexes, or pending ones before those that run and then those of the
-/// greatest UIDs. Where the Job's end is settled all its active pods are marked, and none is made or let
+/// greatest UIDs. Where the Job's end is decided all its active pods are marked, and none is made or let
 /// go.
 ///
 /// # Errors

@@ -35,7 +35,7 @@ pub(crate) fn are_kept_as_held(job: &Job, pods: &Pods) -> bool
     count_active(job, pods) == count_tracked_active(job, pods) && keep_active_only(job, pods)
 }
 
-// Whether the index is not settled, and no active tracked pod of the owner has it.
+// Whether the index is not done, and no active tracked pod of the owner has it.
 fn is_unheld(owner: Uid, pods: &Pods, counted: &CountIn, index: u32) -> bool
     ensures { result ≡ (not (is_done_index counted.now index) && not (list_any
         (has_index_in index index) (tracked_active_pods (pods_for owner pods.now)))) }
@@ -43,7 +43,7 @@ fn is_unheld(owner: Uid, pods: &Pods, counted: &CountIn, index: u32) -> bool
     !is_done_index(counted, index) && !pods.holds_between(owner, index, index)
 }
 
-// Adds the index, where it is not settled, no active tracked pod has it and there are not so many yet.
+// Adds the index, where it is not done, no active tracked pod has it and there are not so many yet.
 fn offer(
     indexes: &mut Indexes,
     index: u32,
@@ -92,7 +92,7 @@ fn past_done(counted: &CountIn, from: u32, end: u32) -> u32
     past_members(&counted.failed_indexes, from, end)
 }
 
-// Where one comes from this index by going past settled ones, and then past those that active tracked pods
+// Where one comes from this index by going past done ones, and then past those that active tracked pods
 // of the owner have; at most the end.
 fn past_done_and_held(owner: Uid, pods: &Pods, counted: &CountIn, from: u32, end: u32) -> u32
     requires { from ≤ end }
@@ -106,7 +106,7 @@ fn past_done_and_held(owner: Uid, pods: &Pods, counted: &CountIn, from: u32, end
     pods.first_unheld(owner, from, end)
 }
 
-// The least indexes below `completions` that are not settled and that no active tracked pod of the owner
+// The least indexes below `completions` that are not done and that no active tracked pod of the owner
 // has, and at most so many.
 pub(crate) fn unheld_indexes(
     alloc: Global,

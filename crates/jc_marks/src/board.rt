@@ -9,7 +9,7 @@ use std::alloc::Global;
 pub(crate) struct LogPlaceView {
     /// The list that was seen last.
     pub seen: [Past; 0],
-    /// The list of the mark that was joined last, or the empty one once that was now_compared.
+    /// The list of the mark that was joined last, or the empty one once that was compared.
     pub met: [Past; 0],
     /// Whether it is the log's. Each other is a mark's.
     pub is_log: bool,

@@ -1,4 +1,4 @@
--- What the notes of a legal history say of its log is so; and they are honest, but for what syncs come to.
+-- What the notes of a legal history say of its log is so; and they are told in order, but for what syncs come to.
 use Rattle.std.proofs.Common.{◌≡◌, ℕ, ◌+◌, ◌-◌, ◌≤◌, ◌==◌, nat_lt, Bool, true, false, cond, List, [], ◌∷◌, ◌++◌, length, Option, Some, None, option_and_then, refl, sym, ap, ◌∙◌, subst, arith, eqb-true}
 use Rattle.std.specs.Option.{option_map, option_to_list}
 use Rattle.jc_log.specs.Acts as does
@@ -188,7 +188,7 @@ all-true shape c (d ∷ past) legal =
     by true ih = tt
     by false ih = act-true ih d.act refl
 
--- Where all that they say is so, and the log stands so, they are honest.
+-- Where all that they say is so, and the log stands so, they are told in order.
 true-honest : (k : Key) (a b : ℕ) (log : List Entry) → Stands k a b log → (notes : List Note) → AreTrue log notes → EndWell k a b notes → AreToldInOrder k a b notes
 true-honest k a b log stands [] h well = tt
 true-honest k a b log stands (note ∷ older) h well = (one note h.0 well.0, true-honest k a b log stands older h.1 well.1)

@@ -1,5 +1,5 @@
 -- Plays that are histories.
---     IsScriptFor script shape        each command names a controller and a worker of the shape
+--     IsScriptFor script shape         each command names a controller and a worker of the shape
 --     IsPlayed script shape start p    the play is a legal history of the script, after the start
 --     ends_in_settle commands          the last command is a settle
 use Rattle.std.specs.Prelude.{◌≡◌, ◌≤◌, Bool, true, false, List, [], ◌∷◌, length}

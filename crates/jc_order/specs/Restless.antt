@@ -1,18 +1,18 @@
 -- Why a key finds no rest while something of it is left to do. The Job of the key came at version
 -- a, and a pod of it had ended by version b, and both are so to this day.
---     HasCacheSeen number v      the cache has seen the version
---     point kind a b             the version that a cache of the kind has to see
---     StoodBefore number v       the cache stood just before the version
+--     HasCacheSeen number v           the cache has seen the version
+--     point kind a b                  the version that a cache of the kind has to see
+--     StoodBefore number v            the cache stood just before the version
 --     IsToldInOrder k a b note older  a cache that comes to see one of both adds the key, and no sync
---                                that saw both succeeds
+--                                     that saw both succeeds
 --     AreToldInOrder k a b notes      so it is with each note
---     IsBusy k a b notes         the key is dirty, or delayed, or has a sync that saw both
---     Stands k a b log           the log lists the key from these versions on, and tells of it at them
---     EndsWell, EndWell k a b    no sync that saw both succeeds, by one note or by all of them
---     has_job_of k log           a Job of the key is there
---     has_forgotten k j u log    the pod u of the Job j is there, tracked, and has ended
---     StandTogether k j u log    the versions since when both are so
---     FailsIf k a b note         a sync that saw both fails
+--     IsBusy k a b notes              the key is dirty, or delayed, or has a sync that saw both
+--     Stands k a b log                the log lists the key from these versions on, and tells of it at them
+--     EndsWell, EndWell k a b         no sync that saw both succeeds, by one note or by all of them
+--     has_job_of k log                a Job of the key is there
+--     has_forgotten k j u log         the pod u of the Job j is there, tracked, and has ended
+--     StandTogether k j u log         the versions since when both are so
+--     FailsIf k a b note              a sync that saw both fails
 use Rattle.std.specs.Prelude.{◌≡◌, ℕ, ◌+◌, ◌≤◌, Bool, true, false, ◌&&◌, min, List, [], ◌∷◌, length, Option, Some, None, is_some, option_and_then, ◌⊎◌}
 use Rattle.jc_control.specs.ControllerCalls.{forgets_caches, told}
 use Rattle.jc_queue.specs.Queued.{has_key}

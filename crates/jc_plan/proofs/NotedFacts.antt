@@ -21,7 +21,7 @@ use Rattle.jc_account.proofs.AccountFacts.{release-order}
 use Rattle.jc_plan.specs.Releases.{due_uids, is_orphan, is_owed, is_released, releases_of}
 
 module _ (basis : Basis) (job : Job) (due more : List Uid) (this : basis.job ≡ Some job) (are : due ≡ due_uids basis.job basis.pods) where
-  -- One that the Job is to release is noted by its UID, and an orphan as another owner's.
+  -- One that the Job is to release is among those to look at by its UID, and an orphan by its owner.
   released-noted : (pod : Pod) → is_released basis pod ≡ true → needs_look job.uid due more pod ≡ true
   released-noted pod h =
       elim (or_cases (is_owed (due_uids basis.job basis.pods) pod) (is_orphan basis pod) h) [
@@ -31,7 +31,7 @@ module _ (basis : Basis) (job : Job) (due more : List Uid) (this : basis.job ≡
             noted-other job.uid due more pod (ap (λ owner. is_foreign owner pod) (sym this) ∙ foreign.0)
       ]
 
-  -- So they are the same of the noted pods as of all.
+  -- So they are the same of the pods to look at as of all.
   pub releases-noted : uids_of (filter (is_released basis) (filter (needs_look job.uid due more) basis.pods)) ≡ releases_of basis
   releases-noted = ap uids_of (filter_within (is_released basis) (needs_look job.uid due more) released-noted basis.pods)
 

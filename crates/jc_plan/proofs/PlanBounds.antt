@@ -133,7 +133,7 @@ module _ (job : Job) (basis : Basis) (closed : list_any is_open (own_pods job ba
       let e : length (ending_pods (own_pods job basis.pods)) ≡ 0 = ap length (ending-none (own_pods job basis.pods) closed) in
       omega (arith, e, going, no-active)
 
--- ---- a settled Job makes no pod
+-- ---- a Job whose end is decided makes no pod
 
 settled-creates : (job : Job) (basis : Basis) → is_end_decided job (decided_in job basis) ≡ true → (wants_in job basis).creates ≡ []
 settled-creates job basis target = by (is_delayed_until (opening (backoff_after basis.backoff (accounted job basis) basis.now)) basis.now) (is_end_decided job (decided_in job basis)) target

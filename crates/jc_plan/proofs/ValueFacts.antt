@@ -219,7 +219,7 @@ target-kept now job target due h = by (stands FailureTarget job.status.condition
     by false e true i g = kind-target SuccessCriteriaMet (conditions_at now job target due) refl (settled-keeps now job.spec.suspend target due job.status.conditions SuccessCriteriaMet (no-target SuccessCriteriaMet refl) i)
     by false e false i g = absurd (true≢false (sym g))
 
--- Where how the Job ends is settled, a target stands.
+-- Where how the Job ends is decided, a target stands.
 pub settled-target : (now : ℕ) (job : Job) (target : Option (CondKind × Reason)) (due : Bool) → IsTarget target → is_end_decided job target ≡ true → has_target (conditions_at now job target due) ≡ true
 settled-target now job (Some target) due t h =
     kind-target target.0 (conditions_at now job (Some target) due) t (settled-decided now job.spec.suspend target due job.status.conditions)

@@ -1,8 +1,9 @@
 -- What a plan does where its Job ends, and where it has ended.
 --     GainsEnd job status     an end is new in the status
---     IsFinalStatus status         a status with an end: nothing is listed, and no pod is counted
---     HasIndexTotals job              the total of an Indexed Job is the number of its completed indexes; failures by index ascend
---     LeavesNoPod job basis       no own pod is open or left over, and none is made
+--     IsFinalStatus status    a status with an end: nothing is listed, and no pod is counted
+--     HasIndexTotals job      the total of an Indexed Job is the number of its completed indexes; failures by
+--                             index ascend
+--     LeavesNoPod job basis   no own pod is open or left over, and none is made
 --     HasFinished job basis   the Job has ended, and nothing is left to do for it
 --     IsIdle basis            the plan asks for nothing and writes nothing
 use Rattle.std.specs.Prelude.{◌≡◌, true, false, [], map, length, None}
@@ -51,7 +52,7 @@ pub record LeavesNoPod (job : Job) (basis : Basis) : Type 0 where
   pub left : leaves_none (counted_in job basis.pods) ≡ true
   pub creates : (wants_in job basis).creates ≡ []
 
--- The Job has ended and its status is at rest, and none of its own pods is open or has the finalizer.
+-- The Job has ended and its status is final, and none of its own pods is open or has the finalizer.
 pub record HasFinished (job : Job) (basis : Basis) : Type 0 where
   pub ended : has_end job.status.conditions ≡ true
   pub rests : IsFinalStatus job.status

@@ -27,7 +27,7 @@ earlier_of None b = b
 earlier_of (Some a) None = Some a
 earlier_of (Some a) (Some b) = if nat_le a b then Some a else Some b
 
--- The plan for a Job. Its key is to be synced again when pods that are held back may be made, or at its deadline.
+-- The plan for a Job. Its key is to be synced again when pods that are delayed may be made, or at its deadline.
 abbrev pub planned_for : Basis → Option Job → Planned
 planned_for basis None = record {
   creates = [];

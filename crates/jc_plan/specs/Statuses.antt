@@ -1,13 +1,13 @@
 -- The two statuses of a sync as values, whether they are written or not (batch/v1, KEP-2307, KEP-3998). `own` are
 -- the Job's own pods, `counted` what the sync counts in, `target` the target that it decides, `settled` says that how
--- the Job ends is settled, and `wants` is what the sync wants of the pods.
---     is_end_decided job target         how the Job ends is settled, before the sync or by it
+-- the Job ends is decided, and `wants` is what the sync wants of the pods.
+--     is_end_decided job target     how the Job ends is decided, before the sync or by it
 --     wants_at ..                   what the sync wants
 --     completed_at ..               when the Job completed
 --     filled .. due                 the status with all these; `due` says that its end is due
 --     lists_none status             no UID is uncounted in it
 --     leaves_none counted           no pod is left over
---     is_over settled own counted   how the Job ends is settled, no pod is open and none is left over
+--     is_over settled own counted   how the Job ends is decided, no pod is open and none is left over
 --     is_first_due .., is_second_due ..  nothing is in the way of its end at the first write, at the second
 --     accounted job basis           what the sync counts in, with what is said of failed indexes
 --     first_status_of .., first_value      counted in; it may end where no finalizer of an own pod is to go
@@ -39,7 +39,7 @@ use Rattle.jc_manage.specs.LetGoes.{let_goes, marks}
 use Rattle.jc_perindex.specs.Failures.{filled_counts}
 use Rattle.jc_plan.specs.PodNumbers.{active_after, ending_after, ready_after}
 
--- How the Job ends is settled: a target stands, or is decided now.
+-- How the Job ends is decided: a target stands, or is decided now.
 abbrev pub is_end_decided : Job → Option (CondKind × Reason) → Bool
 is_end_decided job target = has_target job.status.conditions || is_some target
 
@@ -93,7 +93,7 @@ lists_none succeeded failed = is_none succeeded && is_none failed
 abbrev pub leaves_none : CountIn → Bool
 leaves_none counted = counted.left_succeeded + counted.left_failed == 0
 
--- How the Job ends is settled, and none of its pods is open or left over.
+-- How the Job ends is decided, and none of its pods is open or left over.
 abbrev pub is_over : Bool → List Pod → CountIn → Bool
 is_over settled own counted = settled && (not (list_any is_open own) && leaves_none counted)
 

@@ -87,7 +87,7 @@ pub fn released(alloc: Global, basis: &Basis, due: &Uids) -> Result<Uids, Want>
     if releases_none(basis, job, due) {
         return Ok(Uids::new(alloc));
     }
-    // Those that the Job is to release are noted by their UID, and orphans are another owner's.
+    // Those that the Job is to release are among the pods to look at by their UID, orphans by their owner.
     let noted = basis.pods.to_look_at(job.uid, due, &[])?;
     released_of(alloc, basis, due, noted.as_slice())
 }

@@ -20,7 +20,7 @@ use jc_states::{Basis, Pods, has_end, has_open, has_target, stands};
 use jc_types::{CondKind, Conditions, Copied, CountIn, Job, JobStatus, Reason, Uids, Want};
 use std::alloc::Global;
 
-/// Whether how the Job ends is settled, before the sync or by it.
+/// Whether how the Job ends is decided, before the sync or by it.
 pub fn is_end_decided(job: &Job, target: Option<(CondKind, Reason)>) -> bool
     ensures { result ≡ is_end_decided job.now target }
 {
@@ -62,7 +62,7 @@ fn leaves_none(counted: &CountIn) -> bool
     counted.left_succeeded == 0 && counted.left_failed == 0
 }
 
-// Whether how the Job ends is settled, and none of its pods is open or left over.
+// Whether how the Job ends is decided, and none of its pods is open or left over.
 fn is_over(settled: bool, job: &Job, pods: &Pods, counted: &CountIn) -> bool
     ensures { result ≡ is_over settled (own_pods job.now pods.now) counted.now }
 {

@@ -1,6 +1,6 @@
 -- Registers, as the seats of a threaded run see them: some are held, and their steps wait.
 --     is_slot_of c w slot          it is the register of the controller's worker
---     has_holder slots c w            a seat holds that register
+--     has_holder slots c w         a seat holds that register
 --     is_unheld slots event        the event is not the step of a register that is held
 --     unheld_seen slots seen       what is available, but for such steps
 use Rattle.std.specs.Prelude.{ℕ, ◌==◌, Bool, true, not, ◌&&◌, List, filter, is_some}

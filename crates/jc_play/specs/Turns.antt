@@ -10,8 +10,8 @@
 --     IsOwn seen event            a command, its lane's next one
 --     HasCome event seen          the command has come
 --     NeedsNoRest seen event      it may come whether or not there is something to do
---     is_begun_reply reply              a sync began
---     is_quiescent_seen seen               nothing is available
+--     is_begun_reply reply        a sync began
+--     is_quiescent_seen seen      nothing is available
 use Rattle.std.specs.Prelude.{◌≡◌, ℕ, ◌+◌, ◌≤◌, ◌++◌, Bool, true, false, List, length, Result, Err, OnOk, Option, Some, None, is_some}
 use Rattle.std.specs.List.{list_any}
 use Rattle.jc_queue.specs.Delayed.{earlier}

@@ -77,7 +77,7 @@ suspended_makes-refused h =
     refused suspended_before (sync_steps (pod_made None 2 2) 2) (request.CreatePod None) (answer.Created (uid_of 2) (version_at 2)) refl refl (of_job (λ job basis. job.spec.suspend))
     (create-refused (made_by (made 0 (diary usual_shape 0 suspended_before))) None (λ job basis. job.spec.suspend) (λ job basis e m. true≢false (sym e ∙ m.resumed))) suspended-is h
 
--- How the Job ends is settled.
+-- How the Job ends is decided.
 failed-is : option_map (of_job is_decided) (register 0 (diary usual_shape 0 failed_before)) ≡ Some true
 unfolding failing_in failures_in gives log_given planned first_value second_value counted_in counted_out pause
 failed-is = refl

@@ -25,7 +25,7 @@ use Rattle.jc_promise.specs.Wrong.{job_is_made, pi_job, pi_pod, sync_begins, syn
 use Rattle.jc_promise.specs.WrongEnds.{minute_spec}
 use Rattle.jc_promise.specs.WrongRests.{asleep, begun_status, both_list, doomed_status, kept_orphan, over_limit, unmarked_pod, unwritten_end, wrong_status}
 
--- ---- a Job whose end is settled
+-- ---- a Job whose end is decided
 
 -- It has not ended, and a target stands; so nothing excuses it.
 no-excuse : (deeds : List Deed) (backoff : Backoff) (log : List Entry) (job : Job) → has_end job.status.conditions ≡ false → has_target job.status.conditions ≡ true → IsWaiting deeds backoff log job → ⊥

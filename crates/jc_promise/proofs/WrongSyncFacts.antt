@@ -183,7 +183,7 @@ stuck-podless : pods_of (uid_of 1) (log_given usual_shape stuck_job) ≡ []
 unfolding failing_in failures_in gives log_given planned first_value second_value counted_in counted_out pause
 stuck-podless = refl
 
--- No pod is held back.
+-- No pod is delayed.
 stuck-open : opening (backoff pi_key (diary usual_shape 0 stuck_job)) ≡ None
 unfolding failing_in failures_in gives log_given planned first_value second_value counted_in counted_out pause
 stuck-open = refl

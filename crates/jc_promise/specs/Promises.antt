@@ -44,7 +44,7 @@ abbrev pub RestsWell : Shape → List Deed → List Entry → Type 0
 RestsWell shape past log = is_quiescent shape past log ≡ true
     → (k : Key) (job : Job) → job_in k log ≡ Some job → EndedAreLetGo job log
 
--- Where nothing is left to do, each Job that is there has ended; or how it will end is not settled, and it waits
+-- Where nothing is left to do, each Job that is there has ended; or how it will end is not decided, and it waits
 -- for something that only the outside can give. So it is for each controller that has added the Job's key since its
 -- pod cache last skipped entries of the log.
 abbrev pub WaitsWell : Shape → List Deed → List Entry → Type 0

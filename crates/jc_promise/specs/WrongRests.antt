@@ -1,6 +1,6 @@
 -- Histories of machines that leave something undone for ever: at the end of each nothing is left to do.
---     unmarked_pod       a pod of a Job whose failure is settled runs on
---     unwritten_end      a suspended Job whose failure is settled does not get its end
+--     unmarked_pod       a pod of a Job whose failure is decided runs on
+--     unwritten_end      a suspended Job whose failure is decided does not get its end
 --     kept_orphan        a pod whose Job is gone keeps its finalizer
 --     wrong_status       a quiet sync writes another status than the next one
 use Rattle.std.specs.Prelude.{ℕ, true, List, [], ◌∷◌, ◌+◌, Some, None}
@@ -36,13 +36,13 @@ first_sync spec =
     sync_steps reply.Ended 3 ∷ sync_steps (status_written 3) 3 ∷ sync_steps (pod_made None 2 2) 2 ∷ sync_begins 1 1 1
     ∷ both_list 1 (job_is_made spec ∷ [])
 
--- ---- a failure that is settled
+-- ---- a failure that is decided
 
--- It, once its failure is settled.
+-- It, once its failure is decided.
 abbrev pub doomed_status : JobStatus
 doomed_status = record begun_status { conditions = at_deadline FailureTarget ∷ [] }
 
--- The deadline passes. The sync that settles the failure marks no pod, nor does the next one.
+-- The deadline passes. The sync that decides the failure marks no pod, nor does the next one.
 abbrev pub unmarked_pod : Wrong
 unmarked_pod = record {
   deeds =
@@ -68,7 +68,7 @@ abbrev pub asleep : ℕ → JobStatus → Job
 asleep version status =
     record (pi_job (record once_spec { suspend = true })) { status = status; version = version_at version }
 
--- The pod fails, and the Job is suspended. The sync counts the pod and settles the failure, and neither it nor the next
+-- The pod fails, and the Job is suspended. The sync counts the pod and decides the failure, and neither it nor the next
 -- one writes the end.
 abbrev pub unwritten_end : Wrong
 unwritten_end = record {

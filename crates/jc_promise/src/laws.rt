@@ -145,8 +145,8 @@ pub fn a_sync_is_quiet()
 /// - That lines tell one history: a lane that begins with its second command.
 /// - That no ended pod is forgotten at rest: a sync that begins on what its caches held before.
 /// - That no Job is stuck at rest: a sync that begins on what its caches held before they were listed, a
-///   controller that marks no pod of a Job whose failure is settled, and one that does not write the end of
-///   a suspended Job whose failure is settled.
+///   controller that marks no pod of a Job whose failure is decided, and one that does not write the end of
+///   a suspended Job whose failure is decided.
 /// - That no orphan is left at rest: a controller that releases none.
 /// - That a quiet sync comes to the next status: one that writes another.
 /// - That each request has its cause: a sync that makes a pod of a suspended Job, of one past its backoff limit or its

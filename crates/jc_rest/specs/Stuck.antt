@@ -41,8 +41,8 @@ pub data IsHalted (deeds : List Deed) (backoff : Backoff) (log : List Entry) (jo
     IsHeldBack : (second : ℕ) → opening backoff ≡ Some second → end_of_moments ≤ second
         → IsHalted deeds backoff log job
 
--- The Job has ended; or how it will end is not settled, and it waits for what only the outside can give. So one whose
--- end is settled has come to it.
+-- The Job has ended; or how it will end is not decided, and it waits for what only the outside can give. So one whose
+-- end is decided has come to it.
 pub data IsWaiting (deeds : List Deed) (backoff : Backoff) (log : List Entry) (job : Job) : Type 0
   where
     -- It is complete, or it has failed.

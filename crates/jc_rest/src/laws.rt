@@ -37,13 +37,13 @@ pub fn no_ended_pod_is_forgotten_at_rest()
     allowed_updates_stay_valid();
 }
 
-/// In each legal history, of each pod that ever was there of a Job that is there, where it is without its
-/// finalizer now, or gone, one of the deeds took it: just before this deed the pod had it, and just after
-/// it not. It was a command that stripped this pod, or a release or let-go of this pod by a sync, and the
-/// sync had a cause: the pod was judged by an earlier write of the Job's status; or it needs no count,
-/// since its failure is ignored, it was active and was let go, or its index was complete or is none of
-/// the Job's. So at rest each pod that has ended and that no command stripped is in the Job's counts, or
-/// needs no count.
+/// In each legal history, of each pod that ever was there of a Job that is there, where it is
+/// without its finalizer now, or gone, one of the deeds took it: just before this deed the pod had
+/// it, and just after it not. It was a command that stripped this pod, or a release or let-go of
+/// this pod by a sync, and the sync had a cause: the pod was judged by an earlier write of the
+/// Job's status; or it needs no count, since its failure is ignored, it was active and was let go,
+/// or it has succeeded and its index was complete or past the completions. So at rest each pod that
+/// has ended and that no command stripped is in the Job's counts, or needs no count.
 pub fn finalizers_are_lost_with_a_cause()
     ensures { (shape : Shape) (deeds : List Deed) → IsLegal shape deeds → AllAskValid deeds
         → (k : Key) (job : Job) → job_in k (log_given shape deeds) ≡ Some job
@@ -53,9 +53,9 @@ pub fn finalizers_are_lost_with_a_cause()
 }
 
 /// **At rest no Job is stuck (batch/v1)**: where nothing is available any more, each Job that is there has
-/// ended; or how it will end is not settled, and it waits for something that only the outside can give: it is
+/// ended; or how it will end is not decided, and it waits for something that only the outside can give: it is
 /// suspended, it may run no pod, it has as many active pods as it wants and nothing says how one of them will
-/// end, or its pods are held back past the last moment. So it is for each controller that has added the Job's
+/// end, or its pods are delayed past the last moment. So it is for each controller that has added the Job's
 /// key since its pod cache last skipped entries of the log.
 ///
 /// Without that it can be false: where the last pod of a Job comes to its end and leaves the log between

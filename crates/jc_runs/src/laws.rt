@@ -67,8 +67,8 @@ pub fn syncs_can_go_on()
 
 /// **After each event of a run each pod was counted once (KEP-2307)**, and each finalizer that a
 /// sync took of a pod of a Job that is there was taken justly: the pod was judged before, or it is
-/// ignored, was active, or its index was complete or not below the completions. So no ended pod lost
-/// its finalizer uncounted that needs a count, but by a command.
+/// ignored, was active and was let go, or it has succeeded and its index was complete or past the
+/// completions. So no ended pod lost its finalizer uncounted that needs a count, but by a command.
 pub fn runs_count_once()
     ensures at_each { (m : MachineWorld) → IsOfMachine m → OnceAtEach m.deeds m.log }
     ensures justified { (m : MachineWorld) → IsOfMachine m

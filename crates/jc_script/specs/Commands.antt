@@ -1,6 +1,6 @@
 -- What a line's members say: a command, and how often it is given.
---     action_said shape verb d     what the command does
---     commands_in shape d        the commands of a line's value, or the cause that it is bad
+--     action_said shape verb d   what the command does
+--     object_says shape d        the command of a line's value and how often it is given, or the cause that it is bad
 use Rattle.std.specs.Prelude.{ℕ, List, [], bytes_eq, codes, replicate, Option, Some, None, Result, Ok, Err, pos, unwrap_or, if◌then◌else◌}
 use Rattle.serde_json.specs.Data.{Data}
 use Rattle.jc_json.specs.Field.{◌>>=◌, needed_number, needed_object, object_of}

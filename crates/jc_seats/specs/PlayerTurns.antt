@@ -4,7 +4,7 @@
 --     HasHappened event old new      the event could come, and has happened
 --     IsOwnEvent player old event    it is of one of its lanes, or the first of the system that is not held
 --     HaveHappened player events ..  the events have happened one after the other, each of them the player's own
---     HasTurned player old new       so such events have, and then nothing but that a register may be held
+--     HasTurned player old new       so such events have, and then no more; nothing is said of slots
 use Rattle.std.specs.Prelude.{◌≡◌, ℕ, ◌%◌, ◌⊎◌, List, [], ◌∷◌, Some}
 use Rattle.jc_types.specs.declared.runs.Event.{Event}
 use Rattle.jc_runs.specs.Seen.{Seen, act_seen, happened, reply_seen}
@@ -53,7 +53,8 @@ HaveHappened player (event ∷ before) old new =
     (between : Shared) × HaveHappened player before old between × HasHappened event between new
     × IsOwnEvent player between event
 
--- Own events have happened, one after the other, and then nothing but that a register may be held.
+-- Own events have happened, one after the other, and then no more. Nothing is said of the slots, since the turn may hold a
+-- register at last.
 pub record HasTurned (player : Player) (old new : Shared) : Type 0 where
   pub events : List Event
   pub last : Shared

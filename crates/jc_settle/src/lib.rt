@@ -1,6 +1,5 @@
-//! What happens in a settle: what comes first, so that a sync which begins there runs alone and sees the whole log; and
-//! what is left to write of a pod;
-//! and that it comes to be calm.
+//! What happens in a settle: what comes first, so that a sync which begins there runs alone and sees the whole log; that
+//! it comes to be calm; and what is left to write of a pod.
 #![tactic(auto)]
 
 mod laws;

@@ -16,20 +16,20 @@ use Rattle.jc_states.specs.Pods.{is_active, is_tracked}
 use Rattle.jc_states.specs.UidLists.{is_in}
 use Rattle.jc_states.proofs.PodListFacts.{length-filter-le}
 
--- ---- which pods are noted
+-- ---- which pods are to look at
 
 module _ (owner : Uid) (uids more : List Uid) (pod : Pod) where
-  -- A pod at odds is noted.
+  -- A pod at odds is to look at.
   pub noted-odds : is_at_odds pod ≡ true → needs_look owner uids more pod ≡ true
   noted-odds h = or_left (is_at_odds pod) (not (same_uid pod.owner_uid owner) || (is_in pod.uid uids || is_in pod.uid more)) h
 
-  -- A pod of another owner is noted.
+  -- A pod of another owner is to look at.
   pub noted-other : not (same_uid pod.owner_uid owner) ≡ true → needs_look owner uids more pod ≡ true
   noted-other h =
       or_right (is_at_odds pod) (not (same_uid pod.owner_uid owner) || (is_in pod.uid uids || is_in pod.uid more))
       (or_left (not (same_uid pod.owner_uid owner)) (is_in pod.uid uids || is_in pod.uid more) h)
 
-  -- A pod is noted whose UID is in one of the lists.
+  -- A pod is to look at whose UID is in one of the lists.
   pub noted-listed : (is_in pod.uid uids || is_in pod.uid more) ≡ true → needs_look owner uids more pod ≡ true
   noted-listed h =
       or_right (is_at_odds pod) (not (same_uid pod.owner_uid owner) || (is_in pod.uid uids || is_in pod.uid more))
@@ -63,7 +63,7 @@ module _ (job : Job) (test : Pod → Bool) (pods : List Pod) where
   pub own-part : own_pods job (filter test pods) ≡ filter test (own_pods job pods)
   own-part = filter_swap (is_own job) test pods
 
-  -- A part is as tidy as all.
+  -- A part counts by index as all do.
   pub tidy-part : CountsByIndex job pods → CountsByIndex job (filter test pods)
   tidy-part tidy at =
       let all = tidy at in

@@ -1,11 +1,11 @@
 -- Words on what one sync sees.
---     is_own job pod        the pod was made for the Job, by UID
---     own_pods job pods     the Job's own pods, in the order in which they stand
---     CountsByIndex job pods       of an Indexed Job no success is listed, and each pod has an index
---     TotalsFit job pods    the totals with what is listed, and with the pods, are below 2 ^ 64
---     FailuresFit job pods  the failures of each index ascend by index, and are below 2 ^ 64 with the pods
---     CanPlan basis         there is a valid Job, and all numbers are small enough
---     same_basis            all members of two bases agree
+--     is_own job pod          the pod was made for the Job, by UID
+--     own_pods job pods       the Job's own pods, in the order in which they stand
+--     CountsByIndex job pods  of an Indexed Job no success is listed, and each pod has an index
+--     TotalsFit job pods      the totals with what is listed, and with the pods, are below 2 ^ 64
+--     FailuresFit job pods    the failures of each index ascend by index, and are below 2 ^ 64 with the pods
+--     CanPlan basis           there is a valid Job, and all numbers are small enough
+--     same_basis              all members of two bases agree
 use Rattle.std.specs.Cmp.Lexicographic.{pointwise}
 use Rattle.std.specs.Prelude.{◌≡◌, ◌≢◌, ◌+◌, ◌<◌, ◌^◌, ◌&&◌, ◌==◌, Bool, List, [], length, map, filter, All, AllPairs, IsSome, IfSome}
 use Rattle.jc_ranges.specs.Sets.{IsIncreasing}

@@ -14,7 +14,7 @@ abbrev pub stands : CondKind → List Condition → Bool
 stands kind conditions =
     list_any (λ condition. same_kind condition.kind kind && condition.status) conditions
 
--- How the Job will end is settled.
+-- How the Job will end is decided.
 abbrev pub has_target : List Condition → Bool
 has_target conditions = stands FailureTarget conditions || stands SuccessCriteriaMet conditions
 

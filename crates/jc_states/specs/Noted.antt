@@ -1,9 +1,10 @@
 -- At which pods a sync of an owner's Job has to look.
---     is_at_odds pod                 it is tracked and not active, or active and not tracked
---     needs_look owner uids more pod   it is at odds, or another owner's, or its UID is in one of the lists
---     is_calm pods u                 a pod of the UID is among them, and is not at odds
---     with_note pod numbers          the numbers with that of the pod's UID where it is at odds, and without it where not
---     odd_numbers pods               the numbers of the UIDs of the pods at odds, in their order
+--     is_at_odds pod                  it is tracked and not active, or active and not tracked
+--     needs_look owner uids more pod  it is at odds, or another owner's, or its UID is in one of the lists
+--     is_calm pods u                  a pod of the UID is among them, and is not at odds
+--     with_note pod numbers           the numbers with that of the pod's UID where it is at odds, and without it where
+--                                     not
+--     odd_numbers pods                the numbers of the UIDs of the pods at odds, in their order
 --     KeepsNotes pods rows numbers holders    what a list of pods keeps beside the pods
 use Rattle.std.specs.Prelude.{◌≡◌, ℕ, Bool, false, not, ◌||◌, List, filter, find, map, if◌then◌else◌}
 use Rattle.std.specs.BTreeMap.{is_at}

@@ -23,7 +23,7 @@ pub fn stands(kind: CondKind, conditions: &Conditions) -> bool
         .any(|condition| is_standing(kind, condition))
 }
 
-/// Whether how the Job will end is settled: FailureTarget or SuccessCriteriaMet stands (batch/v1,
+/// Whether how the Job will end is decided: FailureTarget or SuccessCriteriaMet stands (batch/v1,
 /// KEP-3998).
 pub fn has_target(conditions: &Conditions) -> bool
     ensures { result ≡ has_target conditions.now }

@@ -16,7 +16,7 @@ pub type Indexes = ListOf<Option<u32>>;
 /// Pods, each at the version at which it was seen.
 pub type PodVersions = ListOf<(Uid, Version)>;
 
-/// The failures of a key in a row, after which its next pods are held back.
+/// The failures of a key in a row, after which its next pods are delayed.
 #[derive(Clone, Copy, PartialEq, Eq, Debug)]
 pub struct Backoff {
     /// How many failures there were.

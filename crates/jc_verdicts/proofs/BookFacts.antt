@@ -32,7 +32,7 @@ use Rattle.jc_verdicts.proofs.StayFacts.{judged-stay, rows-kept_pods}
 use Rattle.jc_verdicts.proofs.VerdictFacts.{few_rows, few_kept, verdicts_are}
 use Rattle.jc_verdicts.proofs.VerdictRows.{outcomes-append, count_entered}
 
--- The outcomes are those of the rows after new ones are noted.
+-- The outcomes are those of the rows after new ones are added.
 pub knows-more : (known more : List (Uid × Outcome)) (rows new all : List Row) → Knows known rows → ((u : Uid) → at same_uid more u ≡ option_or (at same_uid known u) (outcome_in new u)) → all ≡ rows ++ new → Knows more all
 knows-more known more rows new all old noted is u =
     noted u ∙ ap (λ o. option_or o (outcome_in new u)) (old u) ∙ sym (outcomes-append u rows new) ∙ ap (λ rs. outcome_in rs u) (sym is)
@@ -45,7 +45,7 @@ rows-known spec known rows pods knows = ap (λ f. rows_for spec f pods) (λ i u.
 pub owned-rise : (j : Uid) (log : List Entry) (pods : List Pod) → pods ≡ pods_of j log → IsRising pods
 owned-rise j log pods are = subst IsRising (sym are) (rises_filter 0 (λ pod. same_uid pod.owner_uid j) (pods_in log) (pods_in-rises log))
 
--- The pods that were seen are those that stay after new rows are noted too.
+-- The pods that were seen are those that stay after new rows are added too.
 pub seen-judged : (known more : List (Uid × Outcome)) (j : Uid) (log : List Entry) (pods : List Pod) (number : ℕ) (spec : JobSpec) (new : List Row) → HasSeen j log known pods number
     → new ≡ rows_for spec (at same_uid known) pods → ((u : Uid) → at same_uid more u ≡ option_or (at same_uid known u) (outcome_in new u)) → HasSeen j log more pods number
 seen-judged known more j log pods number spec new seen are notes =
@@ -74,7 +74,7 @@ done-known job log seen known rows done more pods are knows is =
 module _ (u : Uid) (old mid new : List (Uid × Book)) (book : Book)
     (others : (j : Uid) → same_uid u j ≡ false → at same_uid mid j ≡ at same_uid old j)
     (sets : Sets same_uid mid new u (Some book)) where
-  -- Each book is sound where one was changed that is.
+  -- Each book is its Job's where one was changed that is.
   pub books-sound : (log : List Entry) → AreBooksOf log old → IsBookOf u log book → AreBooksOf log new
   books-sound log all is j =
       subst (λ o. IfSome o (λ b. IsBookOf j log b)) (sym (sets j)) (by (same_uid u j) refl)

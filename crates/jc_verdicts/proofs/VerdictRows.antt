@@ -140,7 +140,7 @@ outcomes-append u rows more = ap (option_map (λ (row : Row). row.outcome)) (fin
     by None = refl
     by (Some row) = refl
 
--- One row more is noted.
+-- One row more is added.
 pub noted_more : (u : Uid) (old mid new : Option Outcome) (rows : List Row) (i : ℕ) (row : Row) → i < length rows → mid ≡ option_or old (outcome_in (take i rows) u) → new ≡ option_or mid (outcome_in (get_or rows i row ∷ []) u)
     → new ≡ option_or old (outcome_in (take (i + 1) rows) u)
 noted_more u old mid new rows i row within so_far notes =

@@ -1,7 +1,7 @@
 -- The books of all Jobs, as a pass over a history keeps them, and what they come to.
 --     Knows known rows         the outcomes under UIDs are those of the rows
---     IsBookOf j log book   the book has pods of the Job of the UID, and is in order
---     AreBooksOf log books       so it is of each book
+--     IsBookOf j log book      the book has pods of the Job of the UID, and is in order
+--     AreBooksOf log books     so it is of each book
 --     rows_at j books          the rows of the Job's book; none where it has no book
 --     done_at j books          the indexes of the Job's book; none where it has no book
 --     AreCounts ledgers books  the rows and the indexes of each Job are those of its ledger

@@ -1,27 +1,27 @@
 -- What `verdicts` counts, and the words by which one pass over a history and its log comes to it.
---     IsNumbered script history      each command event's number is a place in the script
---     deeds_of script events         the deeds of events, newest first
---     sync_at d past                 the sync whose write of a status the deed is
---     Row, row_of record             what a count keeps of a record
---     outcome_in rows u              what the pod of the UID was judged, by the rows
---     has_joined_list spec known pod      the pod is tracked, and was judged so that it joined a list
---     space_by spec known pods       how many UIDs may join the lists
---     waiting spec known pods        the pods that are still to be judged
---     fresh_row spec known pod       the row of a pod that is still to be judged
---     rows_for spec known pods       the rows of the pods that are judged where pods were judged so
---     new_rows spec rows pods        the rows of the pods that a write judges
---     fresh_rows job rows log seen   those that it judges of the Job's pods among the first entries
+--     IsNumbered script history       each command event's number is a place in the script
+--     deeds_of script events          the deeds of events, newest first
+--     sync_at d past                  the sync whose write of a status the deed is
+--     Row, row_of record              what a count keeps of a record
+--     outcome_in rows u               what the pod of the UID was judged, by the rows
+--     has_joined_list spec known pod  the pod is tracked, and was judged so that it joined a list
+--     space_by spec known pods        how many UIDs may join the lists
+--     waiting spec known pods         the pods that are still to be judged
+--     fresh_row spec known pod        the row of a pod that is still to be judged
+--     rows_for spec known pods        the rows of the pods that are judged where pods were judged so
+--     new_rows spec rows pods         the rows of the pods that a write judges
+--     fresh_rows job rows log seen    those that it judges of the Job's pods among the first entries
 --     success_indexes job known pods the indexes of pods that have succeeded
---     done_by job known done pods    the indexes that are done after a write
---     done_once_seen ..                  those after one whose sync saw the first entries
---     IsCount rows done ledger       the rows and the indexes are those of the ledger
---     judging_as past job seen       the write of the event judges the pods of the Job so
---     ledger_after ..                the ledger after one more event
---     before_place places at log     how many entries come before the one at the place of this number
---     stays known pod                a write may have to look at the pod
---     kept_pods known j log            the pods of the Job for which that is so
---     HasSeen j log known pods n     so many places were taken, and the pods are those of the Job
---                                    then that stay
+--     done_by job known done pods     the indexes that are done after a write
+--     done_once_seen ..               those after one whose sync saw the first entries
+--     IsCount rows done ledger        the rows and the indexes are those of the ledger
+--     judging_as past job seen        the write of the event judges the pods of the Job so
+--     ledger_after ..                 the ledger after one more event
+--     before_place places at log      how many entries come before the one at the place of this number
+--     stays known pod                 a write may have to look at the pod
+--     kept_pods known j log           the pods of the Job for which that is so
+--     HasSeen j log known pods n      so many places were taken, and the pods are those of the Job
+--                                     then that stay
 use Rattle.std.specs.Prelude.{◌≡◌, ℕ, ◌-◌, ◌<◌, ◌≤◌, ◌&&◌, ◌||◌, Bool, false, All, List, map, filter, find, get_or, reverse, take, length, if◌then◌else◌, Option, Some, None, is_some, not, option_and_then, option_map}
 use Rattle.std.specs.List.{filter_map}
 use Rattle.std.specs.Option.{option_map_or}

@@ -1,4 +1,4 @@
--- Of the noted pods all is known that is of all, and the same is counted.
+-- Of the pods to look at all is known that is of all, and the same is counted.
 use Rattle.std.proofs.Common.{◌≡◌, ◌≤◌, IfOk, length, ◌∙◌, subst, sym, arith}
 use Rattle.std.proofs.lemmas.Result.{IfOk-weaker}
 use Rattle.jc_types.specs.declared.syncs.CountIn.{CountIn}

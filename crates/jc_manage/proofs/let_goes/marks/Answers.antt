@@ -1,4 +1,4 @@
--- Of the noted pods the same are marked as of all.
+-- Of the pods to look at the same are marked as of all.
 use Rattle.std.proofs.Common.{◌≡◌, [], IfOk, subst, ◌∙◌}
 use Rattle.jc_manage.proofs.NotedFacts.{marks-noted}
 use Rattle.jc_manage.proofs.let_goes.marks.Goals as goal

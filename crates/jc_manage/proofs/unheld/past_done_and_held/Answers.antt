@@ -1,4 +1,4 @@
--- Up to the first that is not settled all are settled, and from there on all are held.
+-- Up to the first that is not done all are done, and from there on all are taken.
 use Rattle.std.proofs.Common.{inl, inr}
 use Rattle.std.specs.List.{list_any}
 use Rattle.std.proofs.lemmas.Bool.{cases_lt}

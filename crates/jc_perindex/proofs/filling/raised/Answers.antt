@@ -1,4 +1,4 @@
--- Of the noted pods the same have failed as of all.
+-- Of the pods to look at the same have failed as of all.
 use Rattle.std.proofs.Common.{◌≡◌, [], IfOk, ◌∙◌, subst, arith}
 use Rattle.jc_perindex.specs.FillingSteps.{raise_each}
 use Rattle.jc_perindex.proofs.NotedFacts.{some-failed, some-few, some-fit}

@@ -1,4 +1,4 @@
--- Of the noted pods the same lose their finalizer as of all.
+-- Of the pods to look at the same lose their finalizer as of all.
 use Rattle.std.proofs.Common.{◌≡◌, [], IfOk, filter, ap, sym, subst, ◌∙◌}
 use Rattle.jc_states.specs.Noted.{needs_look}
 use Rattle.jc_states.specs.PodLists.{IsRising}

@@ -9,7 +9,7 @@ use Rattle.jc_verdicts.proofs.BookFacts.{book-judged, books-sound, done-of, rows
 use Rattle.jc_verdicts.proofs.TouchFacts.{seen-first}
 use Rattle.jc_verdicts.proofs.books.judge_in.Goals as goal
 
--- The book of the Job is sound, as each is.
+-- The book of the Job is its own, as each is.
 pub judge-requires-clause-sound : goal.judge-requires-clause-sound
 judge-requires-clause-sound c =
     subst (λ o. IfSome o (λ book. IsBookOf c.args.job.now.uid c.args.log.now book)) (sym c.get_mut.ensures.value ∙ ap option_copied_mut c.in-Some.is) (c.requires.sound c.args.job.now.uid)
@@ -31,7 +31,7 @@ returns-in-Some-clause-counts c =
     (done-of c.args.job.now.uid c.args.books.now.entries (Some c.in-Some.book.now) there)
     c.in_ok-judge.ensures.rows c.in_ok-judge.ensures.done counts
 
--- An empty book is sound.
+-- An empty book is a Job's own.
 pub judge-requires-2-clause-sound : goal.judge-requires-2-clause-sound
 judge-requires-2-clause-sound c = record {
   seen = seen-first c.empty-book.result.known.entries c.args.job.now.uid c.args.log.now c.empty-book.result.pods.items c.empty-book.result.at c.empty-book.ensures.pods c.empty-book.ensures.at;

@@ -5,7 +5,7 @@ use Rattle.jc_failpol.specs.declared.outcomes.Outcome.TheVariants.{Alive}
 use Rattle.jc_verdicts.proofs.VerdictRows.{noted_more}
 use Rattle.jc_verdicts.proofs.rows.add_outcomes.Goals as goal
 
--- One row more is noted.
+-- One row more is added.
 pub loop-row-preserved : goal.loop-row-preserved
 loop-row-preserved c =
     λ u.
