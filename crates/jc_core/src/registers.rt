@@ -11,7 +11,7 @@ ghost use Rattle.jc_core.specs.Shared.{fresh_slot, holds_slot, is_held_actor, is
 
 use crate::changes::{fresh_slot, holds};
 use jc_plan::Plan;
-use jc_play::{Actor, Basis, Machine, Slot};
+use jc_play::{Actor, Basis, Machine, Slot, has_holder};
 use jc_types::{Arc, Copied, Same, Shape, Want};
 use std::alloc::Global;
 
@@ -109,22 +109,6 @@ pub(crate) fn is_held_by(slots: &[Slot], seat: u32, controller: u32, worker: u32
     slots
         .iter()
         .any(|slot| holds(slot, seat, controller, worker))
-}
-
-// Whether it is that register, and a seat holds it.
-fn is_held_slot(slot: &Slot, controller: u32, worker: u32) -> bool
-    ensures { result ≡ (is_slot_of controller worker slot.now && is_some slot.now.holder) }
-{
-    slot.is_slot_of(controller, worker) && slot.holder.is_some()
-}
-
-// Whether a seat holds the register.
-fn has_holder(slots: &[Slot], controller: u32, worker: u32) -> bool
-    ensures { result ≡ has_holder slots.now controller worker }
-{
-    slots
-        .iter()
-        .any(|slot| is_held_slot(slot, controller, worker))
 }
 
 // Whether the actor is a worker whose register is held.

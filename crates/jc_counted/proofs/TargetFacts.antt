@@ -37,7 +37,9 @@ use Rattle.jc_log.specs.Acts.{Act}
 use Rattle.jc_log.specs.Deeds.{Deed}
 use Rattle.jc_log.specs.Log.{job_in, next_version, pod_in, upto}
 use Rattle.jc_log.specs.Range.{end_of_moments}
-use Rattle.jc_log.specs.Requests.{Answered, accepted, changed_spec, create_job_at, create_job_gives, delete_job_at, delete_job_gives, grown, is_other, is_unnamed, let_go_at, let_go_gives, mark_pod_at, mark_pod_gives, pod_entry, refused, release_at, release_gives, released, report_phase_at, report_phase_gives, report_unless, same_course_of, update_refusal, update_spec_at, update_spec_gives, update_unless, with_mark, with_report, with_spec, with_status, without_finalizer, write_status_at, write_status_gives}
+use Rattle.jc_log.specs.Requests.{Answered, accepted, changed_spec, create_job_at, create_job_gives, delete_job_at, delete_job_gives, grown, is_other, is_unnamed, let_go_at, let_go_gives, mark_pod_at, mark_pod_gives, pod_entry, refused}
+use Rattle.jc_log.specs.Requests.{release_at, release_gives, released, report_phase_at, report_phase_gives, report_unless, same_course_of, update_refusal, update_spec_at, update_spec_gives, update_unless, with_mark, with_report, with_spec}
+use Rattle.jc_log.specs.Requests.{with_status, without_finalizer, write_status_at, write_status_gives}
 use Rattle.jc_plan.specs.Plans.{changed, planned, planned_for}
 use Rattle.jc_plan.specs.Statuses.{first_value, second_value}
 use Rattle.jc_plan.proofs.PlanBounds.{first-rests, second-rests}

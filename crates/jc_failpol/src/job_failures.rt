@@ -1,11 +1,21 @@
 //! Which failed pods fail their Job at once.
 
 ghost use Rattle.std.specs.Prelude.{◌≡◌};
-ghost use Rattle.jc_failpol.specs.FailJob.{fails_job, policy_fails_job};
+ghost use Rattle.jc_failpol.specs.FailJob.{fails_job, is_fail_job, policy_fails_job};
 
 use crate::judgements::has_failed;
 use crate::rules::action_of;
 use jc_types::{Action, FailurePolicy, JobSpec, Pod};
+
+/// Whether the action fails the Job.
+pub fn is_fail_job(action: Action) -> bool
+    ensures { result ≡ is_fail_job action }
+{
+    match action {
+        Action::FailJob => true,
+        Action::Ignore | Action::Count | Action::FailIndex => false,
+    }
+}
 
 // Whether the failure policy, where there is one, fails the Job for the failed pod.
 fn policy_fails_job(policy: &Option<FailurePolicy>, pod: &Pod) -> bool
@@ -13,10 +23,7 @@ fn policy_fails_job(policy: &Option<FailurePolicy>, pod: &Pod) -> bool
 {
     match policy {
         None => false,
-        Some(policy) => match action_of(policy, pod) {
-            Action::FailJob => true,
-            Action::Ignore | Action::Count | Action::FailIndex => false,
-        },
+        Some(policy) => is_fail_job(action_of(policy, pod)),
     }
 }
 

@@ -8,7 +8,7 @@ mod laws;
 mod outcomes;
 mod rules;
 
-pub use job_failures::fails_job;
+pub use job_failures::{fails_job, is_fail_job};
 pub use judgements::{has_ended, outcome};
 pub use laws::{first_match_decides, outcomes_are_told_apart, outcomes_stay};
 pub use outcomes::{Outcome, is_verdict, same_outcome};

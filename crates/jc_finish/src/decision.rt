@@ -9,14 +9,14 @@ ghost use Rattle.jc_finish.specs.Decisions.{decided, decision_of, first_reason, 
 
 use crate::restarts::restarts_too_often;
 use crate::start::start_of;
-use jc_failpol::fails_job;
+use jc_failpol::{fails_job, is_fail_job};
 use jc_moment::Moment;
 use jc_ranges::Ranges;
 use jc_states::{Basis, Pods, count_restarts, has_active, has_target, is_own};
 use jc_succpol::is_met;
 use jc_types::{
-    Action, Arc, CondKind, CountIn, FailurePolicy, FailureRule, Job, JobSpec, JobStatus, Pod,
-    Reason, Restart, SuccessPolicy, counts,
+    Arc, CondKind, CountIn, FailurePolicy, Job, JobSpec, JobStatus, Pod, Reason, Restart,
+    SuccessPolicy, counts,
 };
 
 // Whether one of the pods is the Job's own, is tracked and has failed, and the failure policy then fails
@@ -27,21 +27,15 @@ fn finds_failing(job: &Job, pods: &[Arc<Pod>]) -> bool
     pods.iter().any(|pod| is_own(job, pod) && (pod.tracked && fails_job(&*job.spec, pod)))
 }
 
-// Whether the rule fails the Job.
-fn is_fail_job(rule: &FailureRule) -> bool
-    ensures { result ≡ is_fail_job rule.now.action }
-{
-    match rule.action {
-        Action::FailJob => true,
-        Action::Ignore | Action::Count | Action::FailIndex => false,
-    }
-}
-
 // Whether a rule of the policy fails the Job.
 fn has_fatal_rule(policy: &FailurePolicy) -> bool
     ensures { result ≡ list_any (λ rule. is_fail_job rule.action) policy.now.rules }
 {
-    policy.rules.as_slice().iter().any(|rule| is_fail_job(rule))
+    policy
+        .rules
+        .as_slice()
+        .iter()
+        .any(|rule| is_fail_job(rule.action))
 }
 
 // Whether a tracked pod has failed, and the failure policy then fails the Job. Where no rule of it fails the
@@ -55,8 +49,8 @@ fn is_failed_by_pod(job: &Job, pods: &[Arc<Pod>]) -> bool
     }
 }
 
-// Whether the containers of the pods start anew after a failure.
-fn restarts_on_failure(restart: Restart) -> bool
+/// Whether the containers of the pods start anew after a failure.
+pub fn restarts_on_failure(restart: Restart) -> bool
     ensures { result ≡ restarts_on_failure restart }
 {
     match restart {

@@ -9,6 +9,6 @@ mod restarts;
 mod start;
 
 pub use conditions::settle_conditions;
-pub use decision::decide;
+pub use decision::{decide, restarts_on_failure};
 pub use laws::{conditions_stand, ends_are_decided_once};
 pub use start::{next_deadline, start_in_force};

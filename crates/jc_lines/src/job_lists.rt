@@ -11,6 +11,7 @@ use crate::summaries::print_verdicts;
 use jc_ledger::Verdicts;
 use jc_table::Table;
 use jc_types::{Arc, Copied, Job, Jobs, Key, Uid, Want};
+use jc_verdicts::verdicts_at;
 use std::alloc::Global;
 use std::collections::BTreeMap;
 
@@ -48,20 +49,6 @@ pub fn in_order(alloc: Global, jobs: &Table<Key, Arc<Job>>) -> Result<Jobs, Want
         list.push(job)?;
     }
     Ok(list)
-}
-
-// The verdicts in the row of a Job; none where it has no row.
-fn verdicts_at(rows: &Table<Uid, Verdicts>, job: Uid) -> Verdicts
-    ensures { result ≡ verdicts_at job rows.now }
-{
-    match rows.get(&job) {
-        Some(found) => *found,
-        None => Verdicts {
-            succeeded: 0,
-            failed: 0,
-            indexes: 0,
-        },
-    }
 }
 
 // The two lines of a Job.

@@ -2,14 +2,14 @@
 
 ghost use Rattle.std.specs.Prelude.{◌≡◌, false, nat_lt, option_copied, option_map};
 ghost use Rattle.std.specs.Option.{option_map_or};
-ghost use Rattle.jc_finish.specs.Decisions.{restarts_on_failure};
 ghost use Rattle.jc_history.specs.Nodes.{act_on, act_with, first_container, is_again};
 ghost use Rattle.jc_node.specs.Fated.{ends_at_key};
 ghost use Rattle.jc_node.specs.NodeSteps.{act_kind};
 
 use crate::fates::Fates;
+use jc_finish::restarts_on_failure;
 use jc_states::{is_marked, is_open, is_pending};
-use jc_types::{Container, End, Pod, Restart, Uid};
+use jc_types::{Container, End, Pod, Uid};
 
 /// What the node does to a pod.
 #[derive(Clone, Copy, PartialEq, Eq, Debug)]
@@ -31,16 +31,6 @@ pub struct NodeStep {
     pub pod: Uid,
     /// What befalls it.
     pub act: NodeAct,
-}
-
-// Whether the containers of a pod start anew after a failure.
-fn restarts_on_failure(restart: Restart) -> bool
-    ensures { result ≡ restarts_on_failure restart }
-{
-    match restart {
-        Restart::Never => false,
-        Restart::OnFailure => true,
-    }
 }
 
 // Whether the first container was restarted less often than this.

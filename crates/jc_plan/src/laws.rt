@@ -155,17 +155,17 @@ pub fn ends_are_final()
 /// and tells of no pod, no pod is left over, and the plan makes none. Where it is new in the first status no own pod is to be
 /// released, and the second status is the first.
 pub fn ends_leave_nothing()
-    ensures first_wound { (job : Job) (basis : Basis)
+    ensures first_leaves_no_pod { (job : Job) (basis : Basis)
         → GainsEnd job (first_value job basis) → LeavesNoPod job basis }
-    ensures first_rests { (job : Job) (basis : Basis)
+    ensures first_is_final { (job : Job) (basis : Basis)
         → GainsEnd job (first_value job basis) → IsFinalStatus (first_value job basis) }
     ensures first_released { (job : Job) (basis : Basis)
         → GainsEnd job (first_value job basis) → (counted_in job basis.pods).releases ≡ [] }
     ensures first_same { (job : Job) (basis : Basis)
         → GainsEnd job (first_value job basis) → second_value job basis ≡ first_value job basis }
-    ensures second_wound { (job : Job) (basis : Basis)
+    ensures second_leaves_no_pod { (job : Job) (basis : Basis)
         → GainsEnd job (second_value job basis) → LeavesNoPod job basis }
-    ensures second_rests { (job : Job) (basis : Basis)
+    ensures second_is_final { (job : Job) (basis : Basis)
         → GainsEnd job (second_value job basis) → IsFinalStatus (second_value job basis) }
 {}
 

@@ -23,5 +23,5 @@ pub use next::{is_quiescent, next_event};
 pub use offers::available;
 pub use settling::settle;
 pub use slots::Slot;
-pub use unheld::next_unheld;
+pub use unheld::{has_holder, next_unheld};
 pub use whole::play;

@@ -14,8 +14,8 @@ use crate::slots::Slot;
 use jc_machine::Machine;
 use jc_types::{Event, Sys};
 
-// Whether a seat holds the register of the controller's worker.
-fn has_holder(slots: &[Slot], controller: u32, worker: u32) -> bool
+/// Whether a seat holds the register of the controller's worker.
+pub fn has_holder(slots: &[Slot], controller: u32, worker: u32) -> bool
     ensures { result ≡ has_holder slots.now controller worker }
 {
     slots.iter().any(|slot| slot.is_slot_of(controller, worker) && slot.holder.is_some())

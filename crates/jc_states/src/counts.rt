@@ -31,13 +31,6 @@ pub fn count_ending(job: &Job, pods: &Pods) -> usize
     pods.tally(job.uid).open_marked as usize
 }
 
-/// How many of the Job's own pods are ready.
-pub fn count_ready(job: &Job, pods: &Pods) -> usize
-    ensures { result ≡ length (filter is_ready (own_pods job.now pods.now)) }
-{
-    pods.tally(job.uid).ready as usize
-}
-
 /// How often the containers of the Job's own open pods were restarted, all together.
 pub fn count_restarts(job: &Job, pods: &Pods) -> u128
     ensures { result ≡ restarts_of (own_pods job.now pods.now) }

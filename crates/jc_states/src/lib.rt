@@ -24,14 +24,13 @@ mod uids;
 pub use bases::Basis;
 pub use conditions::{has_end, has_target, stands};
 pub use counts::{
-    count_active, count_ending, count_ready, count_restarts, count_tracked_active, has_active,
-    has_open,
+    count_active, count_ending, count_restarts, count_tracked_active, has_active, has_open,
 };
 pub use indexes::{has_index, is_completed};
 pub use laws::{bases_are_compared, lists_merge};
 pub use owners::is_foreign;
 pub use phases::{is_final, is_pending, same_phase};
-pub use pod_lists::Pods;
+pub use pod_lists::{Pods, is_there, place_from};
 pub use pods::{
     goes, is_active, is_at_odds, is_ending, is_marked, is_open, is_own, is_ready, is_tracked_active,
 };

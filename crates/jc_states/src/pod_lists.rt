@@ -13,10 +13,10 @@ ghost use Rattle.jc_states.specs.Pods.{tracked_active_pods};
 ghost use Rattle.jc_states.specs.Tallies.{pods_for, tally_of};
 
 use crate::holders::Holders;
+use crate::noted::{odd_among, pods_to_look_at};
 use crate::odds::put_odd;
 use crate::pods::is_at_odds;
 use crate::tallies::{Tally, enter, leave, tally_in};
-use crate::noted::{odd_among, pods_to_look_at};
 use indexmap::IndexMap;
 use jc_types::{Arc, Copied, Pod, Same, Uid, Want};
 use std::alloc::Global;
@@ -52,8 +52,9 @@ impl Model for Pods {
         p.holders };
 }
 
-// The place of the first pod whose UID is at least this one, found by halving, where not all are below it.
-fn place_from(pods: &[Arc<Pod>], uid: Uid) -> usize
+/// The place of the first pod whose UID is at least this one, found by halving, where not all are
+/// below it.
+pub fn place_from(pods: &[Arc<Pod>], uid: Uid) -> usize
     requires { IsRising pods.now }
     ensures { result ≡ place_from uid pods.now }
 {
@@ -64,8 +65,8 @@ fn place_from(pods: &[Arc<Pod>], uid: Uid) -> usize
     pods.partition_point(|pod| pod.uid.0 < uid.0)
 }
 
-// Whether there is a pod of the UID, whose place this is.
-fn is_there(pods: &[Arc<Pod>], uid: Uid, place: usize) -> bool
+/// Whether there is a pod of the UID, whose place this is.
+pub fn is_there(pods: &[Arc<Pod>], uid: Uid, place: usize) -> bool
     requires rising { IsRising pods.now }
     requires place { place ≡ place_from uid pods.now }
     ensures { result ≡ is_some (find (λ pod. same_uid pod.uid uid) pods.now) }

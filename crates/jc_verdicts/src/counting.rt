@@ -194,7 +194,7 @@ pub fn verdicts(
 }
 
 /// The verdicts in the row of a Job; none where it has no row.
-fn verdicts_at(rows: &Table<Uid, Verdicts>, job: Uid) -> Verdicts
+pub fn verdicts_at(rows: &Table<Uid, Verdicts>, job: Uid) -> Verdicts
     ensures { result ≡ verdicts_at job rows.now }
 {
     match rows.get(&job) {

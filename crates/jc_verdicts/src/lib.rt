@@ -10,4 +10,4 @@ mod rows;
 mod seen;
 mod starts;
 
-pub use counting::{all_verdicts, verdicts};
+pub use counting::{all_verdicts, verdicts, verdicts_at};

@@ -15,7 +15,7 @@ ghost use Rattle.jc_verdicts.specs.Verdicts.{HasSeen, kept_pods, stays};
 use crate::places::{Places, count_below, places_at};
 use indexmap::IndexMap;
 use jc_failpol::Outcome;
-use jc_states::is_active;
+use jc_states::{is_active, is_there, place_from};
 use jc_types::{Arc, Copied, Entry, Job, Key, Pod, Uid, Want};
 
 /// How many of the first n entries there are.
@@ -61,28 +61,6 @@ fn stays(known: &IndexMap<Uid, Outcome>, pod: &Pod) -> bool
     ensures { result ≡ stays known.now.entries pod.now }
 {
     pod.tracked && (!is_active(pod) || known.contains_key(&pod.uid))
-}
-
-/// The place of the first pod whose UID is at least this one, found by halving, where not all are
-/// below it.
-fn place_from(pods: &[Arc<Pod>], uid: Uid) -> usize
-    requires { IsRising pods.now }
-    ensures { result ≡ place_from uid pods.now }
-{
-    let count = pods.len();
-    if count > 0 && pods[count - 1].uid.0 < uid.0 {
-        return count;
-    }
-    pods.partition_point(|pod| pod.uid.0 < uid.0)
-}
-
-/// Whether there is a pod of the UID, whose place this is.
-fn is_there(pods: &[Arc<Pod>], uid: Uid, place: usize) -> bool
-    requires rising { IsRising pods.now }
-    requires place { place ≡ place_from uid pods.now }
-    ensures { result ≡ is_some (find (λ pod. same_uid pod.uid uid) pods.now) }
-{
-    place < pods.len() && pods[place].uid == uid
 }
 
 /// Puts a pod of the Job in its place. One that does not stay is written only over that of its UID:
