@@ -223,7 +223,8 @@ def check_glossary():
     for line in text_of("docs/GLOSSARY.md").split("\n"):
         cells = line.strip("|").split(" | ") if line.startswith("| ") else [""]
         paths = [os.path.normpath(f"{TOP}/docs/{it}") for it in re.findall(r"\]\(([^)#]+)", cells[-1])]
-        files = [file for it in paths for file in ([it] if os.path.isfile(it) else glob.glob(f"{it}/*.*t"))]
+        # (of a folder its files, and of a crate its definitions)
+        files = [file for it in paths for file in ([it] if os.path.isfile(it) else glob.glob(f"{it}/*.*t") + glob.glob(f"{it}/specs/*.antt"))]
         texts = "".join(text_of(os.path.relpath(it, TOP)) for it in files)
         # (the words of the code stand in front, but for proof engineers)
         for word in re.findall(r"`(?:\w+::)?(\w+)`", cells[0] if "`" in cells[0] or len(cells) > 3 else cells[1] if len(cells) > 1 else ""):

@@ -102,7 +102,8 @@ def without_bodies(text):
         if body:
             parts += [text[last : body[0]], BODY]
             last = body[1]
-    return "".join([*parts, text[last:]])
+    # (such a body calls nothing, so no cycle of calls is left to name)
+    return re.sub(r"#\[cycle\(\w+\)\]\n", "", "".join([*parts, text[last:]]))
 
 
 def standin(name):

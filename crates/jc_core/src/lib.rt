@@ -14,6 +14,6 @@ mod touches;
 pub use cluster::Cluster;
 pub use holding::Work;
 pub use jc_play::{
-    Actor, ApplyFault, Moment, Store, available_events_keep_the_order,
-    new_machines_play_the_whole_script,
+    Actor, ApplyFault, Machine, Moment, Store, available_events_keep_the_order,
+    new_machines_play_the_whole_script, play,
 };

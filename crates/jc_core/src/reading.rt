@@ -13,10 +13,17 @@ ghost use Rattle.jc_play.specs.Places.{AreUsedUp};
 ghost use Rattle.jc_play.specs.Plays.{IsScriptFor};
 
 use crate::cluster::Cluster;
-use jc_play::{Moment, Store};
+use jc_play::{Machine, Moment, Store};
 use jc_types::{History, Script, Shape};
 
 impl Cluster {
+    /// The machine: what happened, without the registers.
+    pub fn machine(&self) -> &Machine
+        ensures { result.now ≡ self.now.seen }
+    {
+        &self.machine
+    }
+
     /// The script. It can be played on the shape.
     pub fn script(&self) -> &Script
         ensures script { result.now ≡ self.now.seen.script }

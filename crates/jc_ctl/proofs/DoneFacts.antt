@@ -167,17 +167,17 @@ headline_of words source sink ended (ByOne single h) tells e order asks =
 
 pub headline_front_of : (words : Option Order) (source sink : Change) (ended : Status)
     → HasDone words source sink ended
-    → ((order : Order) → words ≡ Some order → IsSingle order → Tells order)
     → ended ≡ status.WriteFault
     → (order : Order) → words ≡ Some order
+    → Tells order
     → TellsSome order source sink
-headline_front_of words source sink ended (ByThreads threads lock shape some is h) tells e order asks =
+headline_front_of words source sink ended (ByThreads threads lock shape some is h) e order asks tells =
     told_by (λ n script shape. TellsFront n script shape sink.old sink.new) threads lock shape order source.old
     (order_same order (Run threads lock shape) words is asks) (threads-fronted threads lock shape source sink ended e h)
-headline_front_of words source sink ended (ByAudit shape is h) tells e order asks =
+headline_front_of words source sink ended (ByAudit shape is h) e order asks tells =
     subst (λ o. TellsSome o source sink) (order_same order (Audit shape) words is asks) tt
-headline_front_of words source sink ended (ByOne single h) tells e order asks =
-    headline_front_is h single (λ order asks. tells order asks (single order asks)) e order asks
+headline_front_of words source sink ended (ByOne single h) e order asks tells =
+    headline_front_is h e order asks (single order asks) tells
 
 -- What was written passes an audit, where the report of the script that was played last does.
 passing : (source sink : Change) (ended : Status) (order : Order) (o : Option Staging) (left : Option (List ℕ))

@@ -14,6 +14,7 @@ ghost use Rattle.jc_audit.specs.declared.verdicts.Verdict.TheVariants.{No, Yes};
 ghost use Rattle.jc_words.specs.FitOrders.{IsFitOrder, IsFitShape};
 ghost use Rattle.jc_script.specs.Cause.{Cause};
 ghost use Rattle.jc_script.specs.Scripts.{BadLine, most_bytes, script_of};
+ghost use Rattle.jc_words.specs.Words.{order_of};
 ghost use Rattle.jc_words.specs.declared.words.LockKind.{LockKind};
 ghost use Rattle.jc_words.specs.declared.words.Order.{Order};
 ghost use Rattle.jc_words.specs.declared.words.Order.TheVariants.{Audit, Generate, Run};
@@ -34,6 +35,7 @@ use jc_single::{
     plays_are_orderly_histories, reaped_commands_can_be_said, reaped_commands_fit,
     runs_tell_their_history,
 };
+use jc_words::orders_fit;
 
 /// **Of what an audit says yes to, all promises hold (KEP-2307)**: it tells a legal and orderly history of a script, and
 /// they hold of that one, whoever printed it.
@@ -87,10 +89,9 @@ pub fn runs_end_as_told()
         IsOkAnd (answer_of order input)
         (λ printed. (printed.full ≡ true) × Appends sink.old sink.new printed.text))) }
     // Where the sink failed, what went out is the front of the report of a history of which all promises hold.
-    ensures headline_front { (words : Option Order) (source sink : Change) (ended : Status)
-        → HasDone words source sink ended
-        → ((order : Order) → words ≡ Some order → IsFitOrder order)
-        → ended ≡ Status.WriteFault → (order : Order) → words ≡ Some order
+    ensures headline_front { (words : List (List ℕ)) (source sink : Change) (ended : Status)
+        → HasDone (order_of words) source sink ended → ended ≡ Status.WriteFault
+        → (order : Order) → order_of words ≡ Some order
         → IfSome (staging_of order) (λ staging. IfSome source.old (λ input.
         IsOkAnd (script_played order input) (λ script.
         TellsFront staging.threads script staging.shape sink.old sink.new))) }
@@ -190,5 +191,6 @@ pub fn runs_end_as_told()
         → OfInput order source.old (λ input. most_bytes < length input
         → (ended ≡ Status.TooLong) ⊎ (ended ≡ Status.Want)) }
 {
+    orders_fit();
     runs_tell_their_history();
 }

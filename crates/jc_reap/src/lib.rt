@@ -16,5 +16,5 @@ pub use laws::{
     longer_scripts_play_on, reaped_commands_can_be_said, reaped_commands_fit, reaped_is_due,
     reaped_plays,
 };
-pub use reaping::reap;
+pub use reaping::{reap, reap_machine};
 pub use ttls::{Ttls, read_ttls};

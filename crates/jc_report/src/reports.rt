@@ -1,15 +1,15 @@
-//! The report of a cluster, and its summary, as bytes that go out.
+//! The report of a machine, and its summary, as bytes that go out; and those of a cluster.
 
 ghost use Rattle.std.specs.Prelude.{◌≡◌, IfOk, reverse};
 ghost use Rattle.jc_lines.specs.Reports.{report_text, summary_of};
 ghost use Rattle.jc_runs.specs.Seen.{log_seen};
 
-use jc_core::Cluster;
+use jc_core::{Cluster, Machine};
 use jc_io::{Bytes, Want};
 use jc_lines::{report_of_parts, summary_of_parts};
 use std::alloc::Global;
 
-/// The report of what happened to the cluster, in UTF-8. It has a line for each event, numbered from 1:
+/// The report of what happened to the machine, in UTF-8. It has a line for each event, numbered from 1:
 /// its lane, what it did, and what it was answered. Then two lines for each Job that is there, in
 /// ascending key: its version and status, and on how many of its pods the writes of its status have
 /// given a verdict (KEP-2307). Where the history is `full`, as the caller knows, a line says so at last.
@@ -19,17 +19,17 @@ use std::alloc::Global;
 ///
 /// Want of memory.
 #[tactic(auto, using(jc_lines::proofs::PlaceFacts::numbered))]
-pub fn report(alloc: Global, cluster: &Cluster, full: bool) -> Result<Bytes, Want>
-    ensures { IfOk result (λ bytes. bytes.items ≡ report_text cluster.now.seen.script
-        (reverse cluster.now.seen.pasts) (log_seen cluster.now.seen) full) }
+pub fn report_of_machine(alloc: Global, machine: &Machine, full: bool) -> Result<Bytes, Want>
+    ensures { IfOk result (λ bytes. bytes.items ≡ report_text machine.now.script
+        (reverse machine.now.pasts) (log_seen machine.now) full) }
 {
-    // (what the type keeps: the history is short, so its log is)
-    let _shape = cluster.shape();
-    let store = cluster.store();
+    // (the shape's number of events is of 32 bits: so the history is short, and its log is)
+    let _most = machine.shape().events;
+    let store = machine.store();
     let text = report_of_parts(
         alloc,
-        cluster.script(),
-        cluster.history(),
+        machine.script(),
+        machine.history(),
         store.log(),
         store.jobs(),
         full,
@@ -37,7 +37,19 @@ pub fn report(alloc: Global, cluster: &Cluster, full: bool) -> Result<Bytes, Wan
     Ok(text.into_bytes())
 }
 
-/// The summary of what became of the cluster's Jobs, in UTF-8: how many there are, are complete and have
+/// The report of what happened to the cluster: that of its machine.
+///
+/// # Errors
+///
+/// Want of memory.
+pub fn report(alloc: Global, cluster: &Cluster, full: bool) -> Result<Bytes, Want>
+    ensures { IfOk result (λ bytes. bytes.items ≡ report_text cluster.now.seen.script
+        (reverse cluster.now.seen.pasts) (log_seen cluster.now.seen) full) }
+{
+    report_of_machine(alloc, cluster.machine(), full)
+}
+
+/// The summary of what became of the machine's Jobs, in UTF-8: how many there are, are complete and have
 /// failed (conditions of batch/v1), and how many pods their statuses have counted as succeeded and as
 /// failed. Where the history is `full`, as the caller knows, a line says so at last. Each line ends with
 /// a line feed.
@@ -45,10 +57,21 @@ pub fn report(alloc: Global, cluster: &Cluster, full: bool) -> Result<Bytes, Wan
 /// # Errors
 ///
 /// Want of memory.
+pub fn summary_of_machine(alloc: Global, machine: &Machine, full: bool) -> Result<Bytes, Want>
+    ensures { IfOk result (λ bytes. bytes.items ≡ summary_of (log_seen machine.now) full) }
+{
+    let store = machine.store();
+    let text = summary_of_parts(alloc, store.log(), store.jobs(), full)?;
+    Ok(text.into_bytes())
+}
+
+/// The summary of what became of the cluster's Jobs: that of its machine.
+///
+/// # Errors
+///
+/// Want of memory.
 pub fn summary(alloc: Global, cluster: &Cluster, full: bool) -> Result<Bytes, Want>
     ensures { IfOk result (λ bytes. bytes.items ≡ summary_of (log_seen cluster.now.seen) full) }
 {
-    let store = cluster.store();
-    let text = summary_of_parts(alloc, store.log(), store.jobs(), full)?;
-    Ok(text.into_bytes())
+    summary_of_machine(alloc, cluster.machine(), full)
 }

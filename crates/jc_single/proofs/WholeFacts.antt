@@ -1,4 +1,4 @@
--- The play of a script in a new cluster is that of the whole script.
+-- The play of a script in a new machine is that of the whole script.
 use Rattle.std.proofs.Common.{◌≡◌, ℕ, ◌≤◌, Bool, false, List, [], reverse, Result, Ok, Err, ap, ap₂, refl, subst, sym, ◌∙◌}
 use Rattle.std.specs.Prelude.{IfOk}
 use Rattle.jc_types.specs.declared.actions.Script.{Script}
@@ -33,15 +33,15 @@ abbrev printed_of : List ℕ → Bool → Printed
 printed_of text full = record { text = text; full = full }
 
 pub report_is : {E : Type 0} (script : Script) (shape : Shape) (played : Played) (r : Result Output E)
-    → played.cluster.seen.script ≡ script → whole_play script shape ≡ playing_of played.full played.cluster.seen
+    → played.machine.script ≡ script → whole_play script shape ≡ playing_of played.full played.machine
     → IfOk r (λ output. output.text.items
-    ≡ report_text played.cluster.seen.script (reverse played.cluster.seen.pasts) (log_seen played.cluster.seen) played.full)
+    ≡ report_text played.machine.script (reverse played.machine.pasts) (log_seen played.machine) played.full)
     → IfOk r (λ output. output.full ≡ played.full)
     → IfOk r (λ output. printed_by output ≡ report_printed script shape)
 unfolding report_printed
 report_is script shape played (Err want) is e text full = tt
 report_is script shape played (Ok output) is e text full =
-    ap₂ printed_of text full ∙ ap (λ s. printed_from s (playing_of played.full played.cluster.seen)) is
+    ap₂ printed_of text full ∙ ap (λ s. printed_from s (playing_of played.full played.machine)) is
     ∙ ap (printed_from script) (sym e)
 
 -- What is counted of a play.
@@ -49,8 +49,8 @@ abbrev counted_from : Playing → Printed
 counted_from p = record { text = summary_of p.log p.full; full = p.full }
 
 pub summary_is : {E : Type 0} (script other : Script) (shape that : Shape) (played : Played) (r : Result Output E)
-    → script ≡ other → shape ≡ that → whole_play script shape ≡ playing_of played.full played.cluster.seen
-    → IfOk r (λ output. output.text.items ≡ summary_of (log_seen played.cluster.seen) played.full)
+    → script ≡ other → shape ≡ that → whole_play script shape ≡ playing_of played.full played.machine
+    → IfOk r (λ output. output.text.items ≡ summary_of (log_seen played.machine) played.full)
     → IfOk r (λ output. output.full ≡ played.full)
     → IfOk r (λ output. printed_by output ≡ summary_printed other that)
 unfolding summary_printed

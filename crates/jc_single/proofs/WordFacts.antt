@@ -112,10 +112,10 @@ module _ {words : Option Order} {source sink : Change} {ended : Status} (h : Has
   headline_is single tells e order is =
       all-told order source sink ended (single order is) (tells order is) e (has-ended words source sink ended h order is)
 
-  pub headline_front_is : ((order : Order) → words ≡ Some order → IsSingle order) → ((order : Order) → words ≡ Some order → Tells order)
-      → ended ≡ status.WriteFault → (order : Order) → words ≡ Some order → TellsSome order source sink
-  headline_front_is single tells e order is =
-      front-told order source sink ended (single order is) (tells order is) e (has-ended words source sink ended h order is)
+  pub headline_front_is : ended ≡ status.WriteFault → (order : Order) → words ≡ Some order → IsSingle order → Tells order
+      → TellsSome order source sink
+  headline_front_is e order is single tells =
+      front-told order source sink ended single tells e (has-ended words source sink ended h order is)
 
   pub generates_is : (number jobs pods : ℕ) → words ≡ Some (Generate number jobs pods) → Keeps source.old source.new
   generates_is number jobs pods is =

@@ -96,10 +96,9 @@ pub fn single_runs_end_as_told()
         → IfSome words (λ order. OfInput order source.old (λ input. IsOkAnd (answer_of order input)
         (λ printed. (printed.full ≡ true) × Appends sink.old sink.new printed.text))) }
     // Where the sink failed, what went out is the front of the report of a history of which all promises hold.
-    ensures headline_front { (words : Option Order) (source sink : Change) (ended : Status)
-        → HasRun words source sink ended
-        → ((order : Order) → words ≡ Some order → IsFitOrder order × IsSingle order)
-        → ended ≡ Status.WriteFault → (order : Order) → words ≡ Some order
+    ensures headline_front { (words : List (List ℕ)) (source sink : Change) (ended : Status)
+        → HasRun (order_of words) source sink ended → ended ≡ Status.WriteFault
+        → (order : Order) → order_of words ≡ Some order → IsSingle order
         → IfSome (staging_of order) (λ staging. IfSome source.old (λ input.
         IsOkAnd (script_played order input) (λ script.
         TellsFront staging.threads script staging.shape sink.old sink.new))) }
@@ -171,5 +170,6 @@ pub fn single_runs_end_as_told()
         → OfInput order source.old (λ input. most_bytes < length input
         → (ended ≡ Status.TooLong) ⊎ (ended ≡ Status.Want)) }
 {
+    orders_fit();
     runs_tell_their_history();
 }

@@ -17,7 +17,7 @@ use crate::plays::{Played, play_whole};
 use crate::reaps::reap_answer;
 use jc_gen::{generate, generated_commands_are_valid, generated_scripts_are_fit};
 use jc_io::Bytes;
-use jc_report::{report, summary};
+use jc_report::{report_of_machine, summary_of_machine};
 use jc_script::{Cause, ScriptFault, read_script, scripts_fit_their_shape};
 use jc_types::{Script, Shape, Want};
 use jc_words::{Order, default_shape, orders_fit};
@@ -36,11 +36,11 @@ pub struct Output {
 // The report of a play.
 fn print_report(alloc: Global, played: &Played) -> Result<Output, Want>
     ensures text { IfOk result (λ output. output.text.items
-        ≡ report_text played.now.cluster.seen.script (reverse played.now.cluster.seen.pasts)
-        (log_seen played.now.cluster.seen) played.now.full) }
+        ≡ report_text played.now.machine.script (reverse played.now.machine.pasts)
+        (log_seen played.now.machine) played.now.full) }
     ensures full { IfOk result (λ output. output.full ≡ played.now.full) }
 {
-    let text = report(alloc, &played.cluster, played.full)?;
+    let text = report_of_machine(alloc, &played.machine, played.full)?;
     Ok(Output {
         text,
         full: played.full,
@@ -50,10 +50,10 @@ fn print_report(alloc: Global, played: &Played) -> Result<Output, Want>
 // The summary of a play.
 fn print_summary(alloc: Global, played: &Played) -> Result<Output, Want>
     ensures text { IfOk result (λ output. output.text.items
-        ≡ summary_of (log_seen played.now.cluster.seen) played.now.full) }
+        ≡ summary_of (log_seen played.now.machine) played.now.full) }
     ensures full { IfOk result (λ output. output.full ≡ played.now.full) }
 {
-    let text = summary(alloc, &played.cluster, played.full)?;
+    let text = summary_of_machine(alloc, &played.machine, played.full)?;
     Ok(Output {
         text,
         full: played.full,

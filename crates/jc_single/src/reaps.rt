@@ -18,8 +18,8 @@ ghost use Rattle.jc_single.specs.RunAnswers.{printed_by, report_printed, reporte
 use crate::orders::{Output, script_answer};
 use crate::plays::{Played, play_whole};
 use jc_promise::settled_plays_are_at_rest;
-use jc_reap::{Ttls, as_many_ttls_as_commands, read_ttls, reap, reaped_commands_fit};
-use jc_report::Cluster;
+use jc_reap::{Ttls, as_many_ttls_as_commands, read_ttls, reap_machine, reaped_commands_fit};
+use jc_report::Machine;
 use jc_script::{Cause, ScriptFault, read_script, scripts_fit_their_shape};
 use jc_types::{Action1, Command, Commands, Copied, Script, Shape, Want};
 use std::alloc::{AllocError, Global};
@@ -47,16 +47,16 @@ fn append(commands: &mut Commands, more: &[Command]) -> Result<(), Want>
 // The script that was played, with the commands behind it that a reaper gives to what it has left.
 //
 // `Want` also where they are 2^32 or more, which no memory holds.
-fn reaped(alloc: Global, cluster: &Cluster, ttls: &Ttls) -> Result<Script, Want>
-    requires rest { is_quiescent cluster.now.seen.shape (deeds_seen cluster.now.seen)
-        (log_seen cluster.now.seen) ≡ true }
-    requires few_ttls { length ttls.now ≤ length cluster.now.seen.script.commands }
+fn reaped(alloc: Global, machine: &Machine, ttls: &Ttls) -> Result<Script, Want>
+    requires rest { is_quiescent machine.now.shape (deeds_seen machine.now)
+        (log_seen machine.now) ≡ true }
+    requires few_ttls { length ttls.now ≤ length machine.now.script.commands }
     ensures script { IfOk result (λ script. script.commands
-        ≡ cluster.now.seen.script.commands ++ reap_list cluster.now.seen ttls.now) }
+        ≡ machine.now.script.commands ++ reap_list machine.now ttls.now) }
     ensures fits { IfOk result (λ script. length script.commands < 2 ^ 32) }
 {
-    let commands = reap(alloc, cluster, ttls)?;
-    let mut script = cluster.script().copy()?;
+    let commands = reap_machine(alloc, machine, ttls)?;
+    let mut script = machine.script().copy()?;
     append(&mut script.commands, commands.as_slice())?;
     if script.commands.len() > u32::MAX as usize {
         return Err(AllocError);
@@ -67,23 +67,23 @@ fn reaped(alloc: Global, cluster: &Cluster, ttls: &Ttls) -> Result<Script, Want>
 // The script that is played last, of the first play: the script itself where that is full, and else the one with the
 // commands of a reaper behind it.
 fn last_of(alloc: Global, played: &Played, ttls: &Ttls) -> Result<Script, Want>
-    requires rest { played.now.full ≡ false → is_quiescent played.now.cluster.seen.shape
-        (deeds_seen played.now.cluster.seen) (log_seen played.now.cluster.seen) ≡ true }
-    requires few_ttls { length ttls.now ≤ length played.now.cluster.seen.script.commands }
-    requires fits { length played.now.cluster.seen.script.commands < 2 ^ 32 }
+    requires rest { played.now.full ≡ false → is_quiescent played.now.machine.shape
+        (deeds_seen played.now.machine) (log_seen played.now.machine) ≡ true }
+    requires few_ttls { length ttls.now ≤ length played.now.machine.script.commands }
+    requires fits { length played.now.machine.script.commands < 2 ^ 32 }
     ensures full { played.now.full ≡ true
-        → IfOk result (λ last. last ≡ played.now.cluster.seen.script) }
+        → IfOk result (λ last. last ≡ played.now.machine.script) }
     ensures more { played.now.full ≡ false → IfOk result (λ last. last.commands
-        ≡ played.now.cluster.seen.script.commands ++ reap_list played.now.cluster.seen ttls.now) }
+        ≡ played.now.machine.script.commands ++ reap_list played.now.machine ttls.now) }
     ensures fits { IfOk result (λ last. length last.commands < 2 ^ 32) }
 {
     if played.full {
-        return played.cluster.script().copy();
+        return played.machine.script().copy();
     }
-    reaped(alloc, &played.cluster, ttls)
+    reaped(alloc, &played.machine, ttls)
 }
 
-// The script that is played last. The cluster of the first play is given up at the end, so that two are never there at
+// The script that is played last. The machine of the first play is given up at the end, so that two are never there at
 // once.
 fn last_script(alloc: Global, script: Script, ttls: &Ttls, shape: &Shape) -> Result<Script, Want>
     requires valid_actions { AreValidCommands script.commands }

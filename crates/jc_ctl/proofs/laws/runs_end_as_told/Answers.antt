@@ -1,4 +1,5 @@
 -- All is told by how the run has ended.
+use Rattle.jc_words.specs.Words.{order_of}
 use Rattle.jc_ctl.proofs.DoneFacts.{audit_no_script_of, audit_not_full_of, bad_script_of, bad_words_of, complete_audit_of, complete_bad_script_of, complete_generated_of, complete_of, complete_on_threads_of, complete_too_long_of, front_of}
 use Rattle.jc_ctl.proofs.DoneFacts.{generates_of, generates_only_of, headline_front_of, history_full_of, no_of, not_too_long_of, nothing_read_of, nothing_written_of, ok_of, read_fault_of, too_long_of, verdict_front_of, write_fault_of}
 use Rattle.jc_ctl.proofs.laws.runs_end_as_told.Goals as goal
@@ -73,6 +74,6 @@ pub returns-clause-complete_too_long : goal.returns-clause-complete_too_long
 returns-clause-complete_too_long c = complete_too_long_of
 
 pub returns-clause-headline_front : goal.returns-clause-headline_front
-returns-clause-headline_front c words source sink ended h fits =
-    headline_front_of words source sink ended h
-    (λ order is single input printed. c.runs_tell_their_history.ensures order input printed (fits order is))
+returns-clause-headline_front c words source sink ended h e order is =
+    headline_front_of (order_of words) source sink ended h e order is
+    (λ input printed. c.runs_tell_their_history.ensures order input printed (c.orders_fit.ensures.orders words order is))

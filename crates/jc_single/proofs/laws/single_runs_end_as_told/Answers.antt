@@ -58,6 +58,6 @@ pub returns-clause-complete_too_long : goal.returns-clause-complete_too_long
 returns-clause-complete_too_long c words source sink ended h = complete_too_long_is h
 
 pub returns-clause-headline_front : goal.returns-clause-headline_front
-returns-clause-headline_front c words source sink ended h single =
-    headline_front_is h (λ order is. (single order is).1)
-    (λ order is input printed. c.runs_tell_their_history.ensures order input printed (single order is).0)
+returns-clause-headline_front c words source sink ended h e order is single =
+    headline_front_is h e order is single
+    (λ input printed. c.runs_tell_their_history.ensures order input printed (c.orders_fit.ensures.orders words order is))

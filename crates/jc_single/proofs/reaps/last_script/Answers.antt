@@ -5,7 +5,7 @@ use Rattle.jc_single.proofs.reaps.last_script.Goals as goal
 
 pub last_of-requires-clause-rest : goal.last_of-requires-clause-rest
 last_of-requires-clause-rest c = λ room.
-    let seen = c.in_ok-played.played.cluster.seen in
+    let seen = c.in_ok-played.played.machine in
     let made = c.in_ok-played.ensures in
     let full = full-is c.args.script c.args.shape.now seen c.in_ok-played.played.full made.script made.shape made.play in
     rests-left c.args.script c.args.shape.now seen
@@ -15,7 +15,7 @@ last_of-requires-clause-rest c = λ room.
 
 pub returns-clause-last : goal.returns-clause-last
 returns-clause-last c =
-    let seen = c.in_ok-played.played.cluster.seen in
+    let seen = c.in_ok-played.played.machine in
     let made = c.in_ok-played.ensures in
     last-by c.args.script c.args.shape.now seen c.args.ttls.now c.in_ok-played.played.full c.last_of.result
     (full-is c.args.script c.args.shape.now seen c.in_ok-played.played.full made.script made.shape made.play)
