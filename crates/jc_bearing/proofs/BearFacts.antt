@@ -1,5 +1,5 @@
 -- A sync on its way: what it has written so far of pods and Jobs, and what it leaves.
-use Rattle.std.proofs.Common.{◌≡◌, ℕ, suc, ◌+◌, Bool, true, false, not, cond, ◌&&◌, List, [], ◌∷◌, ◌++◌, map, length, Option, Some, is_some, IfSome, refl, sym, ap, ◌∙◌, subst, arith, true≢false, append_assoc}
+use Rattle.std.proofs.Common.{◌≡◌, ℕ, suc, ◌+◌, Bool, true, false, not, cond, ◌&&◌, List, [], ◌∷◌, ◌++◌, map, length, Option, Some, None, is_some, IfSome, refl, sym, ap, ◌∙◌, subst, arith, true≢false, append_assoc}
 use Rattle.std.specs.List.{AllByRecursion as Each}
 use Rattle.std.proofs.Math.Bool.{and-false}
 use Rattle.std.proofs.lemmas.Bool.{and_from, cond-false, cond-true, false_from_ne_true}
@@ -78,6 +78,7 @@ pub record IsStill (k : Key) (log : List Entry) (job : Job) : Type 0 where
 pub record AreMade (old : List Entry) (k : Key) (job : Job) (done : List (Option ℕ)) (fresh : List Pod) (log : List Entry) : Type 0 where
   pub new : AreNew (made_for job.uid old) done fresh
   pub owned : Each (λ (pod : Pod). same_uid pod.owner_uid job.uid ≡ true) fresh
+  pub restarts : Each (λ (pod : Pod). pod.restart ≡ job.spec.template.restart) fresh
   pub made : made_for job.uid log ≡ made_for job.uid old + length done
   pub still : IsStill k log job
 
@@ -88,12 +89,14 @@ pub record Bears (old : List Entry) (basis : Basis) (left : List Ask) (log : Lis
   pub tracks : Tracks (planned basis) basis.key (pods_in old) after
   pub done : List (Option ℕ)
   pub creates : (planned basis).creates ≡ done ++ creates_in left
+  pub count : length fresh ≡ length done
   pub makes : (job : Job) → basis.job ≡ Some job → AreMade old basis.key job done fresh log
   pub under : Each (λ (pod : Pod). same_key pod.owner basis.key ≡ true) fresh
   pub apart : Each (λ (pod : Pod). Each (IsOther pod.uid) left) fresh
   pub asked : Each (IsPlanned old basis) left
   pub jobs : (k : Key) → same_key basis.key k ≡ false → job_in k log ≡ job_in k old
   pub others : (u : Uid) → IfSome basis.job (λ job. same_uid job.uid u ≡ false) → made_for u log ≡ made_for u old
+  pub none : basis.job ≡ None → job_in basis.key log ≡ None
 
 -- ---- a request behind it
 
@@ -177,11 +180,13 @@ module _ (old log : List Entry) (basis : Basis) (sends : Version) (stored : Stor
       tracks = tracks;
       done = h.done;
       creates = h.creates ∙ ap (λ l. h.done ++ l) (left-creates ask gone left no);
+      count = h.count;
       makes = λ job saw.
           let m = h.makes job saw in
           record {
             new = m.new;
             owned = m.owned;
+            restarts = m.restarts;
             made = made-kept job.uid ∙ m.made;
             still = record { current = m.still.current; there = jobs-kept basis.key ∙ m.still.there; is = m.still.is };
           };
@@ -192,6 +197,7 @@ module _ (old log : List Entry) (basis : Basis) (sends : Version) (stored : Stor
       asked = left-planned old basis ask gone left h.asked;
       jobs = λ k other. jobs-kept k ∙ h.jobs k other;
       others = λ u other. made-kept u ∙ h.others u other;
+      none = λ is. jobs-kept basis.key ∙ h.none is;
     }
 
   -- A pod that is there is not made.
@@ -265,6 +271,7 @@ module _ (old log : List Entry) (basis : Basis) (sends : Version) (stored : Stor
     tracks = h.tracks;
     done = h.done ++ index ∷ [];
     creates = h.creates ∙ sym (append_assoc h.done (index ∷ []) (creates_in left));
+    count = let same = h.count in let pods = length-append h.fresh (pod ∷ []) in let indexes = length-append h.done (index ∷ []) in omega (arith, same, pods, indexes);
     makes = λ other seen. subst (λ j. AreMade old basis.key j (h.done ++ index ∷ []) (h.fresh ++ pod ∷ []) (PodPut pod ∷ log)) (some_is job other (sym saw ∙ seen)) its;
     under = Each-append (λ (p : Pod). same_key p.owner basis.key ≡ true) h.fresh (pod ∷ []) h.under (ap (λ k. same_key k basis.key) born.owner ∙ key, tt);
     apart =
@@ -277,6 +284,7 @@ module _ (old log : List Entry) (basis : Basis) (sends : Version) (stored : Stor
         ap (λ b. cond (b && is_never (life pod.uid log)) (made_for u log + 1) (made_for u log))
         (ap (λ v. same_uid v u) born.owner_uid ∙ IfSome-at basis.job (λ j. same_uid j.uid u ≡ false) job saw other)
         ∙ h.others u other;
+    none = h.none;
   }
     where
       never : life pod.uid log ≡ Never
@@ -288,6 +296,7 @@ module _ (old log : List Entry) (basis : Basis) (sends : Version) (stored : Stor
           record {
             new = snoc-new (made_for job.uid old) h.done h.fresh index pod m.new (subst (λ n. IsNew n index pod) m.made born.new);
             owned = Each-append (λ (p : Pod). same_uid p.owner_uid job.uid ≡ true) h.fresh (pod ∷ []) m.owned (ap (λ v. same_uid v job.uid) born.owner_uid ∙ same_uid-itself job.uid, tt);
+            restarts = Each-append (λ (p : Pod). p.restart ≡ job.spec.template.restart) h.fresh (pod ∷ []) m.restarts (born.restart, tt);
             made = one-more ∙ counted m.made;
             still = record { current = m.still.current; there = m.still.there; is = m.still.is };
           }
@@ -310,6 +319,7 @@ module _ (old log : List Entry) (basis : Basis) (sends : Version) (stored : Stor
     tracks = h.tracks;
     done = h.done;
     creates = h.creates ∙ ap (λ l. h.done ++ l) (left-creates ask gone left (stated-none ask is));
+    count = h.count;
     makes = λ job saw. its job (h.makes job saw);
     under = h.under;
     apart =
@@ -318,6 +328,7 @@ module _ (old log : List Entry) (basis : Basis) (sends : Version) (stored : Stor
     asked = left-planned old basis ask gone left h.asked;
     jobs = λ k other. cond-false (same_key current.key k) (Some (with_status log current status)) (job_in k log) (ap (λ q. same_key q k) key ∙ other) ∙ h.jobs k other;
     others = h.others;
+    none = λ none. absurd (true≢false (sym (ap is_some there) ∙ ap is_some (h.none none)));
   }
     where
       key : current.key ≡ basis.key
@@ -327,6 +338,7 @@ module _ (old log : List Entry) (basis : Basis) (sends : Version) (stored : Stor
       its job m = record {
         new = m.new;
         owned = m.owned;
+        restarts = m.restarts;
         made = m.made;
         still = record {
           current = with_status log current status;

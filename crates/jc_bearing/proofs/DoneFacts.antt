@@ -43,8 +43,9 @@ use Rattle.jc_granted.proofs.StepGrants.{of-each}
 use Rattle.jc_granted.specs.SyncsDone.{HasItsPlan, HasStatus, IsMarked, IsStopped}
 use Rattle.jc_granted.specs.Ready.{IsThere}
 use Rattle.jc_making.specs.Grants.{AllGranted, AreNew, frees, job_left}
+use Rattle.jc_bearing.specs.Served.{IsServed, ServesAll}
 use Rattle.jc_bearing.specs.Whole.{DoesAll, HasAllFor, at_version}
-use Rattle.jc_bearing.proofs.TrackFacts.{IsChangeOf, IsDone, Under, tracks-filter, tracks-follow, tracks-itself, tracks-same}
+use Rattle.jc_bearing.proofs.TrackFacts.{IsChangeOf, Under, tracks-filter, tracks-follow, tracks-itself, tracks-same, tracks-served}
 use Rattle.jc_bearing.proofs.BearFacts.{AreMade, Bears, IsMeant, IsPlanned, creates_in, front-each}
 
 -- ---- all that a plan makes
@@ -101,22 +102,22 @@ each-listed (row ∷ rows) = (
   Each-weaker (λ r. is_let_go_of r.0 rows ≡ true) (λ r. is_let_go_of r.0 (row ∷ rows) ≡ true) (λ r h. or_right (same_uid row.0 r.0) (is_let_go_of r.0 rows) h) rows (each-listed rows),
 )
 
-module _ (old : List Entry) (basis : Basis) (pods : basis.pods ≡ pods_under basis.key old) (job-there : (job : Job) → basis.job ≡ Some job → job_in basis.key old ≡ Some job) where
+module _ (old : List Entry) (basis : Basis) (pods : basis.pods ≡ pods_under basis.key old) (job-is : basis.job ≡ job_in basis.key old) where
   abbrev plan : Planned
   plan = planned basis
 
   -- A pod that the sync saw is under the key, and is that of its UID.
-  abbrev WasSeen : Pod → Type 0
+  abbrev pub WasSeen : Pod → Type 0
   WasSeen pod = (same_key pod.owner basis.key ≡ true) × (pod_among pod.uid (pods_in old) ≡ Some pod)
 
-  all-seen : Each WasSeen basis.pods
+  pub all-seen : Each WasSeen basis.pods
   all-seen =
       subst (Each WasSeen) (sym pods)
       (Each-both (λ (pod : Pod). same_key pod.owner basis.key ≡ true) (λ (pod : Pod). pod_among pod.uid (pods_in old) ≡ Some pod) (pods_under basis.key old)
       (Each-passes (λ (pod : Pod). same_key pod.owner basis.key) (pods_in old))
       (Each-filter (λ (pod : Pod). pod_among pod.uid (pods_in old) ≡ Some pod) (λ (pod : Pod). same_key pod.owner basis.key) (pods_in old) (rises-found 0 (pods_in old) (pods_in-rises old))))
 
-  own-seen : (job : Job) → Each WasSeen (own_pods job basis.pods)
+  pub own-seen : (job : Job) → Each WasSeen (own_pods job basis.pods)
   own-seen job = Each-filter WasSeen (is_own job) basis.pods all-seen
 
   seen-under : (pod : Pod) (u : Uid) → pod.uid ≡ u → WasSeen pod → Under (planned basis) basis.key u (pods_in old)
@@ -204,12 +205,14 @@ module _ (old : List Entry) (basis : Basis) (pods : basis.pods ≡ pods_under ba
     tracks = tracks-itself (planned basis) basis.key (pods_in old);
     done = [];
     creates = sym (creates-plan (planned basis));
-    makes = λ job saw. record { new = tt; owned = tt; made = omega arith; still = record { current = job; there = job-there job saw; is = refl } };
+    count = refl;
+    makes = λ job saw. record { new = tt; owned = tt; restarts = tt; made = omega arith; still = record { current = job; there = sym job-is ∙ saw; is = refl } };
     under = tt;
     apart = tt;
     asked = all-planned;
     jobs = λ k other. refl;
     others = λ u other. refl;
+    none = λ none. sym job-is ∙ none;
   }
 
 -- ---- the end
@@ -227,7 +230,7 @@ module _ (basis : Basis) (log : List Entry) (p : HasItsPlan log basis) where
   that : (P : Pod → Type 0) (pod : Pod) → life pod.uid log ≡ Live pod → IsThere P pod.uid log → P pod
   that P pod there h = subst P (some_is h.pod pod (ap living (sym h.there ∙ there))) h.has
 
-  one-done : (pod : Pod) → life pod.uid log ≡ Live pod → IsDone (planned basis) basis.key pod
+  one-done : (pod : Pod) → life pod.uid log ≡ Live pod → IsServed (planned basis) pod
   one-done pod there = record {
     freed = λ h. by (or_cases (is_in pod.uid (planned basis).releases) (is_let_go_of pod.uid (planned basis).let_goes) h);
     marked = λ h. that IsMarked pod there (of-each (λ u. IsThere IsMarked u log) pod.uid (planned basis).marks p.marks h);
@@ -241,9 +244,9 @@ module _ (old log : List Entry) (basis : Basis) (p : HasItsPlan log basis) (h : 
   abbrev is_under : Key → Pod → Bool
   is_under k pod = same_key pod.owner k
 
-  all-done : Each (IsDone (planned basis) basis.key) h.after
+  all-done : Each (IsServed (planned basis)) h.after
   all-done =
-      Each-weaker (λ (pod : Pod). life pod.uid log ≡ Live pod) (IsDone (planned basis) basis.key) (one-done basis log p) h.after
+      Each-weaker (λ (pod : Pod). life pod.uid log ≡ Live pod) (IsServed (planned basis)) (one-done basis log p) h.after
       (front-each (λ (pod : Pod). life pod.uid log ≡ Live pod) h.after h.fresh (subst (Each (λ (pod : Pod). life pod.uid log ≡ Live pod)) h.parts (pods_in-live log)))
 
   same-under : (k : Key) (was new : Pod) → IsChangeOf was new → is_under k new ≡ is_under k was
@@ -274,7 +277,7 @@ module _ (old log : List Entry) (basis : Basis) (p : HasItsPlan log basis) (h : 
       parts = parts;
       follow =
           tracks-follow (planned basis) basis.key (own_pods job (pods_under basis.key old)) (own_pods job (filter (is_under basis.key) h.after))
-          (Each-filter (IsDone (planned basis) basis.key) (is_own job) (filter (is_under basis.key) h.after) (Each-filter (IsDone (planned basis) basis.key) (is_under basis.key) h.after all-done))
+          (Each-filter (IsServed (planned basis)) (is_own job) (filter (is_under basis.key) h.after) (Each-filter (IsServed (planned basis)) (is_under basis.key) h.after all-done))
           (tracks-filter (planned basis) basis.key (is_own job) (λ was new change. ap (λ u. same_uid u job.uid) change.owner_uid) (pods_under basis.key old) (filter (is_under basis.key) h.after)
           (tracks-filter (planned basis) basis.key (is_under basis.key) (same-under basis.key) (pods_in old) h.after h.tracks));
       new = subst (λ indexes. AreNew (made_for job.uid old) indexes h.fresh) done-is m.new;
@@ -312,5 +315,16 @@ module _ (old log : List Entry) (basis : Basis) (p : HasItsPlan log basis) (h : 
       (λ pod there. ap (λ q. same_key q basis.key) (same_key-eq pod.owner k there) ∙ same_key-either_way k basis.key ∙ other) (filter (is_under k) (pods_in old)) (Each-passes (is_under k) (pods_in old)))
       (tracks-filter (planned basis) basis.key (is_under k) (same-under k) (pods_in old) h.after h.tracks)
 
+  serves-all : ServesAll old basis log
+  serves-all = record {
+    after = h.after;
+    fresh = h.fresh;
+    parts = h.parts;
+    served = tracks-served (planned basis) basis.key (pods_in old) h.after all-done h.tracks;
+    count = h.count ∙ ap length done-is;
+    under = h.under;
+    restarts = λ job saw. (h.makes job saw).restarts;
+  }
+
   pub does-all : DoesAll old basis log
-  does-all = record { its = its-all; others = record { jobs = h.jobs; pods = other-pods; made = h.others } }
+  does-all = record { its = its-all; others = record { jobs = h.jobs; pods = other-pods; made = h.others; none = h.none }; all = serves-all }

@@ -1,7 +1,7 @@
 -- What the node does to a pod, and how many pods are made for a Job at most.
-use Rattle.std.proofs.Common.{◌≡◌, ℕ, ◌+◌, ◌≤◌, Bool, true, false, not, cond, ◌&&◌, List, [], ◌∷◌, ◌++◌, map, filter, find, Option, Some, None, is_some, refl, sym, ap, ◌∙◌, subst, arith, true≢false, eqb-true}
+use Rattle.std.proofs.Common.{◌≡◌, ℕ, zero, suc, ◌+◌, ◌≤◌, Bool, true, false, not, cond, ◌&&◌, List, [], ◌∷◌, ◌++◌, map, filter, find, Option, Some, None, is_some, refl, sym, ap, ◌∙◌, subst, arith, true≢false, eqb-true}
 use Rattle.std.specs.List.{AllByRecursion as Each}
-use Rattle.std.specs.Option.{option_map_or}
+use Rattle.std.specs.Option.{option_map_or, unwrap_or}
 use Rattle.std.proofs.Math.Bool.{and-false}
 use Rattle.std.proofs.lemmas.Bool.{and_parts, cond-false, not-true}
 use Rattle.std.proofs.lemmas.Option.{same_Some as some_is}
@@ -41,15 +41,15 @@ use Rattle.jc_bearing.proofs.TrackFacts.{put-replaced, replaced}
 -- ---- one pod among others
 
 -- The pod stands among them; there it is written again, or it goes.
-record Among (new pod : Pod) (pods : List Pod) : Type 0 where
-  front : List Pod
-  back : List Pod
-  are : pods ≡ front ++ pod ∷ back
-  put : map (replaced new) pods ≡ front ++ new ∷ back
-  drop : drop_pod new.uid pods ≡ front ++ back
+pub record Among (new pod : Pod) (pods : List Pod) : Type 0 where
+  pub front : List Pod
+  pub back : List Pod
+  pub are : pods ≡ front ++ pod ∷ back
+  pub put : map (replaced new) pods ≡ front ++ new ∷ back
+  pub drop : drop_pod new.uid pods ≡ front ++ back
 
 -- A pod of the UID is that one.
-abbrev Only : Uid → Pod → List Pod → Type 0
+abbrev pub Only : Uid → Pod → List Pod → Type 0
 Only u pod pods = Each (λ (q : Pod). same_uid q.uid u ≡ true → q ≡ pod) pods
 
 -- Where none has the UID, all stay.
@@ -61,7 +61,7 @@ none-same new (q ∷ pods) h = by (same_uid q.uid new.uid) refl h (none-same new
     by true s g more = absurd (true≢false (ap is_some g))
     by false s g more = (λ i. cond-false (same_uid q.uid new.uid) new q s i ∷ more g i)
 
-splits : (new pod : Pod) (low : ℕ) (pods : List Pod) → RisesFrom low pods → Only new.uid pod pods → is_some (pod_among new.uid pods) ≡ true → Among new pod pods
+pub splits : (new pod : Pod) (low : ℕ) (pods : List Pod) → RisesFrom low pods → Only new.uid pod pods → is_some (pod_among new.uid pods) ≡ true → Among new pod pods
 splits new pod low [] rises only there = absurd (true≢false (sym there))
 splits new pod low (q ∷ pods) rises only there = by (same_uid q.uid new.uid) refl there (splits new pod (q.uid.0 + 1) pods rises.1 only.1)
   where
@@ -107,8 +107,13 @@ filter-drops test u pods = filter_swap test (λ (pod : Pod). not (same_uid pod.u
 
 -- ---- what the node does
 
+-- Where no ends are said none comes.
+none-said : (serial : ℕ) → end_at serial [] ≡ None
+none-said zero = refl
+none-said (suc n) = refl
+
 module _ (fates : Key → Option (List End)) (ends : List End) (log : List Entry) (job : Job) (pod : Pod) (act : NodeAct) (there : pod_in pod.uid log ≡ Some pod)
-    (counted : IsCounted job (own_pods job (pods_under job.key log))) (fated : fates job.key ≡ Some ends) (befalls : act_on fates pod ≡ Some act) where
+    (counted : IsCounted job (own_pods job (pods_under job.key log))) (fated : unwrap_or (fates job.key) [] ≡ ends) (befalls : act_on fates pod ≡ Some act) where
   abbrev new : Pod
   new = with_report log pod (change_by pod act)
 
@@ -121,7 +126,7 @@ module _ (fates : Key → Option (List End)) (ends : List End) (log : List Entry
   own-rises : IsRising (own_pods job (pods_under job.key log))
   own-rises = rises_filter 0 (is_own job) (pods_under job.key log) (rises_filter 0 is_under (pods_in log) (pods_in-rises log))
 
-  all-only : Only pod.uid pod (pods_in log)
+  pub all-only : Only pod.uid pod (pods_in log)
   all-only =
       Each-weaker (λ (q : Pod). pod_among q.uid (pods_in log) ≡ Some q) (λ (q : Pod). same_uid q.uid pod.uid ≡ true → q ≡ pod)
       (λ q at same. some_is q pod (sym at ∙ ap (λ u. pod_among u (pods_in log)) (same_uid-eq q.uid pod.uid same) ∙ pods_in-among pod.uid log ∙ there)) (pods_in log) (rises-found 0 (pods_in log) (pods_in-rises log))
@@ -162,10 +167,14 @@ module _ (fates : Key → Option (List End)) (ends : List End) (log : List Entry
     at : Among new pod (own_pods job (pods_under job.key log))
     at = splits new pod 0 (own_pods job (pods_under job.key log)) own-rises own-only some
 
+    ended-by : (o : Option (List End)) → unwrap_or o [] ≡ ends → option_map_or (end_at pod.serial) o None ≡ end_at pod.serial ends
+    ended-by None is = sym (none-said pod.serial) ∙ ap (end_at pod.serial) is
+    ended-by (Some said) is = ap (end_at pod.serial) is
+
     ended : pod_end fates pod ≡ end_at pod.serial ends
     ended =
         ap (λ k. option_map_or (end_at pod.serial) (fates k) None) (same_key-eq pod.owner job.key mine)
-        ∙ ap (λ (o : Option (List End)). option_map_or (end_at pod.serial) o None) fated
+        ∙ ended-by (fates job.key) fated
 
     falls : creations_left ends (made_for job.uid log) job (at.front ++ new ∷ at.back) ≤ creations_left ends (made_for job.uid log) job (own_pods job (pods_under job.key log))
     falls =
@@ -213,7 +222,7 @@ module _ (fates : Key → Option (List End)) (ends : List End) (log : List Entry
 
 -- ---- a deed of the node
 
-module _ (shape : Shape) (past : List Deed) (d : Deed) (act : d.act ≡ does.Node) (ends : List End) (job : Job) (fated : fate past job.key ≡ Some ends)
+module _ (shape : Shape) (past : List Deed) (d : Deed) (act : d.act ≡ does.Node) (ends : List End) (job : Job) (fated : unwrap_or (fate past job.key) [] ≡ ends)
     (counted : IsCounted job (own_pods job (pods_under job.key (log_given shape past)))) where
   abbrev log : List Entry
   log = log_given shape past

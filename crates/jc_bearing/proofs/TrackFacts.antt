@@ -14,6 +14,7 @@ use Rattle.jc_states.specs.UidLists.{is_in}
 use Rattle.jc_states.proofs.PodListFacts.{among_none, pod_among, rises-each}
 use Rattle.jc_plan.specs.declared.plans.Planned.{Planned}
 use Rattle.jc_making.specs.Grants.{AllBecome, Goes, Nothing, Stays, frees, concerns}
+use Rattle.jc_bearing.specs.Served.{AllServed, IsGone, IsRewritten, IsServed, NonePod, Served}
 
 -- ---- a pod in the place of that of its UID
 
@@ -53,8 +54,20 @@ put-replaced low new (q ∷ pods) r there =
 
 -- ---- what becomes of them
 
+-- Such a change, and one behind it.
+pub rewritten-itself : (pod : Pod) → IsRewritten pod pod
+rewritten-itself pod = record { rest = refl; untracked = λ h. h; marked = λ h. h }
+
+rewritten-twice : (old now new : Pod) → IsRewritten old now → IsRewritten now new → IsRewritten old new
+rewritten-twice old now new first second = record {
+  rest = second.rest ∙ ap (λ (p : Pod). record p { version = new.version; marked = new.marked; tracked = new.tracked }) first.rest;
+  untracked = λ h. second.untracked (first.untracked h);
+  marked = λ h. second.marked (first.marked h);
+}
+
 -- The pod is written again: its UID, its owner and its phase stay.
 pub record IsChangeOf (was new : Pod) : Type 0 where
+  pub rewritten : IsRewritten was new
   pub uid : new.uid ≡ was.uid
   pub phase : new.phase ≡ was.phase
   pub owner : new.owner ≡ was.owner
@@ -79,7 +92,7 @@ pub data Tracks (plan : Planned) (k : Key) : List Pod → List Pod → Type 0 wh
 module _ (plan : Planned) (k : Key) where
   pub tracks-itself : (pods : List Pod) → Tracks plan k pods pods
   tracks-itself [] = Empty
-  tracks-itself (p ∷ pods) = Kept p p pods pods (record { change = record { uid = refl; phase = refl; owner = refl; owner_uid = refl }; same = inl refl }) (tracks-itself pods)
+  tracks-itself (p ∷ pods) = Kept p p pods pods (record { change = record { rewritten = rewritten-itself p; uid = refl; phase = refl; owner = refl; owner_uid = refl }; same = inl refl }) (tracks-itself pods)
 
   -- A pod of the UID is under the key.
   abbrev pub Under : Uid → List Pod → Type 0
@@ -90,6 +103,7 @@ module _ (plan : Planned) (k : Key) where
     one-more : (old now : Pod) → same_uid now.uid new.uid ≡ true → (same_uid old.uid new.uid ≡ true → same_key old.owner k ≡ true) → now ≡ was → IsLike plan k old now → IsLike plan k old new
     one-more old now same under is like = record {
       change = record {
+        rewritten = rewritten-twice old was new (subst (IsRewritten old) is like.change.rewritten) change.rewritten;
         uid = change.uid ∙ ap (λ (p : Pod). p.uid) (sym is) ∙ like.change.uid;
         phase = change.phase ∙ ap (λ (p : Pod). p.phase) (sym is) ∙ like.change.phase;
         owner = change.owner ∙ ap (λ (p : Pod). p.owner) (sym is) ∙ like.change.owner;
@@ -157,12 +171,7 @@ module _ (plan : Planned) (k : Key) where
 
   -- ---- once all is done
 
-  -- What the plan wants of the pod is so.
-  pub record IsDone (pod : Pod) : Type 0 where
-    pub freed : frees plan pod.uid ≡ true → pod.tracked ≡ false
-    pub marked : is_in pod.uid plan.marks ≡ true → is_marked pod ≡ true
-
-  pub tracks-follow : (olds news : List Pod) → Each IsDone news → Tracks plan k olds news → AllBecome plan olds news
+  pub tracks-follow : (olds news : List Pod) → Each (IsServed plan) news → Tracks plan k olds news → AllBecome plan olds news
   tracks-follow [] [] done Empty = Nothing
   tracks-follow [] (now ∷ news) done h = elim h [ ]
   tracks-follow (old ∷ olds) (now ∷ news) done (Kept _ _ _ _ like rest) = Stays old now olds news (record {
@@ -176,3 +185,10 @@ module _ (plan : Planned) (k : Key) where
       by (inl same) untouched = same
       by (inr touched) untouched = absurd (true≢false (sym touched.touched ∙ untouched))
   tracks-follow (old ∷ olds) news done (Left _ _ _ freed under-it rest) = Goes old olds news freed (tracks-follow olds news done rest)
+
+  -- All of them, whosesoever they are.
+  pub tracks-served : (olds news : List Pod) → Each (IsServed plan) news → Tracks plan k olds news → AllServed plan olds news
+  tracks-served [] [] done Empty = NonePod
+  tracks-served [] (now ∷ news) done h = elim h [ ]
+  tracks-served (old ∷ olds) (now ∷ news) done (Kept _ _ _ _ like rest) = Served old now olds news like.change.rewritten done.0 (tracks-served olds news done.1 rest)
+  tracks-served (old ∷ olds) news done (Left _ _ _ freed under-it rest) = IsGone old olds news freed (tracks-served olds news done rest)

@@ -530,7 +530,7 @@ module _ (stay : Stay) (shape : Shape) (some : 0 < shape.workers) (past : List D
     bearing = record {
       left = asks_of (planned basis);
       reads = reads-first;
-      bears = subst (Bears (log_given shape past) basis (asks_of (planned basis))) (sym then-log) (bears-first (log_given shape past) basis its-pods job-there);
+      bears = subst (Bears (log_given shape past) basis (asks_of (planned basis))) (sym then-log) (bears-first (log_given shape past) basis its-pods its-job);
     };
   }
 

@@ -35,6 +35,7 @@ pub record IsBorn (log : List Entry) (job : Job) (index : Option ℕ) (pod : Pod
   pub owner : pod.owner ≡ job.key
   pub owner_uid : pod.owner_uid ≡ job.uid
   pub new : IsNew (made_for job.uid log) index pod
+  pub restart : pod.restart ≡ job.spec.template.restart
 
 -- The entry of the request: a new pod, one that is written again or is gone, or a status.
 pub data Writes (log : List Entry) (basis : Basis) : Ask → Entry → Type 0 where
@@ -58,7 +59,7 @@ module _ (log : List Entry) (now : ℕ) (flight : Flight) where
       by None is g = absurd (none_some e g)
       by (Some job) is g =
           subst (W (MakePod index)) (some_is (PodPut (made_pod log job index now)) e g)
-          (Makes job index (made_pod log job index now) is (record { uid = refl; owner = refl; owner_uid = refl; new = record { serial_is = refl; index_is = refl; active = refl } }))
+          (Makes job index (made_pod log job index now) is (record { uid = refl; owner = refl; owner_uid = refl; new = record { serial_is = refl; index_is = refl; active = refl }; restart = refl }))
 
   -- What is not refused is what is accepted.
   not-refused : (b : Bool) (r : Reply) (a : Answered) (e : Entry) → (cond b (refused r) a).entry ≡ Some e → a.entry ≡ Some e
@@ -78,7 +79,7 @@ module _ (log : List Entry) (now : ℕ) (flight : Flight) where
       (put-stays (with_mark log found.pod now) (goes (with_mark log found.pod now)) e refl stays
       (not-refused (is_marked found.pod) (reply.Unchanged found.pod.version) (accepted (reply.Written (next_version log)) (pod_entry (with_mark log found.pod now))) e
       (ap (λ l. (mark_pod_at log now (living l)).entry) (sym found.there) ∙ h)))
-      (Puts (MarkPod u) u found.pod (with_mark log found.pod now) refl found.there (life-uid u log found.pod found.there) (record { uid = refl; phase = refl; owner = refl; owner_uid = refl }))
+      (Puts (MarkPod u) u found.pod (with_mark log found.pod now) refl found.there (life-uid u log found.pod found.there) (record { rewritten = record { rest = refl; untracked = λ t. t; marked = λ t. refl }; uid = refl; phase = refl; owner = refl; owner_uid = refl }))
     where
       stays : goes (with_mark log found.pod now) ≡ false
       stays = ap (λ b. not found.pod.tracked && b) (not-true (is_final found.pod.phase) (and_parts (is_open found.pod) (not (is_marked found.pod)) found.has).0) ∙ and-false (not found.pod.tracked)
@@ -90,7 +91,7 @@ module _ (log : List Entry) (now : ℕ) (flight : Flight) where
       (is-accepted found.pod.tracked reply.NotTracked (released log found.pod) e
       (not-refused (not (found.pod.version.0 == version.0)) (reply.Conflict found.pod.version) (cond found.pod.tracked (released log found.pod) (refused reply.NotTracked)) e
       (ap (λ l. (let_go_at log version (living l)).entry) (sym found.there) ∙ h))))
-      (Puts (LetPodGo u version) u found.pod (without_finalizer log found.pod) refl found.there (life-uid u log found.pod found.there) (record { uid = refl; phase = refl; owner = refl; owner_uid = refl }))
+      (Puts (LetPodGo u version) u found.pod (without_finalizer log found.pod) refl found.there (life-uid u log found.pod found.there) (record { rewritten = record { rest = refl; untracked = λ t. refl; marked = λ t. t }; uid = refl; phase = refl; owner = refl; owner_uid = refl }))
     where
       stays : goes (without_finalizer log found.pod) ≡ false
       stays = ap (λ b. b && is_final found.pod.phase) (unmarked found.pod (and_parts (is_active found.pod) (is_tracked found.pod) found.has.active).0)
@@ -102,7 +103,7 @@ module _ (log : List Entry) (now : ℕ) (flight : Flight) where
       (ap (λ l. (release_at log (living l)).entry) (sym found.there) ∙ h))
     where
       change : IsChangeOf found.pod (without_finalizer log found.pod)
-      change = record { uid = refl; phase = refl; owner = refl; owner_uid = refl }
+      change = record { rewritten = record { rest = refl; untracked = λ t. refl; marked = λ t. t }; uid = refl; phase = refl; owner = refl; owner_uid = refl }
 
       by : (b : Bool) → Some (cond b (PodGone (without_finalizer log found.pod)) (PodPut (without_finalizer log found.pod))) ≡ Some e → W (ReleasePod u) e
       by true g =

@@ -2,10 +2,10 @@
 --     at_version version job        the Job at the version
 --     HasAllFor log basis job new   the Job and its own pods are as the plan has them
 --     LeavesOthers log basis new    Jobs of other keys, and pods that were made for these, are as they were
---     DoesAll log basis new         both
+--     DoesAll log basis new         both, and all pods are as the plan has them
 --     SawLog log basis              the basis is what stands in the log of its key
 --     RunsWhole shape past ..       the sync runs alone, does all that it plans, and it is calm again
-use Rattle.std.specs.Prelude.{◌≡◌, ◌⊎◌, ℕ, ◌+◌, ◌≤◌, true, false, List, ◌∷◌, ◌++◌, length, Some, IfSome}
+use Rattle.std.specs.Prelude.{◌≡◌, ◌⊎◌, ℕ, ◌+◌, ◌≤◌, true, false, List, ◌∷◌, ◌++◌, length, Some, None, IfSome}
 use Rattle.std.specs.List.{AllByRecursion as Each}
 use Rattle.jc_types.specs.declared.numbers.Uid.{Uid}
 use Rattle.jc_types.specs.declared.numbers.Version.{Version}
@@ -25,6 +25,7 @@ use Rattle.jc_runs.specs.Replies.{log_given}
 use Rattle.jc_settle.specs.Settles.{IsCalm, is_telling, settled_on}
 use Rattle.jc_calm.specs.SettleTurns.{faults_pending}
 use Rattle.jc_making.specs.Grants.{AllGranted, job_left}
+use Rattle.jc_bearing.specs.Served.{ServesAll}
 
 -- The Job at the version.
 abbrev pub at_version : Version → Job → Job
@@ -40,17 +41,20 @@ pub record HasAllFor (log : List Entry) (basis : Basis) (job : Job) (new : List 
       (own_pods job (pods_under basis.key new))
   pub made : made_for job.uid new ≡ made_for job.uid log + length (planned basis).creates
 
--- Each Job of another key is as it was, and so are the pods that were made for it; and no pod was made for another UID.
+-- Each Job of another key is as it was, and so are the pods that were made for it; no pod was made for another UID, and
+-- where no Job had the key none has it.
 pub record LeavesOthers (log : List Entry) (basis : Basis) (new : List Entry) : Type 0 where
   pub jobs : (k : Key) → same_key basis.key k ≡ false → job_in k new ≡ job_in k log
   pub pods : (k : Key) → same_key basis.key k ≡ false → pods_under k new ≡ pods_under k log
   pub made : (u : Uid) → IfSome basis.job (λ job. same_uid job.uid u ≡ false)
       → made_for u new ≡ made_for u log
+  pub none : basis.job ≡ None → job_in basis.key new ≡ None
 
--- All that the plan asks for is so, and nothing else has changed.
+-- All that the plan asks for is so, also of pods whose Job is gone, and nothing else has changed.
 pub record DoesAll (log : List Entry) (basis : Basis) (new : List Entry) : Type 0 where
   pub its : (job : Job) → basis.job ≡ Some job → HasAllFor log basis job new
   pub others : LeavesOthers log basis new
+  pub all : ServesAll log basis new
 
 -- The basis is what stands in the log of its key.
 pub record SawLog (log : List Entry) (basis : Basis) : Type 0 where

@@ -47,7 +47,7 @@ pub new-few : Stay → (shape : Shape) (past : List Deed) (events n : ℕ) (ends
 new-few stay shape past events n ends job f well is made =
     let most = stays-within stay shape ends events past f job well in
     let left = few-left ends 0 n job [] is in
-    let none = legal-none-own stay shape past f.legal f.valid job made in
+    let none = legal-none-own stay shape past f.between.legal f.between.valid job made in
     let now : pods_at_most ends (log_given shape past) job ≡ 0 + creations_left ends 0 job [] = (λ i. made i + creations_left ends (made i) job (none i)) in
     let all = ap (λ xs. length (filter fails xs)) (drop-append_seam [] ends) in
     omega (arith, most, left, now, all)

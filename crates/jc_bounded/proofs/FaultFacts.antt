@@ -141,11 +141,13 @@ comes-faultless shape past some start legal valid puts = by (calms-down shape so
     by h = record {
       events = h.events;
       faultless = record {
-        workers = some;
-        start = start;
-        legal = on-legal shape h.events past legal;
-        valid = (on-says shape h.events past).valid valid;
-        calm = subst (IsCalm shape) (sym h.are) h.calm;
+        between = record {
+          workers = some;
+          start = start;
+          legal = on-legal shape h.events past legal;
+          valid = (on-says shape h.events past).valid valid;
+          calm = subst (IsCalm shape) (sym h.are) h.calm;
+        };
         faults = none-pending shape (settled_on shape h.events past) ((on-says shape h.events past).faults puts);
       };
     }

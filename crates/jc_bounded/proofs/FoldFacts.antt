@@ -13,19 +13,19 @@ use Rattle.jc_runs.specs.Basis.{Basis}
 use Rattle.jc_runs.specs.Replies.{log_given, next_deed}
 use Rattle.jc_settle.specs.Settles.{settled_on}
 use Rattle.jc_settle.proofs.OnFacts.{on-adds, on-none}
-use Rattle.jc_calm.specs.SettleTurns.{Asks, ClockMoves, EndsAtOnce, Fails, Finds, NodeActs, Rests, Turn, Writes, WritesAndAsks}
+use Rattle.jc_calm.specs.SettleTurns.{Asks, ClockMoves, EndsAtOnce, Fails, Finds, MeetsFault, NodeActs, Rests, Turn, Writes, WritesAndAsks}
 use Rattle.jc_calm.proofs.GoFacts.{goes-on}
 use Rattle.jc_making.specs.Nodes.{fate}
 use Rattle.jc_bearing.specs.AtMost.{pods_at_most}
 use Rattle.jc_counted.proofs.CountedFacts.{Stay}
-use Rattle.jc_bounded.specs.Faultless.{IsFaultless, SucceedsAtLast, TurnsOver, made_on}
+use Rattle.jc_bounded.specs.Faultless.{IsBetweenTurns, IsFaultless, SucceedsAtLast, TurnsOver, UsesUpAFault, made_on}
 use Rattle.jc_bounded.proofs.NodeTurns.{clock-turns, fates-then, goes-to, node-turns}
 use Rattle.jc_bounded.proofs.OnwardFacts.{on-more}
 use Rattle.jc_bounded.proofs.SyncTurns.{sync-turns}
 
 -- ---- a turn
 
-module _ (stay : Stay) (shape : Shape) (past : List Deed) (f : IsFaultless shape past) where
+module _ (stay : Stay) (shape : Shape) (past : List Deed) (f : IsBetweenTurns shape past) where
   -- A sync that finds nothing to do.
   found : (c w : ℕ) (basis : Basis) (begin end : Deed) → EndsAtOnce shape past c w basis begin end → TurnsOver shape past
   found c w basis begin end h = record {
@@ -33,7 +33,8 @@ module _ (stay : Stay) (shape : Shape) (past : List Deed) (f : IsFaultless shape
     now = end ∷ begin ∷ past;
     are = h.after;
     some = omega arith;
-    faultless = goes-to shape past 2 (end ∷ begin ∷ past) h.after f h.calm h.faults;
+    between = goes-to shape past 2 (end ∷ begin ∷ past) h.after f h.calm;
+    faults = h.faults;
     fates = fates-then shape past 2 (end ∷ begin ∷ past) h.after;
     jobs = λ ends job well. record {
       now = job;
@@ -43,18 +44,42 @@ module _ (stay : Stay) (shape : Shape) (past : List Deed) (f : IsFaultless shape
     };
   }
 
-  pub turns-over : (is_quiescent shape past (log_given shape past) ≡ true) ⊎ TurnsOver shape past
-  turns-over = by (goes-on shape past f.workers f.start f.legal f.calm)
+  -- One that meets a fault.
+  failed-turns : (c w : ℕ) (begin failed : Deed) → MeetsFault shape past c w begin failed → UsesUpAFault shape past
+  failed-turns c w begin failed h = record {
+    events = h.events;
+    now = settled_on shape h.events past;
+    are = refl;
+    between = goes-to shape past h.events (settled_on shape h.events past) refl f h.calm;
+    fates = fates-then shape past h.events (settled_on shape h.events past) refl;
+    fewer = h.fewer;
+  }
+
+  pub any-turn : (is_quiescent shape past (log_given shape past) ≡ true) ⊎ (UsesUpAFault shape past ⊎ TurnsOver shape past)
+  any-turn = by (goes-on shape past f.workers f.start f.legal f.calm)
     where
-      by : Turn shape past → (is_quiescent shape past (log_given shape past) ≡ true) ⊎ TurnsOver shape past
+      by : Turn shape past → (is_quiescent shape past (log_given shape past) ≡ true) ⊎ (UsesUpAFault shape past ⊎ TurnsOver shape past)
       by (Rests rests) = inl rests
-      by (NodeActs d e a) = inr (node-turns stay shape past f d e a)
-      by (ClockMoves d due h) = inr (clock-turns stay shape past f d h.next due h)
-      by (Finds c w basis begin end b h) = inr (found c w basis begin end h)
-      by (Asks c w basis begin b fine h at) = inr (sync-turns stay shape past f c w basis begin b fine)
-      by (WritesAndAsks c w basis job status begin write b h asks) = inr (sync-turns stay shape past f c w basis begin b h.no_fault)
-      by (Writes c w basis job status begin write b h m) = inr (sync-turns stay shape past f c w basis begin b h.no_fault)
-      by (Fails c w basis begin failed b h) = let fewer = h.fewer in let none = f.faults in absurd (omega (arith, fewer, none))
+      by (NodeActs d e a) = inr (inr (node-turns stay shape past f d e a))
+      by (ClockMoves d due h) = inr (inr (clock-turns stay shape past f d h.next due h))
+      by (Finds c w basis begin end b h) = inr (inr (found c w basis begin end h))
+      by (Asks c w basis begin b fine h at asked) = inr (inr (sync-turns stay shape past f c w basis begin b fine))
+      by (WritesAndAsks c w basis job status begin write b h asks asked) = inr (inr (sync-turns stay shape past f c w basis begin b h.no_fault))
+      by (Writes c w basis job status begin write b h m) = inr (inr (sync-turns stay shape past f c w basis begin b h.no_fault))
+      by (Fails c w basis begin failed b h) = inr (inl (failed-turns c w begin failed h))
+
+-- Where no fault is pending none is used up.
+pub turns-over : (stay : Stay) (shape : Shape) (past : List Deed) → IsFaultless shape past → (is_quiescent shape past (log_given shape past) ≡ true) ⊎ TurnsOver shape past
+turns-over stay shape past f = by (any-turn stay shape past f.between)
+  where
+    by : (is_quiescent shape past (log_given shape past) ≡ true) ⊎ (UsesUpAFault shape past ⊎ TurnsOver shape past) → (is_quiescent shape past (log_given shape past) ≡ true) ⊎ TurnsOver shape past
+    by (inl rests) = inl rests
+    by (inr (inl h)) = let fewer = h.fewer in let none = f.faults in absurd (omega (arith, fewer, none))
+    by (inr (inr t)) = inr t
+
+-- And then none is pending still.
+pub still-faultless : (shape : Shape) (past : List Deed) → IsFaultless shape past → (t : TurnsOver shape past) → IsFaultless shape t.now
+still-faultless shape past f t = record { between = t.between; faults = let few = t.faults in let none = f.faults in omega (arith, few, none) }
 
 -- ---- all of them
 
@@ -118,7 +143,7 @@ module _ (stay : Stay) (shape : Shape) (ends : List End) where
               let ge = ltb-false (suc n) t.events s in let some = t.some in
               let sum : t.events + (suc n - t.events) ≡ suc n = omega (arith, ge) in
               let few : suc n - t.events ≤ most = omega (arith, ge, some, le) in
-              subst (λ k. StaysWithin k past) sum (turned past t (suc n - t.events) (more (suc n - t.events) t.now few t.faultless))
+              subst (λ k. StaysWithin k past) sum (turned past t (suc n - t.events) (more (suc n - t.events) t.now few (still-faultless shape past f t)))
 
   pub stays-within : (n : ℕ) (past : List Deed) → IsFaultless shape past → StaysWithin n past
   stays-within n past f = within n n past (omega arith) f

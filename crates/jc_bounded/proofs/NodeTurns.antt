@@ -1,5 +1,6 @@
 -- A deed of the node in a calm state, and one of the clock: what is told of it behind, and how many pods are allowed then.
-use Rattle.std.proofs.Common.{◌≡◌, ℕ, suc, ◌≤◌, Bool, true, false, cond, ◌&&◌, List, [], ◌∷◌, ◌++◌, find, Option, Some, None, refl, sym, ap, ◌∙◌, subst, arith}
+use Rattle.std.proofs.Common.{◌≡◌, ℕ, suc, ◌<◌, ◌≤◌, Bool, true, false, cond, ◌&&◌, List, [], ◌∷◌, ◌++◌, find, Option, Some, None, refl, sym, ap, ◌∙◌, subst, arith}
+use Rattle.std.specs.Option.{unwrap_or}
 use Rattle.jc_types.specs.Equality.{same_phase}
 use Rattle.jc_types.specs.declared.actions.ContainerChange.{ContainerChange}
 use Rattle.jc_types.specs.declared.actions.End.{End}
@@ -34,7 +35,7 @@ use Rattle.jc_making.specs.Nodes.{NodeAct, change_by, fate, node_step}
 use Rattle.jc_bearing.specs.AtMost.{pods_at_most}
 use Rattle.jc_bearing.proofs.ReportFacts.{node-turn}
 use Rattle.jc_counted.proofs.CountedFacts.{Stay, legal-counted}
-use Rattle.jc_bounded.specs.Faultless.{AllowsNoMore, IsFaultless, SucceedsAtLast, TurnsOver}
+use Rattle.jc_bounded.specs.Faultless.{AllowsNoMore, IsBetweenTurns, SucceedsAtLast, TurnsOver}
 use Rattle.jc_bounded.proofs.OnwardFacts.{on-says}
 
 -- ---- a report puts no Job
@@ -72,7 +73,7 @@ module _ (log : List Entry) (k : Key) where
   node-leaves None = refl
   node-leaves (Some step) = report-leaves step.0.uid (change_by step.0 step.1)
 
-node-jobs : (shape : Shape) (past : List Deed) (d : Deed) (k : Key) → d.act ≡ does.Node → job_in k (log_given shape (d ∷ past)) ≡ job_in k (log_given shape past)
+pub node-jobs : (shape : Shape) (past : List Deed) (d : Deed) (k : Key) → d.act ≡ does.Node → job_in k (log_given shape (d ∷ past)) ≡ job_in k (log_given shape past)
 unfolding log_given gives
 node-jobs shape past d k a =
     ap (λ act. job_in k (grown (log_given shape past) (gives shape past (log_given shape past) act).entry)) a
@@ -81,20 +82,19 @@ node-jobs shape past d k a =
 -- ---- the turns
 
 -- The same state but for what the deed has done.
-pub goes-to : (shape : Shape) (past : List Deed) (n : ℕ) (now : List Deed) → settled_on shape n past ≡ now → IsFaultless shape past → IsCalm shape now → faults_pending shape now ≤ faults_pending shape past → IsFaultless shape now
-goes-to shape past n now are f calm few = record {
+pub goes-to : (shape : Shape) (past : List Deed) (n : ℕ) (now : List Deed) → settled_on shape n past ≡ now → IsBetweenTurns shape past → IsCalm shape now → IsBetweenTurns shape now
+goes-to shape past n now are f calm = record {
   workers = f.workers;
   start = f.start;
   legal = subst (IsLegal shape) are (on-legal shape n past f.legal);
   valid = subst AllAskValid are ((on-says shape n past).valid f.valid);
   calm = calm;
-  faults = let none = f.faults in omega (arith, few, none);
 }
 
 pub fates-then : (shape : Shape) (past : List Deed) (n : ℕ) (now : List Deed) → settled_on shape n past ≡ now → (k : Key) → fate now k ≡ fate past k
 fates-then shape past n now are k = ap (λ deeds. fate deeds k) (sym are) ∙ (on-says shape n past).fates k
 
-module _ (stay : Stay) (shape : Shape) (past : List Deed) (f : IsFaultless shape past) (d : Deed) (e : next_of_settle shape past ≡ Some d) where
+module _ (stay : Stay) (shape : Shape) (past : List Deed) (f : IsBetweenTurns shape past) (d : Deed) (e : next_of_settle shape past ≡ Some d) where
   module _ (a : d.act ≡ does.Node) where
     then-legal : IsLegal shape (d ∷ past)
     then-legal = (next-legal shape past d e, f.legal)
@@ -104,33 +104,57 @@ module _ (stay : Stay) (shape : Shape) (past : List Deed) (f : IsFaultless shape
         notes-next shape c past d f.legal
         ∙ ap (λ act. cond (restarts c act) [] (notes_taken c act d.reply (moment shape past) (log_given shape (d ∷ past)) (diary shape c past) ++ diary shape c past)) a
 
-    pub node-turns : TurnsOver shape past
-    node-turns = by (catches-up shape f.workers (d ∷ past) then-legal)
+    -- The caches are told of it, and it is calm again.
+    pub record IsToldOf : Type 0 where
+      pub events : ℕ
+      pub run : List Deed
+      pub are : settled_on shape events past ≡ run ++ d ∷ past
+      pub some : 0 < events
+      pub log_is : log_given shape (run ++ d ∷ past) ≡ log_given shape (d ∷ past)
+      pub between : IsBetweenTurns shape (run ++ d ∷ past)
+      pub faults : faults_pending shape (run ++ d ∷ past) ≤ faults_pending shape past
+
+    pub node-told : IsToldOf
+    node-told = by (catches-up shape f.workers (d ∷ past) then-legal)
       where
-        by : CatchesUp shape (d ∷ past) → TurnsOver shape past
+        by : CatchesUp shape (d ∷ past) → IsToldOf
         by u = record {
           events = suc u.events;
-          now = u.run ++ d ∷ past;
+          run = u.run;
           are = are;
           some = omega arith;
-          faultless =
+          log_is = u.log_is;
+          between =
               goes-to shape past (suc u.events) (u.run ++ d ∷ past) are f
-              (record { caches = u.caches; free = λ c lt w less. (u.syncs c w).register_is ∙ ap (register w) (node-notes c) ∙ f.calm.free c lt w less })
-              (faults-most shape past (u.run ++ d ∷ past) (λ c w. (u.syncs c w).pending_is ∙ ap (pending w) (node-notes c)));
-          fates = fates-then shape past (suc u.events) (u.run ++ d ∷ past) are;
-          jobs = jobs;
+              (record { caches = u.caches; free = λ c lt w less. (u.syncs c w).register_is ∙ ap (register w) (node-notes c) ∙ f.calm.free c lt w less });
+          faults = faults-most shape past (u.run ++ d ∷ past) (λ c w. (u.syncs c w).pending_is ∙ ap (pending w) (node-notes c));
         }
           where
             are : settled_on shape (suc u.events) past ≡ u.run ++ d ∷ past
             are = on-some shape u.events past d e ∙ u.are
 
+    pub node-turns : TurnsOver shape past
+    node-turns = by node-told
+      where
+        by : IsToldOf → TurnsOver shape past
+        by u = record {
+          events = u.events;
+          now = u.run ++ d ∷ past;
+          are = u.are;
+          some = u.some;
+          between = u.between;
+          faults = u.faults;
+          fates = fates-then shape past u.events (u.run ++ d ∷ past) u.are;
+          jobs = jobs;
+        }
+          where
             jobs : (ends : List End) (job : Job) → SucceedsAtLast shape past ends job → AllowsNoMore ends (log_given shape past) (log_given shape (u.run ++ d ∷ past)) job
             jobs ends job well = record {
               now = job;
               there = ap (job_in job.key) u.log_is ∙ node-jobs shape past d job.key a ∙ well.there;
               uid = refl;
               few = subst (λ log. pods_at_most ends log job ≤ pods_at_most ends (log_given shape past) job) (sym u.log_is)
-                  (node-turn shape past d a ends job well.fated (legal-counted stay shape past f.legal f.valid job.key job well.there));
+                  (node-turn shape past d a ends job (ap (λ o. unwrap_or o []) well.fated) (legal-counted stay shape past f.legal f.valid job.key job well.there));
             }
 
   pub clock-turns : (due : ℕ) → MovesTheClock shape past d due → TurnsOver shape past
@@ -139,7 +163,8 @@ module _ (stay : Stay) (shape : Shape) (past : List Deed) (f : IsFaultless shape
     now = d ∷ past;
     are = are;
     some = omega arith;
-    faultless = goes-to shape past 1 (d ∷ past) are f h.calm h.faults;
+    between = goes-to shape past 1 (d ∷ past) are f h.calm;
+    faults = h.faults;
     fates = fates-then shape past 1 (d ∷ past) are;
     jobs = λ ends job well. record {
       now = job;

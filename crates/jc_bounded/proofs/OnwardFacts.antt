@@ -23,7 +23,7 @@ grown-more : (u : Uid) (log : List Entry) (o : Option Entry) → made_for u log 
 grown-more u log None = omega arith
 grown-more u log (Some e) = made-more u e log
 
-next-more : (shape : Shape) (past : List Deed) (d : Deed) (u : Uid) → made_for u (log_given shape past) ≤ made_for u (log_given shape (d ∷ past))
+pub next-more : (shape : Shape) (past : List Deed) (d : Deed) (u : Uid) → made_for u (log_given shape past) ≤ made_for u (log_given shape (d ∷ past))
 unfolding log_given
 next-more shape past d u = grown-more u (log_given shape past) (gives shape past (log_given shape past) d.act).entry
 

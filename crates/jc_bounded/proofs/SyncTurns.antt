@@ -1,4 +1,4 @@
--- A whole sync from a calm state where no fault is pending, and how many pods are allowed then.
+-- A whole sync from a calm state where no fault is pending for its worker, and how many pods are allowed then.
 use Rattle.std.proofs.Common.{◌≡◌, ℕ, zero, suc, ◌+◌, ◌<◌, Bool, true, false, List, ◌∷◌, ◌++◌, length, Option, Some, None, IfSome, refl, sym, ap, ◌∙◌, arith, true≢false}
 use Rattle.std.proofs.lemmas.Bool.{false_from_ne_true}
 use Rattle.std.proofs.lemmas.List.{length-append}
@@ -18,10 +18,10 @@ use Rattle.jc_bearing.specs.Whole.{HasAllFor, RunsWhole}
 use Rattle.jc_bearing.proofs.AtMostFacts.{no-more, no-other}
 use Rattle.jc_bearing.proofs.WholeFacts.{runs-whole}
 use Rattle.jc_counted.proofs.CountedFacts.{Stay, legal-counted, legal-one-key}
-use Rattle.jc_bounded.specs.Faultless.{AllowsNoMore, IsFaultless, SucceedsAtLast, TurnsOver}
+use Rattle.jc_bounded.specs.Faultless.{AllowsNoMore, IsBetweenTurns, SucceedsAtLast, TurnsOver}
 use Rattle.jc_bounded.proofs.NodeTurns.{fates-then, goes-to}
 
-module _ (stay : Stay) (shape : Shape) (past : List Deed) (f : IsFaultless shape past) (c w : ℕ) (basis : Basis) (begin : Deed) (b : BeginsAlone shape past c w basis begin) where
+module _ (stay : Stay) (shape : Shape) (past : List Deed) (f : IsBetweenTurns shape past) (c w : ℕ) (basis : Basis) (begin : Deed) (b : BeginsAlone shape past c w basis begin) where
   module _ (r : RunsWhole shape past c w basis begin) where
     abbrev now : List Deed
     now = r.run ++ begin ∷ past
@@ -79,7 +79,8 @@ module _ (stay : Stay) (shape : Shape) (past : List Deed) (f : IsFaultless shape
       now = r.run ++ begin ∷ past;
       are = r.are;
       some = some-event r.events r.are;
-      faultless = goes-to shape past r.events (r.run ++ begin ∷ past) r.are f r.calm r.faults;
+      between = goes-to shape past r.events (r.run ++ begin ∷ past) r.are f r.calm;
+      faults = r.faults;
       fates = fates-then shape past r.events (r.run ++ begin ∷ past) r.are;
       jobs = bounded;
     }

@@ -1,11 +1,13 @@
 -- Settles without faults, and how many pods are made in them at most.
---     IsFaultless shape past              a calm state of a legal history where no fault is pending
+--     IsBetweenTurns shape past           a calm state of a legal history
+--     IsFaultless shape past              one where no fault is pending
 --     puts_fault act, PutsNoFault deeds   the act puts a fault; none of the deeds does
 --     ComesFaultless shape past           after so many events of the settle it is such a state
 --     SucceedsAtLast shape past ends job  the Job is there, and its pods end so, the last of them with a success
 --     made_on shape events past job       how many pods were made for the Job after so many events of the settle
 --     AllowsNoMore ends log new job       the Job is there still, and no more pods are made for it at most
 --     TurnsOver shape past                after so many events it is as calm, and each Job is allowed no more
+--     UsesUpAFault shape past             after so many events it is as calm, and fewer faults are pending
 use Rattle.std.specs.Prelude.{◌≡◌, ℕ, ◌<◌, ◌≤◌, Bool, true, false, List, Some, IfSome}
 use Rattle.std.specs.List.{AllByRecursion as Each}
 use Rattle.jc_types.specs.declared.actions.End.{End}
@@ -27,13 +29,17 @@ use Rattle.jc_making.specs.Making.{fails}
 use Rattle.jc_making.specs.Nodes.{fate, last_end}
 use Rattle.jc_bearing.specs.AtMost.{pods_at_most}
 
--- The history is legal, and each Job was created with a valid specification; it is calm, and no fault is pending.
-pub record IsFaultless (shape : Shape) (past : List Deed) : Type 0 where
+-- The history is legal, and each Job was created with a valid specification; and it is calm.
+pub record IsBetweenTurns (shape : Shape) (past : List Deed) : Type 0 where
   pub workers : 0 < shape.workers
   pub start : IsMoment shape.start
   pub legal : IsLegal shape past
   pub valid : AllAskValid past
   pub calm : IsCalm shape past
+
+-- So it is, and no fault is pending.
+pub record IsFaultless (shape : Shape) (past : List Deed) : Type 0 where
+  pub between : IsBetweenTurns shape past
   pub faults : faults_pending shape past ≡ 0
 
 -- The act puts a fault.
@@ -67,14 +73,24 @@ pub record AllowsNoMore (ends : List End) (log new : List Entry) (job : Job) : T
   pub uid : now.uid ≡ job.uid
   pub few : pods_at_most ends new now ≤ pods_at_most ends log job
 
--- After so many events of the settle, one at least, it is as calm as before, the pods end as they did, and each Job that
--- was there is allowed no more pods.
+-- After so many events of the settle, one at least, it is as calm as before, no fault is new, the pods end as they did, and
+-- each Job that was there is allowed no more pods.
 pub record TurnsOver (shape : Shape) (past : List Deed) : Type 0 where
   pub events : ℕ
   pub now : List Deed
   pub are : settled_on shape events past ≡ now
   pub some : 0 < events
-  pub faultless : IsFaultless shape now
+  pub between : IsBetweenTurns shape now
+  pub faults : faults_pending shape now ≤ faults_pending shape past
   pub fates : (key : Key) → fate now key ≡ fate past key
   pub jobs : (ends : List End) (job : Job) → SucceedsAtLast shape past ends job
       → AllowsNoMore ends (log_given shape past) (log_given shape now) job
+
+-- After so many events of the settle it is as calm as before, the pods end as they did, and fewer faults are pending.
+pub record UsesUpAFault (shape : Shape) (past : List Deed) : Type 0 where
+  pub events : ℕ
+  pub now : List Deed
+  pub are : settled_on shape events past ≡ now
+  pub between : IsBetweenTurns shape now
+  pub fates : (key : Key) → fate now key ≡ fate past key
+  pub fewer : faults_pending shape now < faults_pending shape past

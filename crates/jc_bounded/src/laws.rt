@@ -15,7 +15,7 @@ ghost use Rattle.jc_runs.specs.Machines.{AllAskValid};
 ghost use Rattle.jc_runs.specs.Replies.{log_given};
 ghost use Rattle.jc_making.specs.Making.{creations_left, fails, misses};
 ghost use Rattle.jc_bearing.specs.AtMost.{pods_at_most};
-ghost use Rattle.jc_bounded.specs.Faultless.{ComesFaultless, IsFaultless, PutsNoFault, SucceedsAtLast, TurnsOver, made_on};
+ghost use Rattle.jc_bounded.specs.Faultless.{ComesFaultless, IsBetweenTurns, IsFaultless, PutsNoFault, SucceedsAtLast, TurnsOver, UsesUpAFault, made_on};
 
 use jc_runs::allowed_updates_stay_valid;
 
@@ -28,10 +28,16 @@ pub fn settles_without_faults_calm_down()
 /// **No turn of a settle allows a Job more pods**: from a calm state where no fault is pending nothing is available, or the
 /// settle does one whole turn, a sync from its begin to its end, a deed of the node or one of the clock, with what the
 /// caches are told of it. Then it is as calm again; and of each Job that was there, the turn's own or another, the pods
-/// that were made for it and those that may still be are together no more than before, if its pods succeed at last.
+/// that were made for it and those that may still be are together no more than before, if its pods succeed at last. Where
+/// faults are pending too, a turn uses up one of them, or it is such a turn.
 pub fn turns_allow_no_more_pods()
-    ensures { (shape : Shape) (past : List Deed) → IsFaultless shape past
+    ensures faultless { (shape : Shape) (past : List Deed) → IsFaultless shape past
         → (is_quiescent shape past (log_given shape past) ≡ true) ⊎ TurnsOver shape past }
+    ensures still { (shape : Shape) (past : List Deed) → IsFaultless shape past
+        → (turn : TurnsOver shape past) → IsFaultless shape turn.now }
+    ensures any { (shape : Shape) (past : List Deed) → IsBetweenTurns shape past
+        → (is_quiescent shape past (log_given shape past) ≡ true)
+        ⊎ (UsesUpAFault shape past ⊎ TurnsOver shape past) }
 {
     allowed_updates_stay_valid();
 }

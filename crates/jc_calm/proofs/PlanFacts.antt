@@ -1,5 +1,5 @@
 -- What a plan asks first: nothing, a request about a pod, or the write of the first status.
-use Rattle.std.proofs.Common.{◌≡◌, ℕ, true, false, List, [], ◌∷◌, ◌++◌, map, Option, Some, None, refl, sym, ap, ◌∙◌, true≢false, ◌||◌}
+use Rattle.std.proofs.Common.{◌≡◌, ℕ, ◌<◌, true, false, List, [], ◌∷◌, ◌++◌, length, map, Option, Some, None, refl, sym, ap, ◌∙◌, arith, true≢false, ◌||◌}
 use Rattle.std.proofs.lemmas.Option.{none-some as none_some}
 use Rattle.std.specs.List.{list_any}
 use Rattle.jc_types.specs.declared.numbers.Uid.{Uid}
@@ -22,6 +22,7 @@ use Rattle.jc_asks.specs.declared.asks.Ask.{Ask}
 use Rattle.jc_asks.specs.declared.asks.Ask.TheVariants.{MakePod, MarkPod, WriteFirst, ReleasePod}
 use Rattle.jc_asks.specs.Asks.{as_request, asks_of, first_asks, last_asks, let_go_ask, second_asks}
 use Rattle.jc_history.specs.Registers.{asks_status}
+use Rattle.jc_calm.specs.SettleTurns.{pods_asked}
 
 -- ---- a plan that releases nothing has no second status
 
@@ -49,7 +50,7 @@ pub record IsLate (basis : Basis) : Type 0 where
 
 pub data AsksFirst (basis : Basis) : Type 0 where
   Nothing : asks_of (planned basis) ≡ [] → (planned basis).first ≡ None → AsksFirst basis
-  Pod : (ask : Ask) (left : List Ask) → asks_of (planned basis) ≡ ask ∷ left → asks_status (as_request ask) ≡ false → AsksFirst basis
+  Pod : (ask : Ask) (left : List Ask) → asks_of (planned basis) ≡ ask ∷ left → asks_status (as_request ask) ≡ false → 0 < pods_asked (planned basis) → AsksFirst basis
   First : (job : Job) (status : JobStatus) → basis.job ≡ Some job → (planned basis).first ≡ Some status → IsLate basis
       → asks_of (planned basis) ≡ WriteFirst ∷ last_asks (planned basis).releases (planned basis).second → AsksFirst basis
 
@@ -71,10 +72,10 @@ asks-first basis = by plan.creates plan.marks plan.let_goes plan.first plan.rele
 
     by : (creates : List (Option ℕ)) (marks : List Uid) (let_goes : List (Uid × Version)) (first : Option JobStatus) (releases : List Uid)
         → plan.creates ≡ creates → plan.marks ≡ marks → plan.let_goes ≡ let_goes → plan.first ≡ first → plan.releases ≡ releases → AsksFirst basis
-    by (index ∷ more) marks let_goes first releases c m l f r = Pod (MakePod index) _ (λ i. all (c i) (m i) (l i) (f i) (r i)) refl
-    by [] (u ∷ more) let_goes first releases c m l f r = Pod (MarkPod u) _ (λ i. all (c i) (m i) (l i) (f i) (r i)) refl
-    by [] [] (row ∷ more) first releases c m l f r = Pod (let_go_ask row) _ (λ i. all (c i) (m i) (l i) (f i) (r i)) refl
+    by (index ∷ more) marks let_goes first releases c m l f r = Pod (MakePod index) _ (λ i. all (c i) (m i) (l i) (f i) (r i)) refl (let n = ap length c in omega (arith, n))
+    by [] (u ∷ more) let_goes first releases c m l f r = Pod (MarkPod u) _ (λ i. all (c i) (m i) (l i) (f i) (r i)) refl (let n = ap length m in omega (arith, n))
+    by [] [] (row ∷ more) first releases c m l f r = Pod (let_go_ask row) _ (λ i. all (c i) (m i) (l i) (f i) (r i)) refl (let n = ap length l in omega (arith, n))
     by [] [] [] (Some status) releases c m l f r =
         with-job status f (record { creates = c; marks = m; let_goes = l }) (λ i. early (c i) (m i) (l i) ++ (first_asks (f i) ++ last_asks plan.releases plan.second)) basis.job refl
-    by [] [] [] None (u ∷ more) c m l f r = Pod (ReleasePod u) _ (λ i. all (c i) (m i) (l i) (f i) (r i)) refl
+    by [] [] [] None (u ∷ more) c m l f r = Pod (ReleasePod u) _ (λ i. all (c i) (m i) (l i) (f i) (r i)) refl (let n = ap length r in omega (arith, n))
     by [] [] [] None [] c m l f r = Nothing ((λ i. all (c i) (m i) (l i) (f i) (r i)) ∙ ap second_asks (second-none basis r)) f

@@ -412,7 +412,7 @@ module _ (shape : Shape) (some : 0 < shape.workers) (past : List Deed) (legal : 
       where
         by : (releases : List Uid) → (planned basis).releases ≡ releases → CatchesUp shape (step ∷ begun) → Turn shape past
         by [] r u = Writes c w basis job status d step (begun-begins shape past legal calm d c w k rest e lt less a first) writes-first (no-more u r)
-        by (pod ∷ others) r u = WritesAndAsks c w basis job status d step (begun-begins shape past legal calm d c w k rest e lt less a first) writes-first (releases-pod u pod others r)
+        by (pod ∷ others) r u = WritesAndAsks c w basis job status d step (begun-begins shape past legal calm d c w k rest e lt less a first) writes-first (releases-pod u pod others r) (let n = ap length r in omega (arith, n))
 
   -- ---- which
 
@@ -424,7 +424,7 @@ module _ (shape : Shape) (some : 0 < shape.workers) (past : List Deed) (legal : 
 
       by : AsksFirst basis → (fault : Option Fault) → pending w (diary shape c past) ≡ fault → Turn shape past
       by (Nothing none unwritten) fault p = Finds c w basis d step begins (finds none unwritten)
-      by (Pod ask left are pod) None p = Asks c w basis d begins p (asks-pod ask left are pod p) refl
-      by (Pod ask left are pod) (Some fault) p = Fails c w basis d step begins (fails fault ask left p are)
+      by (Pod ask left are pod some_pod) None p = Asks c w basis d begins p (asks-pod ask left are pod p) refl some_pod
+      by (Pod ask left are pod some_pod) (Some fault) p = Fails c w basis d step begins (fails fault ask left p are)
       by (First job status this f late are) None p = writes job status this f late are p
       by (First job status this f late are) (Some fault) p = Fails c w basis d step begins (fails fault WriteFirst _ p are)

@@ -3,6 +3,7 @@
 --     faults_pending shape past    how many workers' next requests meet a fault
 --     asks_for_a_pod reply         a sync asked to make, mark, let go or release a pod
 --     is_of_pods d                 the deed is the node's, or asks for a pod
+--     pods_asked plan              how many pods a plan makes, marks, lets go and releases
 --     SawAll notes log now basis   the sync sees the whole log
 --     BeginsAlone shape past ..    a sync begins, of the key that is first in line, and sees the whole log
 --     AsksForAPod shape past       after so many events a sync asks for a pod
@@ -13,7 +14,7 @@
 --     WritesNoMore ..              and asks for nothing more
 --     MeetsFault ..                one begins, and its first request is not answered
 --     Turn shape past              what a settle does from a calm state up to the next one
-use Rattle.std.specs.Prelude.{◌≡◌, ℕ, ◌+◌, ◌-◌, ◌<◌, ◌≤◌, ◌==◌, Bool, true, false, not, ◌||◌, List, [], ◌∷◌, ◌++◌, if◌then◌else◌, Some, None, is_some}
+use Rattle.std.specs.Prelude.{◌≡◌, ℕ, ◌+◌, ◌-◌, ◌<◌, ◌≤◌, ◌==◌, Bool, true, false, not, ◌||◌, List, [], ◌∷◌, ◌++◌, length, if◌then◌else◌, Some, None, is_some}
 use Rattle.jc_types.specs.declared.actions.Fault.{Fault}
 use Rattle.jc_types.specs.declared.objects.Job.{Job}
 use Rattle.jc_types.specs.declared.objects.Entry.{Entry}
@@ -35,6 +36,7 @@ use Rattle.jc_log.specs.Deeds.{Deed}
 use Rattle.jc_log.specs.Log.{next_version}
 use Rattle.jc_log.specs.Requests.{with_status}
 use Rattle.jc_plan.specs.Plans.{planned}
+use Rattle.jc_plan.specs.declared.plans.Planned.{Planned}
 use Rattle.jc_asks.specs.Asks.{asks_of}
 use Rattle.jc_history.specs.Available.{is_quiescent, least_of_all}
 use Rattle.jc_history.specs.Diaries.{moment}
@@ -70,6 +72,11 @@ is_node other = false
 -- The deed is the node's, or asks for a pod.
 abbrev pub is_of_pods : Deed → Bool
 is_of_pods d = is_node d.act || asks_for_a_pod d.reply
+
+-- How many pods a plan makes, marks, lets go and releases.
+abbrev pub pods_asked : Planned → ℕ
+pods_asked plan =
+    length plan.creates + length plan.marks + length plan.let_goes + length plan.releases
 
 -- After so many events of the settle a deed asks for a pod.
 pub record AsksForAPod (shape : Shape) (past : List Deed) : Type 0 where
@@ -181,11 +188,11 @@ pub data Turn (shape : Shape) (past : List Deed) : Type 0 where
   -- One asks for a pod at its first step.
   Asks : (c w : ℕ) (basis : Basis) (begin : Deed) → BeginsAlone shape past c w basis begin
       → pending w (diary shape c past) ≡ None → (asks : AsksForAPod shape past) → asks.events ≡ 1
-      → Turn shape past
+      → 0 < pods_asked (planned basis) → Turn shape past
   -- One writes its Job's status, and asks for a pod then.
   WritesAndAsks : (c w : ℕ) (basis : Basis) (job : Job) (status : JobStatus) (begin write : Deed)
       → BeginsAlone shape past c w basis begin → WritesStatus shape past c w basis job status begin write
-      → AsksForAPod shape past → Turn shape past
+      → AsksForAPod shape past → 0 < pods_asked (planned basis) → Turn shape past
   -- One writes its Job's status, and no more.
   Writes : (c w : ℕ) (basis : Basis) (job : Job) (status : JobStatus) (begin write : Deed)
       → BeginsAlone shape past c w basis begin → WritesStatus shape past c w basis job status begin write

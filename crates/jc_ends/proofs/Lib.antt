@@ -5,3 +5,5 @@ pub mod TidyFacts
 pub mod FallFacts
 pub mod PodlessFacts
 pub mod ComingFacts
+pub mod TurnFalls
+pub mod TurnCounts

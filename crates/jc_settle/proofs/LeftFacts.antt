@@ -119,7 +119,7 @@ module _ (fates : Key → Option (List End)) (log : List Entry) (pod : Pod) (com
                     of-less false l h = absurd (true≢false (sym h))
                     of-less true l h =
                         let lt = ltb-true c.restarts end.restarts l in
-                        let few = comes.few end fated in
+                        let few = comes.few end fated s in
                         let was : restarts_left pod end ≡ end.restarts - c.restarts =
                         (λ i. cond (s i) (end.restarts - restarts_in (first_container (is i))) 0) in
                         let now : restarts_left (after Again) end ≡ end.restarts - min (c.restarts + 1) (2 ^ 32 - 1) =

@@ -40,9 +40,10 @@ pod_left fates pod =
     (if pod.tracked then 1 else 0)
     + (if is_open pod then left_while_open pod (pod_end fates pod) else 0)
 
--- Where the pod's containers restart after a failure, its end is no failure; and no end has more restarts than
--- are counted.
+-- Where the pod's containers restart after a failure, its end is no failure, and has no more restarts than are
+-- counted.
 pub record ComesTo (fates : Key → Option (List End)) (pod : Pod) : Type 0 where
   pub succeeds : (end : End) → pod_end fates pod ≡ Some end → restarts_on_failure pod.restart ≡ true
       → int_eq end.exit (pos 0) ≡ true
-  pub few : (end : End) → pod_end fates pod ≡ Some end → end.restarts ≤ 2 ^ 32 - 1
+  pub few : (end : End) → pod_end fates pod ≡ Some end → restarts_on_failure pod.restart ≡ true
+      → end.restarts ≤ 2 ^ 32 - 1

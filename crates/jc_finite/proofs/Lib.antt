@@ -1,0 +1,4 @@
+pub mod Strong
+pub mod TurnKinds
+pub mod SuccessFacts
+pub mod EndFacts

@@ -1,0 +1,7 @@
+pub mod Sums
+pub mod ServedFacts
+pub mod SyncFacts
+pub mod NodePods
+pub mod NodeLeaves
+pub mod StatusAlone
+pub mod SyncLeaves

@@ -1,0 +1,65 @@
+-- What may still be written of pods in a settle: how many pods may be made for all Jobs, and what is left of those that
+-- are there.
+--     ends_of fates key                  how the pods of the key end, one after the other; none, where nothing says so
+--     creations_for fates log job        how many pods may still be made for the Job
+--     creations_under fates log key      the same for the Job of the key, where there is one
+--     all_creations fates log keys       for the Jobs of all these keys
+--     all_left fates pods                how many writes of these pods are left, at most
+--     HasEach keys log                   each Job that is there has one of the keys
+--     LastEndsSucceed fates              the last end of each fate is a success
+--     FitsAll log                        what counts of each Job is in order, and no two Jobs have one UID
+use Rattle.std.specs.Prelude.{◌≡◌, ℕ, ◌+◌, true, false, List, [], ◌∷◌, Option, Some, IfSome, unwrap_or}
+use Rattle.std.specs.List.{list_any}
+use Rattle.std.specs.Option.{option_map_or}
+use Rattle.jc_types.specs.Keys.{same_key, same_uid}
+use Rattle.jc_types.specs.declared.actions.End.{End}
+use Rattle.jc_types.specs.declared.objects.Entry.{Entry}
+use Rattle.jc_types.specs.declared.objects.Job.{Job}
+use Rattle.jc_types.specs.declared.objects.Key.{Key}
+use Rattle.jc_types.specs.declared.objects.Pod.{Pod}
+use Rattle.jc_states.specs.Bases.{own_pods}
+use Rattle.jc_log.specs.Log.{job_in, made_for, pods_under}
+use Rattle.jc_settle.specs.Left.{pod_left}
+use Rattle.jc_making.specs.Making.{IsCounted, creations_left, fails}
+use Rattle.jc_making.specs.Nodes.{last_end}
+
+-- How the pods of the key end, one after the other; none ends, where nothing says so.
+abbrev pub ends_of : (Key → Option (List End)) → Key → List End
+ends_of fates key = unwrap_or (fates key) []
+
+-- How many pods may still be made for the Job, at most.
+abbrev pub creations_for : (Key → Option (List End)) → List Entry → Job → ℕ
+creations_for fates log job =
+    creations_left (ends_of fates job.key) (made_for job.uid log) job
+    (own_pods job (pods_under job.key log))
+
+-- The same for the Job of the key, where there is one.
+abbrev pub creations_under : (Key → Option (List End)) → List Entry → Key → ℕ
+creations_under fates log key = option_map_or (creations_for fates log) (job_in key log) 0
+
+-- For the Jobs of all these keys.
+abbrev pub all_creations : (Key → Option (List End)) → List Entry → List Key → ℕ
+all_creations fates log [] = 0
+all_creations fates log (key ∷ keys) = creations_under fates log key + all_creations fates log keys
+
+-- How many writes of these pods are left, at most.
+abbrev pub all_left : (Key → Option (List End)) → List Pod → ℕ
+all_left fates [] = 0
+all_left fates (pod ∷ pods) = pod_left fates pod + all_left fates pods
+
+-- Each Job that is there has one of the keys.
+abbrev pub HasEach : List Key → List Entry → Type 0
+HasEach keys log =
+    (key : Key) (job : Job) → job_in key log ≡ Some job → list_any (same_key key) keys ≡ true
+
+-- The last end of each fate is a success.
+abbrev pub LastEndsSucceed : (Key → Option (List End)) → Type 0
+LastEndsSucceed fates =
+    (key : Key) → IfSome (last_end (ends_of fates key)) (λ end. fails end ≡ false)
+
+-- What counts of each Job that is there is in order, and Jobs of different keys have different UIDs.
+pub record FitsAll (log : List Entry) : Type 0 where
+  pub counted : (key : Key) (job : Job) → job_in key log ≡ Some job
+      → IsCounted job (own_pods job (pods_under key log))
+  pub apart : (one other : Key) (job second : Job) → job_in one log ≡ Some job
+      → job_in other log ≡ Some second → same_uid job.uid second.uid ≡ true → one ≡ other
