@@ -34,7 +34,9 @@ use Rattle.jc_log.specs.Log.{Gone, Life, Live, Never, job_in, life, living, next
 use Rattle.jc_log.proofs.PodFacts.{pods_in-live}
 use Rattle.jc_types.proofs.ListFacts.{Each-weaker}
 use Rattle.jc_log.specs.Range.{end_of_moments}
-use Rattle.jc_log.specs.Requests.{Answered, accepted, changed_spec, create_job_at, create_job_gives, delete_job_at, delete_job_gives, grown, is_other, is_unnamed, let_go_at, let_go_gives, made_job, made_pod, mark_pod_at, mark_pod_gives, pod_entry, refused, release_at, release_gives, released, report_phase_at, report_phase_gives, report_unless, same_course_of, update_refusal, update_spec_at, update_spec_gives, update_unless, with_mark, with_report, with_spec, with_status, without_finalizer, write_status_at, write_status_gives}
+use Rattle.jc_log.specs.Requests.{Answered, accepted, changed_spec, create_job_at, create_job_gives, delete_job_at, delete_job_gives, grown, is_other, is_unnamed, let_go_at, let_go_gives, made_job, made_pod, mark_pod_at, mark_pod_gives}
+use Rattle.jc_log.specs.Requests.{pod_entry, refused, release_at, release_gives, released, report_phase_at, report_phase_gives, report_unless, same_course_of, update_refusal, update_spec_at, update_spec_gives, update_unless, with_mark}
+use Rattle.jc_log.specs.Requests.{with_report, with_spec, with_status, without_finalizer, write_status_at, write_status_gives}
 use Rattle.jc_plan.specs.Plans.{planned}
 use Rattle.jc_history.specs.Diaries.{end_by, moment, notes, notes_taken, on_answer, on_begin, on_clock, on_delivery, on_lag, on_list, on_step, restarts}
 use Rattle.jc_history.specs.Fresh.{begin as begin_of}

@@ -6,3 +6,5 @@ pub use Rattle.jc_single.specs.Played
 pub use Rattle.jc_single.specs.RunAnswers
 pub use Rattle.jc_single.specs.Headlines
 pub use Rattle.jc_single.specs.declared.status.Status
+pub use Rattle.jc_single.specs.ValidActions
+pub use Rattle.jc_single.specs.Plays

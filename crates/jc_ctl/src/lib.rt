@@ -7,7 +7,7 @@ mod run;
 mod threaded;
 
 pub use audited::run_audit;
-pub use jc_shared::{FreeGate, Gate, run_turn};
+pub use jc_shared::{Cluster, FreeGate, Gate, run_turn};
 pub use jc_single::{
     Status, plays_tell_their_history, reapers_collect_what_is_due, report, run_single,
     runs_tell_their_history, single_runs_end_as_told,

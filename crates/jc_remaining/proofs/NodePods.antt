@@ -164,7 +164,8 @@ module _ (fates : Key → Option (List End)) (log : List Entry) (pod : Pod) (act
   pub written : (report_phase_at log (change_by pod act) (pod_in pod.uid log)).entry ≡ Some (pod_entry (with_report log pod (change_by pod act)))
   written =
       ap (λ o. (report_phase_at log (change_by pod act) o).entry) befalls.there
-      ∙ (λ i. (cond (opened i) (refused (reply.Final pod.phase)) (cond (never-back pod act i) (refused (reply.BadStep Running Pending)) (report_unless log pod (change_by pod act) (none-unnamed pod (change_by pod act).containers (all-named pod act) i)))).entry)
+      ∙ (λ i. (cond (opened i) (refused (reply.Final pod.phase)) (cond (never-back pod act i) (refused (reply.BadStep Running Pending))
+          (report_unless log pod (change_by pod act) (none-unnamed pod (change_by pod act).containers (all-named pod act) i)))).entry)
       ∙ (λ i. (cond (not-same i) (refused (reply.Unchanged pod.version)) (accepted (reply.Written (next_version log)) (pod_entry (with_report log pod (change_by pod act))))).entry)
 
   -- ---- less is left

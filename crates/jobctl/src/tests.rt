@@ -1,9 +1,17 @@
 //! Runs on threads. They stand here, since no crate but the program and those that it runs by may start a thread, and the
 //! program has the fewest functions of them, which are proved twice.
 
-use jc_ctl::{FreeGate, Gate, Status, run_program};
+ghost use Rattle.std.specs.Prelude.{◌<◌, ◌≤◌, ◌^◌, IfOk, length};
+ghost use Rattle.std.specs.List.{AllByRecursion as Each};
+ghost use Rattle.jc_ctl.specs.ValidActions.{AreValidCommands};
+ghost use Rattle.jc_ctl.specs.Plays.{IsScriptFor};
+
+use jc_ctl::{
+    Cluster, FreeGate, Gate, Status, default_shape, report as printed, run_program, run_turn,
+};
 use jc_io::{MemSink, MemSource};
-use jc_types::Key;
+use jc_script::{read_script, scripts_fit_their_shape};
+use jc_types::{Key, Script, Shape};
 use std::alloc::Global;
 use std::process::Abort;
 use std::sync::atomic::{AtomicBool, AtomicU32, Ordering};
@@ -304,6 +312,21 @@ fn see_plans(rt: &impl Abort, alloc: Global, made: &[Made], report: &str) -> Res
     Ok(())
 }
 
+// The first two plans came to the gate at once, and each sync of the report had its plan.
+fn see_gate<R: Wait + Abort>(
+    rt: &R,
+    alloc: Global,
+    gate: &Meeting<'_, R>,
+    report: &str,
+) -> Result<(), Fail> {
+    assert!(rt;
+        !gate.is_late.load(Ordering::SeqCst),
+        "two plans were made at once"
+    );
+    let made = gate.made.lock(rt);
+    see_plans(rt, alloc, &made, report)
+}
+
 // Two seats make their plans beside each other: each holds up its first plan until the other's has come,
 // and no plan is made under the lock. Each sync that begins has its plan made so.
 fn see_meeting<R: Threads + Wait + Sync + Abort>(
@@ -319,12 +342,7 @@ fn see_meeting<R: Threads + Wait + Sync + Abort>(
     };
     let gate = Meeting::new(rt, alloc);
     let told = report(rt, alloc, asked, script, &gate)?;
-    assert!(rt;
-        !gate.is_late.load(Ordering::SeqCst),
-        "two plans were made at once"
-    );
-    let made = gate.made.lock(rt);
-    see_plans(rt, alloc, &made, &told)
+    see_gate(rt, alloc, &gate, &told)
 }
 
 // The same by either lock.
@@ -336,4 +354,106 @@ fn plans_are_made_beside_each_other(rt: HostRuntime) -> Result<(), Fail> {
         see_meeting(&rt, alloc, &script, lock)?;
     }
     Ok(())
+}
+
+// The script that a text says, such as the shape can play.
+fn script_in(alloc: Global, text: &str, shape: &Shape) -> Result<Script, Fail>
+    requires some_controllers { 0 < shape.now.controllers }
+    requires some_workers { 0 < shape.now.workers }
+    ensures valid_actions { IfOk result
+        (λ script. AreValidCommands script.commands) }
+    ensures fits_shape { IfOk result (λ script. IsScriptFor script shape.now) }
+    ensures fits { IfOk result (λ script. length script.commands < 2 ^ 32) }
+{
+    scripts_fit_their_shape();
+    if text.len() > 1_000_000 {
+        return Err(Fail::new("a long script"));
+    }
+    match read_script(alloc, text.as_bytes(), shape) {
+        Ok(script) => Ok(script),
+        Err(_) => Err(Fail::new("the script")),
+    }
+}
+
+// What two seats of a turn lock leave of the script, by the call itself that gives them this lock: no word asks for it.
+fn left_by_turn<R: Threads + Wait + Sync, G: Gate + Sync>(
+    rt: &R,
+    alloc: Global,
+    script: &Script,
+    shape: &Shape,
+    gate: &G,
+) -> Result<Cluster, Fail>
+    requires valid_actions { AreValidCommands script.now.commands }
+    requires fits_shape { IsScriptFor script.now shape.now }
+    requires fits { length script.now.commands < 2 ^ 32 }
+    requires few_events { shape.now.events ≤ 200000 }
+{
+    match run_turn(rt, alloc, script, shape, 2, gate) {
+        Ok(cluster) => Ok(cluster),
+        Err(_) => Err(Fail::new("the run")),
+    }
+}
+
+// What is printed of a cluster whose history is not full.
+fn text_of(alloc: Global, cluster: &Cluster) -> Result<String, Fail> {
+    let text = printed(alloc, cluster, false)?;
+    Ok(String::from_str(alloc, str::from_utf8(&text)?)?)
+}
+
+// What is printed of what those seats leave.
+fn turn_text<R: Threads + Wait + Sync, G: Gate + Sync>(
+    rt: &R,
+    alloc: Global,
+    script: &Script,
+    shape: &Shape,
+    gate: &G,
+) -> Result<String, Fail>
+    requires valid_actions { AreValidCommands script.now.commands }
+    requires fits_shape { IsScriptFor script.now shape.now }
+    requires fits { length script.now.commands < 2 ^ 32 }
+    requires few_events { shape.now.events ≤ 200000 }
+{
+    let cluster = left_by_turn(rt, alloc, script, shape, gate)?;
+    text_of(alloc, &cluster)
+}
+
+// The report of two seats of a turn lock that play the script in the text.
+fn turn_report<R: Threads + Wait + Sync, G: Gate + Sync>(
+    rt: &R,
+    alloc: Global,
+    text: &str,
+    gate: &G,
+) -> Result<String, Fail> {
+    let shape = Shape {
+        workers: 2,
+        events: MANY_EVENTS,
+        ..default_shape()
+    };
+    let script = script_in(alloc, text, &shape)?;
+    turn_text(rt, alloc, &script, &shape, gate)
+}
+
+// Each of the four Jobs has its pod counted.
+fn see_four_counted(rt: &impl Abort, alloc: Global, report: &str) -> Result<(), Fail> {
+    for name in ["a", "b", "c", "d"] {
+        let verdicts = format!(in alloc; "\nverdicts default/{name} succeeded 1 failed 0\n")?;
+        assert_eq!(rt; times(report, &verdicts), 1, "Job {name}");
+    }
+    Ok(())
+}
+
+// Two seats of a turn lock make their plans beside each other. All pods have been counted then, and an audit says yes.
+#[test]
+fn seats_of_a_turn_lock_plan_beside_each_other(rt: HostRuntime) -> Result<(), Fail> {
+    let alloc = rt.alloc();
+    let gate = Meeting::new(&rt, alloc);
+    let told = turn_report(&rt, alloc, &four_jobs(alloc)?, &gate)?;
+    let asked = Asked {
+        threads: 2,
+        lock: "turn",
+        events: MANY_EVENTS,
+    };
+    see_audit(&rt, alloc, asked, &told)?;
+    see_four_counted(&rt, alloc, &told)?;
+    see_gate(&rt, alloc, &gate, &told)
 }
