@@ -8,7 +8,6 @@ use Rattle.jc_types.specs.Keys.{same_key, same_uid}
 use Rattle.jc_types.specs.declared.numbers.Uid.{Uid}
 use Rattle.jc_types.specs.declared.objects.Key.{Key}
 use Rattle.jc_types.specs.declared.objects.Pod.{Pod}
-use Rattle.jc_states.specs.Pods.{is_marked}
 use Rattle.jc_states.specs.PodLists.{RisesFrom, drop_pod, put_pod}
 use Rattle.jc_states.specs.UidLists.{is_in}
 use Rattle.jc_states.proofs.PodListFacts.{among_none, pod_among, rises-each}

@@ -80,7 +80,7 @@ module _ (log : List Entry) (now : ℕ) (flight : Flight) where
       (not-refused (is_marked found.pod) (reply.Unchanged found.pod.version) (accepted (reply.Written (next_version log)) (pod_entry (with_mark log found.pod now))) e
       (ap (λ l. (mark_pod_at log now (living l)).entry) (sym found.there) ∙ h)))
       (Puts (MarkPod u) u found.pod (with_mark log found.pod now) refl found.there (life-uid u log found.pod found.there)
-          (record { rewritten = record { rest = refl; untracked = λ t. t; marked = λ t. refl }; uid = refl; phase = refl; owner = refl; owner_uid = refl }))
+      (record { rewritten = record { rest = refl; untracked = λ t. t; marked = λ t. refl }; uid = refl; phase = refl; owner = refl; owner_uid = refl }))
     where
       stays : goes (with_mark log found.pod now) ≡ false
       stays = ap (λ b. not found.pod.tracked && b) (not-true (is_final found.pod.phase) (and_parts (is_open found.pod) (not (is_marked found.pod)) found.has).0) ∙ and-false (not found.pod.tracked)
@@ -93,7 +93,7 @@ module _ (log : List Entry) (now : ℕ) (flight : Flight) where
       (not-refused (not (found.pod.version.0 == version.0)) (reply.Conflict found.pod.version) (cond found.pod.tracked (released log found.pod) (refused reply.NotTracked)) e
       (ap (λ l. (let_go_at log version (living l)).entry) (sym found.there) ∙ h))))
       (Puts (LetPodGo u version) u found.pod (without_finalizer log found.pod) refl found.there (life-uid u log found.pod found.there)
-          (record { rewritten = record { rest = refl; untracked = λ t. refl; marked = λ t. t }; uid = refl; phase = refl; owner = refl; owner_uid = refl }))
+      (record { rewritten = record { rest = refl; untracked = λ t. refl; marked = λ t. t }; uid = refl; phase = refl; owner = refl; owner_uid = refl }))
     where
       stays : goes (without_finalizer log found.pod) ≡ false
       stays = ap (λ b. b && is_final found.pod.phase) (unmarked found.pod (and_parts (is_active found.pod) (is_tracked found.pod) found.has.active).0)

@@ -1,5 +1,5 @@
 -- Where a Job of the log has ended, how it ends is decided.
-use Rattle.std.proofs.Common.{◌≡◌, ◌≢◌, ◌⊎◌, inl, inr, ◌-◌, Bool, true, false, cond, List, [], ◌∷◌, Option, Some, None, IfSome, refl, sym, subst}
+use Rattle.std.proofs.Common.{◌≡◌, ◌≢◌, ◌⊎◌, inl, inr, Bool, true, false, cond, List, [], ◌∷◌, Option, Some, None, IfSome, refl, sym, subst}
 use Rattle.std.specs.List.{AllByRecursion as Each}
 use Rattle.std.proofs.lemmas.Bool.{or_cases, or_left, or_right}
 use Rattle.jc_types.specs.Equality.{same_status}
@@ -20,7 +20,6 @@ use Rattle.jc_plan.specs.Plans.{changed, planned, planned_for}
 use Rattle.jc_plan.specs.Statuses.{first_value, second_value}
 use Rattle.jc_plan.proofs.PlanBounds.{first-rests, second-rests}
 use Rattle.jc_plan.proofs.ValueFacts.{first-keeps, second-keeps}
-use Rattle.jc_history.specs.Registers.{made}
 use Rattle.jc_history.specs.Replies.{log_given}
 use Rattle.jc_counted.proofs.KeptFacts.{AreKept, MayAct, job-kept}
 

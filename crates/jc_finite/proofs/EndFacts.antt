@@ -17,8 +17,8 @@ use Rattle.jc_settle.proofs.CalmFacts.{calms-down}
 use Rattle.jc_settle.proofs.OnFacts.{on-adds, on-legal, rest-earlier}
 use Rattle.jc_calm.specs.SettleTurns.{faults_pending}
 use Rattle.jc_counted.proofs.CountedFacts.{Stay}
-use Rattle.jc_bounded.proofs.NodeTurns.{fates-then}
-use Rattle.jc_bounded.proofs.OnwardFacts.{on-says}
+use Rattle.jc_remaining.proofs.NodeTurns.{fates-then}
+use Rattle.jc_remaining.proofs.OnwardFacts.{on-says}
 use Rattle.jc_ends.proofs.Descent.{Lowers, holds-of-all}
 use Rattle.jc_ends.proofs.TurnCounts.{coming_at}
 use Rattle.jc_remaining.specs.Nodes.{fate}

@@ -14,7 +14,7 @@ use Rattle.jc_runs.specs.Replies.{log_given, next_deed}
 use Rattle.jc_settle.specs.Left.{ComesTo}
 use Rattle.jc_settle.specs.Settles.{next_of_settle, settled_on, with_next}
 use Rattle.jc_remaining.specs.Making.{fails}
-use Rattle.jc_remaining.specs.Nodes.{end_at, last_end}
+use Rattle.jc_remaining.specs.Nodes.{fate, end_at, last_end}
 use Rattle.jc_remaining.specs.Remaining.{ends_of}
 use Rattle.jc_types.proofs.ListFacts.{Each-weaker}
 use Rattle.jc_types.specs.declared.runs.Sys.{Sys}
@@ -25,7 +25,7 @@ use Rattle.jc_log.specs.Acts.{Act}
 use Rattle.jc_counted.proofs.PolicyFacts.{CreatesSuch, pods-have}
 use Rattle.jc_settle.proofs.OnFacts.{next-is}
 use Rattle.jc_remaining.specs.Decisions.{restarts_on_failure}
-use Rattle.jc_finite.specs.Finite.{RestartsEnd, SucceedAll}
+use Rattle.jc_finite.specs.Finite.{RestartsEnd, SucceedAll, SucceedAlways, SucceedInTheEnd}
 
 abbrev Succeeds : End → Type 0
 Succeeds end = (fails end ≡ false) × (end.restarts ≤ 2 ^ 32 - 1)
@@ -101,3 +101,31 @@ module _ (shape : Shape) (fates : Key → Option (List End)) where
       Each-weaker (λ (pod : Pod). EndsWell pod.owner pod.restart) (ComesTo fates) comes-to (pods_in (log_given shape (settled_on shape events past)))
       (pods-have EndsWell shape (settled_on shape events past)
       (Each-weaker Restarts (λ (d : Deed). CreatesSuch EndsWell d.act) (λ d. such d.act) (settled_on shape events past) (on-restarts events past h)))
+
+-- ---- where each end is a success
+
+module _ (past : List Deed) (always : SucceedAlways past) where
+  all-ends : (key : Key) → SucceedAll (ends_of (fate past) key)
+  all-ends key = by (fate past key) refl
+    where
+      by : (o : Option (List End)) → fate past key ≡ o → SucceedAll (unwrap_or o [])
+      by None is = tt
+      by (Some ends) is = always key ends is
+
+  each-restarts : (deeds : List Deed) → Each (λ (d : Deed). RestartsEnd (fate past) d.act) deeds
+  each-restarts [] = tt
+  each-restarts (d ∷ deeds) = (by d.act, each-restarts deeds)
+    where
+      by : (act : Act) → RestartsEnd (fate past) act
+      by (does.Create key spec) = λ policy. all-ends key
+      by other = tt
+
+  pub always-enough : SucceedInTheEnd past
+  always-enough = record {
+    lasts = λ key. by (last_end (ends_of (fate past) key)) (last-succeeds (ends_of (fate past) key) (all-ends key));
+    restarts = each-restarts past;
+  }
+    where
+      by : (o : Option End) → IfSome o Succeeds → IfSome o (λ end. fails end ≡ false)
+      by None h = tt
+      by (Some end) h = h.0

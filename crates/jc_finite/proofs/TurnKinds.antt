@@ -21,11 +21,11 @@ use Rattle.jc_settle.specs.Settles.{ComesToRest, IsCalm, next_of_settle, settled
 use Rattle.jc_settle.proofs.OnFacts.{on-adds, on-some, rest-earlier}
 use Rattle.jc_calm.specs.SettleTurns.{Asks, BeginsAlone, ClockMoves, EndsAtOnce, Fails, Finds, MeetsFault, MovesTheClock, NodeActs, Rests, Turn, Writes, WritesAndAsks, WritesNoMore, WritesStatus, faults_pending, pods_asked}
 use Rattle.jc_calm.proofs.GoFacts.{goes-on}
-use Rattle.jc_bearing.specs.Whole.{DoesAll, RunsWhole, SawLog}
-use Rattle.jc_bearing.proofs.WholeFacts.{runs-whole}
+use Rattle.jc_remaining.specs.Whole.{DoesAll, RunsWhole, SawLog}
+use Rattle.jc_remaining.proofs.WholeFacts.{runs-whole}
 use Rattle.jc_counted.proofs.CountedFacts.{Stay, legal-counted, legal-one-key}
-use Rattle.jc_bounded.specs.Faultless.{IsBetweenTurns}
-use Rattle.jc_bounded.proofs.NodeTurns.{IsToldOf, fates-then, goes-to, node-jobs, node-told}
+use Rattle.jc_remaining.specs.Faultless.{IsBetweenTurns}
+use Rattle.jc_remaining.proofs.NodeTurns.{IsToldOf, fates-then, goes-to, node-jobs, node-told}
 use Rattle.jc_ends.proofs.Descent.{Falls}
 use Rattle.jc_ends.proofs.TurnCounts.{clock-lessens, coming_at, finds-lessens, writes-lessens}
 use Rattle.jc_remaining.specs.Nodes.{fate}

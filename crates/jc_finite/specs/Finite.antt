@@ -2,7 +2,8 @@
 --     SucceedAll ends            each of the ends is a success, and has no more restarts than are counted
 --     RestartsEnd fates act      the act creates no Job whose containers restart for ever
 --     SucceedInTheEnd past       none does, and the last end of each fate is a success
-use Rattle.std.specs.Prelude.{◌≡◌, ◌-◌, ◌^◌, ◌≤◌, true, false, List, Option}
+--     SucceedAlways past         each end of each fate is a success
+use Rattle.std.specs.Prelude.{◌≡◌, ◌-◌, ◌^◌, ◌≤◌, true, false, List, Option, Some}
 use Rattle.std.specs.List.{AllByRecursion as Each}
 use Rattle.jc_types.specs.declared.actions.End.{End}
 use Rattle.jc_types.specs.declared.objects.Key.{Key}
@@ -30,3 +31,7 @@ RestartsEnd fates other = Unit {0}
 pub record SucceedInTheEnd (past : List Deed) : Type 0 where
   pub lasts : LastEndsSucceed (fate past)
   pub restarts : Each (λ (d : Deed). RestartsEnd (fate past) d.act) past
+
+-- Each end of each fate is a success, whatever was created.
+abbrev pub SucceedAlways : List Deed → Type 0
+SucceedAlways past = (key : Key) (ends : List End) → fate past key ≡ Some ends → SucceedAll ends

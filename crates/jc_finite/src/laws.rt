@@ -8,7 +8,7 @@ ghost use Rattle.jc_log.specs.Range.{IsMoment};
 ghost use Rattle.jc_runs.specs.Legal.{IsLegal};
 ghost use Rattle.jc_runs.specs.Machines.{AllAskValid};
 ghost use Rattle.jc_settle.specs.Settles.{ComesToRest};
-ghost use Rattle.jc_finite.specs.Finite.{SucceedInTheEnd};
+ghost use Rattle.jc_finite.specs.Finite.{SucceedAlways, SucceedInTheEnd};
 
 use jc_runs::allowed_updates_stay_valid;
 
@@ -16,11 +16,12 @@ use jc_runs::allowed_updates_stay_valid;
 /// any number of controllers and workers, with lagging caches, faults that are pending, and syncs that are under way when it
 /// begins. With each turn the first of these numbers that changes falls: the faults that are pending, the pods that may
 /// still be made, what is left to write of those that are there, and the statuses, the moments and the keys that are still
-/// to come.
+/// to come. So it is where each end of each fate is a success, whatever Jobs were created.
 pub fn settles_end()
-    ensures { (shape : Shape) (past : List Deed) → IsLegal shape past → AllAskValid past
+    ensures rests { (shape : Shape) (past : List Deed) → IsLegal shape past → AllAskValid past
         → 0 < shape.workers → IsMoment shape.start → SucceedInTheEnd past
         → ComesToRest shape past }
+    ensures always { (past : List Deed) → SucceedAlways past → SucceedInTheEnd past }
 {
     allowed_updates_stay_valid();
 }

@@ -5,3 +5,7 @@ pub mod NodePods
 pub mod NodeLeaves
 pub mod StatusAlone
 pub mod SyncLeaves
+-- The lemmas on turns, handed on to the crate above.
+pub use Rattle.jc_bearing.proofs.WholeFacts
+pub use Rattle.jc_bounded.proofs.NodeTurns
+pub use Rattle.jc_bounded.proofs.OnwardFacts

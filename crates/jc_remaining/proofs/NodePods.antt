@@ -1,5 +1,5 @@
 -- What the node does to a pod is written, and leaves less of all pods.
-use Rattle.std.proofs.Common.{◌≡◌, ℕ, ◌+◌, ◌-◌, ◌<◌, Bool, true, false, not, cond, ◌&&◌, List, [], ◌∷◌, map, pos, ℤ, find, Option, Some, None, is_none, is_some, refl, sym, ap, ◌∙◌, arith, true≢false}
+use Rattle.std.proofs.Common.{◌≡◌, ℕ, ◌+◌, ◌<◌, Bool, true, false, not, cond, ◌&&◌, List, [], ◌∷◌, map, pos, ℤ, find, Option, Some, None, is_none, is_some, refl, sym, ap, ◌∙◌, arith, true≢false}
 use Rattle.std.specs.List.{AllByRecursion as Each, cons_option, filter_map, list_any}
 use Rattle.std.specs.Ordering.{int_eq}
 use Rattle.std.specs.Option.{option_map, option_to_list}
@@ -165,7 +165,7 @@ module _ (fates : Key → Option (List End)) (log : List Entry) (pod : Pod) (act
   written =
       ap (λ o. (report_phase_at log (change_by pod act) o).entry) befalls.there
       ∙ (λ i. (cond (opened i) (refused (reply.Final pod.phase)) (cond (never-back pod act i) (refused (reply.BadStep Running Pending))
-          (report_unless log pod (change_by pod act) (none-unnamed pod (change_by pod act).containers (all-named pod act) i)))).entry)
+      (report_unless log pod (change_by pod act) (none-unnamed pod (change_by pod act).containers (all-named pod act) i)))).entry)
       ∙ (λ i. (cond (not-same i) (refused (reply.Unchanged pod.version)) (accepted (reply.Written (next_version log)) (pod_entry (with_report log pod (change_by pod act))))).entry)
 
   -- ---- less is left

@@ -1,6 +1,8 @@
 pub mod Remaining
--- How the pods of a key end, what may still be made, which policies restart, and what a sync plans, handed on to the crate
--- above.
+-- Words of the crates below, handed on to the crate above: on states between turns and whole syncs, on how pods end, which
+-- policies restart, and what a sync plans.
+pub use Rattle.jc_bearing.specs.Whole
+pub use Rattle.jc_bounded.specs.Faultless
 pub use Rattle.jc_making.specs.Making
 pub use Rattle.jc_making.specs.Nodes
 pub use Rattle.jc_plan.specs.Decisions
