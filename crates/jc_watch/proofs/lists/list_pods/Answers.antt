@@ -10,7 +10,7 @@ from_slice-requires c =
     let all : c.as_slice.result.now ≡ pods_in c.args.store.now = search rules in
     record {
       rising = subst IsRising (sym all) (pods_in-rises c.args.store.now);
-      few = subst (λ l. length l < 2 ^ 32) (sym all) c.copies.ensures.few_pods;
+      few_pods = subst (λ l. length l < 2 ^ 32) (sym all) c.copies.ensures.few_pods;
     }
 
 pub returns-clause-rising : goal.returns-clause-rising
