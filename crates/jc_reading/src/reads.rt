@@ -12,8 +12,8 @@ ghost use Rattle.jc_reading.specs.declared.reads.LineRead.{LineRead};
 use crate::cuts::{Words, cut};
 use crate::parts::{read_changed, read_created, read_key, read_printed_ends, read_reported};
 use crate::reading::{
-    Verb, number_below, read_fault, read_kind, read_number, read_pod, read_tag, read_verb,
-    read_printed_version,
+    Verb, number_below, read_fault, read_kind, read_number, read_pod, read_printed_version,
+    read_tag, read_verb,
 };
 use jc_lines::{print_action, print_system};
 use jc_print::put_decimal;
