@@ -1,0 +1,5 @@
+pub mod SameFacts
+pub mod DoneFacts
+pub mod BringFacts
+pub mod FateFacts
+pub mod WholeFacts

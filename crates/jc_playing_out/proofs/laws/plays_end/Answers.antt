@@ -1,0 +1,22 @@
+-- The lemmas on the end of each play.
+use Rattle.std.proofs.Common.{sym, ◌∙◌}
+use Rattle.jc_log.specs.Deeds.{deeds}
+use Rattle.jc_history.specs.Play.{deeds_played}
+use Rattle.jc_playing_out.specs.PlayingOut.{allowing}
+use Rattle.jc_playing_out.proofs.FateFacts.{fates-succeed}
+use Rattle.jc_playing_out.proofs.SameFacts.{quiescent-same, within-same}
+use Rattle.jc_playing_out.proofs.WholeFacts.{play-ends}
+use Rattle.jc_playing_out.proofs.laws.plays_end.Goals as goal
+
+pub returns-clause-ends : goal.returns-clause-ends
+returns-clause-ends c =
+    λ script shape valid proper some start fine. play-ends script shape
+    (λ q good. c.settles_end.ensures.rests shape (deeds_played script q) good.legal (c.valid_scripts_ask_valid.ensures script q.pasts valid) some start
+    (c.settles_end.ensures.always (deeds_played script q) (fates-succeed script fine q.pasts)))
+    proper
+
+pub returns-clause-rests : goal.returns-clause-rests
+returns-clause-rests c =
+    λ script shape proper settles it n le history is.
+    sym (quiescent-same n shape (deeds script history))
+    ∙ c.settled_plays_are_at_rest.ensures script (allowing n shape) (within-same n shape script.commands proper) history is (it.unfull n le) settles

@@ -1,0 +1,42 @@
+//! The law on the end of each play of a script. The function is empty: what it ensures holds of
+//! every play, and its callers may cite it.
+
+ghost use Rattle.std.specs.Prelude.{◌≡◌, ◌<◌, ◌≤◌, true, ℕ};
+ghost use Rattle.std.specs.List.{AllByRecursion as Each};
+ghost use Rattle.jc_types.specs.declared.actions.Script.{Script};
+ghost use Rattle.jc_types.specs.declared.runs.History.{History};
+ghost use Rattle.jc_types.specs.declared.runs.Shape.{Shape};
+ghost use Rattle.jc_log.specs.Deeds.{deeds};
+ghost use Rattle.jc_log.specs.Range.{IsMoment};
+ghost use Rattle.jc_states.specs.ValidActions.{AreValidCommands};
+ghost use Rattle.jc_history.specs.Available.{is_quiescent};
+ghost use Rattle.jc_history.specs.Play.{play_of};
+ghost use Rattle.jc_history.specs.Replies.{log_given};
+ghost use Rattle.jc_order.specs.Plays.{IsScriptFor, ends_in_settle};
+ghost use Rattle.jc_playing_out.specs.PlayingOut.{FatesSucceed, PlayEnds, allowing};
+
+use jc_finite::settles_end;
+use jc_order::settled_plays_are_at_rest;
+use jc_runs::valid_scripts_ask_valid;
+
+/// **Each play of a script ends** whose pods succeed: there is a number of events from which on,
+/// with a shape that allows so many, the play on one thread is not full. So all commands are
+/// played, each sync of them ends, and each settle comes to rest; how many more events the shape
+/// allows changes nothing of it. Where the last command is a settle, nothing is left to do at its
+/// end.
+pub fn plays_end()
+    ensures ends { (script : Script) (shape : Shape)
+        → AreValidCommands script.commands
+        → IsScriptFor script shape → 0 < shape.workers → IsMoment shape.start
+        → FatesSucceed script → PlayEnds script shape }
+    ensures rests { (script : Script) (shape : Shape) → IsScriptFor script shape
+        → ends_in_settle script.commands ≡ true
+        → (it : PlayEnds script shape) (n : ℕ) → it.events ≤ n
+        → (history : History) → history.events.items ≡ play_of script (allowing n shape)
+        → is_quiescent shape (deeds script history)
+        (log_given shape (deeds script history)) ≡ true }
+{
+    settles_end();
+    valid_scripts_ask_valid();
+    settled_plays_are_at_rest();
+}
