@@ -1,8 +1,8 @@
--- Where each end of each fate that a script puts is a success, so it is in each play of it.
-use Rattle.std.proofs.Common.{◌≡◌, ℕ, zero, suc, Bool, true, false, cond, List, [], ◌∷◌, map, slice_get, Option, Some, None, refl, sym, ap, ◌∙◌, subst}
+-- What is so of each fate that a script puts is so of the fates in each play of it.
+use Rattle.std.proofs.Common.{◌≡◌, ℕ, zero, suc, Bool, true, false, cond, List, [], ◌∷◌, map, slice_get, Option, Some, None, IfSome, refl, sym, ap, ◌∙◌, subst}
 use Rattle.std.proofs.lemmas.Option.{none-some as none_some, same_Some}
 use Rattle.std.specs.List.{AllByRecursion as Each}
-use Rattle.std.specs.Option.{option_or}
+use Rattle.std.specs.Option.{option_or, unwrap_or}
 use Rattle.jc_types.specs.Keys.{same_key}
 use Rattle.jc_types.specs.declared.actions.Action1.{Action1}
 use Rattle.jc_types.specs.declared.actions.Action1.TheVariants as action
@@ -15,54 +15,133 @@ use Rattle.jc_types.specs.declared.runs.Event.TheVariants as event
 use Rattle.jc_types.specs.declared.runs.Past.{Past}
 use Rattle.jc_types.specs.declared.runs.Sys.{Sys}
 use Rattle.jc_types.specs.declared.runs.Sys.TheVariants as sys
+use Rattle.jc_types.proofs.ListFacts.{Each-weaker}
 use Rattle.jc_log.specs.Acts as does
 use Rattle.jc_log.specs.Acts.{Act}
 use Rattle.jc_log.specs.Deeds.{Deed, act_of_action, act_of_command, act_of_event, act_of_system, deed}
-use Rattle.jc_history.specs.Nodes.{fate, fate_told}
-use Rattle.jc_finite.specs.Finite.{SucceedAll, SucceedAlways}
-use Rattle.jc_playing_out.specs.PlayingOut.{EndsSucceed, FatesSucceed}
+use Rattle.jc_history.specs.Nodes.{fate, fate_told, last_end}
+use Rattle.jc_finite.specs.Making.{fails}
+use Rattle.jc_finite.specs.Remaining.{LastEndsSucceed}
+use Rattle.jc_finite.specs.Finite.{RestartsEnd, SucceedAll, SucceedAlways, SucceedInTheEnd}
+use Rattle.jc_playing_out.specs.PlayingOut.{EndsSucceed, EndsSucceedFor, FatesEndWell, FatesSucceed, LastEndSucceeds, RestartsWell}
 
--- Each end of a fate that the act puts is a success.
-abbrev PutsSuccess : Act → Type 0
-PutsSuccess (does.Fate key ends) = SucceedAll ends
-PutsSuccess other = Unit {0}
+module _ (Q : List End → Type 0) (k : Key) where
+  -- It is so of a fate of the key that the act puts.
+  abbrev Puts : Act → Type 0
+  Puts (does.Fate key ends) = same_key key k ≡ true → Q ends
+  Puts other = Unit {0}
 
-action-puts : (a : Action1) → EndsSucceed a → PutsSuccess (act_of_action a)
-action-puts (action.Fate key ends) h = h
-action-puts other h = tt
+  -- So it is of a command.
+  abbrev PutsBy : Action1 → Type 0
+  PutsBy (action.Fate key ends) = same_key key k ≡ true → Q ends
+  PutsBy other = Unit {0}
 
-system-puts : (s : Sys) → PutsSuccess (act_of_system s)
-system-puts (sys.List controller kind) = tt
-system-puts (sys.Deliver controller kind) = tt
-system-puts (sys.Begin controller worker) = tt
-system-puts (sys.Step controller worker) = tt
-system-puts sys.Node = tt
-system-puts (sys.Clock add) = tt
+  action-puts : (a : Action1) → PutsBy a → Puts (act_of_action a)
+  action-puts (action.Fate key ends) h = h
+  action-puts other h = tt
 
-command-puts : (commands : List Command) (n : ℕ) → Each (λ (command : Command). EndsSucceed command.action) commands → PutsSuccess (act_of_command (slice_get commands n))
-command-puts [] zero h = tt
-command-puts [] (suc n) h = tt
-command-puts (command ∷ commands) zero h = action-puts command.action h.0
-command-puts (command ∷ commands) (suc n) h = command-puts commands n h.1
+  system-puts : (s : Sys) → Puts (act_of_system s)
+  system-puts (sys.List controller kind) = tt
+  system-puts (sys.Deliver controller kind) = tt
+  system-puts (sys.Begin controller worker) = tt
+  system-puts (sys.Step controller worker) = tt
+  system-puts sys.Node = tt
+  system-puts (sys.Clock add) = tt
 
-told-succeeds : (k : Key) (d : Deed) (a : Act) → d.act ≡ a → PutsSuccess a → (ends : List End) → fate_told k d ≡ Some ends → SucceedAll ends
-told-succeeds k d (does.Fate key given) e h ends is = by (same_key key k) (sym (ap (λ act. fate_told k (record d { act = act })) e) ∙ is)
-  where
-    by : (b : Bool) → cond b (Some given) None ≡ Some ends → SucceedAll ends
-    by true is = subst SucceedAll (same_Some given ends is) h
-    by false is = absurd (none_some ends is)
-told-succeeds k d other e h ends is = absurd (none_some ends (sym (ap (λ act. fate_told k (record d { act = act })) e) ∙ is))
+  command-puts : (commands : List Command) (n : ℕ) → Each (λ (command : Command). PutsBy command.action) commands → Puts (act_of_command (slice_get commands n))
+  command-puts [] zero h = tt
+  command-puts [] (suc n) h = tt
+  command-puts (command ∷ commands) zero h = action-puts command.action h.0
+  command-puts (command ∷ commands) (suc n) h = command-puts commands n h.1
 
-module _ (script : Script) (h : FatesSucceed script) where
-  event-puts : (e : Event) → PutsSuccess (act_of_event script.commands e)
-  event-puts (event.Command lane number) = command-puts script.commands number h
-  event-puts (event.System s) = system-puts s
-
-  pub fates-succeed : (pasts : List Past) → SucceedAlways (map (deed script) pasts)
-  fates-succeed [] key ends is = absurd (none_some ends is)
-  fates-succeed (past ∷ pasts) key ends is = by (fate_told key (deed script past)) refl is (fates-succeed pasts key ends)
+  told-puts : (d : Deed) (a : Act) → d.act ≡ a → Puts a → (ends : List End) → fate_told k d ≡ Some ends → Q ends
+  told-puts d (does.Fate key given) e h ends is = by (same_key key k) refl (sym (ap (λ act. fate_told k (record d { act = act })) e) ∙ is)
     where
-      by : (o : Option (List End)) → fate_told key (deed script past) ≡ o → option_or o (fate (map (deed script) pasts) key) ≡ Some ends
-          → (fate (map (deed script) pasts) key ≡ Some ends → SucceedAll ends) → SucceedAll ends
-      by None e is more = more is
-      by (Some told) e is more = told-succeeds key (deed script past) (act_of_event script.commands past.event) refl (event-puts past.event) ends (e ∙ is)
+      by : (b : Bool) → same_key key k ≡ b → cond b (Some given) None ≡ Some ends → Q ends
+      by true s is = subst Q (same_Some given ends is) (h s)
+      by false s is = absurd (none_some ends is)
+  told-puts d other e h ends is = absurd (none_some ends (sym (ap (λ act. fate_told k (record d { act = act })) e) ∙ is))
+
+  module _ (script : Script) (h : Each (λ (command : Command). PutsBy command.action) script.commands) where
+    event-puts : (e : Event) → Puts (act_of_event script.commands e)
+    event-puts (event.Command lane number) = command-puts script.commands number h
+    event-puts (event.System s) = system-puts s
+
+    fates-are : (pasts : List Past) (ends : List End) → fate (map (deed script) pasts) k ≡ Some ends → Q ends
+    fates-are [] ends is = absurd (none_some ends is)
+    fates-are (past ∷ pasts) ends is = by (fate_told k (deed script past)) refl is (fates-are pasts ends)
+      where
+        by : (o : Option (List End)) → fate_told k (deed script past) ≡ o → option_or o (fate (map (deed script) pasts) k) ≡ Some ends
+            → (fate (map (deed script) pasts) k ≡ Some ends → Q ends) → Q ends
+        by None e is more = more is
+        by (Some told) e is more = told-puts (deed script past) (act_of_event script.commands past.event) refl (event-puts past.event) ends (e ∙ is)
+
+-- ---- where each end is a success
+
+pub fates-succeed : (script : Script) → FatesSucceed script → (pasts : List Past) → SucceedAlways (map (deed script) pasts)
+fates-succeed script h pasts key ends is =
+    fates-are SucceedAll key script
+    (Each-weaker (λ (command : Command). EndsSucceed command.action) (λ (command : Command). PutsBy SucceedAll key command.action) (λ command. by command.action) script.commands h)
+    pasts ends is
+  where
+    by : (a : Action1) → EndsSucceed a → PutsBy SucceedAll key a
+    by (action.Fate other ends) h = λ s. h
+    by other h = tt
+
+-- ---- where the last one is
+
+module _ (script : Script) (h : FatesEndWell script) (pasts : List Past) where
+  abbrev Last : List End → Type 0
+  Last ends = IfSome (last_end ends) (λ end. fails end ≡ false)
+
+  lasts-succeed : LastEndsSucceed (fate (map (deed script) pasts))
+  lasts-succeed key = by (fate (map (deed script) pasts) key) refl
+    where
+      of : (a : Action1) → LastEndSucceeds a → PutsBy Last key a
+      of (action.Fate other ends) h = λ s. h
+      of other h = tt
+
+      by : (o : Option (List End)) → fate (map (deed script) pasts) key ≡ o → Last (unwrap_or o [])
+      by None is = tt
+      by (Some ends) is =
+          fates-are Last key script
+          (Each-weaker (λ (command : Command). LastEndSucceeds command.action) (λ (command : Command). PutsBy Last key command.action) (λ command. of command.action) script.commands h.lasts)
+          pasts ends is
+
+  restarts-of : (a : Action1) → RestartsWell script.commands a → RestartsEnd (fate (map (deed script) pasts)) (act_of_action a)
+  restarts-of (action.Create key spec) well = λ policy. by (well policy) (fate (map (deed script) pasts) key) refl
+    where
+      of : (a : Action1) → EndsSucceedFor key a → PutsBy SucceedAll key a
+      of (action.Fate other ends) h = h
+      of other h = tt
+
+      by : Each (λ (command : Command). EndsSucceedFor key command.action) script.commands → (o : Option (List End)) → fate (map (deed script) pasts) key ≡ o → SucceedAll (unwrap_or o [])
+      by all None is = tt
+      by all (Some ends) is =
+          fates-are SucceedAll key script
+          (Each-weaker (λ (command : Command). EndsSucceedFor key command.action) (λ (command : Command). PutsBy SucceedAll key command.action) (λ command. of command.action) script.commands all)
+          pasts ends is
+  restarts-of other well = tt
+
+  restarts-at : (commands : List Command) (n : ℕ) → Each (λ (command : Command). RestartsWell script.commands command.action) commands
+      → RestartsEnd (fate (map (deed script) pasts)) (act_of_command (slice_get commands n))
+  restarts-at [] zero all = tt
+  restarts-at [] (suc n) all = tt
+  restarts-at (command ∷ commands) zero all = restarts-of command.action all.0
+  restarts-at (command ∷ commands) (suc n) all = restarts-at commands n all.1
+
+  restarts-by : (e : Event) → RestartsEnd (fate (map (deed script) pasts)) (act_of_event script.commands e)
+  restarts-by (event.Command lane number) = restarts-at script.commands number h.restarts
+  restarts-by (event.System (sys.List controller kind)) = tt
+  restarts-by (event.System (sys.Deliver controller kind)) = tt
+  restarts-by (event.System (sys.Begin controller worker)) = tt
+  restarts-by (event.System (sys.Step controller worker)) = tt
+  restarts-by (event.System sys.Node) = tt
+  restarts-by (event.System (sys.Clock add)) = tt
+
+  restarts-all : (some : List Past) → Each (λ (d : Deed). RestartsEnd (fate (map (deed script) pasts)) d.act) (map (deed script) some)
+  restarts-all [] = tt
+  restarts-all (past ∷ some) = (restarts-by past.event, restarts-all some)
+
+  pub fates-end-well : SucceedInTheEnd (map (deed script) pasts)
+  fates-end-well = record { lasts = lasts-succeed; restarts = restarts-all pasts }

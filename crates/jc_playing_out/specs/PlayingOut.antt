@@ -1,16 +1,25 @@
 -- When the play of a script ends, with events enough.
 --     EndsSucceed action       each end of a fate is a success
 --     FatesSucceed script      so it is of each command
+--     LastEndSucceeds action   the last end of a fate is
+--     EndsSucceedFor key action    each end of a fate of the key is
+--     RestartsWell commands action     where a Job of OnFailure is created, each end of each fate of its key is
+--     FatesEndWell script      the last end of each fate is, and what is created restarts well
 --     allowing n shape         the shape, with so many events allowed
 --     PlayEnds script shape    with so many events allowed, or more, the play is the same and not full
-use Rattle.std.specs.Prelude.{◌≡◌, ℕ, ◌≤◌, false}
+use Rattle.std.specs.Prelude.{◌≡◌, ℕ, ◌≤◌, true, false, List, IfSome}
 use Rattle.std.specs.List.{AllByRecursion as Each}
+use Rattle.jc_types.specs.Keys.{same_key}
 use Rattle.jc_types.specs.declared.actions.Action1.{Action1}
 use Rattle.jc_types.specs.declared.actions.Action1.TheVariants as act
 use Rattle.jc_types.specs.declared.actions.Command.{Command}
 use Rattle.jc_types.specs.declared.actions.Script.{Script}
+use Rattle.jc_types.specs.declared.objects.Key.{Key}
 use Rattle.jc_types.specs.declared.runs.Shape.{Shape}
+use Rattle.jc_history.specs.Nodes.{last_end}
 use Rattle.jc_history.specs.Play.{is_full, play_of}
+use Rattle.jc_finite.specs.Decisions.{restarts_on_failure}
+use Rattle.jc_finite.specs.Making.{fails}
 use Rattle.jc_finite.specs.Finite.{SucceedAll}
 
 -- Each end of a fate is a success, and has no more restarts than are counted; of other commands nothing is asked.
@@ -21,6 +30,28 @@ EndsSucceed other = Unit {0}
 -- So it is of each command of the script.
 abbrev pub FatesSucceed : Script → Type 0
 FatesSucceed script = Each (λ (command : Command). EndsSucceed command.action) script.commands
+
+-- The last end of a fate is a success.
+abbrev pub LastEndSucceeds : Action1 → Type 0
+LastEndSucceeds (act.Fate key ends) = IfSome (last_end ends) (λ end. fails end ≡ false)
+LastEndSucceeds other = Unit {0}
+
+-- Each end of a fate of the key is a success.
+abbrev pub EndsSucceedFor : Key → Action1 → Type 0
+EndsSucceedFor key (act.Fate other ends) = same_key other key ≡ true → SucceedAll ends
+EndsSucceedFor key other = Unit {0}
+
+-- Where a Job is created whose containers restart after a failure, each end of each fate of its key is a success.
+abbrev pub RestartsWell : List Command → Action1 → Type 0
+RestartsWell commands (act.Create key spec) =
+    restarts_on_failure spec.template.restart ≡ true
+    → Each (λ (command : Command). EndsSucceedFor key command.action) commands
+RestartsWell commands other = Unit {0}
+
+-- The last end of each fate is a success, and no containers restart for ever.
+pub record FatesEndWell (script : Script) : Type 0 where
+  pub lasts : Each (λ (command : Command). LastEndSucceeds command.action) script.commands
+  pub restarts : Each (λ (command : Command). RestartsWell script.commands command.action) script.commands
 
 -- The shape, with so many events allowed.
 abbrev pub allowing : ℕ → Shape → Shape

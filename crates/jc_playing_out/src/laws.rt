@@ -13,7 +13,7 @@ ghost use Rattle.jc_history.specs.Available.{is_quiescent};
 ghost use Rattle.jc_history.specs.Play.{play_of};
 ghost use Rattle.jc_history.specs.Replies.{log_given};
 ghost use Rattle.jc_order.specs.Plays.{IsScriptFor, ends_in_settle};
-ghost use Rattle.jc_playing_out.specs.PlayingOut.{FatesSucceed, PlayEnds, allowing};
+ghost use Rattle.jc_playing_out.specs.PlayingOut.{FatesEndWell, FatesSucceed, PlayEnds, allowing};
 
 use jc_finite::settles_end;
 use jc_order::settled_plays_are_at_rest;
@@ -22,13 +22,18 @@ use jc_runs::valid_scripts_ask_valid;
 /// **Each play of a script ends** whose pods succeed: there is a number of events from which on,
 /// with a shape that allows so many, the play on one thread is not full. So all commands are
 /// played, each sync of them ends, and each settle comes to rest; how many more events the shape
-/// allows changes nothing of it. Where the last command is a settle, nothing is left to do at its
-/// end.
+/// allows changes nothing of it. So it is also where some ends fail, if the last end of each fate
+/// is a success, and each end of a key for which a Job of the policy OnFailure is created. Where
+/// the last command is a settle, nothing is left to do at its end.
 pub fn plays_end()
     ensures ends { (script : Script) (shape : Shape)
         → AreValidCommands script.commands
         → IsScriptFor script shape → 0 < shape.workers → IsMoment shape.start
         → FatesSucceed script → PlayEnds script shape }
+    ensures in_the_end { (script : Script) (shape : Shape)
+        → AreValidCommands script.commands
+        → IsScriptFor script shape → 0 < shape.workers → IsMoment shape.start
+        → FatesEndWell script → PlayEnds script shape }
     ensures rests { (script : Script) (shape : Shape) → IsScriptFor script shape
         → ends_in_settle script.commands ≡ true
         → (it : PlayEnds script shape) (n : ℕ) → it.events ≤ n
