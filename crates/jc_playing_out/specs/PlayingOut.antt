@@ -1,12 +1,12 @@
 -- When the play of a script ends, with events enough.
---     EndsSucceed action       each end of a fate is a success
---     FatesSucceed script      so it is of each command
---     LastEndSucceeds action   the last end of a fate is
---     EndsSucceedFor key action    each end of a fate of the key is
---     RestartsWell commands action     where a Job of OnFailure is created, each end of each fate of its key is
---     FatesEndWell script      the last end of each fate is, and what is created restarts well
---     allowing n shape         the shape, with so many events allowed
---     PlayEnds script shape    with so many events allowed, or more, the play is the same and not full
+--     EndsSucceed action            each end of a fate is a success
+--     FatesSucceed script           so it is of each command
+--     LastEndSucceeds action        the last end of a fate is
+--     EndsSucceedFor key action     each end of a fate of the key is
+--     RestartsWell commands action  where a Job of OnFailure is created, each end of each fate of its key is
+--     FatesEndWell script           the last end of each fate is, and what is created restarts well
+--     allowing n shape              the shape, with so many events allowed
+--     PlayEnds script shape         with so many events allowed, or more, the play is the same and not full
 use Rattle.std.specs.Prelude.{◌≡◌, ℕ, ◌≤◌, true, false, List, IfSome}
 use Rattle.std.specs.List.{AllByRecursion as Each}
 use Rattle.jc_types.specs.Keys.{same_key}
