@@ -5,11 +5,16 @@
 --     is_stayed job pods uids u    the listed UID stays
 --     new_uids job pods outcome    the UIDs of the pods that are judged now with this outcome
 --     ShareNone uids others        no UID is in both lists
+--     HasListsApart job            the two lists of the Job's status ascend, and share no UID
+--     stays_completed job n        the completed index stays
+--     is_completed_now job pods n  a newly judged success completes the index
 --     completed_in job own         the completed indexes afterwards
 --     counted_in job pods          lists, totals and set afterwards, the pods to release, what is new, and what is left
 --     counted_out status released  the status once the released pods have lost their finalizer
 --     SameButCounts old new        the statuses differ in totals and lists of uncounted UIDs alone
-use Rattle.std.specs.Prelude.{◌≡◌, ℕ, ◌+◌, Bool, false, not, ◌&&◌, List, [], length, filter, count_by, unwrap_or}
+use Rattle.std.specs.Prelude.{◌≡◌, ℕ, ◌+◌, nat_lt, Bool, false, not, ◌&&◌, ◌||◌, List, [], length, filter, count_by, unwrap_or}
+use Rattle.std.specs.List.{list_any}
+use Rattle.jc_ranges.specs.Sets.{has}
 use Rattle.jc_types.specs.declared.numbers.Uid.{Uid}
 use Rattle.jc_types.specs.declared.objects.Job.{Job}
 use Rattle.jc_types.specs.declared.objects.Pod.{Pod}
@@ -17,7 +22,8 @@ use Rattle.jc_types.specs.declared.statuses.JobStatus.{JobStatus}
 use Rattle.jc_types.specs.declared.syncs.CountIn.{CountIn}
 use Rattle.jc_states.specs.Bases.{own_pods}
 use Rattle.jc_states.specs.Conditions.{has_end}
-use Rattle.jc_states.specs.UidLists.{is_in, merge, uids_of}
+use Rattle.jc_states.specs.Indexes.{has_index}
+use Rattle.jc_states.specs.UidLists.{Ascends, is_in, merge, uids_of}
 use Rattle.jc_failpol.specs.declared.outcomes.Outcome.{Outcome}
 use Rattle.jc_failpol.specs.declared.outcomes.Outcome.TheVariants.{Succeeded, Failed}
 use Rattle.jc_account.specs.Judged.{has_tracked, left_with, newly, stayed, to_release}
@@ -38,6 +44,24 @@ new_uids job pods outcome = uids_of (newly job (own_pods job pods) outcome)
 -- No UID is in both lists.
 abbrev pub ShareNone : List Uid → List Uid → Type 0
 ShareNone uids others = (u : Uid) → (is_in u uids && is_in u others) ≡ false
+
+-- The two lists of the Job's status ascend, and share no UID.
+pub record HasListsApart (job : Job) : Type 0 where
+  pub succeeded : Ascends job.status.uncounted_succeeded
+  pub failed : Ascends job.status.uncounted_failed
+  pub apart : ShareNone job.status.uncounted_succeeded job.status.uncounted_failed
+
+-- The completed index stays: where the Job has not ended, it has to be below the completions.
+abbrev pub stays_completed : Job → ℕ → Bool
+stays_completed job n =
+    has n job.status.completed
+    && (has_end job.status.conditions || nat_lt n (unwrap_or job.spec.completions 0))
+
+-- A newly judged success completes the index, which is below the completions.
+abbrev pub is_completed_now : Job → List Pod → ℕ → Bool
+is_completed_now job pods n =
+    nat_lt n (unwrap_or job.spec.completions 0)
+    && list_any (has_index n) (newly job (own_pods job pods) Succeeded)
 
 -- The completed indexes afterwards.
 abbrev pub completed_in : Job → List Pod → List ℕ

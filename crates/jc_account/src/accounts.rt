@@ -74,7 +74,7 @@ fn succeeded(mode: Mode, total: u64, completed: &Ranges) -> u64
 // # Errors
 // `Want` where there is no memory for the lists.
 fn count_job(alloc: Global, job: &Job, pods: &[Arc<Pod>]) -> Result<CountIn, Want>
-    requires tidy { CountsByIndex job.now pods.now }
+    requires by_index { CountsByIndex job.now pods.now }
     requires totals { TotalsFit job.now pods.now }
     requires rising { IsRising pods.now }
     requires indexes { All HasSmallIndex pods.now }
@@ -118,7 +118,7 @@ fn count_job(alloc: Global, job: &Job, pods: &[Arc<Pod>]) -> Result<CountIn, Wan
 // # Errors
 // `Want` where there is no memory for the lists.
 fn count_noted(alloc: Global, job: &Job, pods: &Pods) -> Result<CountIn, Want>
-    requires tidy { CountsByIndex job.now pods.now }
+    requires by_index { CountsByIndex job.now pods.now }
     requires totals { TotalsFit job.now pods.now }
     requires indexes { All HasSmallIndex pods.now }
     requires few_pods { length pods.now < 2 ^ 31 }
@@ -148,7 +148,7 @@ fn count_noted(alloc: Global, job: &Job, pods: &Pods) -> Result<CountIn, Want>
 /// `Want` where there is no memory for the lists.
 pub fn count_in(alloc: Global, basis: &Basis) -> Result<CountIn, Want>
     requires there { IsSome basis.now.job }
-    requires tidy { IfSome basis.now.job (λ job. CountsByIndex job basis.now.pods) }
+    requires by_index { IfSome basis.now.job (λ job. CountsByIndex job basis.now.pods) }
     requires totals { IfSome basis.now.job (λ job. TotalsFit job basis.now.pods) }
     requires indexes { All HasSmallIndex basis.now.pods }
     requires few_pods { length basis.now.pods < 2 ^ 31 }

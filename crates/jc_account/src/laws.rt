@@ -1,7 +1,7 @@
 //! Laws on what is counted. Each function is empty: what it ensures holds of every Job and all pods, and
 //! its callers may cite it. `own` are the Job's own pods among those that a sync sees.
 
-ghost use Rattle.std.specs.Prelude.{◌≡◌, ◌+◌, ◌<◌, ◌≤◌, ◌&&◌, ◌||◌, [], All, List, ℕ, false, filter, length, nat_lt, not, true, unwrap_or};
+ghost use Rattle.std.specs.Prelude.{◌≡◌, ◌+◌, ◌<◌, ◌≤◌, ◌&&◌, ◌||◌, [], All, List, ℕ, false, filter, length, not, true, unwrap_or};
 ghost use Rattle.std.specs.List.{list_any};
 ghost use Rattle.jc_ranges.specs.Sets.{has};
 ghost use Rattle.jc_types.specs.declared.limits.TheConstants.{MOST_UNCOUNTED};
@@ -17,14 +17,13 @@ ghost use Rattle.jc_states.specs.PodLists.{IsRising};
 ghost use Rattle.jc_states.specs.UidLists.{Ascends, is_in, uids_of};
 ghost use Rattle.jc_failpol.specs.declared.outcomes.Outcome.{Outcome};
 ghost use Rattle.jc_failpol.specs.declared.outcomes.Outcome.TheVariants.{Failed, Succeeded};
-ghost use Rattle.jc_account.specs.Accounts.{counted_in, counted_out, is_stayed, left, new_uids, SameButCounts, ShareNone};
+ghost use Rattle.jc_account.specs.Accounts.{HasListsApart, SameButCounts, counted_in, counted_out, is_completed_now, is_stayed, left, new_uids, stays_completed};
 ghost use Rattle.jc_states.specs.Listed.{is_listed};
 ghost use Rattle.jc_account.specs.Judged.{fits, has_come_to, has_tracked, has_verdict, is_to_release, judged_now, left_over, left_with};
 ghost use Rattle.jc_account.specs.Judged.{newly, room, stayed, staying};
 ghost use Rattle.jc_account.specs.Rooms.{takes_room};
 ghost use Rattle.jc_failpol.specs.Outcomes.{is_verdict};
 ghost use Rattle.jc_account.specs.Modes.{gained};
-ghost use Rattle.jc_states.specs.Indexes.{has_index};
 
 /// The newly judged pods: a UID is among them exactly where a tracked own pod that has succeeded or
 /// failed has it, it is not listed and there is room for the pod; where there is none the pod is left
@@ -55,9 +54,7 @@ pub fn newly_judged_are_filters()
     ensures staying { (u : Uid) (job : Job) (own : List Pod)
         → is_in u (uids_of (staying job own)) ≡ (is_listed job.status u && has_tracked own u) }
     ensures staying_length { (job : Job) (pods : List Pod)
-        → IsRising pods
-        → Ascends job.status.uncounted_succeeded → Ascends job.status.uncounted_failed
-        → ShareNone job.status.uncounted_succeeded job.status.uncounted_failed
+        → IsRising pods → HasListsApart job
         → length (staying job (own_pods job pods))
         ≡ length (stayed (own_pods job pods) job.status.uncounted_succeeded)
         + length (stayed (own_pods job pods) job.status.uncounted_failed) }
@@ -96,9 +93,7 @@ pub fn lists_are_counted_in()
         → (is_in u job.status.uncounted_succeeded && is_in u job.status.uncounted_failed) ≡ false
         → (is_in u (counted_in job pods).uncounted_succeeded
         && is_in u (counted_in job pods).uncounted_failed) ≡ false }
-    ensures few_listed { (job : Job) (pods : List Pod) → IsRising pods
-        → Ascends job.status.uncounted_succeeded → Ascends job.status.uncounted_failed
-        → ShareNone job.status.uncounted_succeeded job.status.uncounted_failed
+    ensures few_listed { (job : Job) (pods : List Pod) → IsRising pods → HasListsApart job
         → length job.status.uncounted_succeeded + length job.status.uncounted_failed
         ≤ MOST_UNCOUNTED
         → length (counted_in job pods).uncounted_succeeded
@@ -154,10 +149,7 @@ pub fn totals_are_counted_in()
 pub fn indexes_are_counted_in()
     ensures indexed { (n : ℕ) (job : Job) (pods : List Pod) → job.spec.mode ≡ Indexed
         → has n (counted_in job pods).completed
-        ≡ ((has n job.status.completed
-        && (has_end job.status.conditions || nat_lt n (unwrap_or job.spec.completions 0)))
-        || (nat_lt n (unwrap_or job.spec.completions 0)
-        && list_any (has_index n) (newly job (own_pods job pods) Succeeded))) }
+        ≡ (stays_completed job n || is_completed_now job pods n) }
     ensures below { (job : Job) (pods : List Pod) → job.spec.mode ≡ Indexed
         → has_end job.status.conditions ≡ false
         → All (λ n. n < unwrap_or job.spec.completions 0) (counted_in job pods).completed }

@@ -108,7 +108,7 @@ winding-more e log w stored b is idle before after progress silent h = record {
       let old = old-job e log w stored b.key idle job now (inr (ap (λ u. is_born u log) same ∙ born)) in
       let o = h.over seen old.job there old.there (sym old.uid ∙ same) in
       let end = ap (λ s. has_end s.conditions) old.status in
-      record { ends = λ x. end ∙ o.ends x; silent = λ x. silent (o.silent (sym end ∙ x)) };
+      record { ends = λ x. end ∙ o.ends x; releases_only = λ x. silent (o.releases_only (sym end ∙ x)) };
 }
 
 lost-more : (e : Entry) (log : List Entry) → Writes log e → (u : Uid) → is_lost (life u log) ≡ true → is_lost (life u (e ∷ log)) ≡ true
@@ -158,10 +158,10 @@ module _ (log : List Entry) (stored : Stored log) (neat : AlwaysHaveIndexTotals 
           let end = ap (λ s. has_end s.conditions) status in
           record {
             ends = λ x. end ∙ x;
-            silent = λ x.
+            releases_only = λ x.
                 let f = h.finished k job is x in
                 let closed = same-own seen job (sym same) (pods_under k (upto p.0 log)) (f.closed p.0 (within Pods p pods) s.1) in
-                let i = idle-plan seen (basis old log now k j p) there (record { ended = sym end ∙ x; rests = subst IsFinalStatus status f.rests; neat = neat j.0 k seen there; closed = closed.opens; untracked = closed.tracks }) in
+                let i = idle-plan seen (basis old log now k j p) there (record { ended = sym end ∙ x; final = subst IsFinalStatus status f.final; totals = neat j.0 k seen there; closed = closed.opens; untracked = closed.tracks }) in
                 Idle i.creates i.first i.second;
           };
     }
@@ -194,11 +194,11 @@ module _ (log : List Entry) (stored : Stored log) (neat : AlwaysHaveIndexTotals 
         o = winding.over seen job there is same
 
         at : (t : Bool) → has_end job.status.conditions ≡ t → t ≡ false
-        at true t = absurd (true≢false (sym (silent-quiet (planned b) (made u old) ask next (o.silent t)) ∙ loud))
+        at true t = absurd (true≢false (sym (silent-quiet (planned b) (made u old) ask next (o.releases_only t)) ∙ loud))
         at false t = refl
 
         before : (t : Bool) → has_end seen.status.conditions ≡ t → t ≡ false
-        before true t = absurd (true≢false (sym (silent-quiet (planned b) (made u old) ask next (o.silent (o.ends t))) ∙ loud))
+        before true t = absurd (true≢false (sym (silent-quiet (planned b) (made u old) ask next (o.releases_only (o.ends t))) ∙ loud))
         before false t = refl
 
     -- What a write of an end leaves.
@@ -316,7 +316,7 @@ module _ (log : List Entry) (stored : Stored log) (neat : AlwaysHaveIndexTotals 
     self-none from = record {
       progress = self-progress None from (λ v l. l);
       known = winding.known;
-      over = λ seen job there is same. let o = winding.over seen job there is same in record { ends = o.ends; silent = λ e. quiet-silent (o.silent e) };
+      over = λ seen job there is same. let o = winding.over seen job there is same in record { ends = o.ends; releases_only = λ e. quiet-silent (o.releases_only e) };
     }
 
     self-entry : (e : Entry) → Writes log e → Some e ≡ (ask_gives log now b (made u old) ask).entry → IsKnownSync (e ∷ log) (more (made u old) (as_request ask) given) b
@@ -344,7 +344,7 @@ module _ (log : List Entry) (stored : Stored log) (neat : AlwaysHaveIndexTotals 
               let job_is : put ≡ job = some_is put job (sym (cond-true (same_key put.key b.key) (Some put) (job_in b.key log) key) ∙ ap (λ x. job_in b.key (x ∷ log)) (sym s.is) ∙ is) in
               record {
                 ends = λ x. absurd (true≢false (sym x ∙ ap (λ (j : Job). has_end j.status.conditions) (sym one) ∙ none.1));
-                silent = λ x. silent none.1 (ap (λ (j : Job). has_end j.status.conditions) job_is ∙ x);
+                releases_only = λ x. silent none.1 (ap (λ (j : Job). has_end j.status.conditions) job_is ∙ x);
               };
         }
 
@@ -392,7 +392,7 @@ module _ (log : List Entry) (stored : Stored log) (neat : AlwaysHaveIndexTotals 
           over = λ seen job seen_there is same.
               let before = ap (λ x. job_in b.key (x ∷ log)) (sym s) ∙ is in
               let o = winding.over seen job seen_there before same in
-              record { ends = o.ends; silent = λ x. absurd (true≢false (sym x ∙ (unended seen job seen_there before same (ap is_quiet a)).0)) };
+              record { ends = o.ends; releases_only = λ x. absurd (true≢false (sym x ∙ (unended seen job seen_there before same (ap is_quiet a)).0)) };
         }
         by (First mine status a there first s) work = written mine status there (ap is_quiet a) s (silent-first mine status there first a)
         by (Second mine status a there second s) work = written mine status there (ap is_quiet a) s (λ none end. silent-second a)

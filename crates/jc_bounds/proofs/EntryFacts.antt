@@ -107,7 +107,7 @@ finished-idle e log w stored k idle h new is end =
     let old = old-job e log w stored k idle new is (inl end) in
     let before = h old.job old.there (sym (ap (λ s. has_end s.conditions) old.status) ∙ end) in
     record {
-      rests = subst IsFinalStatus (sym old.status) before.rests;
+      final = subst IsFinalStatus (sym old.status) before.final;
       closed = closed-more e log k new
           (closed-entry e log w k (birth-works k e log idle) new (same-own new old.job old.uid (pods_under k log) (closed-now log k old.job before)))
           (λ m le work. same-own new old.job old.uid (pods_under k (upto m log)) (before.closed m le (let c = cond-false (is_work k e log) (length (e ∷ log)) (last_work k log) idle in omega (arith, work, c))));
@@ -122,7 +122,7 @@ finished-made pod log k h work other job is end =
     let now = closed-now log k job before in
     let at : last_work k (PodPut pod ∷ log) ≡ length (PodPut pod ∷ log) = cond-true (is_work k (PodPut pod) log) (length (PodPut pod ∷ log)) (last_work k log) work in
     record {
-      rests = before.rests;
+      final = before.final;
       closed = closed-more (PodPut pod) log k job (record {
         opens = none-any is_open (own_pods job (pods_under k (PodPut pod ∷ log))) (omega (arith, own-other k job is_open pod log (other job is end), any-none is_open (own_pods job (pods_under k log)) now.opens));
         tracks = none-any is_tracked (own_pods job (pods_under k (PodPut pod ∷ log))) (omega (arith, own-other k job is_tracked pod log (other job is end), any-none is_tracked (own_pods job (pods_under k log)) now.tracks));
@@ -138,7 +138,7 @@ finished-written put log k key work sets job is end =
     let at : last_work k (JobPut put ∷ log) ≡ length (JobPut put ∷ log) = cond-true (is_work k (JobPut put) log) (length (JobPut put ∷ log)) (last_work k log) work in
     subst (IsFinished (JobPut put ∷ log) k) same
     (let h = sets (ap (λ (j : Job). has_end j.status.conditions) same ∙ end) in record {
-      rests = h.0;
+      final = h.0;
       closed = closed-more (JobPut put) log k put h.1 (λ m le w. absurd (omega (arith, le, w, at)));
     })
 

@@ -164,7 +164,7 @@ made-key log pod k job legal there uid =
 pub final-shut : (log : List Entry) (notes : List Note) → Legal log → KnowsEnds log notes → (k : Key) (job : Job) → job_in k log ≡ Some job → has_end job.status.conditions ≡ true → HasNothingOpen log job
 final-shut log notes legal h k job there end =
     let fin = h.finished k job there end in
-    record { rests = fin.rests; closed = subst IsClosed (own-of log k job legal there (a-basis k)) (closed-now log k job fin) }
+    record { final = fin.final; closed = subst IsClosed (own-of log k job legal there (a-basis k)) (closed-now log k job fin) }
 
 -- **What has ended stays as it is.**
 pub legal-keeps : (shape : Shape) (past : List Deed) (d : Deed) → shape.controllers ≡ 1 → IsLegal shape (d ∷ past) → Legal (log_given shape (d ∷ past)) → AlwaysHaveIndexTotals (log_given shape (d ∷ past))

@@ -40,8 +40,8 @@ module _ (shape : Shape) where
       → IsLeftAlone (log_given shape past) (log_given shape (d ∷ past)) k job
   keeps past d one h = let l = legal-log shape (d ∷ past) one h in legal-keeps shape past d one h l.0 l.1
 
-  pub shut : (deeds : List Deed) → shape.controllers ≡ 1 → IsLegal shape deeds → (k : Key) (job : Job) → job_in k (log_given shape deeds) ≡ Some job → has_end job.status.conditions ≡ true → HasNothingOpen (log_given shape deeds) job
-  shut deeds one h = final-shut (log_given shape deeds) (notes shape 0 deeds (log_given shape deeds)) (legal-log shape deeds one h).0 (final deeds one h)
+  pub nothing_open : (deeds : List Deed) → shape.controllers ≡ 1 → IsLegal shape deeds → (k : Key) (job : Job) → job_in k (log_given shape deeds) ≡ Some job → has_end job.status.conditions ≡ true → HasNothingOpen (log_given shape deeds) job
+  nothing_open deeds one h = final-shut (log_given shape deeds) (notes shape 0 deeds (log_given shape deeds)) (legal-log shape deeds one h).0 (final deeds one h)
 
   pub stands : (deeds : List Deed) → shape.controllers ≡ 1 → IsLegal shape deeds → StatusesStand (log_given shape deeds)
   stands deeds one h = legal-stands shape deeds one h (λ past g. legal-log shape past one g)
@@ -55,7 +55,7 @@ module _ (shape : Shape) where
   keeps-both past d one h = record {
     fits = λ pod. fits past d pod one h;
     left = keeps past d one h;
-    shut = shut (d ∷ past) one h;
+    nothing_open = nothing_open (d ∷ past) one h;
     stands = stands (d ∷ past) one h;
   }
 

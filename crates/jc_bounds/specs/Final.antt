@@ -34,7 +34,7 @@ pub record IsClosed (own : List Pod) : Type 0 where
 
 -- The status of the Job is final, and from the key's last work on its pods are closed.
 pub record IsFinished (log : List Entry) (k : Key) (job : Job) : Type 0 where
-  pub rests : IsFinalStatus job.status
+  pub final : IsFinalStatus job.status
   pub closed : (m : ℕ) → m ≤ length log → last_work k log ≤ m
       → IsClosed (own_pods job (pods_under k (upto m log)))
 
@@ -49,7 +49,7 @@ IsFinishedAt log k =
 pub record IsOverFor (log : List Entry) (made : List (Request × Answer)) (b : Basis) (seen job : Job)
     : Type 0 where
   pub ends : has_end seen.status.conditions ≡ true → has_end job.status.conditions ≡ true
-  pub silent : has_end job.status.conditions ≡ true → AsksReleasesOnly (planned b) made
+  pub releases_only : has_end job.status.conditions ≡ true → AsksReleasesOnly (planned b) made
 
 -- What is known of a worker's sync: where it stands, that the pods that it releases were made, and
 -- how it goes on where its Job is there.

@@ -23,7 +23,7 @@ pub record KeepsBounds (shape : Shape) (past : List Deed) (d : Deed) : Type 0 wh
   pub left : (k : Key) (job : Job) → job_in k (log_given shape past) ≡ Some job
       → has_end job.status.conditions ≡ true
       → IsLeftAlone (log_given shape past) (log_given shape (d ∷ past)) k job
-  pub shut : (k : Key) (job : Job) → job_in k (log_given shape (d ∷ past)) ≡ Some job
+  pub nothing_open : (k : Key) (job : Job) → job_in k (log_given shape (d ∷ past)) ≡ Some job
       → has_end job.status.conditions ≡ true → HasNothingOpen (log_given shape (d ∷ past)) job
   pub stands : StatusesStand (log_given shape (d ∷ past))
 

@@ -15,7 +15,7 @@ use Rattle.jc_plan.specs.Finishes.{IsFinalStatus}
 
 -- Nothing is listed, and none of its pods is open or has its finalizer.
 pub record HasNothingOpen (log : List Entry) (job : Job) : Type 0 where
-  pub rests : IsFinalStatus job.status
+  pub final : IsFinalStatus job.status
   pub closed : IsClosed (pods_of job.uid log)
 
 -- From the one log to the other no pod of the Job is made and its status does not change.

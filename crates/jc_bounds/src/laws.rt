@@ -47,7 +47,7 @@ pub fn logs_tell_of_work()
 pub fn legal_histories_have_legal_logs()
     ensures legal { (shape : Shape) (deeds : List Deed)
         → shape.controllers ≡ 1 → IsLegal shape deeds → Legal (log_given shape deeds) }
-    ensures neat { (shape : Shape) (deeds : List Deed)
+    ensures totals { (shape : Shape) (deeds : List Deed)
         → shape.controllers ≡ 1 → IsLegal shape deeds → AlwaysHaveIndexTotals (log_given shape deeds) }
 {}
 
@@ -82,7 +82,7 @@ pub fn histories_keep_ends()
 /// the Job is there, no UID is listed, none of its pods is open or has its finalizer, no pod is
 /// made for it, and its status stays.
 pub fn ended_jobs_stay()
-    ensures shut { (shape : Shape) (deeds : List Deed) → shape.controllers ≡ 1 → IsLegal shape deeds
+    ensures nothing_open { (shape : Shape) (deeds : List Deed) → shape.controllers ≡ 1 → IsLegal shape deeds
         → (k : Key) (job : Job) → job_in k (log_given shape deeds) ≡ Some job
         → has_end job.status.conditions ≡ true → HasNothingOpen (log_given shape deeds) job }
     ensures kept { (shape : Shape) (past : List Deed) (d : Deed)

@@ -137,7 +137,7 @@ impl Cluster {
             → IsAtNext (log_seen self.new.seen) (log_seen self.old.seen)
             (moment self.old.seen.shape (deeds_seen self.old.seen))
             (backoff k (diary_seen self.old.seen controller)) k job) }
-        ensures silent { OnOk result ((k : Key) (job : Job)
+        ensures no_status { OnOk result ((k : Key) (job : Job)
             → StartsCurrent self.old.seen controller worker k job
             → next_seen self.old.seen controller k job ≡ job.status
             → StepsWithoutStatus controller worker

@@ -142,7 +142,7 @@ module _ (old : Seen) (c w : ℕ) (k : Key) (job : Job) (cur : StartsCurrent old
       pub record Reached (new : Seen) (run : List Past) : Type 0 where
         pub ended : (r : Reply) → IsLast r new.pasts → r ≡ reply.Ended
         pub next : IsAtNext (log_seen new) log (moment old.shape past) (backoff k (diary_seen old c)) k job
-        pub silent : next_seen old c k job ≡ job.status → Each (λ (p : Past). WritesNoStatus p.reply) run
+        pub no_status : next_seen old c k job ≡ job.status → Each (λ (p : Past). WritesNoStatus p.reply) run
 
       reached-at : (run : List Past) → AreSteps old.shape c w (deeds_in old.script run) (d ∷ past) → IsLegal old.shape (deeds_in old.script run ++ d ∷ past) → AllAskValid (deeds_in old.script run ++ d ∷ past)
           → register w (diary old.shape c (deeds_in old.script run ++ d ∷ past)) ≡ None → Reached (record { script = old.script; shape = old.shape; pasts = run ++ begun ∷ old.pasts }) run
@@ -153,7 +153,7 @@ module _ (old : Seen) (c w : ℕ) (k : Key) (job : Job) (cur : StartsCurrent old
             subst (λ deeds. IsAtNext (log_given old.shape deeds) log (moment old.shape past) (backoff k (diary_seen old c)) k job) (sym (map-append (deed old.script) (last ∷ run) (begun ∷ old.pasts)))
             (subst (λ l. IsAtNext (log_given old.shape (deeds_in old.script (last ∷ run) ++ d ∷ past)) l (moment old.shape past) (backoff k (diary_seen old c)) k job) same-log
             (comes (sync_run last run) quiet));
-        silent = λ same. silent-pasts (deed old.script) (λ p. refl) (last ∷ run)
+        no_status = λ same. silent-pasts (deed old.script) (λ p. refl) (last ∷ run)
             (nothing (sync_run last run) quiet
             (ap (λ l. next_status (moment old.shape past) (backoff k (diary_seen old c)) job
             (own_pods job (pods_under k l))) same-log ∙ same));

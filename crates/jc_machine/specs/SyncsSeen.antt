@@ -79,4 +79,4 @@ next_seen seen c k job =
 -- The new is the old and steps of the worker alone, of which none asked for a status.
 pub record StepsWithoutStatus (c w : ℕ) (old new : Seen) : Type 0 where
   pub on : StepsOn c w old new
-  pub silent : Each (λ (past : Past). WritesNoStatus past.reply) on.run
+  pub no_status : Each (λ (past : Past). WritesNoStatus past.reply) on.run

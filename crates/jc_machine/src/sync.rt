@@ -105,7 +105,7 @@ impl Machine {
             → IsAtNext (log_seen self.new) (log_seen self.old)
             (moment self.old.shape (deeds_seen self.old))
             (backoff k (diary_seen self.old controller)) k job) }
-        ensures silent { OnOk result ((k : Key) (job : Job)
+        ensures no_status { OnOk result ((k : Key) (job : Job)
             → StartsCurrent self.old controller worker k job
             → next_seen self.old controller k job ≡ job.status
             → StepsWithoutStatus controller worker

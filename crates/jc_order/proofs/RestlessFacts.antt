@@ -25,7 +25,7 @@ use Rattle.jc_history.specs.Registers.{AllFit, register, register_told}
 use Rattle.jc_history.proofs.KeyFacts.{is_in-filter, is_in-once}
 use Rattle.jc_history.proofs.LineFacts.{processing-began, processing-ended}
 use Rattle.jc_history.proofs.DelayFacts.{apart-delays, at-delays, at-filter, kept}
-use Rattle.jc_order.specs.Restless.{AreToldInOrder, HasCacheSeen, IsBusy, Dirty, Waiting, Syncing, StoodBefore, point}
+use Rattle.jc_order.specs.Restless.{AllAddOrRetry, HasCacheSeen, IsBusy, Dirty, Waiting, Syncing, StoodBefore, point}
 
 -- ---- what is due is added
 
@@ -158,7 +158,7 @@ module _ (k : Key) (a b : ℕ) where
 
   -- ---- all notes
 
-  pub busy : (notes : List Note) → AllFit notes → AreToldInOrder k a b notes → HasCacheSeen (number Jobs notes) a → HasCacheSeen (number Pods notes) b → IsBusy k a b notes
+  pub busy : (notes : List Note) → AllFit notes → AllAddOrRetry k a b notes → HasCacheSeen (number Jobs notes) a → HasCacheSeen (number Pods notes) b → IsBusy k a b notes
   busy [] fit honest j p = absurd j
   busy (Listed Jobs at keys ∷ older) fit honest j p = listed Jobs at keys older (honest.0 j)
   busy (Listed Pods at keys ∷ older) fit honest j p = listed Pods at keys older (honest.0 p)

@@ -3,9 +3,9 @@
 --     HasCacheSeen number v           the cache has seen the version
 --     point kind a b                  the version that a cache of the kind has to see
 --     StoodBefore number v            the cache stood just before the version
---     IsToldInOrder k a b note older  a cache that comes to see one of both adds the key, and no sync
+--     AddsOrRetries k a b note older  a cache that comes to see one of both adds the key, and no sync
 --                                     that saw both succeeds
---     AreToldInOrder k a b notes      so it is with each note
+--     AllAddOrRetry k a b notes       so it is with each note
 --     IsBusy k a b notes              the key is dirty, or delayed, or has a sync that saw both
 --     Stands k a b log                the log lists the key from these versions on, and tells of it at them
 --     EndsWell, EndWell k a b         no sync that saw both succeeds, by one note or by all of them
@@ -50,21 +50,21 @@ abbrev pub StoodBefore : Option Version → Version → Type 0
 StoodBefore None version = ⊥
 StoodBefore (Some before) version = version.0 ≡ before.0 + 1
 
-abbrev pub IsToldInOrder : Key → ℕ → ℕ → Note → List Note → Type 0
-IsToldInOrder k a b (Listed kind at keys) older = point kind a b ≤ at.0 → has_key k keys ≡ true
-IsToldInOrder k a b (Told kind version key) older =
+abbrev pub AddsOrRetries : Key → ℕ → ℕ → Note → List Note → Type 0
+AddsOrRetries k a b (Listed kind at keys) older = point kind a b ≤ at.0 → has_key k keys ≡ true
+AddsOrRetries k a b (Told kind version key) older =
     StoodBefore (number kind older) version × (version.0 ≡ point kind a b → key ≡ Some k)
-IsToldInOrder k a b (Began w basis) older =
+AddsOrRetries k a b (Began w basis) older =
     (number Jobs older ≡ Some basis.jobs_at) × (number Pods older ≡ Some basis.pods_at)
-IsToldInOrder k a b (Ended w basis end now) older =
+AddsOrRetries k a b (Ended w basis end now) older =
     same_key basis.key k ≡ true → a ≤ basis.jobs_at.0 → b ≤ basis.pods_at.0
     → (forgets_caches end ≡ true)
     ⊎ (is_some (added_by_end end now (min (tries k older + 1) 7)) ≡ true)
-IsToldInOrder k a b note older = Unit {0}
+AddsOrRetries k a b note older = Unit {0}
 
-abbrev pub AreToldInOrder : Key → ℕ → ℕ → List Note → Type 0
-AreToldInOrder k a b [] = Unit {0}
-AreToldInOrder k a b (note ∷ older) = IsToldInOrder k a b note older × AreToldInOrder k a b older
+abbrev pub AllAddOrRetry : Key → ℕ → ℕ → List Note → Type 0
+AllAddOrRetry k a b [] = Unit {0}
+AllAddOrRetry k a b (note ∷ older) = AddsOrRetries k a b note older × AllAddOrRetry k a b older
 
 pub data IsBusy (k : Key) (a b : ℕ) (notes : List Note) : Type 0 where
   Dirty : is_dirty k notes ≡ true → IsBusy k a b notes
@@ -84,7 +84,7 @@ pub record Stands (k : Key) (a b : ℕ) (log : List Entry) : Type 0 where
 
 -- No sync that saw both succeeds.
 abbrev pub EndsWell : Key → ℕ → ℕ → Note → List Note → Type 0
-EndsWell k a b (Ended w basis end now) older = IsToldInOrder k a b (Ended w basis end now) older
+EndsWell k a b (Ended w basis end now) older = AddsOrRetries k a b (Ended w basis end now) older
 EndsWell k a b note older = Unit {0}
 
 abbrev pub EndWell : Key → ℕ → ℕ → List Note → Type 0

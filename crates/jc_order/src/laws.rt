@@ -26,7 +26,7 @@ ghost use Rattle.jc_history.specs.Replies.{diary, log_given};
 ghost use Rattle.jc_order.specs.Ends.{IsAtMost, IsUpToDate, Placed};
 ghost use Rattle.jc_order.specs.Plays.{IsPlayed, IsScriptFor, ends_in_settle};
 ghost use Rattle.jc_order.specs.Rest.{IsSystemAtRest};
-ghost use Rattle.jc_order.specs.Restless.{AreToldInOrder, EndWell, FailsIf, HasCacheSeen, IsBusy, StandTogether, Stands, has_forgotten, has_job_of};
+ghost use Rattle.jc_order.specs.Restless.{AllAddOrRetry, EndWell, FailsIf, HasCacheSeen, IsBusy, StandTogether, Stands, has_forgotten, has_job_of};
 
 /// Floors and the numbers of caches are places of the log. So where both caches of a controller
 /// have seen the whole log no cache is behind for any key, and a begin starts a sync of the first
@@ -121,12 +121,12 @@ pub fn histories_settle()
 pub fn no_ended_pod_is_forgotten()
     ensures since { (k : Key) (j u : Uid) (log : List Entry) → has_job_of k log ≡ true
         → has_forgotten k j u log ≡ true → StandTogether k j u log }
-    ensures busy { (k : Key) (a b : ℕ) (notes : List Note) → AllFit notes → AreToldInOrder k a b notes
+    ensures busy { (k : Key) (a b : ℕ) (notes : List Note) → AllFit notes → AllAddOrRetry k a b notes
         → HasCacheSeen (number Jobs notes) a → HasCacheSeen (number Pods notes) b
         → IsBusy k a b notes }
-    ensures honest { (k : Key) (a b : ℕ) (shape : Shape) (c : ℕ) (deeds : List Deed)
+    ensures adds_or_retries { (k : Key) (a b : ℕ) (shape : Shape) (c : ℕ) (deeds : List Deed)
         → IsLegal shape deeds → Stands k a b (log_given shape deeds)
-        → EndWell k a b (diary shape c deeds) → AreToldInOrder k a b (diary shape c deeds) }
+        → EndWell k a b (diary shape c deeds) → AllAddOrRetry k a b (diary shape c deeds) }
     ensures rest { (shape : Shape) (deeds : List Deed) → IsLegal shape deeds → 0 < shape.workers
         → is_quiescent shape deeds (log_given shape deeds) ≡ true
         → (c : ℕ) → c < shape.controllers

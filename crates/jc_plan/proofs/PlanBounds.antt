@@ -421,9 +421,9 @@ module _ (job : Job) (basis : Basis) (rests : IsFinalStatus job.status) (neat : 
 pub idle-plan : (job : Job) (basis : Basis) → basis.job ≡ Some job → HasFinished job basis → IsIdle basis
 unfolding planned
 idle-plan job basis this done = subst (λ (p : Planned). Idles p) (ap (planned_for basis) (sym this)) record {
-  creates = idle-creates job basis done.rests done.neat done.closed done.untracked done.ended;
+  creates = idle-creates job basis done.final done.totals done.closed done.untracked done.ended;
   marks = marks-none job basis done.closed;
   let_goes = let_goes-none job basis done.closed;
-  first = changed-none job.status (first_value job basis) (sym (idle-first job basis done.rests done.neat done.closed done.untracked done.ended));
-  second = changed-none (first_value job basis) (second_value job basis) (sym (idle-second job basis done.rests done.neat done.closed done.untracked done.ended));
+  first = changed-none job.status (first_value job basis) (sym (idle-first job basis done.final done.totals done.closed done.untracked done.ended));
+  second = changed-none (first_value job basis) (second_value job basis) (sym (idle-second job basis done.final done.totals done.closed done.untracked done.ended));
 }

@@ -55,8 +55,8 @@ pub record LeavesNoPod (job : Job) (basis : Basis) : Type 0 where
 -- The Job has ended and its status is final, and none of its own pods is open or has the finalizer.
 pub record HasFinished (job : Job) (basis : Basis) : Type 0 where
   pub ended : has_end job.status.conditions ≡ true
-  pub rests : IsFinalStatus job.status
-  pub neat : HasIndexTotals job
+  pub final : IsFinalStatus job.status
+  pub totals : HasIndexTotals job
   pub closed : list_any is_open (own_pods job basis.pods) ≡ false
   pub untracked : list_any is_tracked (own_pods job basis.pods) ≡ false
 

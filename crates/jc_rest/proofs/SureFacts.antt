@@ -21,7 +21,7 @@ use Rattle.jc_order.proofs.RestlessFacts.{began, ended, listed, same-busy, sent,
 use Rattle.std.specs.Option.{option_map_or}
 use Rattle.jc_rest.specs.Stuck.{is_sure}
 
--- What is known of each note: as `IsToldInOrder`, but that nothing is asked of lists of pods.
+-- What is known of each note: as `AddsOrRetries`, but that nothing is asked of lists of pods.
 abbrev pub IsPlain : Key → ℕ → ℕ → Note → List Note → Type 0
 IsPlain k a b (Listed Jobs at keys) older = a ≤ at.0 → has_key k keys ≡ true
 IsPlain k a b (Listed Pods at keys) older = Unit {0}

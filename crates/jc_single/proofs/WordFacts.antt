@@ -65,7 +65,7 @@ of-words P words source sink ended more (Ran order is h) = subst (λ o. IfSome o
 of-words P words source sink ended more (Refused is source_kept kept bad) = subst (λ o. IfSome o P) (sym is) tt
 
 -- The order that the words ask for is the one that was done.
-has-ended : (words : Option Order) (source sink : Change) (ended : Status) → HasRun words source sink ended
+pub has-ended : (words : Option Order) (source sink : Change) (ended : Status) → HasRun words source sink ended
     → (order : Order) → words ≡ Some order → RunHasEnded order source sink (Answers order) ended
 has-ended words source sink ended (Ran given is h) order e =
     subst (λ o. RunHasEnded o source sink (Answers o) ended) (order_same order given words is e) h

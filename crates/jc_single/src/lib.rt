@@ -4,6 +4,7 @@
 
 mod laws;
 mod orders;
+mod playing_out;
 mod plays;
 mod reaps;
 mod single;
@@ -20,5 +21,6 @@ pub use laws::{
     single_runs_end_as_told,
 };
 pub use orders::Output;
+pub use playing_out::{jobs_end_or_wait, runs_are_played_out};
 pub use single::{MOST_BYTES, ended, run_order, run_single, write_output};
 pub use status::Status;

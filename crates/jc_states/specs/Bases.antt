@@ -49,7 +49,7 @@ pub record FailuresFit (job : Job) (pods : List Pod) : Type 0 where
 pub record CanPlan (basis : Basis) : Type 0 where
   pub there : IsSome basis.job
   pub valid : IfSome basis.job (λ job. IsValidSpec job.spec)
-  pub tidy : IfSome basis.job (λ job. CountsByIndex job basis.pods)
+  pub by_index : IfSome basis.job (λ job. CountsByIndex job basis.pods)
   pub totals : IfSome basis.job (λ job. TotalsFit job basis.pods)
   pub index_failures : IfSome basis.job (λ job. FailuresFit job basis.pods)
   pub distinct : AllPairs (λ pod other. pod.uid ≢ other.uid) basis.pods

@@ -156,7 +156,7 @@ can_plan deeds log flights basis job t p is saw short failures last =
     record {
       there = ap is_some saw;
       valid = subst (λ (o : Option Job). IfSome o (λ j. IsValidSpec j.spec)) (sym saw) r.valid;
-      tidy = subst (λ (o : Option Job). IfSome o (λ j. CountsByIndex j basis.pods)) (sym saw) r.tidy;
+      by_index = subst (λ (o : Option Job). IfSome o (λ j. CountsByIndex j basis.pods)) (sym saw) r.tidy;
       totals = subst (λ (o : Option Job). IfSome o (λ j. TotalsFit j basis.pods)) (sym saw) (r.totals (omega (arith, short)));
       index_failures = subst (λ (o : Option Job). IfSome o (λ j. FailuresFit j basis.pods)) (sym saw) (r.fails (omega (arith, short)));
       distinct = rising-apart 0 basis.pods (basis-rises log basis is);

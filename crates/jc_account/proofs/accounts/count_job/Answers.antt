@@ -54,7 +54,7 @@ returns-clause-succeeded_fits c =
     (length c.in_ok-stayed_succeeded.stayed_succeeded) (length c.in_ok-newly.newly.succeeded) (length c.in_ok-with_successes.field-0)
     c.in_ok-newly.newly.left_succeeded (length c.args.pods.now) status.succeeded (length status.uncounted_succeeded)
     c.succeeded.ensures.plain c.succeeded.ensures.indexed
-    (λ e. ap length (c.requires.tidy (sym (ap (λ (spec : JobSpec). spec.mode) c.deref.ensures) ∙ e)).0)
+    (λ e. ap length (c.requires.by_index (sym (ap (λ (spec : JobSpec). spec.mode) c.deref.ensures) ∙ e)).0)
     c.raised-total.ensures c.in_ok-with_successes.ensures.no_longer
     (λ e. ap length (c.in_ok-with_successes.ensures.indexed e))
     (omega (arith, c.in_ok-stayed_succeeded.ensures.shorter, ap length c.as_slice.ensures))

@@ -6,10 +6,10 @@ use Rattle.jc_states.specs.PodLists.{IsRising}
 use Rattle.jc_account.proofs.NotedFacts.{some-counted, some-few, some-small, some-tidy, some-totals}
 use Rattle.jc_account.proofs.accounts.count_noted.Goals as goal
 
-pub count_job-requires-clause-tidy : goal.count_job-requires-clause-tidy
-count_job-requires-clause-tidy c =
+pub count_job-requires-clause-by_index : goal.count_job-requires-clause-by_index
+count_job-requires-clause-by_index c =
     some-tidy c.args.job.now c.args.pods.now _ _ _ c.as_slice-succeeded.ensures c.as_slice-failed.ensures
-    (c.as_slice.ensures.value ∙ c.in_ok-noted.ensures.pods) c.requires.tidy
+    (c.as_slice.ensures.value ∙ c.in_ok-noted.ensures.pods) c.requires.by_index
 
 pub count_job-requires-clause-totals : goal.count_job-requires-clause-totals
 count_job-requires-clause-totals c =

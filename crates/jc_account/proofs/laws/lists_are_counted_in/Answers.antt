@@ -13,5 +13,5 @@ returns c = record {
   failed_length = failed-length;
   succeeded_length = succeeded-length;
   apart = lists-apart;
-  few_listed = lists-short;
+  few_listed = λ job pods rises lists few. lists-short job pods rises lists.succeeded lists.failed lists.apart few;
 }

@@ -13,5 +13,5 @@ returns c = record {
   order = newly-order;
   few_judged = newly-room;
   staying = staying-member;
-  staying_length = staying-length;
+  staying_length = λ job pods rises lists. staying-length job pods rises lists.succeeded lists.failed lists.apart;
 }

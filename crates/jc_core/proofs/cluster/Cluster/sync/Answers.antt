@@ -11,8 +11,8 @@ use Rattle.jc_core.proofs.cluster.Cluster.sync.Goals as goal
 pub returns-clause-ended : goal.returns-clause-ended
 returns-clause-ended c = subst (λ (s : Shared). IfOk c.sync-ended.result (λ r. (k : Key) (job : Job) → StartsCurrent s.seen c.args.controller c.args.worker k job → r ≡ Ended)) c.self.view_is c.sync-ended.ensures.ended
 
-pub returns-clause-silent : goal.returns-clause-silent
-returns-clause-silent c =
+pub returns-clause-no_status : goal.returns-clause-no_status
+returns-clause-no_status c =
     subst (λ (s : Shared). OnOk c.sync-ended.result
     ((k : Key) (job : Job) → StartsCurrent s.seen c.args.controller c.args.worker k job
     → next_seen s.seen c.args.controller k job ≡ job.status
@@ -23,7 +23,7 @@ returns-clause-silent c =
     → next_seen c.self.inside.machine c.args.controller k job ≡ job.status
     → StepsWithoutStatus c.args.controller c.args.worker
     (happened c.self.inside.machine (begin_event c.args.controller c.args.worker)) s)) (sym c.keep_up.ensures.seen)
-    c.sync-ended.ensures.silent)
+    c.sync-ended.ensures.no_status)
 
 pub returns-clause-slots : goal.returns-clause-slots
 returns-clause-slots c =

@@ -13,8 +13,8 @@ returns-then-not-tells_begin-clause-next c = λ k job cur. absurd
     (begins-told c.args.self.now c.args.controller c.args.worker k job cur c.facts.ensures.legal c.in_ok-begun.begun
     c.tells_begin.result c.in_ok-begun.ensures.reply c.tells_begin.ensures c.if-not-tells_begin.true)
 
-pub returns-then-not-tells_begin-clause-silent : goal.returns-then-not-tells_begin-clause-silent
-returns-then-not-tells_begin-clause-silent c = λ k job cur same. absurd
+pub returns-then-not-tells_begin-clause-no_status : goal.returns-then-not-tells_begin-clause-no_status
+returns-then-not-tells_begin-clause-no_status c = λ k job cur same. absurd
     (begins-told c.args.self.now c.args.controller c.args.worker k job cur c.facts.ensures.legal c.in_ok-begun.begun
     c.tells_begin.result c.in_ok-begun.ensures.reply c.tells_begin.ensures c.if-not-tells_begin.true)
 
@@ -34,14 +34,14 @@ returns-clause-next c = λ k job cur. (reached c.args.self.now c.args.controller
     c.in_ok-begun.ensures.ok c.in_ok-last.ensures.steps) c.in_ok-last.ensures.free c.facts-2.ensures.legal
     c.facts-2.ensures.valid).next
 
-pub returns-clause-silent : goal.returns-clause-silent
-returns-clause-silent c = λ k job cur same. record {
+pub returns-clause-no_status : goal.returns-clause-no_status
+returns-clause-no_status c = λ k job cur same. record {
   on = (subst (λ s. StepsOn c.args.controller c.args.worker s c.step_through.new.self) c.in_ok-begun.ensures.ok
       c.in_ok-last.ensures.steps);
-  silent = (reached c.args.self.now c.args.controller c.args.worker k job cur
+  no_status = (reached c.args.self.now c.args.controller c.args.worker k job cur
       c.facts.ensures.legal c.quiet_syncs_reach_the_next_status.ensures.ended
       c.quiet_syncs_reach_the_next_status.ensures.next c.quiet_syncs_reach_the_next_status.ensures.nothing
       c.step_through.new.self (subst (λ s. StepsOn c.args.controller c.args.worker s c.step_through.new.self)
       c.in_ok-begun.ensures.ok c.in_ok-last.ensures.steps) c.in_ok-last.ensures.free c.facts-2.ensures.legal
-      c.facts-2.ensures.valid).silent same;
+      c.facts-2.ensures.valid).no_status same;
 }
