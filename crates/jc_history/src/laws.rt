@@ -2,9 +2,8 @@
 //! may cite it. An occasion is a deed that comes after others, and a controller that may note it. A
 //! cluster's world is a history of deeds and its log, both newest first, with the controllers.
 
-ghost use Rattle.std.specs.Prelude.{◌≡◌, ◌∷◌, ◌++◌, [], List, None, Option, Some, length, ℕ, set, slice_get, true};
-ghost use Rattle.jc_asks.specs.Readings.{next_ask, steps_of};
-ghost use Rattle.jc_asks.specs.Sends.{sends_of};
+ghost use Rattle.std.specs.Prelude.{◌≡◌, ◌∷◌, ◌++◌, [], List, None, Option, Some, length, ℕ, set, true};
+ghost use Rattle.jc_asks.specs.Readings.{steps_of};
 ghost use Rattle.jc_asks.specs.Steps.{Sync, stepped};
 ghost use Rattle.jc_control.specs.ControllerCalls.{all_added, begun, clocked, delivered, ended, forgot, job_keys, listed_jobs, listed_pods, pod_owners, told};
 ghost use Rattle.jc_control.specs.Schedules.{ControllerView, MirrorsLog, Schedule, idle, log_end};
@@ -47,6 +46,7 @@ ghost use Rattle.jc_history.specs.Occasions.{Exchange, GoesOver, HasDeed, HasLeg
 ghost use Rattle.jc_history.specs.Occasions.{register_read};
 ghost use Rattle.jc_history.specs.Play.{nothing, whole_play};
 ghost use Rattle.jc_history.specs.Registers.{AllFit, HaveOwnKeys, made, pending, register};
+ghost use Rattle.jc_history.specs.SoFar.{HasMadeSteps};
 ghost use Rattle.jc_history.specs.Replies.{diary, log_given, notes_with_begin, reply_of_begin, step_done, step_gives};
 
 /// At first nothing is there.
@@ -229,8 +229,7 @@ pub fn registers_are_the_ledgers_syncs()
 /// events says of a worker that has made them.
 pub fn steps_are_those_of_the_table()
     ensures { (log : List Entry) (now : ℕ) (pending : Option Fault) (sync : Sync)
-        (steps : List (Request × Answer)) → sync.flight.sends ≡ sends_of sync.flight.basis steps
-        → next_ask (planned sync.flight.basis) steps ≡ slice_get sync.left 0
+        (steps : List (Request × Answer)) → HasMadeSteps sync steps
         → step_gives log now steps pending (Some sync.flight.basis)
         ≡ step_done (stepped now pending log sync) }
 {}

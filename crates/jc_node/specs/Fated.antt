@@ -1,7 +1,8 @@
 -- How the pods of each key are to end, as rows.
 --     ends_at_key rows k     the ends of the key's pods, where they are decided
+--     DecidesEnds key ends old new    the new rows say so of the key, and of others what the old ones say
 --     HaveEnds rows      no list of ends is empty
-use Rattle.std.specs.Prelude.{◌≢◌, List, [], Option, IfSome}
+use Rattle.std.specs.Prelude.{◌≡◌, ◌≢◌, if◌then◌else◌, List, [], Option, Some, IfSome}
 use Rattle.jc_types.specs.declared.actions.End.{End}
 use Rattle.jc_types.specs.declared.objects.Key.{Key}
 use Rattle.jc_types.specs.Keys.{same_key}
@@ -10,6 +11,11 @@ use Rattle.jc_log.specs.Tables.{at}
 -- The ends of the key's pods.
 abbrev pub ends_at_key : List (Key × List End) → Key → Option (List End)
 ends_at_key rows k = at same_key rows k
+
+-- The new rows say that the key's pods end so, and of others what the old ones say.
+abbrev pub DecidesEnds : Key → List End → List (Key × List End) → List (Key × List End) → Type 0
+DecidesEnds key ends old new = (other : Key)
+    → ends_at_key new other ≡ (if same_key key other then Some ends else ends_at_key old other)
 
 -- No list of ends is empty.
 abbrev pub HaveEnds : List (Key × List End) → Type 0

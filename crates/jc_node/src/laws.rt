@@ -1,17 +1,16 @@
 //! Laws on the node. Each function is empty: what it ensures holds of every log and of all fates,
 //! and its callers may cite it.
 
-ghost use Rattle.std.specs.Prelude.{◌≡◌, ◌∷◌, [], List, None, Option, Some, if◌then◌else◌};
+ghost use Rattle.std.specs.Prelude.{◌≡◌, ◌∷◌, [], List, None, Option, Some};
 ghost use Rattle.jc_types.specs.declared.actions.End.{End};
 ghost use Rattle.jc_types.specs.declared.objects.Entry.{Entry};
 ghost use Rattle.jc_types.specs.declared.objects.Key.{Key};
 ghost use Rattle.jc_types.specs.declared.objects.Pod.{Pod};
-ghost use Rattle.jc_types.specs.Keys.{same_key};
 ghost use Rattle.jc_log.specs.Acts as does;
 ghost use Rattle.jc_log.specs.Deeds.{Deed};
 ghost use Rattle.jc_log.specs.Log.{pod_in};
 ghost use Rattle.jc_history.specs.Nodes.{NodeAct as Act, act_on, fate, fate_told, node_step, pod_end};
-ghost use Rattle.jc_node.specs.Fated.{ends_at_key};
+ghost use Rattle.jc_node.specs.Fated.{DecidesEnds, ends_at_key};
 ghost use Rattle.jc_node.specs.NodeSteps.{act_of, act_kind};
 
 /// The pod of the node's next step is there, the act is what befalls it, and what is told of the
@@ -33,8 +32,7 @@ pub fn fates_follow_the_deeds()
     ensures decided { (older : List Deed) (deed : Deed) (key : Key) (ends : List End)
         (old new : List (Key × List End)) → deed.act ≡ does.Fate key ends
         → ends_at_key old ≡ fate older
-        → ((other : Key) → ends_at_key new other
-        ≡ (if same_key key other then Some ends else ends_at_key old other))
+        → DecidesEnds key ends old new
         → ends_at_key new ≡ fate (deed ∷ older) }
     ensures left { (older : List Deed) (deed : Deed) (rows : List (Key × List End))
         → ((key : Key) → fate_told key deed ≡ None) → ends_at_key rows ≡ fate older
