@@ -25,7 +25,7 @@ use Rattle.jc_order.proofs.EndFacts.{numbers-within}
 use Rattle.jc_settle.proofs.CostFacts.{step-less, sync_left}
 use Rattle.jc_settle.proofs.SerialFacts.{listed-nothing, told-nothing}
 use Rattle.jc_settle.proofs.ToldFacts.{DeliveryIs, Loses, NotesOf, Tells, TellsCache, delivery-is, expired-tells, list-notes, listed-tells, step-given, step-notes, told-tells, unseen}
-use Rattle.jc_playing_out.specs.PlayingOut.{allowing}
+use Rattle.jc_order.specs.Plays.{allowing}
 use Rattle.jc_playing_out.proofs.SameFacts.{notes-same}
 use Rattle.jc_playing_out.proofs.DoneFacts.{Done, Good, added, good-added, loop-done}
 

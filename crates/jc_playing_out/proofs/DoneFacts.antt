@@ -10,7 +10,7 @@ use Rattle.jc_history.specs.Available.{is_quiescent}
 use Rattle.jc_history.specs.Legal.{IsLegal, IsOfShape, MaySettle}
 use Rattle.jc_history.specs.Play.{Playing, deeds_played, does_if, event_played, on_and_on, with_answer}
 use Rattle.jc_history.specs.Replies.{gives, log_after, log_given, reply_given}
-use Rattle.jc_playing_out.specs.PlayingOut.{allowing}
+use Rattle.jc_order.specs.Plays.{allowing}
 use Rattle.jc_playing_out.proofs.SameFacts.{gives-same}
 
 module _ (script : Script) (shape : Shape) where

@@ -18,8 +18,7 @@ use Rattle.jc_history.specs.Nodes.{fate, node_step}
 use Rattle.jc_history.specs.Notes.{Note}
 use Rattle.jc_history.specs.Numbers.{number}
 use Rattle.jc_history.specs.Replies.{begin_with, clock_gives, deliver_gives, gives, log_given, step_with}
-use Rattle.jc_order.specs.Plays.{AreWithin}
-use Rattle.jc_playing_out.specs.PlayingOut.{allowing}
+use Rattle.jc_order.specs.Plays.{AreWithin, allowing}
 
 module _ (n : ℕ) (shape : Shape) where
   pub moment-same : (past : List Deed) → moment (allowing n shape) past ≡ moment shape past

@@ -19,10 +19,9 @@ use Rattle.jc_history.specs.Available.{available, is_empty, is_quiescent}
 use Rattle.jc_history.specs.Legal.{IsOfShape, MaySettle}
 use Rattle.jc_history.specs.Play.{Playing, after_begin, brought_up, commanded, deeds_played, event_played, first_event, has_just_begun, is_command, nothing, rest_played, settled_down, stepped_if, stepped_through, whole_play}
 use Rattle.jc_history.specs.Replies.{log_after, log_given, next_deed, reply_given}
-use Rattle.jc_order.specs.Plays.{AreWithin, IsScriptFor}
+use Rattle.jc_order.specs.Plays.{AreWithin, IsScriptFor, PlayEnds, allowing}
 use Rattle.jc_order.proofs.AvailFacts.{IsOf, all-within}
 use Rattle.jc_settle.specs.Settles.{ComesToRest, settled_on, with_next}
-use Rattle.jc_playing_out.specs.PlayingOut.{PlayEnds, allowing}
 use Rattle.jc_playing_out.proofs.SameFacts.{available-same}
 use Rattle.jc_playing_out.proofs.DoneFacts.{Done, Good, LoopDone, added, done-then, event-done, good-added, loop-done}
 use Rattle.jc_playing_out.proofs.BringFacts.{brings-up, steps-through, system-deed}

@@ -5,9 +5,7 @@
 --     EndsSucceedFor key action     each end of a fate of the key is
 --     RestartsWell commands action  where a Job of OnFailure is created, each end of each fate of its key is
 --     FatesEndWell script           the last end of each fate is, and what is created restarts well
---     allowing n shape              the shape, with so many events allowed
---     PlayEnds script shape         with so many events allowed, or more, the play is the same and not full
-use Rattle.std.specs.Prelude.{◌≡◌, ℕ, ◌≤◌, true, false, List, IfSome}
+use Rattle.std.specs.Prelude.{◌≡◌, true, false, List, IfSome}
 use Rattle.std.specs.List.{AllByRecursion as Each}
 use Rattle.jc_types.specs.Keys.{same_key}
 use Rattle.jc_types.specs.declared.actions.Action1.{Action1}
@@ -15,9 +13,7 @@ use Rattle.jc_types.specs.declared.actions.Action1.TheVariants as act
 use Rattle.jc_types.specs.declared.actions.Command.{Command}
 use Rattle.jc_types.specs.declared.actions.Script.{Script}
 use Rattle.jc_types.specs.declared.objects.Key.{Key}
-use Rattle.jc_types.specs.declared.runs.Shape.{Shape}
 use Rattle.jc_history.specs.Nodes.{last_end}
-use Rattle.jc_history.specs.Play.{is_full, play_of}
 use Rattle.jc_finite.specs.Decisions.{restarts_on_failure}
 use Rattle.jc_finite.specs.Making.{fails}
 use Rattle.jc_finite.specs.Finite.{SucceedAll}
@@ -52,13 +48,3 @@ RestartsWell commands other = Unit {0}
 pub record FatesEndWell (script : Script) : Type 0 where
   pub lasts : Each (λ (command : Command). LastEndSucceeds command.action) script.commands
   pub restarts : Each (λ (command : Command). RestartsWell script.commands command.action) script.commands
-
--- The shape, with so many events allowed.
-abbrev pub allowing : ℕ → Shape → Shape
-allowing n shape = record shape { events = n }
-
--- The play of the script ends: with so many events allowed, or any number more, it is not full, and is one and the same.
-pub record PlayEnds (script : Script) (shape : Shape) : Type 0 where
-  pub events : ℕ
-  pub unfull : (n : ℕ) → events ≤ n → is_full script (allowing n shape) ≡ false
-  pub same : (n : ℕ) → events ≤ n → play_of script (allowing n shape) ≡ play_of script (allowing events shape)

@@ -12,8 +12,8 @@ ghost use Rattle.jc_states.specs.ValidActions.{AreValidCommands};
 ghost use Rattle.jc_history.specs.Available.{is_quiescent};
 ghost use Rattle.jc_history.specs.Play.{play_of};
 ghost use Rattle.jc_history.specs.Replies.{log_given};
-ghost use Rattle.jc_order.specs.Plays.{IsScriptFor, ends_in_settle};
-ghost use Rattle.jc_playing_out.specs.PlayingOut.{FatesEndWell, FatesSucceed, PlayEnds, allowing};
+ghost use Rattle.jc_order.specs.Plays.{IsScriptFor, PlayEnds, allowing, ends_in_settle};
+ghost use Rattle.jc_playing_out.specs.PlayingOut.{FatesEndWell, FatesSucceed};
 
 use jc_finite::settles_end;
 use jc_order::settled_plays_are_at_rest;

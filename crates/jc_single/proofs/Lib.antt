@@ -4,6 +4,6 @@ pub mod RunFacts
 pub mod EndFacts
 pub mod WordFacts
 pub mod ReapFacts
-pub mod PlayedFacts
+pub mod InTimeFacts
 -- Lemmas of the crates below, handed on to those above.
 pub use Rattle.jc_promise.proofs.DeedFacts

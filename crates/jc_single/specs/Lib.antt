@@ -2,7 +2,7 @@ pub mod RunEnds
 pub mod Played
 pub mod RunAnswers
 pub mod Headlines
-pub mod PlayedOut
+pub mod InTime
 -- Words of the crates below, handed on to those above.
 pub use Rattle.jc_reap.specs.TtlLines
 pub use Rattle.jc_reap.specs.Finds

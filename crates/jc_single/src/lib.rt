@@ -2,14 +2,15 @@
 //! promises hold.
 #![tactic(auto)]
 
+mod in_time;
 mod laws;
 mod orders;
-mod playing_out;
 mod plays;
 mod reaps;
 mod single;
 mod status;
 
+pub use in_time::{jobs_end_or_wait, single_runs_end_in_time};
 pub use jc_promise::{
     legal_histories_keep_the_promises, orderly_histories_have_small_numbers,
     plays_are_orderly_histories,
@@ -21,6 +22,5 @@ pub use laws::{
     single_runs_end_as_told,
 };
 pub use orders::Output;
-pub use playing_out::{jobs_end_or_wait, runs_are_played_out};
 pub use single::{MOST_BYTES, ended, run_order, run_single, write_output};
 pub use status::Status;

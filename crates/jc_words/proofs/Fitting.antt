@@ -1,10 +1,7 @@
 -- What is read is within the bounds.
-use Rattle.std.proofs.Common.{◌≡◌, ℕ, zero, suc, ◌+◌, ◌<◌, ◌≤◌, find, Bool, true, false, List, [], ◌∷◌, Option, Some, None, bytes_eq, decimal, nat_le, refl, arith, rules, tests, subst, codes, option_and_then}
+use Rattle.std.proofs.Common.{◌≡◌, ℕ, ◌≤◌, Bool, true, false, List, [], ◌∷◌, Option, Some, None, bytes_eq, decimal, nat_le, refl, arith, rules, tests, subst, codes, option_and_then}
 use Rattle.std.proofs.lemmas.Option.{none-some, same_Some}
-use Rattle.std.specs.List.{range_with_len}
 use Rattle.std.specs.Str.Parse.{digits_value}
-use Rattle.jc_moment.specs.Range.{IsMoment, end_of_moments}
-use Rattle.jc_moment.specs.Text.{moment_text}
 use Rattle.jc_types.specs.declared.runs.Shape.{Shape}
 use Rattle.jc_words.specs.FitOrders.{IsFitOrder, IsFitShape}
 use Rattle.jc_words.specs.Options.{options_of, values_of}
@@ -38,22 +35,6 @@ setting_fits : (low high usual m : ℕ) (values : List (List ℕ)) → low ≤ u
 setting_fits low high usual m [] more less e = let is : usual ≡ m = same_Some usual m e in (omega (arith, more, is), omega (arith, less, is))
 setting_fits low high usual m (value ∷ values) more less e = number_fits low high m value e
 
--- What is found in a range is in it.
-find-below : (test : ℕ → Bool) (a n m : ℕ) → find test (range_with_len a n) ≡ Some m → m < a + n
-find-below test a zero m e = absurd (none-some m e)
-find-below test a (suc n) m e = by (test a) refl where
-  by : (b : Bool) → test a ≡ b → m < a + suc n
-  by true is = let same : a ≡ m = same_Some a m (rw is at e) in omega (arith, same)
-  by false is = let below = find-below test (a + 1) n m (rw is at e) in omega (arith, below)
-
-moment_fits : (text : List ℕ) (m : ℕ) → moment_said text ≡ Some m → IsMoment m
-unfolding moment_said
-moment_fits text m e = find-below (λ second. bytes_eq (moment_text second) text) 0 end_of_moments m e
-
-start_fits : (values : List (List ℕ)) (m : ℕ) → setting default_shape.start moment_said values ≡ Some m → IsMoment m
-start_fits [] m e = let is : 1704067200 ≡ m = same_Some 1704067200 m e in omega (arith, is)
-start_fits (value ∷ values) m e = moment_fits value m e
-
 shape_fits : (values : OptionName → List (List ℕ)) (shape : Shape) → shape_said values ≡ Some shape → IsFitShape shape
 unfolding shape_said
 shape_fits values shape e =
@@ -84,7 +65,6 @@ shape_fits values shape e =
           small_window = (setting_fits 1 200000 1000 c (values Window) (omega arith) (omega arith) ec).1;
           some_events = (setting_fits 1 200000 200000 d (values Events) (omega arith) (omega arith) ed).0;
           few_events = (setting_fits 1 200000 200000 d (values Events) (omega arith) (omega arith) ed).1;
-          start = start_fits (values Start) f ef;
         })
 
 run_fits : (values : OptionName → List (List ℕ)) (order : Order) → run_said values ≡ Some order → IsFitOrder order

@@ -2,7 +2,6 @@
 --     IsFitShape shape                   the members of a shape are
 --     IsFitOrder order                   what the words ask for is
 use Rattle.std.specs.Prelude.{ℕ, ◌<◌, ◌≤◌, ◌^◌}
-use Rattle.jc_moment.specs.Range.{IsMoment}
 use Rattle.jc_types.specs.declared.runs.Shape.{Shape}
 use Rattle.jc_words.specs.Words.{most_threads}
 use Rattle.jc_words.specs.declared.words.Order.{Order}
@@ -17,7 +16,6 @@ pub record IsFitShape (shape : Shape) : Type 0 where
   pub small_window : shape.window ≤ 200000
   pub some_events : 1 ≤ shape.events
   pub few_events : shape.events ≤ 200000
-  pub start : IsMoment shape.start
 
 -- Few threads, and a shape that is fit.
 pub record IsFitRun (threads : ℕ) (shape : Shape) : Type 0 where

@@ -2,7 +2,7 @@
 use Rattle.std.proofs.Common.{sym, ◌∙◌}
 use Rattle.jc_log.specs.Deeds.{deeds}
 use Rattle.jc_history.specs.Play.{deeds_played}
-use Rattle.jc_playing_out.specs.PlayingOut.{allowing}
+use Rattle.jc_order.specs.Plays.{allowing}
 use Rattle.jc_playing_out.proofs.FateFacts.{fates-end-well, fates-succeed}
 use Rattle.jc_playing_out.proofs.SameFacts.{quiescent-same, within-same}
 use Rattle.jc_playing_out.proofs.WholeFacts.{play-ends}
