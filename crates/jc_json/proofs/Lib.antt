@@ -1,6 +1,5 @@
 pub mod Items
 pub mod Lines
-pub mod Members
 pub mod Reading
 pub mod Views
 pub mod Written

@@ -102,11 +102,6 @@ needed_text path name d = do
   found ← needed path name d
   text_of (path_to path name) found
 
-unfoldable pub needed_bool : List ℕ → List ℕ → Data → Result Bool Refusal
-needed_bool path name d = do
-  found ← needed path name d
-  bool_of (path_to path name) found
-
 unfoldable pub needed_number : List ℕ → List ℕ → ℤ → ℤ → Data → Result ℤ Refusal
 needed_number path name least greatest d = do
   found ← needed path name d

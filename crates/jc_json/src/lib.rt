@@ -16,10 +16,10 @@ mod reader;
 mod value;
 
 pub use field::FieldFault;
-pub use given::{has_members, is_written, number_is, text_is};
+pub use given::is_written;
 pub use item::{item_number, item_object};
 pub use line::{JsonFault, Room, new_room, read_line, read_owned};
-pub use needed::{need_bool, need_list, need_number, need_object, need_text};
+pub use needed::{need_list, need_number, need_object, need_text};
 pub use optional::{given_items, may_bool, may_list, may_number, may_object, may_text, member};
 pub use ordered::{Ordered, in_order};
 pub use owned::borrowed;

@@ -1,12 +1,12 @@
 //! Readers of members that must be there.
 
 ghost use Rattle.std.specs.Prelude.{◌≤ℤ◌, IfOk, map};
-ghost use Rattle.jc_json.specs.Field.{needed_text, needed_bool, needed_number, needed_list, needed_object};
+ghost use Rattle.jc_json.specs.Field.{needed_text, needed_number, needed_list, needed_object};
 ghost use Rattle.jc_json.specs.Exact.{Gives};
 ghost use Rattle.jc_json.specs.View.{view};
 
 use crate::field::FieldFault;
-use crate::optional::{may_bool, may_items, may_number, may_object, may_text};
+use crate::optional::{may_items, may_number, may_object, may_text};
 use crate::path::Path;
 use crate::value::Value;
 use std::alloc::Global;
@@ -27,24 +27,6 @@ pub fn need_text<'v, 'a>(
         (needed_text path.now name.now (view object.now)) }
 {
     match may_text(alloc, object, path, name)? {
-        Some(found) => Ok(found),
-        None => Err(FieldFault::Missing {
-            path: Path::of_member(alloc, path, name)?,
-        }),
-    }
-}
-
-/// The boolean of a member that must be there. `path` is that of the object.
-///
-/// # Errors
-///
-/// `Missing` exactly where the member is absent, and the refusals of `may_bool`.
-#[tactic(auto, unfolding(crate::specs::Field::needed_bool, crate::specs::Field::optional_bool))]
-pub fn need_bool(alloc: Global, object: &Value, path: &Path, name: &str) -> Result<bool, FieldFault>
-    ensures { Gives (λ truth. truth) result
-        (needed_bool path.now name.now (view object.now)) }
-{
-    match may_bool(alloc, object, path, name)? {
         Some(found) => Ok(found),
         None => Err(FieldFault::Missing {
             path: Path::of_member(alloc, path, name)?,
