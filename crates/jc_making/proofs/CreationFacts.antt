@@ -1,9 +1,8 @@
--- A plan that makes pods leaves as many fewer to be made, and no plan leaves more.
-use Rattle.std.proofs.Common.{◌≡◌, ℕ, suc, ◌+◌, ◌-◌, ◌≤◌, ◌==◌, min, Bool, true, false, cond, not, ◌&&◌, ◌||◌, List, [], ◌∷◌, ◌++◌, filter, length, drop, Option, Some, None, IfSome, is_some, unwrap_or, refl, sym, ap, ◌∙◌, subst, arith}
+-- A plan that makes pods leaves as many fewer places, and no plan leaves more.
+use Rattle.std.proofs.Common.{◌≡◌, ℕ, suc, ◌+◌, ◌-◌, ◌≤◌, ◌==◌, min, Bool, true, false, cond, not, ◌&&◌, ◌||◌, List, [], ◌∷◌, ◌++◌, filter, length, Option, Some, None, is_some, unwrap_or, refl, sym, ap, ◌∙◌, subst, arith}
 use Rattle.std.specs.List.{AllByRecursion as Each}
 use Rattle.std.proofs.lemmas.List.{length-append}
 use Rattle.std.proofs.lemmas.List.Elements.{filter-append, filter_agree}
-use Rattle.jc_types.specs.declared.actions.End.{End}
 use Rattle.jc_types.specs.declared.objects.Job.{Job}
 use Rattle.jc_types.specs.declared.objects.Pod.{Pod}
 use Rattle.jc_types.specs.declared.specifications.Mode.TheVariants.{NonIndexed, Indexed}
@@ -21,16 +20,16 @@ use Rattle.jc_perindex.specs.Failures.{failing_by, failing_in, newly_failed}
 use Rattle.jc_manage.specs.Creations.{creatable, job_wants, wanted}
 use Rattle.jc_manage.specs.LetGoes.{is_let_go, is_needless, is_one_of, is_spare, remaining}
 use Rattle.jc_manage.proofs.Bounds.{creatable-few, creates-few, lacks-few}
-use Rattle.jc_history.specs.Nodes.{last_end}
 use Rattle.jc_plan.specs.Plans.{planned}
 use Rattle.jc_plan.specs.Statuses.{accounted, decided_in, is_end_decided}
 use Rattle.jc_plan.proofs.PlanFacts.{plan-creates}
 use Rattle.jc_making.specs.Grants.{AllGranted, AreNew}
-use Rattle.jc_making.specs.Making.{IsCounted, fails, is_closed, may_be_made, misses, open_indexes, places, places_of, pods_succeeded, will_fail}
+use Rattle.jc_making.specs.Making.{IsCounted, is_closed, open_indexes, places, places_of, pods_succeeded}
 use Rattle.jc_making.proofs.Lists.{halves}
-use Rattle.jc_making.proofs.MissFacts.{new-length, new-misses}
+use Rattle.jc_making.proofs.MissFacts.{new-length}
 use Rattle.jc_making.proofs.OrderFacts.{few-go_plain}
 use Rattle.jc_making.proofs.PlanFacts.{active-left, own-rises, stays_active}
+use Rattle.jc_making.proofs.PodFacts.{unmet}
 use Rattle.jc_making.proofs.StatusFacts.{judged-or-left, successes-stay, then}
 use Rattle.jc_making.proofs.Values.{all-used}
 
@@ -41,9 +40,8 @@ all-active made [] (p ∷ pods) h = absurd h
 all-active made (index ∷ indexes) [] h = absurd h
 all-active made (index ∷ indexes) (p ∷ pods) h = (h.0.active, all-active (suc made) indexes pods h.1)
 
-module _ (ends : List End) (made : ℕ) (job : Job) (basis : Basis) (this : basis.job ≡ Some job) (rises : IsRising basis.pods)
-    (counted : IsCounted job (own_pods job basis.pods)) (last : IfSome (last_end ends) (λ end. fails end ≡ false))
-    (now : List Pod) (is : AllGranted (planned basis) made (own_pods job basis.pods) now)
+module _ (made : ℕ) (job : Job) (basis : Basis) (this : basis.job ≡ Some job) (rises : IsRising basis.pods)
+    (counted : IsCounted job (own_pods job basis.pods)) (now : List Pod) (is : AllGranted (planned basis) made (own_pods job basis.pods) now)
     (undecided : is_end_decided job (decided_in job basis) ≡ false) (running : job.spec.suspend ≡ false) where
   abbrev pub own : List Pod
   own = own_pods job basis.pods
@@ -113,27 +111,21 @@ module _ (ends : List End) (made : ℕ) (job : Job) (basis : Basis) (this : basi
   pub kept-many : length (filter (is_one_of (length rest - wants) job.spec.mode rest) rest) ≤ length rest - wants → min (length rest) wants ≤ length kept
   kept-many few = let parts = halves (is_one_of (length rest - wants) job.spec.mode rest) rest in omega (arith, parts, few)
 
-  -- The misses are no more.
-  pub misses-few : length (filter (will_fail ends) (kept ++ is.fresh)) + length (filter fails (drop (made + made_now) ends)) ≤ length (filter (will_fail ends) tracked) + length (filter fails (drop made ends))
-  misses-few =
-      let both = ap length (filter-append (will_fail ends) kept is.fresh) in
-      let parts = length-append (filter (will_fail ends) kept) (filter (will_fail ends) is.fresh) in
-      let new = new-misses ends last made (planned basis).creates is.fresh is.new in
+  -- Of those that are kept no more pass than of all.
+  pub kept-few : (test : Pod → Bool) → length (filter test kept) ≤ length (filter test tracked)
+  kept-few test =
       let one = within (λ p. not (is_one_of (length rest - wants) job.spec.mode rest p)) rest in
       let two = within (λ p. not (is_spare job.spec.mode needless tracked p)) tracked in
-      omega (arith, both, parts, new, one, two)
+      omega (arith, one, two)
     where
-      within : (test : Pod → Bool) (pods : List Pod) → length (filter (will_fail ends) (filter test pods)) ≤ length (filter (will_fail ends) pods)
-      within test pods = let swapped = ap length (Rattle.jc_types.proofs.ListFacts.filter_swap (will_fail ends) test pods) in let least = filter-least test (filter (will_fail ends) pods) in omega (arith, swapped, least)
+      within : (chosen : Pod → Bool) (pods : List Pod) → length (filter test (filter chosen pods)) ≤ length (filter test pods)
+      within chosen pods = let swapped = ap length (Rattle.jc_types.proofs.ListFacts.filter_swap test chosen pods) in let least = filter-least chosen (filter test pods) in omega (arith, swapped, least)
 
   -- ---- a Job that is not Indexed
 
   module _ (plain : job.spec.mode ≡ NonIndexed) where
     succeeded-now : (counts (accounted job basis)).1 ≡ pods_succeeded job own
-    succeeded-now = omega (arith, succeeded-sum job basis.pods plain rises, left-succeeded job basis.pods, judged-or-left job basis this rises (λ at. absurd (other (sym plain ∙ at))))
-      where
-        other : NonIndexed ≡ Indexed → ⊥
-        other e = cc
+    succeeded-now = omega (arith, succeeded-sum job basis.pods plain rises, left-succeeded job basis.pods, judged-or-left job basis this rises)
 
     unindexed : job.spec.mode ≡ Indexed → ⊥
     unindexed at = no-mode (sym plain ∙ at)
@@ -168,20 +160,19 @@ module _ (ends : List End) (made : ℕ) (job : Job) (basis : Basis) (this : basi
         by true e = omega (arith, e, kept, few, less)
         by false e = omega (arith, e, kept, few, less)
 
-    pub plain-lowers : may_be_made ends (made + made_now) (then job basis this rises counted.none) now + made_now ≤ may_be_made ends made job own
-    plain-lowers =
-        let closed_then = is_closed (then job basis this rises counted.none) now in
+    -- The places that nobody runs towards become fewer by as many as are made.
+    pub plain-places : (m n : ℕ) → n ≤ m → unmet (then job basis this rises) now + n + made_now ≤ unmet job own + m
+    plain-places m n less =
+        let closed_then = is_closed (then job basis this rises) now in
         let wanted_is : wants ≡ wanted job.spec.parallelism job.spec.completions (pods_succeeded job own) 0 (length tracked) =
         (λ i. wanted job.spec.parallelism job.spec.completions (succeeded-now i) (none-failed i) (length tracked)) in
-        let lower = falls-by job.spec.completions job.spec.parallelism (pods_succeeded job own) (length kept) (length tracked) wants made_now
-        (misses ends made own) (length (filter (will_fail ends) (kept ++ is.fresh)) + length (filter fails (drop (made + made_now) ends)))
-        (open_indexes (then job basis this rises counted.none) now) (open_indexes job own) wanted_is
-        (let many = kept-many few-go in let all = all-count needless tracked in omega (arith, many, all)) made-few misses-few in
-        let places_then : places (then job basis this rises counted.none) now ≡ places_of NonIndexed job.spec.completions job.spec.parallelism (pods_succeeded job own) (open_indexes (then job basis this rises counted.none) now) =
-        (λ i. places_of (plain i) job.spec.completions job.spec.parallelism (successes-stay job basis this rises counted.none made now plain is i) (open_indexes (then job basis this rises counted.none) now)) in
+        let lower = falls-by job.spec.completions job.spec.parallelism (pods_succeeded job own) (length kept) (length tracked) wants made_now m n
+        (open_indexes (then job basis this rises) now) (open_indexes job own) wanted_is
+        (let many = kept-many few-go in let all = all-count needless tracked in omega (arith, many, all)) made-few less in
+        let places_then : places (then job basis this rises) now ≡ places_of NonIndexed job.spec.completions job.spec.parallelism (pods_succeeded job own) (open_indexes (then job basis this rises) now) =
+        (λ i. places_of (plain i) job.spec.completions job.spec.parallelism (successes-stay job basis this rises made now plain is i) (open_indexes (then job basis this rises) now)) in
         let places_now = ap (λ mode. places_of mode job.spec.completions job.spec.parallelism (pods_succeeded job own) (open_indexes job own)) plain in
         let used_then = all-count closed_then (tracked_active_pods now) ∙ ap length tracked-now ∙ length-append kept is.fresh in
         let used_now = all-count (is_closed job own) tracked in
-        let missed = ap (λ pods. length (filter (will_fail ends) pods) + length (filter fails (drop (made + made_now) ends))) tracked-now in
         let new = fresh-length in
-        omega (arith, lower, places_then, places_now, used_then, used_now, missed, new)
+        omega (arith, lower, places_then, places_now, used_then, used_now, new)

@@ -1,5 +1,5 @@
 -- A plan of an Indexed Job uses up what may be made.
-use Rattle.std.proofs.Common.{◌≡◌, ℕ, ◌+◌, ◌-◌, ◌<◌, ◌≤◌, min, nat_lt, nat_le, Bool, true, false, cond, not, ◌&&◌, ◌||◌, List, [], ◌++◌, map, filter, length, take, drop, Option, Some, None, IsSome, IfSome, is_some, unwrap_or, refl, sym, ap}
+use Rattle.std.proofs.Common.{◌≡◌, ℕ, ◌+◌, ◌-◌, ◌<◌, ◌≤◌, min, nat_lt, nat_le, Bool, true, false, cond, not, ◌&&◌, ◌||◌, List, [], ◌++◌, map, filter, length, take, Option, Some, None, IsSome, is_some, unwrap_or, refl, sym, ap}
 use Rattle.std.proofs.Common.{◌∙◌, subst, arith, true≢false}
 use Rattle.std.specs.List.{AllByRecursion as Each, range_with_len}
 use Rattle.std.proofs.lemmas.Bool.{and_parts, lt-leb, ltb-true}
@@ -8,7 +8,6 @@ use Rattle.std.proofs.lemmas.List.Elements.{All-from_recursion, recursion_from_A
 use Rattle.std.proofs.lemmas.List.Folds.{list_any_none}
 use Rattle.jc_ranges.specs.Sets.{IsIncreasing, has}
 use Rattle.jc_ranges.proofs.Back.{range_set}
-use Rattle.jc_types.specs.declared.actions.End.{End}
 use Rattle.jc_types.specs.declared.objects.Job.{Job}
 use Rattle.jc_types.specs.declared.objects.Pod.{Pod}
 use Rattle.jc_types.specs.declared.specifications.Mode.{Mode}
@@ -39,19 +38,19 @@ use Rattle.jc_manage.specs.Backoffs.{backoff_after, is_delayed_until, opening}
 use Rattle.jc_manage.specs.Creations.{creatable, creates, free, holds, is_free, job_lacks, keepers, keeps, new_pods, wanted}
 use Rattle.jc_manage.specs.LetGoes.{is_earlier, is_needless, is_one_of, is_spare, remaining}
 use Rattle.jc_manage.proofs.Bounds.{free-new, free-unkept}
-use Rattle.jc_history.specs.Nodes.{last_end}
 use Rattle.jc_plan.specs.Plans.{planned}
 use Rattle.jc_plan.specs.Statuses.{accounted, decided_in, is_end_decided}
 use Rattle.jc_plan.proofs.PlanFacts.{plan-creates}
 use Rattle.jc_plan.proofs.ValueFacts.{second-index_failures}
 use Rattle.jc_making.specs.Grants.{AllGranted, AreNew}
-use Rattle.jc_making.specs.Making.{IsCounted, completed_now, failed_by, fails, is_closed, may_be_made, misses, new_successes, open_indexes, places, places_of, pods_succeeded, will_fail}
+use Rattle.jc_making.specs.Making.{IsCounted, completed_now, failed_by, is_closed, new_successes, open_indexes, places, places_of, pods_succeeded}
 use Rattle.jc_making.proofs.ClosedFacts.{closed-stays, is_over, past-closed}
-use Rattle.jc_making.proofs.CreationFacts.{fresh-length, kept, kept-many, made-few, made_now, misses-few, tracked-now, wants}
+use Rattle.jc_making.proofs.CreationFacts.{fresh-length, kept, kept-many, made-few, tracked-now, wants}
 use Rattle.jc_making.proofs.FreshFacts.{all-of-use, increasing-take, open-size}
 use Rattle.jc_making.proofs.Lists.{fewer}
 use Rattle.jc_making.proofs.OrderFacts.{few-go_indexed}
 use Rattle.jc_making.proofs.PlanFacts.{own-rises}
+use Rattle.jc_making.proofs.PodFacts.{unmet}
 use Rattle.jc_making.proofs.StatusFacts.{below, counted-is, in-is, indexes-stay, left-is, over-raised, then}
 use Rattle.jc_making.proofs.UseFacts.{is_of_use, one-of-use, open_in, use-kept}
 
@@ -150,16 +149,15 @@ module _ (completions : ℕ) (completed : List ℕ) (job : Job) (pods : List Pod
 
 -- ---- before and after
 
-module _ (ends : List End) (made : ℕ) (job : Job) (basis : Basis) (this : basis.job ≡ Some job) (rises : IsRising basis.pods)
-    (counted : IsCounted job (own_pods job basis.pods)) (last : IfSome (last_end ends) (λ end. fails end ≡ false))
-    (now : List Pod) (is : AllGranted (planned basis) made (own_pods job basis.pods) now)
+module _ (made : ℕ) (job : Job) (basis : Basis) (this : basis.job ≡ Some job) (rises : IsRising basis.pods)
+    (counted : IsCounted job (own_pods job basis.pods)) (now : List Pod) (is : AllGranted (planned basis) made (own_pods job basis.pods) now)
     (undecided : is_end_decided job (decided_in job basis) ≡ false) (running : job.spec.suspend ≡ false)
     (indexed : job.spec.mode ≡ Indexed) where
   abbrev own : List Pod
   own = own_pods job basis.pods
 
   abbrev later : Job
-  later = then job basis this rises counted.none
+  later = then job basis this rises
 
   abbrev limit : Option ℕ
   limit = job.spec.per_index
@@ -176,8 +174,11 @@ module _ (ends : List End) (made : ℕ) (job : Job) (basis : Basis) (this : basi
   abbrev useless : ℕ → Bool
   useless = is_needless completions (accounted job basis)
 
+  abbrev new : ℕ
+  new = length (planned basis).creates
+
   abbrev stay : List Pod
-  stay = kept ends made job basis this rises counted last now is undecided running
+  stay = kept made job basis this rises counted now is undecided running
 
   unended : has_end job.status.conditions ≡ false
   unended = by (has_end job.status.conditions) refl
@@ -191,10 +192,10 @@ module _ (ends : List End) (made : ℕ) (job : Job) (basis : Basis) (this : basi
       by false e = refl
 
   completed-is : (counted_in job basis.pods).completed ≡ completed_now job own
-  completed-is = in-is job basis this rises counted.none indexed unended ∙ counted-is job basis this rises counted.none indexed unended
+  completed-is = in-is job basis this rises indexed unended ∙ counted-is job basis this rises indexed unended
 
   completed-then : (counted_in job basis.pods).completed ≡ completed_now later now
-  completed-then = completed-is ∙ sym (indexes-stay job basis this rises counted.none indexed unended made now is)
+  completed-then = completed-is ∙ sym (indexes-stay job basis this rises indexed unended made now is)
 
   failed-is : (accounted job basis).failed_indexes ≡ failed_by limit completions (counted_in job basis.pods).completed (failures_by limit job failing)
   unfolding failing_in
@@ -209,7 +210,7 @@ module _ (ends : List End) (made : ℕ) (job : Job) (basis : Basis) (this : basi
 
   counts-then : later.status.index_failures ≡ failures_by limit job failing
   unfolding failures_in
-  counts-then = ap (λ (s : JobStatus). s.index_failures) (left-is job basis this rises counted.none) ∙ second-index_failures job basis
+  counts-then = ap (λ (s : JobStatus). s.index_failures) (left-is job basis this rises) ∙ second-index_failures job basis
 
   useless-is : useless ≡ is_closed later now
   useless-is =
@@ -221,7 +222,7 @@ module _ (ends : List End) (made : ℕ) (job : Job) (basis : Basis) (this : basi
   size =
       open-size completions (counted_in job basis.pods).completed (accounted job basis).failed_indexes
       (subst IsIncreasing (sym completed-is) rising)
-      (subst (Each (λ n. n < completions)) (sym completed-is) (below job basis this rises counted.none indexed unended))
+      (subst (Each (λ n. n < completions)) (sym completed-is) (below job basis this rises indexed unended))
       (subst IsIncreasing (sym failed-is) (up-failed completions (counted_in job basis.pods).completed job failing counted.failures limit))
       (subst (Each (λ n. (n < completions) × (has n (counted_in job basis.pods).completed ≡ false))) (sym failed-is) (each-failed completions (counted_in job basis.pods).completed job failing counted.failures limit))
     where
@@ -230,7 +231,7 @@ module _ (ends : List End) (made : ℕ) (job : Job) (basis : Basis) (this : basi
           subst (λ m. IsIncreasing (completed_after m false completions job.status.completed (new_successes job own))) (sym indexed)
           (increasing-join (filter (λ n. nat_lt n completions) job.status.completed) (indexes_below completions (new_successes job own)) (increasing-filter (λ n. nat_lt n completions) job.status.completed counted.completed))
 
-  wants-are : wants ends made job basis this rises counted last now is undecided running ≡ min job.spec.parallelism (length (open_in useless completions))
+  wants-are : wants made job basis this rises counted now is undecided running ≡ min job.spec.parallelism (length (open_in useless completions))
   wants-are =
       let some = wanted-some job.spec.completions (counted.valid.indexed indexed) job.spec.parallelism (counts (accounted job basis)).1 (length (accounted job basis).failed_indexes) (length active) in
       let total = indexed-total job basis.pods indexed in
@@ -272,13 +273,13 @@ module _ (ends : List End) (made : ℕ) (job : Job) (basis : Basis) (this : basi
 
   abbrev Few : Mode → Type 0
   Few m =
-      length (filter (is_one_of (length (remaining m useless active) - wants ends made job basis this rises counted last now is undecided running) m (remaining m useless active)) (remaining m useless active))
-      ≤ length (remaining m useless active) - wants ends made job basis this rises counted last now is undecided running
+      length (filter (is_one_of (length (remaining m useless active) - wants made job basis this rises counted now is undecided running) m (remaining m useless active)) (remaining m useless active))
+      ≤ length (remaining m useless active) - wants made job basis this rises counted now is undecided running
 
   few-go : Few job.spec.mode
   few-go =
       subst Few (sym indexed)
-      (few-go_indexed (remaining Indexed useless active) (length (remaining Indexed useless active) - wants ends made job basis this rises counted last now is undecided running)
+      (few-go_indexed (remaining Indexed useless active) (length (remaining Indexed useless active) - wants made job basis this rises counted now is undecided running)
       (Each-filter (λ p. IsSome p.index) (is_of_use useless active) active numbered) (one-of-use useless active up))
 
   made-as : (planned basis).creates
@@ -295,16 +296,16 @@ module _ (ends : List End) (made : ℕ) (job : Job) (basis : Basis) (this : basi
     where
       in-stay : (P : Pod → Type 0) → Each P active → Each P stay
       in-stay P h =
-          Each-filter P (λ p. not (is_one_of (length (remaining job.spec.mode useless active) - wants ends made job
-          basis this rises counted last now is undecided running) job.spec.mode (remaining job.spec.mode useless active)
+          Each-filter P (λ p. not (is_one_of (length (remaining job.spec.mode useless active) - wants made job basis
+          this rises counted now is undecided running) job.spec.mode (remaining job.spec.mode useless active)
           p)) (remaining job.spec.mode useless active)
           (Each-filter P (λ p. not (is_spare job.spec.mode useless active p)) active h)
 
       used : Each (λ p. is_of_use useless active p ≡ true) stay
       used =
           Each-filter (λ p. is_of_use useless active p ≡ true)
-          (λ p. not (is_one_of (length (remaining job.spec.mode useless active) - wants ends made job basis this rises
-          counted last now is undecided running) job.spec.mode (remaining job.spec.mode useless active) p))
+          (λ p. not (is_one_of (length (remaining job.spec.mode useless active) - wants made job basis this rises
+          counted now is undecided running) job.spec.mode (remaining job.spec.mode useless active) p))
           (remaining job.spec.mode useless active)
           (Each-weaker (λ p. not (is_spare job.spec.mode useless active p) ≡ true) (λ p. is_of_use useless active p ≡ true) (λ p h. ap (λ m. not (is_spare m useless active p)) (sym indexed) ∙ h) (remaining job.spec.mode useless active)
           (Each-passes (λ p. not (is_spare job.spec.mode useless active p)) active))
@@ -315,32 +316,29 @@ module _ (ends : List End) (made : ℕ) (job : Job) (basis : Basis) (this : basi
           → length (remaining Indexed useless (stay ++ is.fresh)) ≡ length stay + length is.fresh
       with-numbers numbers =
           all-of-use useless active stay is.fresh made numbers.set (subst (λ cs. AreNew made cs is.fresh) (made-as ∙ numbers.are) is.new) numbers.up
-          (subst (RisesFrom 0) (tracked-now ends made job basis this rises counted last now is undecided running) (rises_filter 0 is_tracked_active now is.rising))
+          (subst (RisesFrom 0) (tracked-now made job basis this rises counted now is undecided running) (rises_filter 0 is_tracked_active now is.rising))
           (Each-weaker (λ n. (useless n ≡ false) × Each (λ p. has_index n p ≡ false) active) (λ n. (useless n ≡ false) × Each (λ p. has_index n p ≡ false) stay) (λ n h. (h.0, in-stay (λ p. has_index n p ≡ false) h.1)) numbers.set numbers.opened)
           (Each-both (λ p. IsSome p.index) (λ p. is_of_use useless active p ≡ true) stay (in-stay (λ p. IsSome p.index) numbered) used)
           (λ n u h. list_any_none (is_earlier n u) stay (All-from_recursion (λ p. is_earlier n u p ≡ false) stay (in-stay (λ p. is_earlier n u p ≡ false) (each-fails (is_earlier n u) active h))))
 
-  pub indexed-lowers : may_be_made ends (made + made_now ends made job basis this rises counted last now is undecided running) later now + made_now ends made job basis this rises counted last now is undecided running ≤ may_be_made ends made job own
-  indexed-lowers =
-      let new = made_now ends made job basis this rises counted last now is undecided running in
-      let misses_then = length (filter (will_fail ends) (stay ++ is.fresh)) + length (filter fails (drop (made + new) ends)) in
+  -- The places that nobody runs towards become fewer by as many as are made.
+  pub indexed-places : (m n : ℕ) → n ≤ m → unmet later now + n + new ≤ unmet job own + m
+  indexed-places m n less =
       let left_is : length (remaining job.spec.mode useless active) ≡ length (remaining Indexed useless active) = ap (λ m. length (remaining m useless active)) indexed in
-      let many = kept-many ends made job basis this rises counted last now is undecided running few-go in
+      let many = kept-many made job basis this rises counted now is undecided running few-go in
       let lower = indexed-falls job.spec.parallelism (length (open_in (is_closed job own) completions)) (length (open_in useless completions))
       (length (remaining Indexed (is_closed job own) active)) (length (remaining Indexed useless active)) (length (stay ++ is.fresh)) (length stay) (length active)
-      (wants ends made job basis this rises counted last now is undecided running) new (misses ends made own) misses_then
+      (wants made job basis this rises counted now is undecided running) new m n
       before-after fewer-open wants-are (filter-least (is_of_use useless active) active)
       (omega (arith, left_is, many))
-      (let sum = length-append stay is.fresh in let same = fresh-length ends made job basis this rises counted last now is undecided running in omega (arith, sum, same))
-      (made-few ends made job basis this rises counted last now is undecided running)
-      (misses-few ends made job basis this rises counted last now is undecided running) in
+      (let sum = length-append stay is.fresh in let same = fresh-length made job basis this rises counted now is undecided running in omega (arith, sum, same))
+      (made-few made job basis this rises counted now is undecided running) less in
       let places_then : places later now ≡ length (open_in useless completions) =
       (λ i. places_of (indexed i) job.spec.completions job.spec.parallelism (pods_succeeded later now) (filter (λ n. not (sym useless-is i n)) (range_with_len 0 completions))) in
       let places_now = ap (λ m. places_of m job.spec.completions job.spec.parallelism (pods_succeeded job own) (open_indexes job own)) indexed in
       let used_then : length (remaining job.spec.mode (is_closed later now) (tracked_active_pods now)) ≡ length (remaining Indexed useless (stay ++ is.fresh)) =
-      (λ i. length (remaining (indexed i) (sym useless-is i) (tracked-now ends made job basis this rises counted last now is undecided running i))) in
+      (λ i. length (remaining (indexed i) (sym useless-is i) (tracked-now made job basis this rises counted now is undecided running i))) in
       let all = of-use-then in
       let joined = length-append stay is.fresh in
       let used_now = ap (λ m. length (remaining m (is_closed job own) active)) indexed in
-      let missed = ap (λ pods. length (filter (will_fail ends) pods) + length (filter fails (drop (made + new) ends))) (tracked-now ends made job basis this rises counted last now is undecided running) in
-      omega (arith, lower, places_then, places_now, used_then, all, joined, used_now, missed)
+      omega (arith, lower, places_then, places_now, used_then, all, joined, used_now)

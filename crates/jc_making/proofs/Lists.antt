@@ -7,7 +7,7 @@ use Rattle.jc_ranges.specs.Sets.{has}
 use Rattle.jc_types.specs.declared.numbers.Uid.{Uid}
 use Rattle.jc_types.specs.declared.objects.Pod.{Pod}
 use Rattle.jc_types.specs.Keys.{same_uid}
-use Rattle.jc_types.proofs.ListFacts.{Each-both, Each-filter, Each-passes, Each-weaker, filter_swap}
+use Rattle.jc_types.proofs.ListFacts.{Each-both, Each-filter, Each-passes, Each-weaker, filter_filter, filter_swap}
 use Rattle.jc_states.specs.Indexes.{has_index}
 use Rattle.jc_states.specs.PodLists.{RisesFrom}
 use Rattle.jc_states.specs.UidLists.{is_in, uids_of}
@@ -54,6 +54,13 @@ module _ {X : Type 0} where
   length-mid f [] back x = sym (length-with f x back)
   length-mid f (y ∷ front) back x =
       omega (arith, length-with f y (front ++ x ∷ back), length-with f y (front ++ back), length-mid f front back x)
+
+  -- The same of those that pass two tests.
+  pub passing-mid : (chosen test : X → Bool) (front back : List X) (x : X) → length (filter test (filter chosen (front ++ x ∷ back))) ≡ one_if (chosen x && test x) + length (filter test (filter chosen (front ++ back)))
+  passing-mid chosen test front back x =
+      ap length (filter_filter test chosen (front ++ x ∷ back))
+      ∙ length-mid (λ y. chosen y && test y) front back x
+      ∙ ap (λ ys. one_if (chosen x && test x) + length ys) (sym (filter_filter test chosen (front ++ back)))
 
   pub any-mid : (f : X → Bool) (front back : List X) (x : X) → list_any f (front ++ x ∷ back) ≡ (f x || list_any f (front ++ back))
   any-mid f [] back x = refl

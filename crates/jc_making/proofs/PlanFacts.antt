@@ -36,7 +36,6 @@ use Rattle.jc_plan.specs.Statuses.{accounted, decided_in, is_end_decided}
 use Rattle.jc_plan.proofs.PlanFacts.{plan-let_goes, plan-marks, plan-releases}
 use Rattle.jc_making.specs.Grants.{Becomes, AllBecome, Nothing, Stays, Goes, frees}
 use Rattle.jc_making.proofs.Lists.{passes-in}
-use Rattle.jc_making.proofs.PodFacts.{is_new}
 
 -- ---- outcomes
 
@@ -84,6 +83,13 @@ active-alive spec pod h = by pod.phase (is_marked pod) (counts_marked spec.repla
     by phase.Running false false e = refl
     by phase.Succeeded false c e = absurd (true≢false (sym e))
     by phase.Failed false c e = absurd (true≢false (sym e))
+
+-- Where a pod is active no pod in its phase passes.
+abbrev pub Ended : (Pod → Bool) → Type 0
+Ended test = (p q : Pod) → q.phase ≡ p.phase → is_active p ≡ true → test q ≡ false
+
+pub success-ended : (spec : JobSpec) → Ended (λ pod. same_outcome (outcome_of spec pod) outcome.Succeeded)
+success-ended spec p q same active = success-is spec q ∙ ap is_succeeded same ∙ sym (success-is spec p) ∙ active-not spec p active
 
 -- ---- what becomes of pods that pass
 
@@ -188,27 +194,29 @@ module _ (job : Job) (basis : Basis) (this : basis.job ≡ Some job) (rises : Is
 
   -- ---- what is counted anew
 
-  module _ (status : JobStatus) (none_s : status.uncounted_succeeded ≡ []) (none_f : status.uncounted_failed ≡ []) where
+  -- By a test that no pod passes that was active when the plan was made.
+  module _ (status : JobStatus) (none_s : status.uncounted_succeeded ≡ []) (none_f : status.uncounted_failed ≡ []) (test : Pod → Bool) (ended : Ended test) where
     abbrev later : Job
     later = record job { status = status }
 
     unlisted : (u : Uid) → is_listed status u ≡ false
     unlisted u = (λ i. is_in u (none_s i) || is_in u (none_f i))
 
-    -- A success that is left over.
+    -- It is left over.
     abbrev pub stays_new : Pod → Bool
-    stays_new p = is_left_over job own p && same_outcome (outcome_of job.spec p) outcome.Succeeded
+    stays_new p = is_left_over job own p && test p
+
+    -- It is to be judged then.
+    abbrev anew : Pod → Bool
+    anew p = is_candidate later p && test p
 
     abbrev News : Pod → Type 0
-    News p = Known (planned basis) stays_new (is_new later) p
-
-    abbrev succeeds : Pod → Bool
-    succeeds p = same_outcome (outcome_of job.spec p) outcome.Succeeded
+    News p = Known (planned basis) stays_new anew p
 
     news-of : (p : Pod) → is_in p.uid (planned basis).releases ≡ is_to_release job own p → is_in p.uid (planned basis).marks ≡ is_to_mark settled p → is_let_go_of p.uid (planned basis).let_goes ≡ goes_now p → News p
     news-of p r m l = (successor, lost)
       where
-        -- By what is known of the pod: tracked, active, of a verdict, alive, listed, fitting, and a success.
+        -- By what is known of the pod: tracked, active, of a verdict, alive, listed, fitting, and of the test.
         freed-old : (tr ac ve al li fi su go : Bool) → (ac ≡ true → su ≡ false) → ((tr && ((not al && not ((tr && (ve && not li)) && not fi)) || li)) || ((ac && tr) && go)) ≡ true → (((tr && (ve && not li)) && not fi) && su) ≡ false
         freed-old false ac ve al li fi su go a h = refl
         freed-old true ac ve al li fi false go a h = and-false ((ve && not li) && not fi)
@@ -225,36 +233,38 @@ module _ (job : Job) (basis : Basis) (this : basis.job ≡ Some job) (rises : Is
 
         lost : frees (planned basis) p.uid ≡ true → stays_new p ≡ false
         lost h =
-            freed-old (is_tracked p) (is_active p) (is_verdict (outcome_of job.spec p)) (same_outcome (outcome_of job.spec p) outcome.Alive) (is_listed job.status p.uid) (fits job own p) (succeeds p)
+            freed-old (is_tracked p) (is_active p) (is_verdict (outcome_of job.spec p)) (same_outcome (outcome_of job.spec p) outcome.Alive) (is_listed job.status p.uid) (fits job own p) (test p)
             (not settled && (job.spec.suspend || is_let_go job.spec.mode (is_needless (unwrap_or job.spec.completions 0) (accounted job basis)) (job_wants job own (accounted job basis)) (tracked_active_pods own) p))
-            (active-not job.spec p) ((λ i. sym r i || sym l i) ∙ h)
+            (ended p p refl) ((λ i. sym r i || sym l i) ∙ h)
 
-        untracked : (q : Pod) → q.tracked ≡ false → is_new later q ≡ false
-        untracked q e = ap (λ b. (b && (is_verdict (outcome_of job.spec q) && not (is_listed status q.uid))) && succeeds q) e
+        untracked : (q : Pod) → q.tracked ≡ false → anew q ≡ false
+        untracked q e = ap (λ b. (b && (is_verdict (outcome_of job.spec q) && not (is_listed status q.uid))) && test q) e
 
-        unsucceeded : (q : Pod) → succeeds q ≡ false → is_new later q ≡ false
-        unsucceeded q e = ap (λ b. is_candidate later q && b) e ∙ and-false (is_candidate later q)
+        failing : (q : Pod) → test q ≡ false → anew q ≡ false
+        failing q e = ap (λ b. is_candidate later q && b) e ∙ and-false (is_candidate later q)
           where
             and-false : (b : Bool) → (b && false) ≡ false
             and-false true = refl
             and-false false = refl
 
         -- Of a pod that is not touched.
-        kept-old : (o : Outcome) (tr li fi : Bool) → (tr && ((not (same_outcome o outcome.Alive) && not ((tr && (is_verdict o && not li)) && not fi)) || li)) ≡ false
-            → ((tr && (is_verdict o && true)) && same_outcome o outcome.Succeeded) ≡ (((tr && (is_verdict o && not li)) && not fi) && same_outcome o outcome.Succeeded)
-        kept-old o false li fi h = refl
-        kept-old outcome.Succeeded true true fi h = absurd (true≢false (by fi h))
+        kept-old : (o : Outcome) (tr li fi su : Bool) → (tr && ((not (same_outcome o outcome.Alive) && not ((tr && (is_verdict o && not li)) && not fi)) || li)) ≡ false
+            → ((tr && (is_verdict o && true)) && su) ≡ (((tr && (is_verdict o && not li)) && not fi) && su)
+        kept-old o false li fi su h = refl
+        kept-old outcome.Alive true li fi su h = refl
+        kept-old outcome.Ignored true li fi su h = refl
+        kept-old outcome.Succeeded true li fi su h = settles li fi h
           where
-            by : (fi : Bool) → (not false && not (false && not fi) || true) ≡ false → true ≡ false
-            by true e = e
-            by false e = e
-        kept-old outcome.Succeeded true false true h = absurd (true≢false h)
-        kept-old outcome.Succeeded true false false h = refl
-        kept-old outcome.Alive true li fi h = refl
-        kept-old outcome.Failed true true fi h = refl
-        kept-old outcome.Failed true false true h = refl
-        kept-old outcome.Failed true false false h = refl
-        kept-old outcome.Ignored true li fi h = refl
+            settles : (li fi : Bool) → (not (not li && not fi) || li) ≡ false → su ≡ ((not li && not fi) && su)
+            settles true fi e = absurd (true≢false e)
+            settles false true e = absurd (true≢false e)
+            settles false false e = refl
+        kept-old outcome.Failed true li fi su h = settles li fi h
+          where
+            settles : (li fi : Bool) → (not (not li && not fi) || li) ≡ false → su ≡ ((not li && not fi) && su)
+            settles true fi e = absurd (true≢false e)
+            settles false true e = absurd (true≢false e)
+            settles false false e = refl
 
         either-false : (a b c : Bool) → ((a || b) || c) ≡ false → (a ≡ false) × ((b ≡ false) × (c ≡ false))
         either-false true b c e = absurd (true≢false e)
@@ -262,15 +272,15 @@ module _ (job : Job) (basis : Basis) (this : basis.job ≡ Some job) (rises : Is
         either-false false false true e = absurd (true≢false e)
         either-false false false false e = (refl, (refl, refl))
 
-        successor : (q : Pod) → Becomes (planned basis) p q → (is_new later q ≡ stays_new p) × (stays_new p ≡ true → q ≡ p)
+        successor : (q : Pod) → Becomes (planned basis) p q → (anew q ≡ stays_new p) × (stays_new p ≡ true → q ≡ p)
         successor q is = by (frees (planned basis) p.uid) refl (is_in p.uid (planned basis).marks) refl
           where
-            never : is_new later q ≡ false → stays_new p ≡ false → (is_new later q ≡ stays_new p) × (stays_new p ≡ true → q ≡ p)
+            never : anew q ≡ false → stays_new p ≡ false → (anew q ≡ stays_new p) × (stays_new p ≡ true → q ≡ p)
             never a b = (a ∙ sym b, λ h. absurd (true≢false (sym h ∙ b)))
 
-            by : (f : Bool) → frees (planned basis) p.uid ≡ f → (k : Bool) → is_in p.uid (planned basis).marks ≡ k → (is_new later q ≡ stays_new p) × (stays_new p ≡ true → q ≡ p)
+            by : (f : Bool) → frees (planned basis) p.uid ≡ f → (k : Bool) → is_in p.uid (planned basis).marks ≡ k → (anew q ≡ stays_new p) × (stays_new p ≡ true → q ≡ p)
             by true f k h = never (untracked q (is.freed f)) (lost f)
-            by false f true h = never (unsucceeded q (success-is job.spec q ∙ ap is_succeeded is.phase ∙ sym (success-is job.spec p) ∙ closed)) (ap (λ b. is_left_over job own p && b) closed ∙ and-false (is_left_over job own p))
+            by false f true h = never (failing q (ended p q is.phase active)) (ap (λ b. is_left_over job own p && b) (ended p p refl active) ∙ and-false (is_left_over job own p))
               where
                 and-false : (b : Bool) → (b && false) ≡ false
                 and-false true = refl
@@ -278,14 +288,11 @@ module _ (job : Job) (basis : Basis) (this : basis.job ≡ Some job) (rises : Is
 
                 active : is_active p ≡ true
                 active = (and_parts (is_active p) (settled || not (is_tracked p)) (sym m ∙ h)).0
-
-                closed : succeeds p ≡ false
-                closed = active-not job.spec p active
             by false f false h =
                 let e = is.same ((λ i. f i || h i)) in (
-                  ap (is_new later) e
-                      ∙ ap (λ b. (is_tracked p && (is_verdict (outcome_of job.spec p) && not b)) && succeeds p) (unlisted p.uid)
-                      ∙ kept-old (outcome_of job.spec p) (is_tracked p) (is_listed job.status p.uid) (fits job own p)
+                  ap anew e
+                      ∙ ap (λ b. (is_tracked p && (is_verdict (outcome_of job.spec p) && not b)) && test p) (unlisted p.uid)
+                      ∙ kept-old (outcome_of job.spec p) (is_tracked p) (is_listed job.status p.uid) (fits job own p) (test p)
                       (sym r ∙ (either-false (is_in p.uid (planned basis).releases)
                       (is_let_go_of p.uid (planned basis).let_goes) (is_in p.uid (planned basis).marks)
                       (λ i. f i || h i)).0),
@@ -300,8 +307,8 @@ module _ (job : Job) (basis : Basis) (this : basis.job ≡ Some job) (rises : Is
         (Each-both (λ p. is_in p.uid (planned basis).releases ≡ is_to_release job own p) (λ p. (is_in p.uid (planned basis).marks ≡ is_to_mark settled p) × (is_let_go_of p.uid (planned basis).let_goes ≡ goes_now p)) own releases-are
         (Each-both (λ p. is_in p.uid (planned basis).marks ≡ is_to_mark settled p) (λ p. is_let_go_of p.uid (planned basis).let_goes ≡ goes_now p) own marks-are lets-are))
 
-    pub news-left : (after : List Pod) → AllBecome (planned basis) own after → filter (is_new later) after ≡ filter stays_new own
-    news-left after follow = follow-filter (planned basis) stays_new (is_new later) own after news-each follow
+    pub news-left : (after : List Pod) → AllBecome (planned basis) own after → filter (λ p. is_candidate later p && test p) after ≡ filter stays_new own
+    news-left after follow = follow-filter (planned basis) stays_new anew own after news-each follow
 
   -- ---- what stays active
 

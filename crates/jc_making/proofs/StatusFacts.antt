@@ -25,13 +25,12 @@ use Rattle.jc_failpol.specs.declared.outcomes.Outcome.{Outcome}
 use Rattle.jc_failpol.specs.declared.outcomes.Outcome.TheVariants as outcome
 use Rattle.jc_failpol.specs.Outcomes.{outcome_of, same_outcome}
 use Rattle.jc_account.specs.Accounts.{completed_in, counted_in}
-use Rattle.jc_account.specs.Judged.{candidates, fits, is_candidate, left_with, newly, room}
+use Rattle.jc_account.specs.Judged.{candidates, fits, is_candidate, judged_now, left_over, left_with, newly, room}
 use Rattle.jc_account.specs.Modes.{completed_after, indexes_of, kept_indexes}
 use Rattle.jc_account.specs.Rooms.{joins_list, precedes, takes_room}
 use Rattle.jc_account.proofs.AccountFacts.{indexes-below, left-indexed, left-succeeded, succeeded-all-out, succeeded-sum}
 use Rattle.jc_perindex.specs.Failures.{fails_at, failures_of, policy_fails_index, raised, raised_at}
 use Rattle.jc_perindex.proofs.Raised.{none-raised}
-use Rattle.jc_plan.specs.Next.{ListsNoSuccess}
 use Rattle.jc_plan.specs.Plans.{last_status, planned}
 use Rattle.jc_plan.specs.Statuses.{first_value, second_value}
 use Rattle.jc_plan.proofs.NextFacts.{last-second}
@@ -40,20 +39,19 @@ use Rattle.jc_making.specs.Grants.{AllGranted, AreNew, job_left}
 use Rattle.jc_making.specs.Making.{completed_now, new_successes, pods_succeeded}
 use Rattle.jc_making.proofs.ClosedFacts.{is_over}
 use Rattle.jc_making.proofs.Lists.{halves}
-use Rattle.jc_making.proofs.PlanFacts.{active-not, news-left, stays_new}
-use Rattle.jc_making.proofs.PodFacts.{is_new}
+use Rattle.jc_making.proofs.PlanFacts.{Ended, news-left, stays_new, success-ended}
 
 -- A success of an Indexed Job takes no room.
 no-room : (mode : Mode) → mode ≡ Indexed → (o : Outcome) (b : Bool) → same_outcome o outcome.Succeeded ≡ true → (not (joins_list mode o) || b) ≡ true
 no-room mode is o b e = ap (λ m. not (joins_list m o) || b) is ∙ ap (λ s. not (not s) || b) e
 
--- New pods are no new successes.
-pub none-fresh : (job : Job) (made : ℕ) (indexes : List (Option ℕ)) (pods : List Pod) → AreNew made indexes pods → Each (λ p. is_new job p ≡ false) pods
-none-fresh job made [] [] h = tt
-none-fresh job made [] (p ∷ pods) h = absurd h
-none-fresh job made (index ∷ indexes) [] h = absurd h
-none-fresh job made (index ∷ indexes) (p ∷ pods) h =
-    (ap (λ b. is_candidate job p && b) (active-not job.spec p (and_parts (is_active p) (is_tracked p) h.0.active).0) ∙ and_right (is_candidate job p) false refl, none-fresh job (suc made) indexes pods h.1)
+-- New pods pass no such test.
+none-fresh : (test : Pod → Bool) (ended : Ended test) (chosen : Pod → Bool) (made : ℕ) (indexes : List (Option ℕ)) (pods : List Pod) → AreNew made indexes pods → Each (λ p. (chosen p && test p) ≡ false) pods
+none-fresh test ended chosen made [] [] h = tt
+none-fresh test ended chosen made [] (p ∷ pods) h = absurd h
+none-fresh test ended chosen made (index ∷ indexes) [] h = absurd h
+none-fresh test ended chosen made (index ∷ indexes) (p ∷ pods) h =
+    (ap (λ b. chosen p && b) (ended p p refl (and_parts (is_active p) (is_tracked p) h.0.active).0) ∙ and_right (chosen p) false refl, none-fresh test ended chosen (suc made) indexes pods h.1)
 
 -- ---- failures by index
 
@@ -112,7 +110,7 @@ over-raised limit n failure counts pods up h =
 
 -- ---- after the plan
 
-module _ (job : Job) (basis : Basis) (this : basis.job ≡ Some job) (rises : IsRising basis.pods) (tidy : ListsNoSuccess job) where
+module _ (job : Job) (basis : Basis) (this : basis.job ≡ Some job) (rises : IsRising basis.pods) where
   abbrev pub own_now : List Pod
   own_now = own_pods job basis.pods
 
@@ -128,27 +126,36 @@ module _ (job : Job) (basis : Basis) (this : basis.job ≡ Some job) (rises : Is
   pub lists-success : left.uncounted_succeeded ≡ []
   lists-success = ap (λ (s : JobStatus). s.uncounted_succeeded) left-is ∙ (second-lists_none job basis).1
 
-  lists-failure : left.uncounted_failed ≡ []
+  pub lists-failure : left.uncounted_failed ≡ []
   lists-failure = ap (λ (s : JobStatus). s.uncounted_failed) left-is ∙ (second-lists_none job basis).0
 
-  -- What is counted anew then is what is left over now.
-  pub news-then : (made : ℕ) (now : List Pod) → AllGranted (planned basis) made own_now now → new_successes then now ≡ left_with job own_now outcome.Succeeded
-  news-then made now is =
-      filter_filter (λ pod. same_outcome (outcome_of job.spec pod) outcome.Succeeded) (is_candidate then) now
-      ∙ ap (filter (is_new then)) is.parts
-      ∙ filter-append (is_new then) is.after is.fresh
-      ∙ (λ i. news-left job basis this rises left lists-success lists-failure is.after is.follow i ++ filter_none (is_new then) is.fresh (none-fresh then made (planned basis).creates is.fresh is.new) i)
-      ∙ append-nil (filter (stays_new job basis this rises left lists-success lists-failure) own_now)
-      ∙ sym (filter_filter (λ pod. same_outcome (outcome_of job.spec pod) outcome.Succeeded) (λ p. is_candidate job p && not (fits job own_now p)) own_now)
-      ∙ ap (filter (λ pod. same_outcome (outcome_of job.spec pod) outcome.Succeeded)) (sym (filter_filter (λ p. not (fits job own_now p)) (is_candidate job) own_now))
+  module _ (test : Pod → Bool) (ended : Ended test) where
+    -- What is to be judged then is what is left over now.
+    pub anew-then : (made : ℕ) (now : List Pod) → AllGranted (planned basis) made own_now now → filter test (candidates then now) ≡ filter test (left_over job own_now)
+    anew-then made now is =
+        filter_filter test (is_candidate then) now
+        ∙ ap (filter (λ p. is_candidate then p && test p)) is.parts
+        ∙ filter-append (λ p. is_candidate then p && test p) is.after is.fresh
+        ∙ (λ i. news-left job basis this rises left lists-success lists-failure test ended is.after is.follow i
+        ++ filter_none (λ p. is_candidate then p && test p) is.fresh (none-fresh test ended (is_candidate then) made (planned basis).creates is.fresh is.new) i)
+        ∙ append-nil (filter (stays_new job basis this rises left lists-success lists-failure test ended) own_now)
+        ∙ sym (filter_filter test (λ p. is_candidate job p && not (fits job own_now p)) own_now)
+        ∙ ap (filter test) (sym (filter_filter (λ p. not (fits job own_now p)) (is_candidate job) own_now))
 
-  -- Those that are to be judged are judged now or left over.
+    -- Those that are to be judged are judged now or left over.
+    pub judged-and-left : length (filter test (judged_now job own_now)) + length (filter test (left_over job own_now)) ≡ length (filter test (candidates job own_now))
+    judged-and-left =
+        let first = ap length (filter_swap test (fits job own_now) (candidates job own_now)) in
+        let second = ap length (filter_swap test (λ p. not (fits job own_now p)) (candidates job own_now)) in
+        let both = halves (fits job own_now) (filter test (candidates job own_now)) in
+        omega (arith, first, second, both)
+
+  -- Of successes.
+  pub news-then : (made : ℕ) (now : List Pod) → AllGranted (planned basis) made own_now now → new_successes then now ≡ left_with job own_now outcome.Succeeded
+  news-then = anew-then (λ pod. same_outcome (outcome_of job.spec pod) outcome.Succeeded) (success-ended job.spec)
+
   pub judged-or-left : length (newly job own_now outcome.Succeeded) + length (left_with job own_now outcome.Succeeded) ≡ length (new_successes job own_now)
-  judged-or-left =
-      let first = ap length (filter_swap (λ pod. same_outcome (outcome_of job.spec pod) outcome.Succeeded) (fits job own_now) (candidates job own_now)) in
-      let second = ap length (filter_swap (λ pod. same_outcome (outcome_of job.spec pod) outcome.Succeeded) (λ p. not (fits job own_now p)) (candidates job own_now)) in
-      let both = halves (fits job own_now) (new_successes job own_now) in
-      omega (arith, first, second, both)
+  judged-or-left = judged-and-left (λ pod. same_outcome (outcome_of job.spec pod) outcome.Succeeded) (success-ended job.spec)
 
   -- The successes of a Job that is not Indexed stay as many.
   pub successes-stay : (made : ℕ) (now : List Pod) → job.spec.mode ≡ NonIndexed → AllGranted (planned basis) made own_now now → pods_succeeded then now ≡ pods_succeeded job own_now

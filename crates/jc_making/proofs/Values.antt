@@ -1,12 +1,11 @@
--- How many pods may still be made, by the new successes and the active tracked pods alone; and that this does not rise
--- where one of these ends.
-use Rattle.std.proofs.Common.{◌≡◌, ℕ, suc, ◌+◌, ◌-◌, ◌≤◌, ◌==◌, min, nat_lt, nat_le, Bool, true, false, cond, not, ◌&&◌, ◌||◌, List, [], ◌∷◌, ◌++◌, filter, length, drop, Option, Some, None, IsSome, unwrap_or, refl, sym, ap, ◌∙◌, arith, true≢false}
+-- How many places there are that nobody runs towards, by the new successes and the active tracked pods alone; and what
+-- becomes of them where one of these ends.
+use Rattle.std.proofs.Common.{◌≡◌, ℕ, suc, ◌+◌, ◌-◌, ◌≤◌, ◌==◌, min, nat_lt, nat_le, Bool, true, false, cond, not, ◌&&◌, ◌||◌, List, [], ◌∷◌, ◌++◌, filter, length, Option, Some, None, IsSome, unwrap_or, refl, sym, ap, ◌∙◌, arith, true≢false}
 use Rattle.std.specs.List.{AllByRecursion as Each, list_any, range_with_len}
 use Rattle.std.specs.Option.{option_map_or}
 use Rattle.std.proofs.lemmas.Bool.{eq-eqb, ltb-false, ne_eqb}
 use Rattle.std.proofs.lemmas.List.Elements.{filter_agree}
 use Rattle.jc_ranges.specs.Sets.{has}
-use Rattle.jc_types.specs.declared.actions.End.{End}
 use Rattle.jc_types.specs.declared.objects.Pod.{Pod}
 use Rattle.jc_types.specs.declared.specifications.Mode.{Mode}
 use Rattle.jc_types.specs.declared.specifications.Mode.TheVariants.{NonIndexed, Indexed}
@@ -18,13 +17,12 @@ use Rattle.jc_states.proofs.UidListFacts.{has-join}
 use Rattle.jc_account.specs.Modes.{completed_after, indexes_below, indexes_of, kept_indexes}
 use Rattle.jc_account.proofs.ListedFacts.{each, has-indexes}
 use Rattle.jc_manage.specs.LetGoes.{is_earlier, is_spare, remaining}
-use Rattle.jc_history.specs.Nodes.{end_at}
-use Rattle.jc_making.specs.Making.{fails, places_of, will_fail}
+use Rattle.jc_making.specs.Making.{places_of}
 use Rattle.jc_making.proofs.ClosedFacts.{closed-stays, closed_by, past-closed}
 use Rattle.jc_making.proofs.Lists.{any-mid, fewer, has-filter, length-mid, one_if}
 use Rattle.jc_making.proofs.UseFacts.{is_of_use, open_in, use-kept}
 
--- Where places, and pods of use, become fewer, and as many misses.
+-- Where places, and pods of use, become fewer, and so does something else.
 pub falls : (p were are used now m n e : ℕ) → used + are ≤ now + were + e → are ≤ were → n + e ≤ m → (are - min now p) + n ≤ (were - min used p) + m
 falls p were are used now m n e h l k = omega (arith, h, l, k)
 
@@ -55,7 +53,7 @@ any-rest f xs ys x h = by (f x) (list_any f (xs ++ ys)) (sym (any-mid f xs ys x)
     by true b e = absurd (true≢false e)
     by false b e = e
 
-module _ (comps : Option ℕ) (parallelism : ℕ) (limit : Option ℕ) (set : List ℕ) (counts : List IndexCount) (total : ℕ) (ends : List End) (made : ℕ) where
+module _ (comps : Option ℕ) (parallelism : ℕ) (limit : Option ℕ) (set : List ℕ) (counts : List IndexCount) (total : ℕ) where
   abbrev wanted_of : ℕ
   wanted_of = unwrap_or comps 0
 
@@ -68,33 +66,28 @@ module _ (comps : Option ℕ) (parallelism : ℕ) (limit : Option ℕ) (set : Li
   abbrev pub lacks : Mode → List Pod → ℕ
   lacks mode news = places_of mode comps parallelism (total + length news) (open_in (closed mode news) wanted_of)
 
-  abbrev pub missed : List Pod → ℕ
-  missed tracked = length (filter (will_fail ends) tracked) + length (filter fails (drop made ends))
-
   abbrev pub value : Mode → List Pod → List Pod → ℕ
-  value mode news tracked = (lacks mode news - min (length (remaining mode (closed mode news) tracked)) parallelism) + missed tracked
+  value mode news tracked = lacks mode news - min (length (remaining mode (closed mode news) tracked)) parallelism
 
   module _ (front back : List Pod) (x : Pod) where
-    -- One that fails takes its place among the misses along.
-    pub fail-lowers : (mode : Mode) (news : List Pod) → will_fail ends x ≡ true → RisesFrom 0 (front ++ x ∷ back) → (mode ≡ Indexed → Each (λ pod. IsSome pod.index) (front ++ x ∷ back))
-        → value mode news (front ++ back) ≤ value mode news (front ++ x ∷ back)
-    fail-lowers NonIndexed news miss up numbered =
+    -- Where one fails, and something else becomes less, both together are no more.
+    pub fail-lowers : (mode : Mode) (news : List Pod) (m n : ℕ) → n + 1 ≤ m → RisesFrom 0 (front ++ x ∷ back) → (mode ≡ Indexed → Each (λ pod. IsSome pod.index) (front ++ x ∷ back))
+        → value mode news (front ++ back) + n ≤ value mode news (front ++ x ∷ back) + m
+    fail-lowers NonIndexed news m n less up numbered =
         let c = closed NonIndexed news in
         omega (
           arith,
           ap length (all-used c (front ++ back)),
           ap length (all-used c (front ++ x ∷ back)),
           length-one front back x,
-          length-mid (will_fail ends) front back x,
-          ap one_if miss,
+          less,
         )
-    fail-lowers Indexed news miss up numbered =
+    fail-lowers Indexed news m n less up numbered =
         falls parallelism (lacks Indexed news) (lacks Indexed news) (length (remaining Indexed c (front ++ x ∷ back))) (length (remaining Indexed c (front ++ back)))
-        (missed (front ++ x ∷ back)) (missed (front ++ back)) 1
+        m n 1
         (use-kept c c (front ++ x ∷ back) (front ++ back) wanted_of 1 (λ n h. h) (λ n l. past-closed limit wanted_of n (done Indexed news) counts l) up (numbered refl) (λ n u h. any-rest (is_earlier n u) front back x h)
         (let mid = length-mid (is_of_use c (front ++ back)) front back x in let few = one-at-most (is_of_use c (front ++ back) x) in omega (arith, mid, few)))
-        (omega arith)
-        (let mid = length-mid (will_fail ends) front back x in let one = ap one_if miss in omega (arith, mid, one))
+        (omega arith) less
       where
         c : ℕ → Bool
         c = closed Indexed news
@@ -159,14 +152,14 @@ module _ (comps : Option ℕ) (parallelism : ℕ) (limit : Option ℕ) (set : Li
           by (Some i) at h = ap (λ b. not (b || list_any (is_earlier i x.uid.0) (front ++ back))) (settled i at (nat_lt i wanted_of) refl)
 
       -- One that succeeds takes a place along.
-      pub success-lowers : (mode : Mode) → RisesFrom 0 (front ++ x ∷ back) → (mode ≡ Indexed → Each (λ pod. IsSome pod.index) (front ++ x ∷ back))
-          → value mode after (front ++ back) ≤ value mode before (front ++ x ∷ back)
-      success-lowers NonIndexed up numbered =
+      pub success-lowers : (mode : Mode) (m n : ℕ) → n ≤ m → RisesFrom 0 (front ++ x ∷ back) → (mode ≡ Indexed → Each (λ pod. IsSome pod.index) (front ++ x ∷ back))
+          → value mode after (front ++ back) + n ≤ value mode before (front ++ x ∷ back) + m
+      success-lowers NonIndexed m n less up numbered =
           omega (
             arith,
             plain-falls comps parallelism (total + length before) (open_in (closed NonIndexed after) wanted_of)
                 (open_in (closed NonIndexed before) wanted_of) (length (front ++ x ∷ back)) (length (front ++ back))
-                (missed (front ++ x ∷ back)) (missed (front ++ back)) (length-one front back x) fewer-missed,
+                m n (length-one front back x) less,
             ap (λ s. places_of NonIndexed comps parallelism s (open_in (closed NonIndexed after) wanted_of)) counted,
             ap length (all-used (closed NonIndexed after) (front ++ back)),
             ap length (all-used (closed NonIndexed before) (front ++ x ∷ back)),
@@ -174,12 +167,9 @@ module _ (comps : Option ℕ) (parallelism : ℕ) (limit : Option ℕ) (set : Li
         where
           counted : total + length after ≡ suc (total + length before)
           counted = omega (arith, length-one front_news back_news y)
-
-          fewer-missed : missed (front ++ back) ≤ missed (front ++ x ∷ back)
-          fewer-missed = omega (arith, length-mid (will_fail ends) front back x)
-      success-lowers Indexed up numbered =
+      success-lowers Indexed m n less up numbered =
           falls parallelism (lacks Indexed before) (lacks Indexed after) (length (remaining Indexed (closed Indexed before) (front ++ x ∷ back))) (length (remaining Indexed (closed Indexed after) (front ++ back)))
-          (missed (front ++ x ∷ back)) (missed (front ++ back)) 0
+          m n 0
           (use-kept (closed Indexed before) (closed Indexed after) (front ++ x ∷ back) (front ++ back) wanted_of 0
           closes (λ n l. past-closed limit wanted_of n (done Indexed before) counts l) up (numbered refl)
           (λ n u h. any-rest (is_earlier n u) front back x h)
@@ -187,14 +177,14 @@ module _ (comps : Option ℕ) (parallelism : ℕ) (limit : Option ℕ) (set : Li
           (fewer (λ n. not (closed Indexed after n)) (λ n. not (closed Indexed before n)) (range_with_len 0 wanted_of)
           (each (λ n. not (closed Indexed after n) ≡ true → not (closed Indexed before n) ≡ true)
           (λ n. other (closed Indexed before n) (closed Indexed after n) (closes n)) (range_with_len 0 wanted_of)))
-          (omega (arith, length-mid (will_fail ends) front back x))
+          (omega (arith, less))
         where
           other : (a b : Bool) → (a ≡ true → b ≡ true) → not b ≡ true → not a ≡ true
           other true b h g = absurd (true≢false (sym g ∙ ap not (h refl)))
           other false b h g = refl
 
-    -- One of which UID, index and serial stay counts the same.
-    module _ (y : Pod) (uid : y.uid ≡ x.uid) (index : y.index ≡ x.index) (serial : y.serial ≡ x.serial) where
+    -- One of which UID and index stay counts the same.
+    module _ (y : Pod) (uid : y.uid ≡ x.uid) (index : y.index ≡ x.index) where
       any-same : (n u : ℕ) → list_any (is_earlier n u) (front ++ y ∷ back) ≡ list_any (is_earlier n u) (front ++ x ∷ back)
       any-same n u =
           any-mid (is_earlier n u) front back y
@@ -216,12 +206,5 @@ module _ (comps : Option ℕ) (parallelism : ℕ) (limit : Option ℕ) (set : Li
           ∙ ap (λ b. one_if b + length (filter (λ p. not (is_spare mode c (front ++ x ∷ back) p)) (front ++ back))) (spare-itself mode c (front ++ x ∷ back))
           ∙ sym (length-mid (λ p. not (is_spare mode c (front ++ x ∷ back) p)) front back x)
 
-      missed-same : missed (front ++ y ∷ back) ≡ missed (front ++ x ∷ back)
-      missed-same =
-          ap (λ n. n + length (filter fails (drop made ends)))
-          (length-mid (will_fail ends) front back y
-          ∙ ap (λ k. one_if (option_map_or fails (end_at k ends) false) + length (filter (will_fail ends) (front ++ back))) serial
-          ∙ sym (length-mid (will_fail ends) front back x))
-
       pub quiet-same : (mode : Mode) (news : List Pod) → value mode news (front ++ y ∷ back) ≡ value mode news (front ++ x ∷ back)
-      quiet-same mode news = λ i. (lacks mode news - min (used-same mode (closed mode news) i) parallelism) + missed-same i
+      quiet-same mode news = λ i. lacks mode news - min (used-same mode (closed mode news) i) parallelism

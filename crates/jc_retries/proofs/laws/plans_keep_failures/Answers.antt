@@ -1,0 +1,6 @@
+-- The lemma on what has failed.
+use Rattle.jc_retries.proofs.FailureFacts.{failures-stay}
+use Rattle.jc_retries.proofs.laws.plans_keep_failures.Goals as goal
+
+pub returns : goal.returns
+returns c = λ job basis made now this rises after. failures-stay job basis this rises made now after
