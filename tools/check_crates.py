@@ -5,10 +5,9 @@ No word of specs/ stands in two files, and no lemma of proofs/ is stated twice, 
 most 100 functions and 1,500 lines of src/, but one of plain data or of tests. No two types of crates that are not tests have one name,
 but those of SHARED_NAMES, and no function has over six parameters, but those of WIDE. A line of crates.txt names at most ten crates of
 this repository, and few paths lead down from a crate: some kits sum the files of a crate once for each. No two crates have a
-specs file of one name. A line of a proof or of a definition has at most 250 columns, and a clause 300 characters, one of a law 560, but
-for those of LONG. A function whose
-result is a word of specs/ has that word's name, or the word goes on with what it is of (`outcome`, `outcome_of`), or the function
-reads what the word says (`read_pod`, `pod_said`); but for those of OTHER_NAMES.
+specs file of one name. A line of a proof or of a definition has at most 250 columns, and a clause 300 characters, but for
+those of LONG. A function whose result is a word of specs/ has that word's name, or the word goes on with what it is of
+(`outcome`, `outcome_of`), or the function reads what the word says (`read_pod`, `pod_said`); but for those of OTHER_NAMES.
 """
 import glob
 import os
@@ -19,7 +18,7 @@ sys.dont_write_bytecode = True
 from checks import TOP, Checks, text_of
 
 MOST_FUNCTIONS, MOST_LINES, MOST_CRATES, MOST_PATHS, MOST_PARAMETERS = 100, 1500, 10, 160_000, 6
-MOST_COLUMNS, MOST_CHARACTERS, MOST_OF_A_LAW = 250, 300, 560
+MOST_COLUMNS, MOST_CHARACTERS = 250, 300
 # Those whose functions copy and compare what they declare, and those of tests.
 PLAIN = {"jc_types", "jc_stories"}
 WORD = re.compile(r"(?m)^(?:(?:abbrev|unfoldable) )?pub (?:(?:record|data|abbrev) )?([A-Za-z_][\w'-]*)")
@@ -51,10 +50,6 @@ WIDE = {
 # The functions with a longer clause, each with why.
 LONG = {
     "jc_store/src/new_objects.rt": "a pod by its thirteen fields",
-    "jc_play/src/playing.rt": "a whole sync: two caches brought up, a begin, the steps behind it",
-    "jc_seats/src/turns.rt": "what a plan that was taken is known to be",
-    "jc_single/src/single.rt": "what an audit of the bytes says, in the words of the run",
-    "jc_ctl/src/run.rt": "the same of any number of threads",
 }
 # Functions that answer a word of another name, each with why.
 OTHER_NAMES = {
@@ -213,9 +208,8 @@ def clauses(text, at, end):
 
 def check_clauses():
     for path, text in sources():
-        most = MOST_OF_A_LAW if path.endswith("/laws.rt") else MOST_CHARACTERS
         for clause in clauses(text, 0, len(text)):
-            fits = len(clause) <= most or path in LONG
+            fits = len(clause) <= MOST_CHARACTERS or path in LONG
             holds(f"{path}: a clause of {len(clause)} characters: {clause[:60]}", fits)
 
 

@@ -2,8 +2,8 @@
 """check_documents.py: holds the documents to the repository. Each failure is a line; the last line says how many held.
 
 Each link leads to a file, and to a heading where it names one. Each path in backquotes is there, and each name of code. MAP.md
-and PROVED.md have the crates in the order of crates.txt, MAP.md all of them, and PROVED.md no call or clause that its crate
-does not have. No crate stands on one that MAP.md keeps it apart from. The table of what is proved again in CHANGING.md is the
+and PROVED.md have the crates in the order of crates.txt, MAP.md all of them, and PROVED.md no call, clause or word that its
+crate does not have. No crate stands on one that MAP.md keeps it apart from. The table of what is proved again in CHANGING.md is the
 one of crates.txt, and its recipes name each file that has the word of their change. GLOSSARY.md names of each word a file that
 has it, and DEFINITIONS.md names the files of the crates that their section names. Prose is at most 120 wide.
 """
@@ -180,7 +180,7 @@ def check_proved():
     said = f"{runs + questions:,} cases, {runs:,} runs and {questions:,} questions"
     holds(f"docs/PROVED.md: it is {said}", said in " ".join(text_of("docs/PROVED.md").split()))
     for name, cells in rows(text_of("docs/PROVED.md")):
-        source = "".join(text_of(it) for it in glob.glob(f"{TOP}/crates/{name}/src/*.rt"))
+        source = "".join(text_of(it) for it in glob.glob(f"{TOP}/crates/{name}/src/*.rt") + glob.glob(f"{TOP}/crates/{name}/specs/*.antt"))
         for word in re.findall(r"`(?:\w+::)?(\w+)`", cells[1]):
             holds(f"docs/PROVED.md: {name} has no {word}", bool(re.search(rf"\b{word}\b", source)))
 

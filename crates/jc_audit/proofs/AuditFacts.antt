@@ -156,7 +156,7 @@ said_at_last shape bytes at seen v rest here h of_rest of_here none is =
           full = t.full;
           walked = h.walked;
           are = cut_back at bytes ∙ ap (λ l. take at bytes ++ l) t.are;
-          room = λ full. sym (many seen) ∙ t.room full;
+          history_full = λ full. sym (many seen) ∙ t.history_full full;
         }
     by (No n) e = record {
       last = seen;

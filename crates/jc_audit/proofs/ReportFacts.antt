@@ -44,7 +44,7 @@ tail_is seen script items log same back entries =
 pub prints_report : (script : Script) (shape : Shape) (history : History) (full : Bool) → Each IsProperCommand script.commands → IsHistory script shape history → IsOrderly shape (deeds script history)
     → (full ≡ true → length history.events.items ≡ shape.events)
     → IsRecognised shape (report_text script history.events.items (log_given shape (deeds script history)) full)
-prints_report script shape history full proper legal orderly room =
+prints_report script shape history full proper legal orderly filled =
     let items = history.events.items in
     let turned : deeds script history ≡ map (deed script) (reverse items) = map-reverse (deed script) items in
     let long = length-reverse items in
@@ -61,7 +61,7 @@ prints_report script shape history full proper legal orderly room =
       are =
           text_is script shape items full
           ∙ ap₂ (λ (ds es : List Deed). event_lines 1 (reverse ds) ++ (tail_text shape es ++ full_line full)) turned (sym same);
-      room = λ e. many c.seen (map (deed script) (reverse items)) c.deeds ∙ length_map (reverse items) ∙ long ∙ room e;
+      history_full = λ e. many c.seen (map (deed script) (reverse items)) c.deeds ∙ length_map (reverse items) ∙ long ∙ filled e;
     }
   where
     length_map : (xs : List Past) → length (map (deed script) xs) ≡ length xs
@@ -92,14 +92,16 @@ is_of_history shape bytes report =
       script = seen.script;
       history = history_of seen.pasts;
       full = report.full;
-      proper = w.proper;
-      legal = record {
-        few = omega (arith, few, long);
-        lanes = subst (λ (l : List Past). InLanes seen.script.commands l) (sym (twice seen.pasts)) w.lanes;
-        legal = subst (λ (ds : List Deed). IsLegal shape ds) (sym turned) legal;
+      printable = record {
+        proper = w.proper;
+        legal = record {
+          few = omega (arith, few, long);
+          lanes = subst (λ (l : List Past). InLanes seen.script.commands l) (sym (twice seen.pasts)) w.lanes;
+          legal = subst (λ (ds : List Deed). IsLegal shape ds) (sym turned) legal;
+        };
+        orderly = subst (λ (ds : List Deed). IsOrderly shape ds) (sym turned) orderly;
+        history_full = λ e. long ∙ report.history_full e;
       };
-      orderly = subst (λ (ds : List Deed). IsOrderly shape ds) (sym turned) orderly;
-      room = λ e. long ∙ report.room e;
       prints =
           report.are
           ∙ ap (λ t. t ++ (tail_text shape (deeds_seen seen) ++ full_line report.full)) w.lines

@@ -250,13 +250,13 @@ joined_both (x ∷ xs) ys = ap (λ l. x ++ l) (joined_both xs ys) ∙ sym (appen
 pub record IsMatch (lines wanted : List (List ℕ)) (full : Bool) : Type 0 where
   pub last : Bool
   pub are : joined lines ≡ joined wanted ++ full_line last
-  pub room : last ≡ true → full ≡ true
+  pub history_full : last ≡ true → full ≡ true
 
 no_is_yes : {A : Type 0} (n : ℕ) → No n ≡ Yes → A
 no_is_yes n e = absurd (cc (e))
 
 end_match : (n : ℕ) (lines : List (List ℕ)) (full : Bool) → at_end n lines full ≡ Yes → IsMatch lines [] full
-end_match n [] full e = record { last = false; are = refl; room = λ h. absurd (true≢false (sym h)) }
+end_match n [] full e = record { last = false; are = refl; history_full = λ h. absurd (true≢false (sym h)) }
 end_match n (line ∷ []) true e = by (bytes_eq line (codes "full\n")) refl e
   where
     nothing_more : (xs : List ℕ) → xs ++ [] ≡ xs
@@ -264,7 +264,7 @@ end_match n (line ∷ []) true e = by (bytes_eq line (codes "full\n")) refl e
     nothing_more (x ∷ xs) = ap (λ l. x ∷ l) (nothing_more xs)
 
     by : (t : Bool) → bytes_eq line (codes "full\n") ≡ t → cond t Yes (No n) ≡ Yes → IsMatch (line ∷ []) [] true
-    by true is e = record { last = true; are = nothing_more line ∙ (bytes_decides line (codes "full\n")).0 is; room = λ h. refl }
+    by true is e = record { last = true; are = nothing_more line ∙ (bytes_decides line (codes "full\n")).0 is; history_full = λ h. refl }
     by false is e = no_is_yes n e
 end_match n (line ∷ more ∷ lines) true e = by (bytes_eq line (codes "full\n")) e
   where
@@ -285,7 +285,7 @@ all_match n (line ∷ lines) (w ∷ ws) full e = by (bytes_eq line w) refl (all_
         record {
           last = m.last;
           are = ap₂ (λ a b. a ++ b) ((bytes_decides line w).0 is) m.are ∙ sym (append_more w (joined ws) (full_line m.last));
-          room = m.room;
+          history_full = m.history_full;
         }
     by false is more e = no_is_yes n e
 
@@ -293,7 +293,7 @@ all_match n (line ∷ lines) (w ∷ ws) full e = by (bytes_eq line w) refl (all_
 pub record IsTail (shape : Shape) (past : List Deed) (rest : List ℕ) : Type 0 where
   pub full : Bool
   pub are : rest ≡ tail_text shape past ++ full_line full
-  pub room : full ≡ true → length past ≡ shape.events
+  pub history_full : full ≡ true → length past ≡ shape.events
 
 pub tail_yes : (shape : Shape) (past : List Deed) (rest : List ℕ) → tail_verdict shape past rest ≡ Yes → IsTail shape past rest
 unfolding tail_verdict
@@ -303,7 +303,7 @@ tail_yes shape past rest e =
     record {
       full = m.last;
       are = sym (joined_lines rest) ∙ m.are ∙ ap (λ t. t ++ full_line m.last) (joined_lines text);
-      room = λ h. eqb-true (length past) shape.events (m.room h);
+      history_full = λ h. eqb-true (length past) shape.events (m.history_full h);
     }
 
 -- What the comparison says, in the words of the tail.

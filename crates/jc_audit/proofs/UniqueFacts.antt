@@ -394,7 +394,7 @@ found shape fit bytes Yes h =
       none = no_digit h.last rest (small_seen shape h.last h.text fit h.walked) no;
       says =
           sym (ap (λ t. cond t (No (1 + length h.last.pasts)) (tail_verdict shape (deeds_seen h.last) rest)) no
-          ∙ tail_is_right shape (deeds_seen h.last) h.full (λ e. many h.last ∙ h.room e));
+          ∙ tail_is_right shape (deeds_seen h.last) h.full (λ e. many h.last ∙ h.history_full e));
     }
 found shape fit bytes (No n) h = by h.line
   where

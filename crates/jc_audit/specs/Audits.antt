@@ -25,7 +25,7 @@ pub record IsRecognised (shape : Shape) (bytes : List ℕ) : Type 0 where
   pub full : Bool
   pub walked : Walks shape last text
   pub are : bytes ≡ text ++ (tail_text shape (deeds_seen last) ++ full_line full)
-  pub room : full ≡ true → length last.pasts ≡ shape.events
+  pub history_full : full ≡ true → length last.pasts ≡ shape.events
 
 -- The line of an event stands next, and is not taken.
 pub record IsNotTaken (seen : Seen) (rest : List ℕ) : Type 0 where

@@ -1,11 +1,8 @@
 //! Laws on reports. What each function ensures holds of all bytes, and its callers may cite it.
 
-ghost use Rattle.std.specs.Prelude.{◌≡◌, ◌≤◌, Bool, List, length, true, ℕ};
-ghost use Rattle.std.specs.List.{AllByRecursion as Each};
-ghost use Rattle.jc_history.specs.Available.{IsOrderly};
-ghost use Rattle.jc_history.specs.Legal.{IsHistory};
+ghost use Rattle.std.specs.Prelude.{◌≡◌, ◌≤◌, Bool, List, ℕ};
 ghost use Rattle.jc_history.specs.Replies.{log_given};
-ghost use Rattle.jc_reading.specs.Proper.{IsProperAction, IsProperCommand};
+ghost use Rattle.jc_reading.specs.Proper.{IsProperAction};
 ghost use Rattle.jc_log.specs.Deeds.{deeds};
 ghost use Rattle.jc_lines.specs.Reports.{report_text};
 ghost use Rattle.jc_runs.specs.ValidActions.{IsValidAction};
@@ -14,7 +11,7 @@ ghost use Rattle.jc_types.specs.declared.actions.Script.{Script};
 ghost use Rattle.jc_types.specs.declared.runs.History.{History};
 ghost use Rattle.jc_types.specs.declared.runs.Shape.{Shape};
 ghost use Rattle.jc_audit.specs.Audits.{IsRecognised, VerdictHolds};
-ghost use Rattle.jc_audit.specs.Reported.{IsReported};
+ghost use Rattle.jc_audit.specs.Reported.{IsPrintable, IsReported};
 ghost use Rattle.jc_audit.specs.declared.verdicts.Verdict.{Verdict};
 
 use jc_reading::printed_fronts_are_read_back;
@@ -22,9 +19,7 @@ use jc_reading::printed_fronts_are_read_back;
 /// Of a script whose commands are proper, each legal and orderly history prints as a report.
 pub fn histories_print_reports()
     ensures { (script : Script) (shape : Shape) (history : History) (full : Bool)
-        → Each IsProperCommand script.commands → IsHistory script shape history
-        → IsOrderly shape (deeds script history)
-        → (full ≡ true → length history.events.items ≡ shape.events)
+        → IsPrintable script shape history full
         → IsRecognised shape
         (report_text script history.events.items (log_given shape (deeds script history)) full) }
 {}

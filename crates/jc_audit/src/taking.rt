@@ -103,7 +103,7 @@ pub fn is_available(machine: &Machine, system: &Sys) -> bool
 // The event happens, where there is room for it.
 pub fn happen(machine: &mut Machine, event: Event) -> Result<(), Want>
     requires admits { Admits machine.old event }
-    requires room { length machine.old.pasts < machine.old.shape.events }
+    requires unfull { length machine.old.pasts < machine.old.shape.events }
     ensures ok { OnOk result (machine.new ≡ happened machine.old event) }
     ensures kept { OnErr result (machine.new ≡ machine.old) }
 {
@@ -135,7 +135,7 @@ pub fn last_text(alloc: Global, machine: &Machine) -> Result<String, Want>
 pub fn take_command(machine: &mut Machine, command: Command) -> Result<bool, Want>
     requires valid { IsValidAction command.action }
     requires fits { length machine.old.script.commands + 1 < 2 ^ 32 }
-    requires room { length machine.old.pasts < machine.old.shape.events }
+    requires unfull { length machine.old.pasts < machine.old.shape.events }
     ensures may { IfOk result (λ yes. IsTrue yes
         ↔ Admits (extended machine.old command)
         (event.Command command.lane (length machine.old.script.commands))) }
@@ -155,7 +155,7 @@ pub fn take_command(machine: &mut Machine, command: Command) -> Result<bool, Wan
 
 // The event of the system happens, where it may come next and is available. Whether it did.
 pub fn take_system(machine: &mut Machine, system: Sys) -> Result<bool, Want>
-    requires room { length machine.old.pasts < machine.old.shape.events }
+    requires unfull { length machine.old.pasts < machine.old.shape.events }
     ensures may { IfOk result (λ yes. IsTrue yes ↔ CanCome machine.old (event.System system)) }
     ensures clock { IfOk result (λ yes. IsClock system → FitsClock machine.old) }
     ensures took { IfOk result (λ yes. IsTrue yes

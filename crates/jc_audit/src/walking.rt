@@ -21,7 +21,7 @@ fn command_happens(
     rest: &[u8],
 ) -> Result<bool, Want>
     requires read { IsRead rest.now (record { lane = Some lane; act = read.Command action }) }
-    requires room { length machine.old.pasts < machine.old.shape.events }
+    requires unfull { length machine.old.pasts < machine.old.shape.events }
     requires shape { IsSmallShape machine.old.shape }
     requires fits { length machine.old.script.commands ≤ length machine.old.pasts }
     ensures took { IfOk result (λ yes. IsTrue yes → TakesLine machine.old machine.new) }
@@ -36,7 +36,7 @@ fn command_happens(
 fn system_happens(machine: &mut Machine, system: Sys, rest: &[u8]) -> Result<bool, Want>
     requires read { IsRead rest.now (record { lane = None; act = read.System system }) }
     requires shape { IsSmallShape machine.old.shape }
-    requires room { length machine.old.pasts < machine.old.shape.events }
+    requires unfull { length machine.old.pasts < machine.old.shape.events }
     ensures took { IfOk result (λ yes. IsTrue yes → TakesLine machine.old machine.new) }
     ensures only { IfOk result (λ yes. IsOnlyTaken machine.old machine.new rest.now (IsTrue yes)) }
 {
@@ -48,7 +48,7 @@ fn system_happens(machine: &mut Machine, system: Sys, rest: &[u8]) -> Result<boo
 fn happens(machine: &mut Machine, read: LineRead, rest: &[u8]) -> Result<bool, Want>
     requires read { IsRead rest.now read }
     requires shape { IsSmallShape machine.old.shape }
-    requires room { length machine.old.pasts < machine.old.shape.events }
+    requires unfull { length machine.old.pasts < machine.old.shape.events }
     requires fits { length machine.old.script.commands ≤ length machine.old.pasts }
     ensures took { IfOk result (λ yes. IsTrue yes → TakesLine machine.old machine.new) }
     ensures only { IfOk result (λ yes. IsOnlyTaken machine.old machine.new rest.now (IsTrue yes)) }

@@ -84,7 +84,7 @@ impl Cluster {
         ensures kept { OnErr result (self.new ≡ self.old) }
         ensures full { self.old.seen.shape.events ≤ length self.old.seen.pasts
             → result ≡ Err HistoryFull }
-        ensures room { result ≡ Err HistoryFull
+        ensures history_full { result ≡ Err HistoryFull
             → self.old.seen.shape.events ≤ length self.old.seen.pasts }
     {
         let touch = touch_of_event(self.machine.script(), event);

@@ -18,6 +18,7 @@ use Rattle.jc_single.proofs.EndFacts.{EndsBad, EndsLong, all-written, bad-ends, 
 use Rattle.jc_single.proofs.RunFacts.{order_same, told_by}
 use Rattle.jc_single.proofs.WordFacts.{Tells, TellsAll, TellsSome, bad_script_is, bad_words_is, complete_bad_script_is, complete_generated_is, complete_is, complete_too_long_is, front_is, generates_is, generates_only_is, headline_front_is}
 use Rattle.jc_single.proofs.WordFacts.{headline_is, history_full_is, no_audit_is, not_too_long_is, nothing_read_is, nothing_written_is, ok_is, read_fault_is, too_long_is, write_fault_is}
+use Rattle.jc_single.specs.EndsTold.{EndsAsTold}
 use Rattle.jc_single.specs.RunEnds.{Change, RunHasEnded, HasRun}
 use Rattle.jc_single.specs.Played.{Staging, script_played, staging_of}
 use Rattle.jc_single.specs.RunAnswers.{EndsUnread, IsSingle, MayEnd, OfInput, Printed, answer_of, status_of}
@@ -121,7 +122,7 @@ only-one P words source sink ended (ByOne single h) more = by words (more h)
     by None h = tt
     by (Some order) h = λ alone. h
 
-one-of : (words : Option Order) (source sink : Change) (ended : Status) → HasDone words source sink ended
+pub one-of : (words : Option Order) (source sink : Change) (ended : Status) → HasDone words source sink ended
     → (order : Order) → words ≡ Some order → IsSingle order → (P : Type 0) → (HasRun words source sink ended → P) → P
 one-of words source sink ended (ByThreads threads lock shape some is h) order asks alone P more =
     let zero : threads ≡ 0 = subst IsSingle (sym (order_same order (Run threads lock shape) words is asks)) alone in
@@ -130,21 +131,21 @@ one-of words source sink ended (ByAudit shape is h) order asks alone P more =
     absurd (subst IsSingle (sym (order_same order (Audit shape) words is asks)) alone)
 one-of words source sink ended (ByOne single h) order asks alone P more = more h
 
-pub ok_of : (words : Option Order) (source sink : Change) (ended : Status) → HasDone words source sink ended → ended ≡ status.Ok
+ok_of : (words : Option Order) (source sink : Change) (ended : Status) → HasDone words source sink ended → ended ≡ status.Ok
     → IfSome words (λ order. IsSingle order → OfInput order source.old (λ input. IsOkAnd (answer_of order input)
     (λ printed. (printed.full ≡ false) × Appends sink.old sink.new printed.text)))
 ok_of words source sink ended h e =
     only-one (λ order. OfInput order source.old (λ input. IsOkAnd (answer_of order input)
     (λ printed. (printed.full ≡ false) × Appends sink.old sink.new printed.text))) words source sink ended h (λ ran. ok_is ran e)
 
-pub history_full_of : (words : Option Order) (source sink : Change) (ended : Status) → HasDone words source sink ended → ended ≡ status.HistoryFull
+history_full_of : (words : Option Order) (source sink : Change) (ended : Status) → HasDone words source sink ended → ended ≡ status.HistoryFull
     → IfSome words (λ order. IsSingle order → OfInput order source.old (λ input. IsOkAnd (answer_of order input)
     (λ printed. (printed.full ≡ true) × Appends sink.old sink.new printed.text)))
 history_full_of words source sink ended h e =
     only-one (λ order. OfInput order source.old (λ input. IsOkAnd (answer_of order input)
     (λ printed. (printed.full ≡ true) × Appends sink.old sink.new printed.text))) words source sink ended h (λ ran. history_full_is ran e)
 
-pub front_of : (words : Option Order) (source sink : Change) (ended : Status) → HasDone words source sink ended → ended ≡ status.WriteFault
+front_of : (words : Option Order) (source sink : Change) (ended : Status) → HasDone words source sink ended → ended ≡ status.WriteFault
     → IfSome words (λ order. IsSingle order → OfInput order source.old (λ input. IsOkAnd (answer_of order input)
     (λ printed. AppendsFront sink.old sink.new printed.text)))
 front_of words source sink ended h e =
@@ -202,7 +203,7 @@ pub passes_of : (words : Option Order) (source sink : Change) (ended : Status)
 passes_of words source sink ended h tells law e order asks =
     passing source sink ended order (staging_of order) source.old (law order asks) (headline_of words source sink ended h tells e order asks)
 
-pub bad_words_of : (words : Option Order) (source sink : Change) (ended : Status)
+bad_words_of : (words : Option Order) (source sink : Change) (ended : Status)
     → HasDone words source sink ended
     → (ended ≡ status.BadWords → words ≡ None) × (words ≡ None → ended ≡ status.BadWords)
 bad_words_of words source sink ended (ByThreads threads lock shape some is h) =
@@ -212,7 +213,7 @@ bad_words_of words source sink ended (ByAudit shape is h) =
 bad_words_of words source sink ended (ByOne single h) =
     bad_words_is h
 
-pub nothing_read_of : (words : Option Order) (source sink : Change) (ended : Status)
+nothing_read_of : (words : Option Order) (source sink : Change) (ended : Status)
     → HasDone words source sink ended
     → ended ≡ status.BadWords
     → Keeps source.old source.new
@@ -223,7 +224,7 @@ nothing_read_of words source sink ended (ByAudit shape is h) e =
 nothing_read_of words source sink ended (ByOne single h) e =
     nothing_read_is h e
 
-pub generates_of : (words : Option Order) (source sink : Change) (ended : Status)
+generates_of : (words : Option Order) (source sink : Change) (ended : Status)
     → HasDone words source sink ended
     → (number jobs pods : ℕ) → words ≡ Some (Generate number jobs pods)
     → Keeps source.old source.new
@@ -234,7 +235,7 @@ generates_of words source sink ended (ByAudit shape is h) number jobs pods asks 
 generates_of words source sink ended (ByOne single h) number jobs pods asks =
     generates_is h number jobs pods asks
 
-pub generates_only_of : (words : Option Order) (source sink : Change) (ended : Status)
+generates_only_of : (words : Option Order) (source sink : Change) (ended : Status)
     → HasDone words source sink ended
     → (number jobs pods : ℕ) → words ≡ Some (Generate number jobs pods)
     → EndsUnread ended
@@ -245,7 +246,7 @@ generates_only_of words source sink ended (ByAudit shape is h) number jobs pods 
 generates_only_of words source sink ended (ByOne single h) number jobs pods asks =
     generates_only_is h number jobs pods asks
 
-pub read_fault_of : (words : Option Order) (source sink : Change) (ended : Status)
+read_fault_of : (words : Option Order) (source sink : Change) (ended : Status)
     → HasDone words source sink ended
     → ended ≡ status.ReadFault
     → Rose source.faults_old source.faults_new
@@ -256,7 +257,7 @@ read_fault_of words source sink ended (ByAudit shape is h) e =
 read_fault_of words source sink ended (ByOne single h) e =
     read_fault_is h e
 
-pub write_fault_of : (words : Option Order) (source sink : Change) (ended : Status)
+write_fault_of : (words : Option Order) (source sink : Change) (ended : Status)
     → HasDone words source sink ended
     → ended ≡ status.WriteFault
     → Rose sink.faults_old sink.faults_new
@@ -267,7 +268,7 @@ write_fault_of words source sink ended (ByAudit shape is h) e =
 write_fault_of words source sink ended (ByOne single h) e =
     write_fault_is h e
 
-pub bad_script_of : (words : Option Order) (source sink : Change) (ended : Status)
+bad_script_of : (words : Option Order) (source sink : Change) (ended : Status)
     → HasDone words source sink ended
     → (line : ℕ) (cause : Cause) → ended ≡ status.BadScript line cause
     → IfSome words (λ order. OfInput order source.old (λ input.
@@ -281,7 +282,7 @@ bad_script_of words source sink ended (ByAudit shape is h) line cause e =
 bad_script_of words source sink ended (ByOne single h) line cause e =
     bad_script_is h line cause e
 
-pub too_long_of : (words : Option Order) (source sink : Change) (ended : Status)
+too_long_of : (words : Option Order) (source sink : Change) (ended : Status)
     → HasDone words source sink ended
     → ended ≡ status.TooLong
     → TakesCount source.old source.new (most_bytes + 1)
@@ -292,7 +293,7 @@ too_long_of words source sink ended (ByAudit shape is h) e =
 too_long_of words source sink ended (ByOne single h) e =
     too_long_is h e
 
-pub not_too_long_of : (words : Option Order) (source sink : Change) (ended : Status)
+not_too_long_of : (words : Option Order) (source sink : Change) (ended : Status)
     → HasDone words source sink ended
     → (ended ≡ status.TooLong → ⊥)
     → TakesAtMost source.old source.new most_bytes
@@ -390,7 +391,7 @@ complete_audit_of words source sink ended (ByAudit own is h) shape asks quiet si
 complete_audit_of words source sink ended (ByOne single h) shape asks quiet silent =
     absurd (single (Audit shape) asks)
 
-pub complete_of : (words : Option Order) (source sink : Change) (ended : Status) → HasDone words source sink ended
+complete_of : (words : Option Order) (source sink : Change) (ended : Status) → HasDone words source sink ended
     → (order : Order) → words ≡ Some order → IsSingle order
     → ¬ Rose source.faults_old source.faults_new → ¬ Rose sink.faults_old sink.faults_new → OfInput order source.old (λ input. length input ≤ most_bytes
     → (ended ≡ status_of (answer_of order input)) ⊎ (ended ≡ status.Want))
@@ -414,7 +415,7 @@ complete_on_threads_of words source sink ended (ByAudit own is h) threads lock s
 complete_on_threads_of words source sink ended (ByOne single h) threads lock shape asks many quiet silent =
     let zero = single (Run threads lock shape) asks in absurd (omega (arith, zero, many))
 
-pub complete_generated_of : (words : Option Order) (source sink : Change) (ended : Status)
+complete_generated_of : (words : Option Order) (source sink : Change) (ended : Status)
     → HasDone words source sink ended
     → (number jobs pods : ℕ) → words ≡ Some (Generate number jobs pods)
     → ¬ Rose sink.faults_old sink.faults_new
@@ -426,7 +427,7 @@ complete_generated_of words source sink ended (ByAudit shape is h) number jobs p
 complete_generated_of words source sink ended (ByOne single h) number jobs pods asks silent =
     complete_generated_is h number jobs pods asks silent
 
-pub complete_bad_script_of : (words : Option Order) (source sink : Change) (ended : Status)
+complete_bad_script_of : (words : Option Order) (source sink : Change) (ended : Status)
     → HasDone words source sink ended
     → (order : Order) → words ≡ Some order
     → ¬ Rose source.faults_old source.faults_new
@@ -439,7 +440,7 @@ complete_bad_script_of words source sink ended (ByAudit shape is h) order asks q
 complete_bad_script_of words source sink ended (ByOne single h) order asks quiet =
     complete_bad_script_is h order asks quiet
 
-pub complete_too_long_of : (words : Option Order) (source sink : Change) (ended : Status)
+complete_too_long_of : (words : Option Order) (source sink : Change) (ended : Status)
     → HasDone words source sink ended
     → (order : Order) → words ≡ Some order
     → ¬ Rose source.faults_old source.faults_new
@@ -451,3 +452,25 @@ complete_too_long_of words source sink ended (ByAudit shape is h) order asks qui
     (audit_ends_long shape source sink ended quiet h)
 complete_too_long_of words source sink ended (ByOne single h) order asks quiet =
     complete_too_long_is h order asks quiet
+
+-- So a run of the words has ended.
+pub told_of : (words : Option Order) (source sink : Change) (ended : Status) → HasDone words source sink ended
+    → EndsAsTold IsSingle words source sink ended
+told_of words source sink ended h = record {
+  ok = ok_of words source sink ended h;
+  history_full = history_full_of words source sink ended h;
+  front = front_of words source sink ended h;
+  bad_words = bad_words_of words source sink ended h;
+  nothing_read = nothing_read_of words source sink ended h;
+  generates = generates_of words source sink ended h;
+  generates_only = generates_only_of words source sink ended h;
+  read_fault = read_fault_of words source sink ended h;
+  write_fault = write_fault_of words source sink ended h;
+  bad_script = bad_script_of words source sink ended h;
+  too_long = too_long_of words source sink ended h;
+  not_too_long = not_too_long_of words source sink ended h;
+  complete = complete_of words source sink ended h;
+  complete_generated = complete_generated_of words source sink ended h;
+  complete_bad_script = complete_bad_script_of words source sink ended h;
+  complete_too_long = complete_too_long_of words source sink ended h;
+}

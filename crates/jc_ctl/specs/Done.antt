@@ -4,9 +4,10 @@
 --     HasSaid verdict sink ended               the run has ended in writing a verdict
 --     HasAudited shape source sink ended       so has an audit
 --     HasDone words source sink ended          so has a run of these words
+--     ProgramRun                               a run of the program, with its words, its source, its sink and its end
+--     MeetsNoFault run                         no call of its source or its sink fails
 use Rattle.std.specs.Prelude.{◌≡◌, ℕ, ◌≤◌, List, Option, Some, Result, Ok, Err, IsOkAnd}
 use Rattle.std.specs.Io.KnownBytes.{Appends, Keeps}
-use Rattle.jc_io.specs.Faults.{Rose}
 use Rattle.jc_io.specs.Moved.{AppendsFront}
 use Rattle.jc_types.specs.declared.runs.Shape.{Shape}
 use Rattle.jc_audit.specs.Audits.{VerdictHolds}
@@ -15,7 +16,7 @@ use Rattle.jc_script.specs.Scripts.{script_of}
 use Rattle.jc_words.specs.declared.words.LockKind.{LockKind}
 use Rattle.jc_words.specs.declared.words.Order.{Order}
 use Rattle.jc_words.specs.declared.words.Order.TheVariants as order
-use Rattle.jc_single.specs.RunEnds.{Change, RunHasEnded, HasRun, HasStopped, InputIsRead}
+use Rattle.jc_single.specs.RunEnds.{Change, HasFailed, RunHasEnded, HasRun, HasStopped, InputIsRead}
 use Rattle.jc_single.specs.RunAnswers.{IsSingle, Printed}
 use Rattle.jc_single.specs.Headlines.{IsReport}
 use Rattle.jc_single.specs.declared.status.Status.{Status}
@@ -37,7 +38,7 @@ HasJudged shape source (Err ended) = HasStopped (order.Audit shape) source ended
 -- The verdict was written; or a call of the sink failed behind a front of it; or there was no memory for its text.
 pub data HasSaid (verdict : Verdict) (sink : Change) (ended : Status) : Type 0 where
   Said : Appends sink.old sink.new (verdict_text verdict) → ended ≡ verdict_status verdict → HasSaid verdict sink ended
-  SaidFront : AppendsFront sink.old sink.new (verdict_text verdict) → Rose sink.faults_old sink.faults_new
+  SaidFront : AppendsFront sink.old sink.new (verdict_text verdict) → HasFailed sink
       → ended ≡ status.WriteFault → HasSaid verdict sink ended
   Unsaid : Keeps sink.old sink.new → ended ≡ status.Want → HasSaid verdict sink ended
 
@@ -56,3 +57,16 @@ pub data HasDone (words : Option Order) (source sink : Change) (ended : Status) 
       → HasDone words source sink ended
   ByOne : ((order : Order) → words ≡ Some order → IsSingle order) → HasRun words source sink ended
       → HasDone words source sink ended
+
+-- A run of the program: its words, what its source and its sink tell before and after, and how it has ended.
+pub record ProgramRun : Type 0 where
+  pub words : Option Order
+  pub source : Change
+  pub sink : Change
+  pub ended : Status
+  pub has_done : HasDone words source sink ended
+
+-- No call of its source or of its sink fails.
+pub record MeetsNoFault (run : ProgramRun) : Type 0 where
+  pub source : ¬ HasFailed run.source
+  pub sink : ¬ HasFailed run.sink

@@ -9,8 +9,8 @@ mod threaded;
 pub use audited::run_audit;
 pub use jc_shared::{Cluster, FreeGate, Gate, run_turn};
 pub use jc_single::{
-    Status, plays_tell_their_history, reapers_collect_what_is_due, report, run_single,
-    runs_tell_their_history, single_runs_end_as_told,
+    Status, jobs_end_or_wait, plays_tell_their_history, reapers_collect_what_is_due, report,
+    run_single, runs_tell_their_history, single_runs_end_as_told,
 };
 pub use jc_words::default_shape;
 pub use laws::{

@@ -1,6 +1,6 @@
 //! The top call: it reads, plays and writes, on one thread or on several.
 
-ghost use Rattle.std.specs.Prelude.{◌≡◌, ◌↔◌, ◌⊎◌, IfSome, IsOkAnd, IsTrue, None, Some, map, string_bytes};
+ghost use Rattle.std.specs.Prelude.{◌≡◌, ◌↔◌, ◌⊎◌, IfSome, IsTrue, None, Some, map, string_bytes};
 ghost use Rattle.jc_types.specs.declared.runs.Shape.{Shape};
 ghost use Rattle.jc_words.specs.Words.{order_of};
 ghost use Rattle.jc_words.specs.declared.words.Order.{Order};
@@ -8,7 +8,7 @@ ghost use Rattle.jc_words.specs.declared.words.Order.TheVariants.{Audit};
 ghost use Rattle.jc_words.specs.FitOrders.{IsFitOrder};
 ghost use Rattle.jc_audit.specs.declared.verdicts.Verdict.TheVariants.{Yes};
 ghost use Rattle.jc_single.specs.RunEnds.{change};
-ghost use Rattle.jc_single.specs.Played.{script_played, staging_of};
+ghost use Rattle.jc_single.specs.Played.{OfPlayed, staging_of};
 ghost use Rattle.jc_single.specs.RunAnswers.{IsSingle};
 ghost use Rattle.jc_single.specs.Headlines.{TellsHistory, ends_full};
 ghost use Rattle.jc_ctl.specs.Asked.{HasThreads, order_asked};
@@ -161,10 +161,9 @@ pub fn run_program<R: Threads + Wait + Sync, S: Source, K: Sink, G: Gate + Sync>
     // The headline.
     ensures headline { (result ≡ Status.Ok) ⊎ (result ≡ Status.HistoryFull)
         → (order : Order) → order_of (map string_bytes words.now) ≡ Some order
-        → IfSome (staging_of order) (λ staging. IfSome (S.left source.old) (λ input.
-        IsOkAnd (script_played order input) (λ script.
+        → OfPlayed order (S.left source.old) (λ staging script.
         TellsHistory staging.threads script staging.shape (ends_full result)
-        (K.held sink.old) (K.held sink.new)))) }
+        (K.held sink.old) (K.held sink.new)) }
     // What `run` or `reap` has written whole is what an audit in the same shape says yes to.
     ensures passes { (result ≡ Status.Ok) ⊎ (result ≡ Status.HistoryFull)
         → (order : Order) → order_of (map string_bytes words.now) ≡ Some order

@@ -3,12 +3,16 @@
 --     Glimpse, glimpse event      what a line shows of an event: its lane, or the event of the system
 --     AreEvents events            the numbers of each event are
 --     Follow gives before events  each event is what came before it and its glimpse give
-use Rattle.std.specs.Prelude.{◌≡◌, ℕ, ◌^◌, ◌<◌, List, [], ◌∷◌}
+--     HaveSameLines script a b    both are printed in the same lines
+use Rattle.std.specs.Prelude.{◌≡◌, ℕ, ◌^◌, ◌<◌, List, [], ◌∷◌, map}
+use Rattle.jc_types.specs.declared.actions.Script.{Script}
 use Rattle.jc_types.specs.declared.runs.Event.{Event}
 use Rattle.jc_types.specs.declared.runs.Event.TheVariants as event
 use Rattle.jc_types.specs.declared.runs.Past.{Past}
 use Rattle.jc_types.specs.declared.runs.Sys.{Sys}
 use Rattle.jc_types.specs.declared.runs.Sys.TheVariants as sys
+use Rattle.jc_log.specs.Deeds.{deed}
+use Rattle.jc_lines.specs.Events.{event_lines}
 
 -- A controller and a worker are numbers of 32 bits, seconds of 64.
 abbrev pub IsSystem : Sys → Type 0
@@ -41,3 +45,7 @@ glimpse (event.System system) = OfSystem system
 abbrev pub Follow : (List Past → Glimpse → Past) → List Past → List Past → Type 0
 Follow gives before [] = Unit {0}
 Follow gives before (past ∷ later) = (past ≡ gives before (glimpse past.event)) × Follow gives (past ∷ before) later
+
+-- Both lists of events of the script are printed in the same lines.
+abbrev pub HaveSameLines : Script → List Past → List Past → Type 0
+HaveSameLines script events others = event_lines 1 (map (deed script) events) ≡ event_lines 1 (map (deed script) others)

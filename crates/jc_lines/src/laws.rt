@@ -1,15 +1,15 @@
 //! Laws on the lines of events and on reports. What each function ensures holds of every line and of every
 //! report, and its callers may cite it.
 
-ghost use Rattle.std.specs.Prelude.{◌≡◌, ◌+◌, ◌++◌, ◌<◌, ◌^◌, [], List, ℕ, length, map};
+ghost use Rattle.std.specs.Prelude.{◌≡◌, ◌+◌, ◌++◌, ◌<◌, ◌^◌, [], List, ℕ, length};
 ghost use Rattle.jc_history.specs.Legal.{IsHistory};
 ghost use Rattle.jc_log.specs.Deeds.{deed};
 ghost use Rattle.jc_types.specs.declared.actions.Script.{Script};
 ghost use Rattle.jc_types.specs.declared.runs.History.{History};
 ghost use Rattle.jc_types.specs.declared.runs.Past.{Past};
 ghost use Rattle.jc_types.specs.declared.runs.Shape.{Shape};
-ghost use Rattle.jc_lines.specs.Events.{event_line, event_lines};
-ghost use Rattle.jc_lines.specs.Told.{AreEvents, Follow, Glimpse, IsEvent, glimpse};
+ghost use Rattle.jc_lines.specs.Events.{event_line};
+ghost use Rattle.jc_lines.specs.Told.{AreEvents, Follow, Glimpse, HaveSameLines, IsEvent, glimpse};
 
 /// Texts that begin with the lines of two events and are equal tell the number, and of the event
 /// its lane, or which event of the system it is.
@@ -26,7 +26,7 @@ pub fn lines_tell_histories()
     ensures { (script : Script) (gives : List Past → Glimpse → Past) (events others : List Past)
         → 1 + length events < 2 ^ 64 → AreEvents events → AreEvents others
         → Follow gives [] events → Follow gives [] others
-        → event_lines 1 (map (deed script) events) ≡ event_lines 1 (map (deed script) others)
+        → HaveSameLines script events others
         → events ≡ others }
 {}
 
@@ -38,8 +38,7 @@ pub fn lines_determine_histories()
         → IsHistory script shape h → IsHistory script shape k
         → AreEvents h.events.items → AreEvents k.events.items
         → 1 + length h.events.items < 2 ^ 64
-        → event_lines 1 (map (deed script) h.events.items)
-        ≡ event_lines 1 (map (deed script) k.events.items)
+        → HaveSameLines script h.events.items k.events.items
         → h.events.items ≡ k.events.items }
 {
     lines_tell_histories();

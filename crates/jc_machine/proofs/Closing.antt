@@ -40,7 +40,7 @@ pub record Before (script : Script) (shape : Shape) (items : List Past) (places 
   pub view : view_of script shape items ≡ seen
   pub admits : Admits seen event
   pub is : act_seen seen event ≡ act
-  pub room : length seen.pasts < seen.shape.events
+  pub unfull : length seen.pasts < seen.shape.events
 
 -- The machine once the event has happened.
 pub record After (script : Script) (shape : Shape) (items : List Past) (places : List (Option ℕ)) (log : List Entry) (teams : List Team) (rows : List (Key × List End)) (now : ℕ) (seen : Seen) (event : Event) (reply : Reply) : Type 0 where
@@ -53,7 +53,7 @@ pub before : (script : Script) (shape : Shape) (items : List Past) (places : Lis
     → IsMachineKept script shape (reverse items) places log teams rows now → view_of script shape items ≡ seen
     → Admits seen event
     → act_seen seen event ≡ act → length seen.pasts < seen.shape.events → Before script shape items places log teams rows now seen event act
-before script shape items places log teams rows now seen event act kept view admits is room = record { kept = kept; view = view; admits = admits; is = is; room = room }
+before script shape items places log teams rows now seen event act kept view admits is room = record { kept = kept; view = view; admits = admits; is = is; unfull = room }
 
 module _ {script : Script} {shape : Shape} {items : List Past} {places : List (Option ℕ)} {log : List Entry}
     {teams : List Team} {rows : List (Key × List End)} {now : ℕ} {seen : Seen} {event : Event} {act : Act}
@@ -112,7 +112,7 @@ module _ {script : Script} {shape : Shape} {items : List Past} {places : List (O
   closes mid new reply end moved next news fates later is same moves run = record {
     kept = record {
       machine =
-          closed_by script shape items mid new (past_of event reply end) log next teams news (fates_in rows) (fates_in fates) now later b.kept.machine is same run seen (sym b.view) b.admits b.room;
+          closed_by script shape items mid new (past_of event reply end) log next teams news (fates_in rows) (fates_in fates) now later b.kept.machine is same run seen (sym b.view) b.admits b.unfull;
       places = subst (λ pasts. HasPlaces script.commands pasts moved) (sym newest) (moves (reverse items) (past_of event reply end) b.kept.places comes refl);
       fits = b.kept.fits;
     };

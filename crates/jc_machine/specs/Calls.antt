@@ -12,7 +12,7 @@ use Rattle.jc_runs.specs.Seen.{Admits, Seen, act_seen, happened, reply_seen}
 pub record MayCome (old : Seen) (event : Event) (act : Act) : Type 0 where
   pub admits : Admits old event
   pub acts : act_seen old event ≡ act
-  pub room : length old.pasts < old.shape.events
+  pub unfull : length old.pasts < old.shape.events
 
 -- The event has happened, and this is its reply; or there was no memory for it, and nothing has changed.
 abbrev pub HappensOrKeeps : Seen → Seen → Event → Result Reply AllocError → Type 0

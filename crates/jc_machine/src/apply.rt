@@ -232,7 +232,7 @@ impl Machine {
         ensures reply { IfOk result (λ r. r ≡ reply_seen self.old event) }
         ensures kept { OnErr result (self.new ≡ self.old) }
         ensures full { self.old.shape.events ≤ length self.old.pasts → result ≡ Err HistoryFull }
-        ensures room { result ≡ Err HistoryFull → self.old.shape.events ≤ length self.old.pasts }
+        ensures history_full { result ≡ Err HistoryFull → self.old.shape.events ≤ length self.old.pasts }
     {
         if self.history.events.len() >= self.shape.events as usize {
             return Err(ApplyFault::HistoryFull);

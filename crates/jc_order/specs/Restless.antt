@@ -13,7 +13,6 @@
 --     has_forgotten k j u log         the pod u of the Job j is there, tracked, and has ended
 --     StandTogether k j u log         the versions since when both are so
 --     FailsIf k a b note              a sync that saw both fails
---     AllFail both notes              so does each that the controller has noted
 use Rattle.std.specs.Prelude.{◌≡◌, ℕ, ◌+◌, ◌≤◌, Bool, true, false, ◌&&◌, min, List, [], ◌∷◌, length, Option, Some, None, is_some, option_and_then, ◌⊎◌}
 use Rattle.jc_control.specs.ControllerCalls.{forgets_caches, told}
 use Rattle.jc_queue.specs.Queued.{has_key}
@@ -28,7 +27,6 @@ use Rattle.jc_types.specs.declared.numbers.Uid.{Uid}
 use Rattle.jc_types.specs.declared.objects.Pod.{Pod}
 use Rattle.jc_log.specs.Log.{entry_at, pod_in, upto}
 use Rattle.jc_states.specs.Pods.{is_final}
-use Rattle.std.specs.List.{AllByRecursion as Each}
 use Rattle.std.specs.Option.{option_map_or}
 use Rattle.jc_history.specs.Diaries.{listed_keys}
 use Rattle.jc_history.specs.Delays.{added_by_end, delay, is_retried, tries}
@@ -123,7 +121,3 @@ abbrev pub FailsIf : Key → ℕ → ℕ → Note → Type 0
 FailsIf k a b (Ended w basis end now) =
     same_key basis.key k ≡ true → a ≤ basis.jobs_at.0 → b ≤ basis.pods_at.0 → is_retried end ≡ true
 FailsIf k a b note = Unit {0}
-
--- So does each that the controller has noted.
-abbrev pub AllFail : {k : Key} {j u : Uid} {log : List Entry} → StandTogether k j u log → List Note → Type 0
-AllFail {k} both notes = Each (FailsIf k both.job_from both.pod_from) notes

@@ -2,6 +2,7 @@
 //! empty: what it ensures holds of every history, and its callers may cite it.
 
 ghost use Rattle.std.specs.Prelude.{◌≡◌, ◌∷◌, ◌<◌, ◌≤◌, ◌⊎◌, List, None, false, length, reverse, true, ℕ};
+ghost use Rattle.std.specs.List.{AllByRecursion as Each};
 ghost use Rattle.jc_types.specs.declared.actions.Script.{Script};
 ghost use Rattle.jc_types.specs.declared.numbers.Uid.{Uid};
 ghost use Rattle.jc_types.specs.declared.objects.Entry.{Entry};
@@ -12,8 +13,9 @@ ghost use Rattle.jc_types.specs.declared.runs.History.{History};
 ghost use Rattle.jc_types.specs.declared.runs.Shape.{Shape};
 ghost use Rattle.jc_log.specs.Deeds.{Deed, deeds};
 ghost use Rattle.jc_control.specs.Schedules.{log_end};
+ghost use Rattle.jc_control.specs.declared.begins.Begin.TheVariants.{Begun};
 ghost use Rattle.jc_history.specs.Available.{IsOrderly, is_quiescent};
-ghost use Rattle.jc_history.specs.Fresh.{cache_lag};
+ghost use Rattle.jc_history.specs.Fresh.{begin, cache_lag};
 ghost use Rattle.jc_history.specs.Legal.{AreUsed, IsHistory, IsLegal};
 ghost use Rattle.jc_history.specs.Lines.{line};
 ghost use Rattle.jc_history.specs.Notes.{Note};
@@ -21,10 +23,10 @@ ghost use Rattle.jc_history.specs.Numbers.{number};
 ghost use Rattle.jc_history.specs.Play.{Playing, deeds_played, is_full, play_of, rest_played, settled_down, whole_play};
 ghost use Rattle.jc_history.specs.Registers.{AllFit, floor};
 ghost use Rattle.jc_history.specs.Replies.{diary, log_given};
-ghost use Rattle.jc_order.specs.Ends.{BeginsFresh, IsAtMost, IsUpToDate, Placed};
+ghost use Rattle.jc_order.specs.Ends.{IsAtMost, IsUpToDate, Placed, basis_at_end};
 ghost use Rattle.jc_order.specs.Plays.{IsPlayed, IsScriptFor, ends_in_settle};
-ghost use Rattle.jc_order.specs.Rest.{IsSystemAtRest};
-ghost use Rattle.jc_order.specs.Restless.{AllAddOrRetry, AllFail, EndWell, HasCacheSeen, IsBusy, StandTogether, Stands, has_forgotten, has_job_of};
+ghost use Rattle.jc_order.specs.Rest.{HasComeToRest, IsSystemAtRest};
+ghost use Rattle.jc_order.specs.Restless.{AllAddOrRetry, EndWell, FailsIf, HasCacheSeen, IsBusy, StandTogether, Stands, has_forgotten, has_job_of};
 
 /// Floors and the numbers of caches are places of the log. So where both caches of a controller
 /// have seen the whole log no cache is behind for any key, and a begin starts a sync of the first
@@ -39,10 +41,11 @@ pub fn caches_at_the_end_are_fresh()
     ensures fresh { (shape : Shape) (c : ℕ) (deeds : List Deed) → IsLegal shape deeds → (k : Key)
         → cache_lag (diary shape c deeds) (log_given shape deeds) k
         (log_end (log_given shape deeds)) (log_end (log_given shape deeds)) ≡ None }
-    ensures begins { (shape : Shape) (c : ℕ) (deeds : List Deed) → IsLegal shape deeds
-        → IsUpToDate (diary shape c deeds) (log_given shape deeds)
-        → (now : ℕ) (k : Key) (rest : List Key) → line (diary shape c deeds) ≡ k ∷ rest
-        → BeginsFresh shape c deeds now k }
+    ensures begins { (shape : Shape) (c : ℕ) (deeds : List Deed)
+        → let log = log_given shape deeds in let notes = diary shape c deeds in
+        IsLegal shape deeds → IsUpToDate notes log
+        → (now : ℕ) (k : Key) (rest : List Key) → line notes ≡ k ∷ rest
+        → begin notes log now ≡ Begun (basis_at_end notes log now k) }
 {}
 
 /// Nothing is available just where both caches of each controller have seen the whole log, no sync
@@ -123,9 +126,8 @@ pub fn no_ended_pod_is_forgotten()
     ensures adds_or_retries { (k : Key) (a b : ℕ) (shape : Shape) (c : ℕ) (deeds : List Deed)
         → IsLegal shape deeds → Stands k a b (log_given shape deeds)
         → EndWell k a b (diary shape c deeds) → AllAddOrRetry k a b (diary shape c deeds) }
-    ensures rest { (shape : Shape) (deeds : List Deed) → IsLegal shape deeds → 0 < shape.workers
-        → is_quiescent shape deeds (log_given shape deeds) ≡ true
+    ensures rest { (shape : Shape) (deeds : List Deed) → HasComeToRest shape deeds
         → (c : ℕ) → c < shape.controllers
         → (k : Key) (j u : Uid) (both : StandTogether k j u (log_given shape deeds))
-        → AllFail both (diary shape c deeds) → ⊥ }
+        → Each (FailsIf k both.job_from both.pod_from) (diary shape c deeds) → ⊥ }
 {}

@@ -50,7 +50,7 @@ grown-then old s new h g = grown-on old s new h g.more g.script g.shape g.pasts 
 
 -- So far a loop has come.
 pub done-reaches : (q : Playing) (new : Seen) → q ≡ playing_of false new → Reaches (Ok tt) q new
-done-reaches q new e = record { done = e; full = λ h. absurd (ok-err tt HistoryFull h); room = λ h. absurd (ok-err tt HistoryFull h) }
+done-reaches q new e = record { done = e; full = λ h. absurd (ok-err tt HistoryFull h); history_full = λ h. absurd (ok-err tt HistoryFull h) }
 
 -- The answer that is an error.
 abbrev pub stop : ApplyFault → Result (Unit {0}) ApplyFault
@@ -58,11 +58,11 @@ stop e = Err e
 
 -- It has stopped.
 pub stop-reaches : (r : Result (Unit {0}) ApplyFault) (e : ApplyFault) (q : Playing) (new : Seen) → r ≡ stop e → (stop e ≡ stop HistoryFull → (q ≡ playing_of true new) × (new.shape.events ≤ length new.pasts)) → Reaches r q new
-stop-reaches r e q new is f = subst (λ r. Reaches r q new) (sym is) (record { done = tt; full = λ h. (f h).0; room = λ h. (f h).1 })
+stop-reaches r e q new is f = subst (λ r. Reaches r q new) (sym is) (record { done = tt; full = λ h. (f h).0; history_full = λ h. (f h).1 })
 
 -- A later part stops where the one before it has.
 pub stopped : (r : Result (Unit {0}) ApplyFault) (e : ApplyFault) (q : Playing) (s : Seen) (g : Playing → Playing) → r ≡ stop e → Reaches (stop e) q s → (s.shape.events ≤ length s.pasts → g (playing_of true s) ≡ playing_of true s) → Reaches r (g q) s
-stopped r e q s g is h stays = stop-reaches r e (g q) s is (λ f. (ap g (h.full f) ∙ stays (h.room f), h.room f))
+stopped r e q s g is h stays = stop-reaches r e (g q) s is (λ f. (ap g (h.full f) ∙ stays (h.history_full f), h.history_full f))
 
 -- It goes on where that is done.
 pub continued : (r : Result (Unit {0}) ApplyFault) (q : Playing) (s new : Seen) (g : Playing → Playing) → Reaches r (g (playing_of false s)) new → q ≡ playing_of false s → Reaches r (g q) new

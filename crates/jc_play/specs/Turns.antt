@@ -89,7 +89,7 @@ pub record HasGrown (old new : Seen) : Type 0 where
 pub record Reaches (result : Result (Unit {0}) ApplyFault) (q : Playing) (new : Seen) : Type 0 where
   pub done : OnOk result (q ≡ playing_of false new)
   pub full : result ≡ Err HistoryFull → q ≡ playing_of true new
-  pub room : result ≡ Err HistoryFull → new.shape.events ≤ length new.pasts
+  pub history_full : result ≡ Err HistoryFull → new.shape.events ≤ length new.pasts
 
 -- The event is a command, its lane's next one, and fits the shape.
 pub record IsOwn (seen : Seen) (event : Event) : Type 0 where

@@ -32,7 +32,7 @@ fn begin_own(machine: &mut Machine, event: Event) -> Result<bool, ApplyFault>
     ensures kept { OnErr result (machine.new ≡ machine.old) }
     ensures full { machine.old.shape.events ≤ length machine.old.pasts
         → result ≡ Err HistoryFull }
-    ensures room { result ≡ Err HistoryFull
+    ensures history_full { result ≡ Err HistoryFull
         → machine.old.shape.events ≤ length machine.old.pasts }
 {
     let reply = machine.apply(event)?;
@@ -91,11 +91,8 @@ fn play_sync(
     requires own { IsOwn machine.old event }
     requires free { NeedsNoRest machine.old event }
     ensures reaches { Reaches result
-        (after_begin machine.old.script machine.old.shape controller worker
-        (event_played machine.old.script machine.old.shape event
-        (brought_up machine.old.script machine.old.shape controller Pods
-        (brought_up machine.old.script machine.old.shape controller Jobs
-        (playing_of false machine.old))))) machine.new }
+        (by_way (Way.Round controller worker) machine.old.script machine.old.shape event
+        (playing_of false machine.old)) machine.new }
     ensures grown { HasGrown machine.old machine.new }
     ensures came { OnOk result (HasCome event machine.new) }
 {

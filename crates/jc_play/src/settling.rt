@@ -19,7 +19,7 @@ pub(crate) fn happen(machine: &mut Machine, event: Event) -> Result<(), ApplyFau
     ensures kept { OnErr result (machine.new ≡ machine.old) }
     ensures full { machine.old.shape.events ≤ length machine.old.pasts
         → result ≡ Err HistoryFull }
-    ensures room { result ≡ Err HistoryFull
+    ensures history_full { result ≡ Err HistoryFull
         → machine.old.shape.events ≤ length machine.old.pasts }
 {
     machine.apply(event)?;

@@ -7,8 +7,10 @@
 --     IsCollected ttl shape before full after   so did each of the deeds by which the ones went on to the others, and
 --                                               all was collected, where the history is not full
 --     seen_at_end script shape            what a reaper sees at the end of the script's play
-use Rattle.std.specs.Prelude.{◌≡◌, ℕ, ◌+◌, ◌≤◌, Bool, false, true, List, [], ◌∷◌, ◌++◌, map, Option, Some, if◌then◌else◌}
-use Rattle.std.specs.List.{Contains}
+--     IsToReap script seen ttls place p   the play has come to what the reaper saw, and its commands come next
+--     CollectsSeen seen ttls script p     so did each deed of the play behind what the reaper saw, and all was collected
+use Rattle.std.specs.Prelude.{◌≡◌, ℕ, ◌+◌, ◌≤◌, Bool, false, true, List, [], ◌∷◌, ◌++◌, map, Option, Some, if◌then◌else◌, slice_get}
+use Rattle.std.specs.List.{Contains, list_any}
 use Rattle.jc_types.specs.declared.actions.Script.{Script}
 use Rattle.jc_types.specs.declared.numbers.Uid.{Uid}
 use Rattle.jc_types.specs.declared.objects.Entry.{Entry}
@@ -23,13 +25,15 @@ use Rattle.jc_log.specs.Acts as does
 use Rattle.jc_log.specs.Deeds.{Deed}
 use Rattle.jc_log.specs.Log.{job_in, next_version, pod_in}
 use Rattle.jc_runs.specs.Diaries.{all_jobs, moment}
-use Rattle.jc_runs.specs.Play.{whole_play}
+use Rattle.jc_runs.specs.Legal.{IsLegal}
+use Rattle.jc_runs.specs.Machines.{AllAskValid}
+use Rattle.jc_runs.specs.Play.{Playing, deeds_played, is_command, whole_play}
 use Rattle.jc_runs.specs.Replies.{log_given}
-use Rattle.jc_runs.specs.Seen.{Seen}
+use Rattle.jc_runs.specs.Seen.{Seen, deeds_seen, log_seen}
 use Rattle.jc_runs.specs.Pods.{is_marked}
 use Rattle.jc_reap.specs.declared.expiries.Expiry.{Expiry}
 use Rattle.jc_reap.specs.Expiries.{MayGo, ended_at}
-use Rattle.jc_reap.specs.Reaping.{is_ownerless}
+use Rattle.jc_reap.specs.Reaping.{is_ownerless, reap_list, ttl_seen}
 
 -- A delete of the key finds a Job that has ended and that has a TTL, so many seconds after whose end the
 -- moment is not before; and it removes the Job.
@@ -85,3 +89,18 @@ pub record IsCollected (ttl : Uid → Option ℕ) (shape : Shape) (before : List
 abbrev pub seen_at_end : Script → Shape → Seen
 seen_at_end script shape =
     record { script = script; shape = shape; pasts = (whole_play script shape).pasts }
+
+-- The play of the script has come to the deeds that the reaper saw, which are legal and ask for what is valid. What is
+-- played next are the reaper's commands: they stand from the place on, and none from there on was played.
+pub record IsToReap (script : Script) (seen : Seen) (ttls : List (Option ℕ)) (place : ℕ) (p : Playing) : Type 0 where
+  pub deeds_are : deeds_seen seen ≡ deeds_played script p
+  pub log_is : p.log ≡ log_seen seen
+  pub valid : AllAskValid (deeds_seen seen)
+  pub legal : IsLegal seen.shape (deeds_seen seen)
+  pub stand : (i : ℕ) → slice_get script.commands (place + i) ≡ slice_get (reap_list seen ttls) i
+  pub fresh : (n : ℕ) → place ≤ n → list_any (is_command n) p.pasts ≡ false
+
+-- In the play each deed behind what the reaper saw found what is due. Unless it is full, all was collected that was due.
+abbrev pub CollectsSeen : Seen → List (Option ℕ) → Script → Playing → Type 0
+CollectsSeen seen ttls script p =
+    IsCollected (ttl_seen seen ttls) seen.shape (deeds_seen seen) p.full (deeds_played script p)

@@ -2,9 +2,12 @@
 --     IsSmallTtl ttl            the TTL, if there is one, is a number of 31 bits
 --     Creates P action          of the key of a Job that the action creates it holds
 --     CanBeSaid P action        what the action of a reaper says is so
-use Rattle.std.specs.Prelude.{ℕ, ◌≤◌, ◌<◌, ◌^◌, Option, IfSome}
+--     AllCreate P commands, AllCanBeSaid P commands      of each of the commands the one or the other holds
+use Rattle.std.specs.Prelude.{ℕ, ◌≤◌, ◌<◌, ◌^◌, List, Option, IfSome}
+use Rattle.std.specs.List.{AllByRecursion as Each}
 use Rattle.jc_types.specs.declared.actions.Action1.{Action1}
 use Rattle.jc_types.specs.declared.actions.Action1.TheVariants as act
+use Rattle.jc_types.specs.declared.actions.Command.{Command}
 use Rattle.jc_types.specs.declared.objects.Key.{Key}
 use Rattle.jc_reap.specs.TtlLines.{greatest_ttl}
 
@@ -25,3 +28,11 @@ CanBeSaid P (act.Mark pod) = (1 ≤ pod.0) × (pod.0 < 2 ^ 32)
 CanBeSaid P (act.Clock add) = add < 2 ^ 32
 CanBeSaid P act.Settle = Unit {0}
 CanBeSaid P other = ⊥
+
+-- Of the keys of all Jobs that the commands create it holds.
+abbrev pub AllCreate : (Key → Type 0) → List Command → Type 0
+AllCreate P commands = Each (λ (command : Command). Creates P command.action) commands
+
+-- What the commands of a reaper say is so.
+abbrev pub AllCanBeSaid : (Key → Type 0) → List Command → Type 0
+AllCanBeSaid P commands = Each (λ (command : Command). CanBeSaid P command.action) commands

@@ -11,16 +11,21 @@
 --     unsettled seen ttls         all but the settle at the end
 --     reached_after reached rows  the moment that is reached by then
 --     reap_list seen ttls         all commands
-use Rattle.std.specs.Prelude.{◌≡◌, ℕ, ◌-◌, nat_lt, Bool, not, List, [], ◌∷◌, ◌++◌, filter, map, Option, is_some, if◌then◌else◌}
+--     reaped_script seen ttls     the script that the reaper saw, with them behind it
+--     AskReaped seen ttls deeds left      the deeds ask for a front of them, and the acts are left of it
+use Rattle.std.specs.Prelude.{◌≡◌, ℕ, ◌-◌, nat_lt, Bool, not, List, [], ◌∷◌, ◌++◌, filter, map, reverse, Option, is_some, if◌then◌else◌}
 use Rattle.std.specs.List.{list_any}
 use Rattle.jc_types.specs.declared.actions.Action1.{Action1}
 use Rattle.jc_types.specs.declared.actions.Action1.TheVariants as act
 use Rattle.jc_types.specs.declared.actions.Command.{Command}
+use Rattle.jc_types.specs.declared.actions.Script.{Script}
 use Rattle.jc_types.specs.declared.numbers.Uid.{Uid}
 use Rattle.jc_types.specs.declared.objects.Entry.{Entry}
 use Rattle.jc_types.specs.declared.objects.Job.{Job}
 use Rattle.jc_types.specs.declared.objects.Pod.{Pod}
 use Rattle.jc_types.specs.Keys.{same_uid}
+use Rattle.jc_log.specs.Acts.{Act}
+use Rattle.jc_log.specs.Deeds.{Deed, act_of_action}
 use Rattle.jc_log.specs.Log.{jobs_in, pods_in, pods_of}
 use Rattle.jc_log.specs.Tables.{at}
 use Rattle.jc_runs.specs.Diaries.{all_jobs, moment}
@@ -101,3 +106,12 @@ unsettled seen ttls =
 -- All commands: behind them the cluster comes to rest again.
 abbrev pub reap_list : Seen → List (Option ℕ) → List Command
 reap_list seen ttls = then_settle (unsettled seen ttls)
+
+-- The script that the reaper saw, with its commands behind it.
+abbrev pub reaped_script : Seen → List (Option ℕ) → Script
+reaped_script seen ttls = record { commands = seen.script.commands ++ reap_list seen ttls }
+
+-- The deeds, newest first, ask for a front of the commands, one after the other, and these acts are left of them.
+abbrev pub AskReaped : Seen → List (Option ℕ) → List Deed → List Act → Type 0
+AskReaped seen ttls deeds left = map (λ (d : Deed). d.act) (reverse deeds) ++ left
+    ≡ map (λ (command : Command). act_of_action command.action) (reap_list seen ttls)

@@ -1,7 +1,7 @@
 //! Laws on the commands of a reaper. Each function is empty: what it ensures holds of every list, and its callers may
 //! cite it.
 
-ghost use Rattle.std.specs.Prelude.{◌≡◌, ◌<◌, ◌≤◌, ◌+◌, ◌^◌, ◌++◌, ℕ, Bool, Err, List, Ok, Option, false, length, map, reverse, slice_get, true};
+ghost use Rattle.std.specs.Prelude.{◌≡◌, ◌<◌, ◌≤◌, ◌+◌, ◌^◌, ◌++◌, ℕ, Bool, Err, List, Ok, Option, false, length, true};
 ghost use Rattle.std.specs.List.{AllByRecursion as Each, Contains, list_any};
 ghost use Rattle.std.specs.List.Sorted.{IsStrictlySortedBy};
 ghost use Rattle.std.specs.Map.{keys_of};
@@ -19,13 +19,13 @@ ghost use Rattle.jc_runs.specs.Legal.{IsLegal, IsOfShape};
 ghost use Rattle.jc_runs.specs.Play.{Playing, deeds_played, is_command, rest_played, whole_play};
 ghost use Rattle.jc_core.specs.Plays.{IsScriptFor};
 ghost use Rattle.jc_runs.specs.Machines.{AllAskValid};
-ghost use Rattle.jc_runs.specs.Seen.{Seen, deeds_seen, log_seen};
+ghost use Rattle.jc_runs.specs.Seen.{Seen, deeds_seen};
 ghost use Rattle.jc_script.specs.Scripts.{BadLine, script_of};
 ghost use Rattle.jc_reap.specs.declared.expiries.Expiry.{Expiry};
 ghost use Rattle.jc_reap.specs.Expiries.{MayGo, expired, expiry_order};
-ghost use Rattle.jc_reap.specs.Finds.{AreDue, IsCollected, seen_at_end};
-ghost use Rattle.jc_reap.specs.ReapedCommands.{Creates, CanBeSaid, IsSmallTtl};
-ghost use Rattle.jc_reap.specs.Reaping.{reap_list, ttl_seen};
+ghost use Rattle.jc_reap.specs.Finds.{AreDue, CollectsSeen, IsToReap, seen_at_end};
+ghost use Rattle.jc_reap.specs.ReapedCommands.{AllCanBeSaid, AllCreate, IsSmallTtl};
+ghost use Rattle.jc_reap.specs.Reaping.{AskReaped, reap_list, reaped_script, ttl_seen};
 ghost use Rattle.jc_reap.specs.TtlLines.{RefusesTtl, ttls_of};
 
 use jc_runs::{allowed_updates_stay_valid, valid_scripts_ask_valid};
@@ -47,10 +47,9 @@ pub fn reaped_commands_fit()
 /// each TTL is a number of 31 bits.
 pub fn reaped_commands_can_be_said()
     ensures commands { (test : Key → Bool) (seen : Seen) (ttls : List (Option ℕ))
-        → Each (λ (command : Command). Creates (λ key. test key ≡ true) command.action) seen.script.commands
+        → AllCreate (λ key. test key ≡ true) seen.script.commands
         → length seen.pasts < 2 ^ 32 → Each IsSmallTtl ttls
-        → Each (λ (command : Command). CanBeSaid (λ key. test key ≡ true) command.action)
-        (reap_list seen ttls) }
+        → AllCanBeSaid (λ key. test key ≡ true) (reap_list seen ttls) }
     ensures ttls { (shape : Shape) (text : List ℕ) (ttls : List (Option ℕ))
         → ttls_of shape text ≡ Ok ttls → Each IsSmallTtl ttls }
 {}
@@ -84,8 +83,7 @@ pub fn as_many_ttls_as_commands()
 pub fn reaped_is_due()
     ensures { (seen : Seen) (ttls : List (Option ℕ)) (more : List Deed) (left : List Act)
         → AllAskValid (deeds_seen seen) → IsLegal seen.shape (more ++ deeds_seen seen)
-        → map (λ (d : Deed). d.act) (reverse more) ++ left
-        ≡ map (λ (command : Command). act_of_action command.action) (reap_list seen ttls)
+        → AskReaped seen ttls more left
         → AreDue (ttl_seen seen ttls) seen.shape (deeds_seen seen) more }
 {
     allowed_updates_stay_valid();
@@ -97,14 +95,9 @@ pub fn reaped_is_due()
 /// each Job that may go was deleted, and each pod whose Job is gone, or went so, was marked.
 pub fn reaped_plays()
     ensures { (script : Script) (seen : Seen) (ttls : List (Option ℕ)) (place : ℕ) (p : Playing)
-        → deeds_seen seen ≡ deeds_played script p → p.log ≡ log_seen seen
-        → AllAskValid (deeds_seen seen) → IsLegal seen.shape (deeds_seen seen)
-        → ((i : ℕ)
-        → slice_get script.commands (place + i) ≡ slice_get (reap_list seen ttls) i)
-        → ((n : ℕ) → place ≤ n → list_any (is_command n) p.pasts ≡ false)
-        → let last = rest_played script seen.shape place (reap_list seen ttls) p in
-        IsCollected (ttl_seen seen ttls) seen.shape (deeds_seen seen) last.full
-        (deeds_played script last) }
+        → IsToReap script seen ttls place p
+        → CollectsSeen seen ttls script
+        (rest_played script seen.shape place (reap_list seen ttls) p) }
 {
     allowed_updates_stay_valid();
 }
@@ -138,10 +131,8 @@ pub fn collecting_plays_are_due()
         → IsScriptFor (record { commands = front }) shape
         → AreValidCommands front
         → let seen = seen_at_end (record { commands = front }) shape in
-        let longer = front ++ reap_list seen ttls in
-        let last = whole_play (record { commands = longer }) shape in
-        IsCollected (ttl_seen seen ttls) shape (deeds_seen seen) last.full
-        (deeds_played (record { commands = longer }) last) }
+        CollectsSeen seen ttls (reaped_script seen ttls)
+        (whole_play (reaped_script seen ttls) shape) }
 {
     allowed_updates_stay_valid();
     valid_scripts_ask_valid();

@@ -3,7 +3,8 @@
 --     IsWaiting deeds backoff log job    it has ended; or no target stands, and it is halted
 --     skips note older         the pod cache skips entries of the log
 --     is_sure k notes          the key was added since the pod cache last skipped entries
-use Rattle.std.specs.Prelude.{◌≡◌, ℕ, ◌≤◌, Bool, true, false, not, ◌&&◌, ◌||◌, List, [], ◌∷◌, Some, None, nat_lt}
+--     NoneIsStuck shape deeds log        each Job so waits of whose key a controller is sure
+use Rattle.std.specs.Prelude.{◌≡◌, ℕ, ◌≤◌, Bool, true, false, not, ◌&&◌, ◌<◌, ◌||◌, List, [], ◌∷◌, Some, None, nat_lt}
 use Rattle.std.specs.Option.{option_map_or}
 use Rattle.std.specs.List.{Contains}
 use Rattle.jc_control.specs.ControllerCalls.{forgets_caches}
@@ -15,16 +16,19 @@ use Rattle.jc_types.specs.declared.objects.Key.{Key}
 use Rattle.jc_types.specs.declared.objects.Kind.TheVariants.{Pods}
 use Rattle.jc_types.specs.declared.objects.Pod.{Pod}
 use Rattle.jc_types.specs.declared.syncs.Backoff.{Backoff}
+use Rattle.jc_types.specs.declared.runs.Shape.{Shape}
 use Rattle.jc_states.specs.Conditions.{has_end, has_target}
 use Rattle.jc_states.specs.Pods.{is_active}
 use Rattle.jc_log.specs.Deeds.{Deed}
-use Rattle.jc_log.specs.Log.{pods_of}
+use Rattle.jc_log.specs.Log.{job_in, pods_of}
 use Rattle.jc_plan.specs.Backoffs.{opening}
 use Rattle.jc_idle.specs.Waits.{HasEnough}
+use Rattle.jc_history.specs.Diaries.{notes as notes_of}
 use Rattle.jc_history.specs.Lines.{adds}
 use Rattle.jc_history.specs.Nodes.{fate, pod_end}
 use Rattle.jc_history.specs.Notes.{Note, Listed, Expired, Ended}
 use Rattle.jc_history.specs.Numbers.{number}
+use Rattle.jc_history.specs.Registers.{backoff as backoff_of}
 
 -- What nothing in the cluster brings about. The backoff is that of the Job's key in a controller.
 pub data IsHalted (deeds : List Deed) (backoff : Backoff) (log : List Entry) (job : Job) : Type 0
@@ -67,3 +71,10 @@ skips note older = false
 abbrev pub is_sure : Key → List Note → Bool
 is_sure k [] = true
 is_sure k (note ∷ older) = has_key k (adds note older) || not (skips note older) && is_sure k older
+
+-- Each Job that is there waits so, or has ended, for each controller that has added its key since its pod cache last
+-- skipped entries of the log.
+abbrev pub NoneIsStuck : Shape → List Deed → List Entry → Type 0
+NoneIsStuck shape deeds log = (c : ℕ) → c < shape.controllers
+    → (k : Key) (job : Job) → job_in k log ≡ Some job → is_sure k (notes_of shape c deeds log) ≡ true
+    → IsWaiting deeds (backoff_of k (notes_of shape c deeds log)) log job

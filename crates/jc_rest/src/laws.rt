@@ -1,21 +1,20 @@
 //! Laws on histories at rest. Each function is empty: what it ensures holds of every history, and
 //! its callers may cite it.
 
-ghost use Rattle.std.specs.Prelude.{◌≡◌, ◌<◌, List, Some, true, ℕ};
+ghost use Rattle.std.specs.Prelude.{◌≡◌, ◌<◌, List, Some};
 ghost use Rattle.jc_types.specs.declared.objects.Job.{Job};
 ghost use Rattle.jc_types.specs.declared.objects.Key.{Key};
 ghost use Rattle.jc_types.specs.declared.runs.Shape.{Shape};
 ghost use Rattle.jc_log.specs.Deeds.{Deed};
 ghost use Rattle.jc_log.specs.Log.{job_in};
-ghost use Rattle.jc_history.specs.Available.{is_quiescent};
-ghost use Rattle.jc_history.specs.Registers.{backoff};
 ghost use Rattle.jc_history.specs.Legal.{IsLegal};
-ghost use Rattle.jc_history.specs.Replies.{diary, log_given};
+ghost use Rattle.jc_history.specs.Replies.{log_given};
+ghost use Rattle.jc_order.specs.Rest.{HasComeToRest};
 ghost use Rattle.jc_runs.specs.Machines.{AllAskValid};
 ghost use Rattle.jc_rest.specs.LetGo.{EndedAreLetGo};
 ghost use Rattle.jc_rest.specs.Lost.{AreLostWell};
 ghost use Rattle.jc_rest.specs.Orphans.{LeavesNone};
-ghost use Rattle.jc_rest.specs.Stuck.{IsWaiting, is_sure};
+ghost use Rattle.jc_rest.specs.Stuck.{NoneIsStuck};
 
 use jc_runs::allowed_updates_stay_valid;
 
@@ -28,9 +27,8 @@ use jc_runs::allowed_updates_stay_valid;
 /// The Job's status need not be the next one: where a pod came and went between two lists of the
 /// pod cache, no list adds its owner's key.
 pub fn no_ended_pod_is_forgotten_at_rest()
-    ensures { (shape : Shape) (deeds : List Deed) → IsLegal shape deeds → AllAskValid deeds
-        → 0 < shape.controllers → 0 < shape.workers
-        → is_quiescent shape deeds (log_given shape deeds) ≡ true
+    ensures { (shape : Shape) (deeds : List Deed) → HasComeToRest shape deeds → AllAskValid deeds
+        → 0 < shape.controllers
         → (k : Key) (job : Job) → job_in k (log_given shape deeds) ≡ Some job
         → EndedAreLetGo job (log_given shape deeds) }
 {
@@ -61,13 +59,8 @@ pub fn finalizers_are_lost_with_a_cause()
 /// Without that it can be false: where the last pod of a Job comes to its end and leaves the log between
 /// two lists of the pod cache, nobody adds the Job's key.
 pub fn no_job_is_stuck_at_rest()
-    ensures { (shape : Shape) (deeds : List Deed) → IsLegal shape deeds → AllAskValid deeds
-        → 0 < shape.workers
-        → is_quiescent shape deeds (log_given shape deeds) ≡ true
-        → (c : ℕ) → c < shape.controllers
-        → (k : Key) (job : Job) → job_in k (log_given shape deeds) ≡ Some job
-        → is_sure k (diary shape c deeds) ≡ true
-        → IsWaiting deeds (backoff k (diary shape c deeds)) (log_given shape deeds) job }
+    ensures { (shape : Shape) (deeds : List Deed) → HasComeToRest shape deeds → AllAskValid deeds
+        → NoneIsStuck shape deeds (log_given shape deeds) }
 {
     allowed_updates_stay_valid();
 }
@@ -80,9 +73,7 @@ pub fn no_job_is_stuck_at_rest()
 /// cache of Jobs had seen, or where the entry that took the Job away was skipped by the cache of Jobs, nobody adds
 /// the key again.
 pub fn no_orphan_is_left_at_rest()
-    ensures { (shape : Shape) (deeds : List Deed) → IsLegal shape deeds → AllAskValid deeds
-        → 0 < shape.workers
-        → is_quiescent shape deeds (log_given shape deeds) ≡ true
+    ensures { (shape : Shape) (deeds : List Deed) → HasComeToRest shape deeds → AllAskValid deeds
         → LeavesNone shape deeds (log_given shape deeds) }
 {
     allowed_updates_stay_valid();

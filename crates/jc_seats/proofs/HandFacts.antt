@@ -18,6 +18,8 @@ use Rattle.jc_core.specs.declared.holding.Work.{Work}
 use Rattle.jc_seats.specs.Hands.{WasTaken}
 use Rattle.jc_seats.specs.Names.{IsOfName}
 use Rattle.jc_seats.specs.Names.{named_seen}
+use Rattle.jc_seats.specs.PlayerTurns.{HasTakenPlan}
+use Rattle.jc_seats.specs.declared.players.Player.{Player}
 use Rattle.jc_seats.specs.declared.next_action.NextAction.{NextAction}
 use Rattle.jc_seats.specs.declared.next_action.NextAction.TheVariants as next
 use Rattle.jc_seats.proofs.Beginnings.{named}
@@ -68,11 +70,11 @@ module _ (script : Script) (shape : Shape) (seen : Seen) (of : IsOfName script s
 
 -- Work that a turn gives was taken when all had happened that has.
 pub taken-told : (script : Script) (shape : Shape) (old new : Shared) → IsOfName script shape old.seen
-    → (events : List Past) → events ≡ reverse new.seen.pasts → (r : Result (NextAction Work) ApplyFault) (A B C : Work → Type 0)
-    → IfOk r (λ t. (w : Work) → t ≡ next.Plan w → (register w.worker (diary_seen old.seen w.controller) ≡ Some w.basis) × A w × B w × C w × (new.seen ≡ old.seen))
+    → (events : List Past) → events ≡ reverse new.seen.pasts → (r : Result (NextAction Work) ApplyFault) (player : Player)
+    → IfOk r (λ t. (w : Work) → t ≡ next.Plan w → HasTakenPlan player w old new)
     → IfOk r (λ t. (w : Work) → t ≡ next.Plan w → WasTaken script shape events w)
-taken-told script shape old new of events at (Ok t) A B C told = λ w e.
+taken-told script shape old new of events at (Ok t) player told = λ w e.
     let p = told w e in
     subst (λ (xs : List Past). WasTaken script shape xs w) (sym at)
-    (subst (λ (s : Seen). WasTaken script shape (reverse s.pasts) w) (sym p.4) (taken-now script shape old.seen of w p.0))
-taken-told script shape old new of events at (Err x) A B C told = tt
+    (subst (λ (s : Seen). WasTaken script shape (reverse s.pasts) w) (sym p.seen) (taken-now script shape old.seen of w p.basis))
+taken-told script shape old new of events at (Err x) player told = tt

@@ -5,14 +5,18 @@
 --     IsOwnEvent player old event    it is of one of its lanes, or the first of the system that is not held
 --     HaveHappened player events ..  the events have happened one after the other, each of them the player's own
 --     HasTurned player old new       so such events have, and then no more; nothing is said of slots
-use Rattle.std.specs.Prelude.{◌≡◌, ℕ, ◌%◌, ◌⊎◌, List, [], ◌∷◌, Some}
+--     HasTakenPlan player work old new      the player has taken this plan to make
+use Rattle.std.specs.Prelude.{◌≡◌, ℕ, ◌<◌, ◌%◌, ◌⊎◌, List, [], ◌∷◌, Some}
 use Rattle.jc_types.specs.declared.runs.Event.{Event}
 use Rattle.jc_runs.specs.Seen.{Seen, act_seen, happened, reply_seen}
 use Rattle.jc_history.specs.Play.{first_event}
+use Rattle.jc_history.specs.Registers.{register}
 use Rattle.jc_core.specs.Actors.{CanCome, IsOfActor}
 use Rattle.jc_core.specs.Slots.{unheld_seen}
 use Rattle.jc_core.specs.Actor.TheVariants as actor
-use Rattle.jc_core.specs.Shared.{Shared, slots_after}
+use Rattle.jc_core.specs.DiariesSeen.{diary_seen}
+use Rattle.jc_core.specs.Shared.{Shared, slots_after, taken_by}
+use Rattle.jc_core.specs.declared.holding.Work.{Work}
 use Rattle.jc_seats.specs.declared.players.Player.{Player}
 
 -- The lane belongs to the player: each player has every lane of the same rest by the number of players.
@@ -60,3 +64,12 @@ pub record HasTurned (player : Player) (old new : Shared) : Type 0 where
   pub last : Shared
   pub happened : HaveHappened player events old last
   pub seen : new.seen ≡ last.seen
+
+-- The player has taken the plan of a worker of the shape, to be made of what the worker's sync began with. It holds the
+-- worker's register, and nothing has happened.
+pub record HasTakenPlan (player : Player) (work : Work) (old new : Shared) : Type 0 where
+  pub basis : register work.worker (diary_seen old.seen work.controller) ≡ Some work.basis
+  pub controller : work.controller < old.seen.shape.controllers
+  pub worker : work.worker < old.seen.shape.workers
+  pub slots : new.slots ≡ taken_by player.number work.controller work.worker old.slots
+  pub seen : new.seen ≡ old.seen

@@ -107,7 +107,7 @@ impl<J: Naming> Kept<J> {
         ensures kept { OnErr result (self.new ≡ self.old) }
         ensures full { self.old.seen.shape.events ≤ length self.old.seen.pasts
             → result ≡ Err HistoryFull }
-        ensures room { result ≡ Err HistoryFull
+        ensures history_full { result ≡ Err HistoryFull
             → self.old.seen.shape.events ≤ length self.old.seen.pasts }
     {
         available_events_keep_the_order();

@@ -166,7 +166,7 @@ impl<J: Naming, L: LogTag> SharedRun<J, L> {
         ensures ends { IfOk result (λ next. next ≡ NextAction.End → (self.new ≡ self.old)
             × (is_quiescent_seen self.old.seen ≡ true) × ¬ HasLeft player.old self.old.seen) }
         ensures kept { OnErr result (self.new ≡ self.old) }
-        ensures room { result ≡ Err HistoryFull
+        ensures history_full { result ≡ Err HistoryFull
             → self.old.seen.shape.events ≤ length self.old.seen.pasts }
         ensures player { (player.new.number ≡ player.old.number)
             × (player.new.threads ≡ player.old.threads) }
@@ -196,7 +196,7 @@ impl<J: Naming, L: LogTag> SharedRun<J, L> {
             × ¬ HasLeft player.old self.new.seen) }
         ensures ends { IfOk result (λ next. next ≡ NextAction.End
             → (is_quiescent_seen self.new.seen ≡ true) × ¬ HasLeft player.old self.new.seen) }
-        ensures room { result ≡ Err HistoryFull
+        ensures history_full { result ≡ Err HistoryFull
             → self.new.seen.shape.events ≤ length self.new.seen.pasts }
         ensures player { (player.new.number ≡ player.old.number)
             × (player.new.threads ≡ player.old.threads) }

@@ -4,14 +4,12 @@ ghost use Rattle.std.specs.Prelude.{◌≡◌, ◌≢◌, ◌+◌, ◌%◌, ◌<
 ghost use Rattle.jc_types.specs.declared.runs.Event.{Event};
 ghost use Rattle.jc_runs.specs.Bases.{CanPlan};
 ghost use Rattle.jc_history.specs.Play.{first_event};
-ghost use Rattle.jc_history.specs.Registers.{register};
-ghost use Rattle.jc_core.specs.DiariesSeen.{diary_seen};
 ghost use Rattle.jc_core.specs.ApplyFault.TheVariants.{HistoryFull};
 ghost use Rattle.jc_core.specs.Actors.{CanCome};
 ghost use Rattle.jc_core.specs.Slots.{unheld_seen};
 ghost use Rattle.jc_core.specs.Turns.{is_quiescent_seen};
-ghost use Rattle.jc_core.specs.Shared.{has_holders, is_open_slot, taken_by};
-ghost use Rattle.jc_seats.specs.PlayerTurns.{HasHappened, HasLeft, IsOfLanes, IsOwnEvent};
+ghost use Rattle.jc_core.specs.Shared.{has_holders, is_open_slot};
+ghost use Rattle.jc_seats.specs.PlayerTurns.{HasHappened, HasLeft, HasTakenPlan, IsOfLanes, IsOwnEvent};
 ghost use Rattle.jc_core.specs.declared.holding.Work.{Work};
 
 use crate::kept::Kept;
@@ -78,7 +76,7 @@ impl<J: Naming> Kept<J> {
         requires { CanCome self.old.seen event }
         ensures happened { OnOk result (HasHappened event self.old self.new) }
         ensures kept { OnErr result (self.new ≡ self.old) }
-        ensures room { result ≡ Err HistoryFull
+        ensures history_full { result ≡ Err HistoryFull
             → self.old.seen.shape.events ≤ length self.old.seen.pasts }
         ensures number { player.new.number ≡ player.old.number }
         ensures threads { player.new.threads ≡ player.old.threads }
@@ -97,11 +95,7 @@ impl<J: Naming> Kept<J> {
     /// there is no memory. Nothing has changed then, but for which kind is tried next.
     pub fn turn(&mut self, player: &mut Player) -> Result<NextAction<Work>, ApplyFault>
         ensures plan { IfOk result (λ next. (work : Work) → next ≡ NextAction.Plan work
-            → (register work.worker (diary_seen self.old.seen work.controller) ≡ Some work.basis)
-            × (work.controller < self.old.seen.shape.controllers)
-            × (work.worker < self.old.seen.shape.workers)
-            × (self.new.slots ≡ taken_by player.old.number work.controller work.worker self.old.slots)
-            × (self.new.seen ≡ self.old.seen)) }
+            → HasTakenPlan player.old work self.old self.new) }
         ensures plannable { IfOk result (λ next. (work : Work) → next ≡ NextAction.Plan work
             → IsSome work.basis.job → CanPlan work.basis) }
         ensures went { IfOk result (λ next. next ≡ NextAction.Went
@@ -116,7 +110,7 @@ impl<J: Naming> Kept<J> {
         ensures first { IfOk result (λ next. ((work : Work) → next ≢ NextAction.Plan work)
             → find (is_open_slot self.old.seen) self.old.slots ≡ None) }
         ensures kept { OnErr result (self.new ≡ self.old) }
-        ensures room { result ≡ Err HistoryFull
+        ensures history_full { result ≡ Err HistoryFull
             → self.old.seen.shape.events ≤ length self.old.seen.pasts }
         ensures player { (player.new.number ≡ player.old.number)
             × (player.new.threads ≡ player.old.threads) }

@@ -11,9 +11,10 @@ use Rattle.jc_words.specs.declared.words.Order.TheVariants.{Generate}
 use Rattle.jc_single.proofs.EndFacts.{EndsBad, EndsLong, all-written, bad-ends, bad-found, front-written, good-words, long-ends, long-taken, most-taken, no-line, none-taken, none-written, quiet-ends, read-rose, unread-ends, unread-kept}
 use Rattle.jc_single.proofs.EndFacts.{whole, whole-of, write-rose, is-whole, not-whole, stopped-not-front, stopped-not-whole}
 use Rattle.jc_single.proofs.RunFacts.{fronted, not_bad, order_same, told}
+use Rattle.jc_single.specs.EndsTold.{AnyOrder, EndsAsTold}
 use Rattle.jc_single.specs.RunEnds.{Answers, Change, Front, RunHasEnded, HasRun, IsUnread, Ran, Refused, Stopped, Whole, Wrote}
-use Rattle.jc_single.specs.Played.{script_played, staging_of}
-use Rattle.jc_single.specs.RunAnswers.{EndsUnread, IsSingle, OfInput, Printed, answer_of, status_of}
+use Rattle.jc_single.specs.Played.{OfPlayed, script_played, staging_of}
+use Rattle.jc_single.specs.RunAnswers.{EndsUnread, IsSingle, OfInput, OfPrinted, Printed, answer_of, status_of}
 use Rattle.jc_single.specs.Headlines.{IsReport, TellsFront, TellsHistory, ends_full}
 use Rattle.jc_single.specs.declared.status.Status.{Status}
 use Rattle.jc_single.specs.declared.status.Status.TheVariants as status
@@ -29,13 +30,11 @@ Tells order = (input : List ℕ) (printed : Printed) → answer_of order input �
 -- What was written is a report where each text is one.
 abbrev pub TellsAll : Order → Change → Change → Status → Type 0
 TellsAll order source sink ended =
-    IfSome (staging_of order) (λ staging. IfSome source.old (λ input. IsOkAnd (script_played order input) (λ script.
-    TellsHistory staging.threads script staging.shape (ends_full ended) sink.old sink.new)))
+    OfPlayed order source.old (λ staging script. TellsHistory staging.threads script staging.shape (ends_full ended) sink.old sink.new)
 
 abbrev pub TellsSome : Order → Change → Change → Type 0
 TellsSome order source sink =
-    IfSome (staging_of order) (λ staging. IfSome source.old (λ input. IsOkAnd (script_played order input) (λ script.
-    TellsFront staging.threads script staging.shape sink.old sink.new)))
+    OfPlayed order source.old (λ staging script. TellsFront staging.threads script staging.shape sink.old sink.new)
 
 all-told : (order : Order) (source sink : Change) (ended : Status) → IsSingle order → Tells order
     → (ended ≡ status.Ok) ⊎ (ended ≡ status.HistoryFull) → RunHasEnded order source sink (Answers order) ended
@@ -91,6 +90,11 @@ written-so full order source sink ended e h =
     (λ input. IsOkAnd (answer_of order input) (λ printed. (printed.full ≡ full) × Appends sink.old sink.new printed.text))
     (λ input printed says same written. printed-so (λ printed. (printed.full ≡ full) × Appends sink.old sink.new printed.text)
     order input printed says (same, written)) e h
+
+-- What holds of the order holds of one of any kind.
+of-any : (P : Order → Type 0) (words : Option Order) → IfSome words P → IfSome words (λ order. AnyOrder order → P order)
+of-any P None h = tt
+of-any P (Some order) h = λ any. h
 
 module _ {words : Option Order} {source sink : Change} {ended : Status} (h : HasRun words source sink ended) where
   pub ok_is : ended ≡ status.Ok → IfSome words (λ order. OfInput order source.old (λ input. IsOkAnd (answer_of order input)
@@ -214,3 +218,26 @@ module _ {words : Option Order} {source sink : Change} {ended : Status} (h : Has
   nothing_written_is ok full front =
       of-run (Keeps sink.old sink.new) words source sink ended (λ order is. none-written order source sink ended ok full front)
       (λ is source_kept kept bad. kept) h
+
+  -- So a run of the words has ended.
+  pub told_is : EndsAsTold AnyOrder words source sink ended
+  told_is = record {
+    ok = λ e. of-any (λ order. OfPrinted order source.old (λ printed. (printed.full ≡ false) × Appends sink.old sink.new printed.text))
+        words (ok_is e);
+    history_full = λ e. of-any (λ order. OfPrinted order source.old (λ printed. (printed.full ≡ true) × Appends sink.old sink.new printed.text))
+        words (history_full_is e);
+    front = λ e. of-any (λ order. OfPrinted order source.old (λ printed. AppendsFront sink.old sink.new printed.text)) words (front_is e);
+    bad_words = bad_words_is;
+    nothing_read = nothing_read_is;
+    generates = generates_is;
+    generates_only = generates_only_is;
+    read_fault = read_fault_is;
+    write_fault = write_fault_is;
+    bad_script = bad_script_is;
+    too_long = too_long_is;
+    not_too_long = not_too_long_is;
+    complete = λ order is any. complete_is order is;
+    complete_generated = complete_generated_is;
+    complete_bad_script = complete_bad_script_is;
+    complete_too_long = complete_too_long_is;
+  }

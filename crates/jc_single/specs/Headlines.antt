@@ -4,11 +4,15 @@
 --     IsPlayedOut script shape history      every lane is used up, and nothing is left to do
 --     IsReportOf history threads script shape full text     the text is the report of this history of the script
 --     IsReport threads script shape full text     it is that of a history whose lines tell it
+--     IsPlayable script shape           of the play of the script in the shape all is promised
+--     HasSmallNumbers script shape      the lanes and the numbers of the shape are such as the code's types hold
 --     TellsHistory threads script shape full old new    that was written to the sink
 --     TellsFront threads script shape old new     the front of it was
-use Rattle.std.specs.Prelude.{◌≡◌, ℕ, ◌≤◌, ◌⊎◌, Bool, true, false, List, length, reverse, Option}
+use Rattle.std.specs.Prelude.{◌≡◌, ℕ, ◌<◌, ◌≤◌, ◌^◌, ◌⊎◌, Bool, true, false, List, length, reverse, Option}
 use Rattle.std.specs.Io.KnownBytes.{Appends}
+use Rattle.std.specs.List.{AllByRecursion as Each}
 use Rattle.jc_io.specs.Moved.{AppendsFront}
+use Rattle.jc_types.specs.declared.actions.Command.{Command}
 use Rattle.jc_types.specs.declared.actions.Script.{Script}
 use Rattle.jc_types.specs.declared.runs.History.{History}
 use Rattle.jc_types.specs.declared.runs.Shape.{Shape}
@@ -16,8 +20,9 @@ use Rattle.jc_promise.specs.Deeds.{deeds}
 use Rattle.jc_promise.specs.Available.{IsOrderly, is_quiescent}
 use Rattle.jc_promise.specs.Legal.{AreUsed, IsHistory}
 use Rattle.jc_promise.specs.Replies.{log_given}
-use Rattle.jc_promise.specs.Plays.{ends_in_settle}
+use Rattle.jc_promise.specs.Plays.{IsScriptFor, ends_in_settle}
 use Rattle.jc_promise.specs.Promises.{KeepsPromises}
+use Rattle.jc_promise.specs.ValidActions.{AreValidCommands}
 use Rattle.jc_report.specs.Reports.{report_text}
 use Rattle.jc_report.specs.Told.{AreEvents}
 use Rattle.jc_single.specs.declared.status.Status.{Status}
@@ -62,6 +67,20 @@ pub record IsReport (threads : ℕ) (script : Script) (shape : Shape) (full : Bo
     pub history : History
     pub told : IsReportOf history threads script shape full text
     pub events : AreEvents history.events.items
+
+-- Its commands are valid, it is a script for the shape, and the shape has a controller, a worker and not too many events.
+pub record IsPlayable (script : Script) (shape : Shape) : Type 0 where
+  pub valid : AreValidCommands script.commands
+  pub fits : IsScriptFor script shape
+  pub some_controllers : 0 < shape.controllers
+  pub some_workers : 0 < shape.workers
+  pub few_events : shape.events ≤ 200000
+
+-- The lanes of the script and the numbers of the shape are such as the code's types hold.
+pub record HasSmallNumbers (script : Script) (shape : Shape) : Type 0 where
+  pub lanes : Each (λ (command : Command). command.lane < 2 ^ 8) script.commands
+  pub few_controllers : shape.controllers ≤ 2 ^ 32
+  pub few_workers : shape.workers ≤ 2 ^ 32
 
 -- The sink was given such a report.
 pub record TellsHistory (threads : ℕ) (script : Script) (shape : Shape) (full : Bool)

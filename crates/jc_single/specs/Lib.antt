@@ -3,6 +3,7 @@ pub mod Played
 pub mod RunAnswers
 pub mod Headlines
 pub mod InTime
+pub mod EndsTold
 -- Words of the crates below, handed on to those above.
 pub use Rattle.jc_reap.specs.TtlLines
 pub use Rattle.jc_reap.specs.Finds

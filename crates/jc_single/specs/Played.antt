@@ -6,7 +6,8 @@
 --     then_reaped script shape ttls    the script with a reaper's commands behind it, unless its play is full
 --     CollectsDue script shape ttls    what a reaper's commands find in that script's play
 --     script_played order input        the script that is played last, or the first bad line
-use Rattle.std.specs.Prelude.{ℕ, List, [], ◌∷◌, ◌++◌, Option, Some, None, Result, Ok, Err, if◌then◌else◌}
+--     OfPlayed order left P            P holds of how it is played, and of that script
+use Rattle.std.specs.Prelude.{ℕ, List, [], ◌∷◌, ◌++◌, Option, Some, None, Result, Ok, Err, IfSome, IsOkAnd, if◌then◌else◌}
 use Rattle.jc_types.specs.declared.actions.Action1.TheVariants as act
 use Rattle.jc_types.specs.declared.actions.Command.{Command}
 use Rattle.jc_types.specs.declared.actions.Script.{Script}
@@ -75,3 +76,9 @@ script_played (order.Run threads lock shape) input = as_script (script_of shape 
 script_played (order.Reap shape) input = reaped_of shape (script_of shape input) (ttls_of shape input)
 script_played (order.Audit shape) input = Ok (record { commands = [] })
 script_played (order.Generate number jobs pods) input = Ok (generated number jobs pods)
+
+-- Where the order has a report written, and the source tells what it has left, there is a script that is played last, and
+-- it holds of how that is played and of it.
+abbrev pub OfPlayed : Order → Option (List ℕ) → (Staging → Script → Type 0) → Type 0
+OfPlayed order left P =
+    IfSome (staging_of order) (λ staging. IfSome left (λ input. IsOkAnd (script_played order input) (λ script. P staging script)))

@@ -8,10 +8,11 @@
 --     IsSingle order                 it is played on one thread
 --     MayEnd said status             how a run on threads may end, of what a text says
 --     OfInput order left P           P holds of the bytes that the order reads
+--     OfPrinted order left P         P holds of what is printed of them on one thread
 --     status_of answer               the status of a run that meets no fault and no want of memory
 --     printed_by output              what is written, as it is printed
 --     EndsUnread status              so a run may end that reads nothing
-use Rattle.std.specs.Prelude.{◌≡◌, ℕ, ◌⊎◌, Bool, false, List, [], Option, Result, Ok, Err, IfSome, if◌then◌else◌}
+use Rattle.std.specs.Prelude.{◌≡◌, ℕ, ◌⊎◌, Bool, false, List, [], Option, Result, Ok, Err, IfSome, IsOkAnd, if◌then◌else◌}
 use Rattle.jc_types.specs.declared.actions.Command.{Command}
 use Rattle.jc_types.specs.declared.actions.Script.{Script}
 use Rattle.jc_types.specs.declared.runs.Shape.{Shape}
@@ -69,6 +70,10 @@ OfInput (order.Run threads lock shape) left P = IfSome left P
 OfInput (order.Reap shape) left P = IfSome left P
 OfInput (order.Audit shape) left P = IfSome left P
 OfInput (order.Generate number jobs pods) left P = P []
+
+-- What the order asks for on one thread, of the bytes that it reads, is printed, and of that it holds.
+abbrev pub OfPrinted : Order → Option (List ℕ) → (Printed → Type 0) → Type 0
+OfPrinted order left P = OfInput order left (λ input. IsOkAnd (answer_of order input) P)
 
 -- The status of a run that meets no fault and no want of memory.
 abbrev pub status_of : Result Printed BadLine → Status

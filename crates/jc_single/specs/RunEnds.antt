@@ -1,5 +1,6 @@
 -- What a run has done, by how it has ended.
 --     Change, change old new ..                   what a source or a sink tells, before and after
+--     HasFailed change                            a call of it failed
 --     IsUnread order                              the order reads nothing
 --     SourceHasTaken order source                 how much was taken of the source
 --     InputIsRead order source input              all that the order reads was read
@@ -9,6 +10,7 @@
 --     RunHasEnded order source sink Holds ended   the one or the other
 --     Answers order input printed                 what the order asks for on one thread
 --     HasRun words source sink ended              so has a run of these words on one thread
+--     SingleRun                                   a run on one thread, with its words, its source, its sink and its end
 use Rattle.std.specs.Prelude.{◌≡◌, ℕ, ◌≤◌, ◌+◌, List, Option, Some, None, Result, Ok, Err, if◌then◌else◌, length}
 use Rattle.std.specs.Io.KnownBytes.{Appends, Keeps}
 use Rattle.jc_io.specs.Faults.{Rose}
@@ -32,6 +34,10 @@ abbrev pub change : Option (List ℕ) → Option (List ℕ) → ℕ → ℕ → 
 change old new faults_old faults_new =
     record { old = old; new = new; faults_old = faults_old; faults_new = faults_new }
 
+-- A call of the source or of the sink failed.
+abbrev pub HasFailed : Change → Type 0
+HasFailed change = Rose change.faults_old change.faults_new
+
 -- A generated script needs no source.
 abbrev pub IsUnread : Order → Type 0
 IsUnread (order.Generate number jobs pods) = Unit {0}
@@ -50,7 +56,7 @@ pub record InputIsRead (order : Order) (source : Change) (input : List ℕ) : Ty
 
 -- A call of the source failed; the input is too long; a line is bad; or memory ran out.
 pub data HasStopped (order : Order) (source : Change) (ended : Status) : Type 0 where
-  AtRead : ¬ IsUnread order → Rose source.faults_old source.faults_new → SourceHasTaken order source
+  AtRead : ¬ IsUnread order → HasFailed source → SourceHasTaken order source
       → ended ≡ status.ReadFault → HasStopped order source ended
   AtLength : ¬ IsUnread order → TakesCount source.old source.new (most_bytes + 1)
       → ended ≡ status.TooLong → HasStopped order source ended
@@ -67,7 +73,7 @@ HasMade order source Holds (Err ended) = HasStopped order source ended
 pub data HasWritten (printed : Printed) (sink : Change) (ended : Status) : Type 0 where
   Whole : Appends sink.old sink.new printed.text
       → ended ≡ (if printed.full then status.HistoryFull else status.Ok) → HasWritten printed sink ended
-  Front : AppendsFront sink.old sink.new printed.text → Rose sink.faults_old sink.faults_new
+  Front : AppendsFront sink.old sink.new printed.text → HasFailed sink
       → ended ≡ status.WriteFault → HasWritten printed sink ended
 
 -- There was a text to write, and it was written or not; or there was none, and nothing was.
@@ -86,3 +92,11 @@ pub data HasRun (words : Option Order) (source sink : Change) (ended : Status) :
       → HasRun words source sink ended
   Refused : words ≡ None → Keeps source.old source.new → Keeps sink.old sink.new → ended ≡ status.BadWords
       → HasRun words source sink ended
+
+-- A run on one thread: its words, what its source and its sink tell before and after, and how it has ended.
+pub record SingleRun : Type 0 where
+  pub words : Option Order
+  pub source : Change
+  pub sink : Change
+  pub ended : Status
+  pub has_run : HasRun words source sink ended

@@ -1,28 +1,28 @@
 //! Laws on what runs write. Each function is empty: what it ensures holds of every script, and its callers may cite it.
 
-ghost use Rattle.std.specs.Prelude.{◌≡◌, ◌≢◌, ◌↔◌, ◌⊎◌, ◌+◌, ◌<◌, ◌≤◌, ◌^◌, Err, IfSome, IsOkAnd, List, [], None, Ok, Option, Some, false, length, true, ℕ};
-ghost use Rattle.std.specs.Io.KnownBytes.{Appends, Keeps};
-ghost use Rattle.std.specs.List.{AllByRecursion as Each};
-ghost use Rattle.jc_io.specs.Faults.{Rose};
-ghost use Rattle.jc_io.specs.Moved.{AppendsFront, TakesAtMost, TakesCount};
+ghost use Rattle.std.specs.Prelude.{◌≡◌, ◌≢◌, IfSome, IsOkAnd, List, Ok, Option, Some, ℕ};
+ghost use Rattle.std.specs.Io.KnownBytes.{Keeps};
 ghost use Rattle.jc_types.specs.declared.actions.Command.{Command};
 ghost use Rattle.jc_types.specs.declared.actions.Script.{Script};
 ghost use Rattle.jc_types.specs.declared.runs.History.{History};
 ghost use Rattle.jc_types.specs.declared.runs.Shape.{Shape};
-ghost use Rattle.jc_promise.specs.ValidActions.{AreValidCommands};
+ghost use Rattle.jc_promise.specs.Deeds.{deeds};
 ghost use Rattle.jc_promise.specs.Play.{is_full, play_of};
-ghost use Rattle.jc_promise.specs.Plays.{IsScriptFor};
+ghost use Rattle.jc_promise.specs.Promises.{EndsOrWaits};
+ghost use Rattle.jc_promise.specs.Replies.{log_given};
 ghost use Rattle.jc_reap.specs.TtlLines.{ttls_of};
-ghost use Rattle.jc_script.specs.Cause.{Cause};
-ghost use Rattle.jc_script.specs.Scripts.{BadLine, most_bytes, script_of};
+ghost use Rattle.jc_script.specs.Scripts.{script_of};
 ghost use Rattle.jc_words.specs.Words.{order_of};
+ghost use Rattle.jc_words.specs.declared.words.LockKind.{LockKind};
 ghost use Rattle.jc_words.specs.declared.words.Order.{Order};
-ghost use Rattle.jc_words.specs.declared.words.Order.TheVariants.{Generate, Reap};
+ghost use Rattle.jc_words.specs.declared.words.Order.TheVariants.{Reap, Run};
 ghost use Rattle.jc_words.specs.FitOrders.{IsFitOrder};
-ghost use Rattle.jc_single.specs.Played.{CollectsDue, at_rest, script_played, staging_of};
-ghost use Rattle.jc_single.specs.RunEnds.{Change, HasRun};
-ghost use Rattle.jc_single.specs.RunAnswers.{EndsUnread, IsSingle, OfInput, Printed, answer_of, report_printed, status_of};
-ghost use Rattle.jc_single.specs.Headlines.{IsReport, IsReportOf, TellsFront};
+ghost use Rattle.jc_single.specs.Played.{CollectsDue, OfPlayed, at_rest, script_played, staging_of};
+ghost use Rattle.jc_single.specs.EndsTold.{AnyOrder, EndsAsTold};
+ghost use Rattle.jc_single.specs.InTime.{IsDoneInTime, IsSettledPlay};
+ghost use Rattle.jc_single.specs.RunEnds.{SingleRun};
+ghost use Rattle.jc_single.specs.RunAnswers.{IsSingle, Printed, answer_of, report_printed};
+ghost use Rattle.jc_single.specs.Headlines.{HasSmallNumbers, IsPlayable, IsReport, IsReportOf, TellsFront};
 
 use crate::status::Status;
 use jc_promise::{
@@ -38,22 +38,30 @@ use jc_words::orders_fit;
 /// history and no other.
 pub fn plays_tell_their_history()
     ensures history { (script : Script) (shape : Shape) (history : History)
-        → history.events.items ≡ play_of script shape
-        → AreValidCommands script.commands
-        → IsScriptFor script shape → 0 < shape.controllers → 0 < shape.workers → shape.events ≤ 200000
+        → IsPlayable script shape → history.events.items ≡ play_of script shape
         → IsReportOf history 0 script shape (is_full script shape)
         (report_printed script shape).text }
     ensures report { (script : Script) (shape : Shape)
-        → AreValidCommands script.commands
-        → Each (λ (command : Command). command.lane < 2 ^ 8) script.commands
-        → IsScriptFor script shape → 0 < shape.controllers → shape.controllers ≤ 2 ^ 32
-        → 0 < shape.workers → shape.workers ≤ 2 ^ 32 → shape.events ≤ 200000
+        → IsPlayable script shape → HasSmallNumbers script shape
         → IsReport 0 script shape (is_full script shape) (report_printed script shape).text }
 {
     plays_are_orderly_histories();
     legal_histories_keep_the_promises();
     orderly_histories_have_small_numbers();
     settled_plays_are_at_rest();
+}
+
+/// **Each Job that can end does end**: where the play of a script ends, has events enough and its last command is a settle,
+/// each Job that is there at its end has ended, or waits for what only the outside can give. Of which scripts it is so that
+/// the play ends, `plays_end` of `jc_playing_out` says by their text.
+pub fn jobs_end_or_wait()
+    ensures { (script : Script) (shape : Shape) (history : History)
+        → IsSettledPlay script shape history
+        → EndsOrWaits shape (deeds script history) (log_given shape (deeds script history)) }
+{
+    settled_plays_are_at_rest();
+    plays_are_orderly_histories();
+    legal_histories_keep_the_promises();
 }
 
 /// So is what is printed of a text that is a script, also with a reaper's commands behind it.
@@ -84,91 +92,22 @@ pub fn reapers_collect_what_is_due()
 }
 
 /// **How a run on one thread ends**: what each status says of what was read and written, and which statuses a run has
-/// that meets no fault. `words` are those of the run, `source` and `sink` what they tell of before and after.
+/// that meets no fault.
 pub fn single_runs_end_as_told()
-    // With Ok the whole text was written: what the words ask for, of what the source had.
-    ensures ok { (words : Option Order) (source sink : Change) (ended : Status)
-        → HasRun words source sink ended → ended ≡ Status.Ok
-        → IfSome words (λ order. OfInput order source.old (λ input. IsOkAnd (answer_of order input)
-        (λ printed. (printed.full ≡ false) × Appends sink.old sink.new printed.text))) }
-    ensures history_full { (words : Option Order) (source sink : Change) (ended : Status)
-        → HasRun words source sink ended → ended ≡ Status.HistoryFull
-        → IfSome words (λ order. OfInput order source.old (λ input. IsOkAnd (answer_of order input)
-        (λ printed. (printed.full ≡ true) × Appends sink.old sink.new printed.text))) }
+    ensures told { (run : SingleRun) → EndsAsTold AnyOrder run.words run.source run.sink run.ended }
     // Where the sink failed, what went out is the front of the report of a history of which all promises hold.
-    ensures headline_front { (words : List (List ℕ)) (source sink : Change) (ended : Status)
-        → HasRun (order_of words) source sink ended → ended ≡ Status.WriteFault
-        → (order : Order) → order_of words ≡ Some order → IsSingle order
-        → IfSome (staging_of order) (λ staging. IfSome source.old (λ input.
-        IsOkAnd (script_played order input) (λ script.
-        TellsFront staging.threads script staging.shape sink.old sink.new))) }
-    ensures bad_words { (words : Option Order) (source sink : Change) (ended : Status)
-        → HasRun words source sink ended → (ended ≡ Status.BadWords) ↔ (words ≡ None) }
-    ensures nothing_read { (words : Option Order) (source sink : Change) (ended : Status)
-        → HasRun words source sink ended → ended ≡ Status.BadWords
-        → Keeps source.old source.new }
-    // A generated script needs no source.
-    ensures generates { (words : Option Order) (source sink : Change) (ended : Status)
-        → HasRun words source sink ended
-        → (number jobs pods : ℕ) → words ≡ Some (Generate number jobs pods)
-        → Keeps source.old source.new }
-    // So no read of it fails, nothing is too long and no script is bad, whatever the source is.
-    ensures generates_only { (words : Option Order) (source sink : Change) (ended : Status)
-        → HasRun words source sink ended
-        → (number jobs pods : ℕ) → words ≡ Some (Generate number jobs pods) → EndsUnread ended }
-    ensures read_fault { (words : Option Order) (source sink : Change) (ended : Status)
-        → HasRun words source sink ended → ended ≡ Status.ReadFault
-        → Rose source.faults_old source.faults_new }
-    ensures write_fault { (words : Option Order) (source sink : Change) (ended : Status)
-        → HasRun words source sink ended → ended ≡ Status.WriteFault
-        → Rose sink.faults_old sink.faults_new }
-    ensures bad_script { (words : Option Order) (source sink : Change) (ended : Status)
-        → HasRun words source sink ended
-        → (line : ℕ) (cause : Cause) → ended ≡ Status.BadScript line cause
-        → IfSome words (λ order. OfInput order source.old (λ input.
-        answer_of order input ≡ Err (record { number = line; cause = cause }))) }
-    ensures too_long { (words : Option Order) (source sink : Change) (ended : Status)
-        → HasRun words source sink ended → ended ≡ Status.TooLong
-        → TakesCount source.old source.new (most_bytes + 1) }
-    // TooLong takes one byte more than a script may have, and no other end takes so many.
-    ensures not_too_long { (words : Option Order) (source sink : Change) (ended : Status)
-        → HasRun words source sink ended → ended ≢ Status.TooLong
-        → TakesAtMost source.old source.new most_bytes }
-    ensures no_audit { (words : Option Order) (source sink : Change) (ended : Status)
-        → HasRun words source sink ended → (line : ℕ) → ended ≢ Status.AuditNo line }
-    ensures nothing_written { (words : Option Order) (source sink : Change) (ended : Status)
-        → HasRun words source sink ended
-        → ended ≢ Status.Ok → ended ≢ Status.HistoryFull → ended ≢ Status.WriteFault
-        → Keeps sink.old sink.new }
-    ensures front { (words : Option Order) (source sink : Change) (ended : Status)
-        → HasRun words source sink ended → ended ≡ Status.WriteFault
-        → IfSome words (λ order. OfInput order source.old (λ input. IsOkAnd (answer_of order input)
-        (λ printed. AppendsFront sink.old sink.new printed.text))) }
-    // Words in the grammar, an input that is not too long and no fault give what was asked for, or want of memory.
-    ensures complete { (words : Option Order) (source sink : Change) (ended : Status)
-        → HasRun words source sink ended → (order : Order) → words ≡ Some order
-        → ¬ Rose source.faults_old source.faults_new → ¬ Rose sink.faults_old sink.faults_new
-        → OfInput order source.old (λ input. length input ≤ most_bytes
-        → (ended ≡ status_of (answer_of order input)) ⊎ (ended ≡ Status.Want)) }
-    // Of a generated script nothing is asked of the source.
-    ensures complete_generated { (words : Option Order) (source sink : Change) (ended : Status)
-        → HasRun words source sink ended
-        → (number jobs pods : ℕ) → words ≡ Some (Generate number jobs pods)
-        → ¬ Rose sink.faults_old sink.faults_new
-        → (ended ≡ status_of (answer_of (Generate number jobs pods) [])) ⊎ (ended ≡ Status.Want) }
-    // Of a bad script nothing is asked of the sink.
-    ensures complete_bad_script { (words : Option Order) (source sink : Change) (ended : Status)
-        → HasRun words source sink ended → (order : Order) → words ≡ Some order
-        → ¬ Rose source.faults_old source.faults_new
-        → OfInput order source.old (λ input. length input ≤ most_bytes
-        → (bad : BadLine) → answer_of order input ≡ Err bad
-        → (ended ≡ Status.BadScript bad.number bad.cause) ⊎ (ended ≡ Status.Want)) }
-    // A longer input is too long, or there is want of memory.
-    ensures complete_too_long { (words : Option Order) (source sink : Change) (ended : Status)
-        → HasRun words source sink ended → (order : Order) → words ≡ Some order
-        → ¬ Rose source.faults_old source.faults_new
-        → OfInput order source.old (λ input. most_bytes < length input
-        → (ended ≡ Status.TooLong) ⊎ (ended ≡ Status.Want)) }
+    ensures headline_front { (run : SingleRun) (words : List (List ℕ)) (order : Order)
+        → order_of words ≡ Some order → run.words ≡ Some order → IsSingle order
+        → run.ended ≡ Status.WriteFault → OfPlayed order run.source.old (λ staging script.
+        TellsFront staging.threads script staging.shape run.sink.old run.sink.new) }
+    // Where its play ends, and the words allow so many events, it is not full.
+    ensures in_time { (run : SingleRun) (lock : LockKind) (shape : Shape)
+        → run.words ≡ Some (Run 0 lock shape)
+        → IsDoneInTime lock shape run.source.old run.ended }
+    ensures no_audit { (run : SingleRun) (line : ℕ) → run.ended ≢ Status.AuditNo line }
+    ensures nothing_written { (run : SingleRun)
+        → run.ended ≢ Status.Ok → run.ended ≢ Status.HistoryFull → run.ended ≢ Status.WriteFault
+        → Keeps run.sink.old run.sink.new }
 {
     orders_fit();
     runs_tell_their_history();

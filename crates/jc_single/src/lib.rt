@@ -2,7 +2,6 @@
 //! promises hold.
 #![tactic(auto)]
 
-mod in_time;
 mod laws;
 mod orders;
 mod plays;
@@ -10,7 +9,6 @@ mod reaps;
 mod single;
 mod status;
 
-pub use in_time::{jobs_end_or_wait, single_runs_end_in_time};
 pub use jc_promise::{
     legal_histories_keep_the_promises, orderly_histories_have_small_numbers,
     plays_are_orderly_histories,
@@ -18,8 +16,8 @@ pub use jc_promise::{
 pub use jc_reap::{reaped_commands_can_be_said, reaped_commands_fit};
 pub use jc_report::report;
 pub use laws::{
-    plays_tell_their_history, reapers_collect_what_is_due, runs_tell_their_history,
-    single_runs_end_as_told,
+    jobs_end_or_wait, plays_tell_their_history, reapers_collect_what_is_due,
+    runs_tell_their_history, single_runs_end_as_told,
 };
 pub use orders::Output;
 pub use single::{MOST_BYTES, ended, run_order, run_single, write_output};

@@ -1,6 +1,6 @@
 //! The top call on one thread: it reads, plays and writes.
 
-ghost use Rattle.std.specs.Prelude.{◌≡◌, ◌≢◌, ◌≤◌, ◌+◌, ◌⊎◌, Err, IfOk, IfSome, IsErrOf, IsOkAnd, None, Ok, OnErr, Some, if◌then◌else◌, map, string_bytes, vec_len};
+ghost use Rattle.std.specs.Prelude.{◌≡◌, ◌≢◌, ◌≤◌, ◌+◌, ◌⊎◌, Err, IfOk, IsErrOf, None, Ok, OnErr, Some, if◌then◌else◌, map, string_bytes, vec_len};
 ghost use Rattle.std.specs.Io.KnownBytes.{Keeps};
 ghost use Rattle.jc_io.specs.Faults.{Rose};
 ghost use Rattle.jc_io.specs.Moved.{TakesAtMost, TakesCount};
@@ -9,7 +9,7 @@ ghost use Rattle.jc_words.specs.Words.{order_of};
 ghost use Rattle.jc_words.specs.declared.words.Order.{Order};
 ghost use Rattle.jc_words.specs.FitOrders.{IsFitOrder};
 ghost use Rattle.jc_single.specs.RunEnds.{Answers, HasMade, HasRun, HasWritten, IsUnread, RunHasEnded, change};
-ghost use Rattle.jc_single.specs.Played.{script_played, staging_of};
+ghost use Rattle.jc_single.specs.Played.{OfPlayed};
 ghost use Rattle.jc_single.specs.RunAnswers.{IsSingle, OfInput, printed_by};
 ghost use Rattle.jc_single.specs.Headlines.{TellsHistory, ends_full};
 
@@ -148,10 +148,9 @@ pub fn run_single<S: Source, K: Sink>(
     // The headline.
     ensures headline { (result ≡ Status.Ok) ⊎ (result ≡ Status.HistoryFull)
         → (order : Order) → order_of (map string_bytes words.now) ≡ Some order
-        → IfSome (staging_of order) (λ staging. IfSome (S.left source.old) (λ input.
-        IsOkAnd (script_played order input) (λ script.
+        → OfPlayed order (S.left source.old) (λ staging script.
         TellsHistory staging.threads script staging.shape (ends_full result)
-        (K.held sink.old) (K.held sink.new)))) }
+        (K.held sink.old) (K.held sink.new)) }
 {
     orders_fit();
     runs_tell_their_history();

@@ -22,8 +22,8 @@ returns c = λ shape input fits report.
     record {
       reported = told;
       keeps = c.legal_histories_keep_the_promises.ensures told.script shape told.history
-          (valid-of c.proper_actions_are_valid.ensures told.script.commands told.proper) fits.some_controllers fits.some_workers
-          fits.few_events told.legal;
-      events = c.orderly_histories_have_small_numbers.ensures told.script shape told.history (lanes-of told.script.commands told.proper)
-          (let few = fits.few_controllers in omega (arith, few)) (let few = fits.few_workers in omega (arith, few)) told.legal told.orderly;
+          (valid-of c.proper_actions_are_valid.ensures told.script.commands told.printable.proper) fits.some_controllers fits.some_workers
+          fits.few_events told.printable.legal;
+      events = c.orderly_histories_have_small_numbers.ensures told.script shape told.history (lanes-of told.script.commands told.printable.proper)
+          (let few = fits.few_controllers in omega (arith, few)) (let few = fits.few_workers in omega (arith, few)) told.printable.legal told.printable.orderly;
     }

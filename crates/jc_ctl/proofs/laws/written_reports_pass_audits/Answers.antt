@@ -33,6 +33,11 @@ returns c = λ order input full old new fits.
     record {
       text = told.text;
       says = subst (λ text. VerdictHolds shape text Yes) (sym report.text_is)
-          (c.histories_print_reports.ensures script shape told.report.history full proper report.legal report.orderly report.filled);
+          (c.histories_print_reports.ensures script shape told.report.history full (record {
+            proper = proper;
+            legal = report.legal;
+            orderly = report.orderly;
+            history_full = report.filled;
+          }));
       written = told.written;
     })

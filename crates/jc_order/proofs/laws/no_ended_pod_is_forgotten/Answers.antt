@@ -5,4 +5,4 @@ use Rattle.jc_order.proofs.RestlessFacts as restless
 use Rattle.jc_order.proofs.laws.no_ended_pod_is_forgotten.Goals as goal
 
 pub returns : goal.returns
-returns c = record { since = both; busy = restless.busy; adds_or_retries = honesty.honest; rest = no-rest }
+returns c = record { since = both; busy = restless.busy; adds_or_retries = honesty.honest; rest = λ shape deeds over. no-rest shape deeds over.legal over.working over.quiet }

@@ -40,8 +40,8 @@ returns-in_err-happen-clause-reaches c =
     (stop-reaches c.from_residual.result c.in_err-happen.field-0.0 _ c.stepping.machine (cc (p.1, p.2)) (λ h. (
       has-no-room (next_to_step c.args.controller c.args.worker) c.args.machine.now c.stepping.machine
           c.stepping.invariant c.in-Some.event (sym c.step_event.ensures.first ∙ c.in-Some.is)
-          (c.in_err-happen.ensures.room h),
-      c.in_err-happen.ensures.room h,
+          (c.in_err-happen.ensures.history_full h),
+      c.in_err-happen.ensures.history_full h,
     )))
 
 pub returns-clause-reaches : goal.returns-clause-reaches

@@ -15,7 +15,7 @@ returns-in_err-begun-clause-reaches c =
     let p = err_from_is_err_and c.from_residual.result c.from_residual.ensures.1 in
     begin-stops c.args.machine.now c.args.event c.args.controller c.args.worker c.begin_own.new.machine
     c.from_residual.result c.in_err-begun.field-0.0 (cc (p.1, p.2)) c.in_err-begun.ensures.kept
-    (λ h. c.in_err-begun.ensures.room (ap (λ (e : ApplyFault). Err e) h))
+    (λ h. c.in_err-begun.ensures.history_full (ap (λ (e : ApplyFault). Err e) h))
 
 pub returns-then-begun-clause-reaches : goal.returns-then-begun-clause-reaches
 returns-then-begun-clause-reaches c =

@@ -29,7 +29,7 @@ returns-in_err-happen-clause-reaches c =
     let p = err_from_is_err_and c.from_residual.result c.from_residual.ensures.1 in
     subst (Reaches c.from_residual.result (settled_down c.args.machine.now.script c.args.machine.now.shape (playing_of false c.args.machine.now))) (sym c.in_err-happen.ensures.kept)
     (stop-reaches c.from_residual.result c.in_err-happen.field-0.0 _ c.settling.machine (cc (p.1, p.2)) (λ h.
-    (has-no-room next_to_settle c.args.machine.now c.settling.machine c.settling.invariant c.in-Some.event (sym c.next_event.ensures.first ∙ c.in-Some.is) (c.in_err-happen.ensures.room h), c.in_err-happen.ensures.room h)))
+    (has-no-room next_to_settle c.args.machine.now c.settling.machine c.settling.invariant c.in-Some.event (sym c.next_event.ensures.first ∙ c.in-Some.is) (c.in_err-happen.ensures.history_full h), c.in_err-happen.ensures.history_full h)))
 
 pub returns-clause-reaches : goal.returns-clause-reaches
 unfolding settled_down

@@ -17,15 +17,16 @@ use Rattle.jc_reap.proofs.PlayedFacts.{Came, IsPlain, goes-nowhere, plays-all}
 use Rattle.jc_reap.proofs.laws.reaped_plays.Goals as goal
 
 pub returns : goal.returns
-returns c = λ script seen ttls place p same log_is valid legal stands fresh.
+returns c = λ script seen ttls place p to.
+    let same = to.deeds_are in
     let start = deeds_seen seen in
     let ttl = ttl_seen seen ttls in
-    let m = legal_run c.allowed_updates_stay_valid.ensures seen.shape start legal valid in
+    let m = legal_run c.allowed_updates_stay_valid.ensures seen.shape start to.legal to.valid in
     let stored = subst Stored m.run.log_is (Stored-from_legal m.log m.run.syncs.tied.legal) in
     let good = whole-good ttl seen.shape start stored (does.Settle ∷ []) (λ past d is next. (tt, tt)) in
     let q = rest_played script seen.shape place (reap_list seen ttls) p in
     collected ttl seen.shape start (moment seen.shape start) (unsettled seen ttls) q.full (deeds_played script q) refl
     (plays-all ttl seen.shape start script (unsettled seen ttls) place p
-    (of-unsettled (λ (command : Command). IsPlain command.action) (λ u. tt) (λ n. tt) (λ k. tt) seen ttls) stands fresh (log_is ∙ ap (log_given seen.shape) same)
+    (of-unsettled (λ (command : Command). IsPlain command.action) (λ u. tt) (λ n. tt) (λ k. tt) seen ttls) to.stand to.fresh (to.log_is ∙ ap (log_given seen.shape) same)
     (subst (λ (deeds : List Deed). Good ttl seen.shape deeds (acts_of (unsettled seen ttls) ++ does.Settle ∷ [])) same good)
     (subst (Came ttl seen.shape start []) same (goes-nowhere ttl seen.shape start)))

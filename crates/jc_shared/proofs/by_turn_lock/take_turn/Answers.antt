@@ -9,9 +9,9 @@ pub give-requires-clause-longer : goal.give-requires-clause-longer
 give-requires-clause-longer g c =
     let t = c.turn-next.ensures in
     subst (λ (xs : List Past). IsPrefix xs (reverse c.turn-next.new.self.seen.pasts)) (sym c.in-Value.ensures.value.1)
-    (turn_begins c.in-Value.kept c.turn-next.new.self c.turn-next.result _ _ _ _ (λ w f. f.4) (λ x. x.0) (λ x. x.0) t.plan t.went t.waits t.ends t.kept)
+    (turn_begins c.in-Value.kept c.turn-next.new.self c.turn-next.result _ _ _ _ (λ w f. f.seen) (λ x. x.0) (λ x. x.0) t.plan t.went t.waits t.ends t.kept)
 
 pub returns-clause-taken : goal.returns-clause-taken
 returns-clause-taken g c =
     taken-told g.J.Naming.script g.J.Naming.shape c.in-Value.kept c.turn-next.new.self c.keeps.ensures.named c.give.new.seat.seen c.give.ensures.given.1
-    c.turn-next.result _ _ _ c.turn-next.ensures.plan
+    c.turn-next.result _ c.turn-next.ensures.plan

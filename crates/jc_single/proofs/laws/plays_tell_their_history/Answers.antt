@@ -44,15 +44,18 @@ of_play script shape h is legal orderly keeps log used rests filled = record {
 }
 
 pub returns-clause-history : goal.returns-clause-history
-returns-clause-history c script shape h is valid proper controllers workers few =
+returns-clause-history c script shape h fine is =
+    let proper = fine.fits in
     let played = c.plays_are_orderly_histories.ensures in
     let legal = played.history script shape proper h is in
     of_play script shape h is legal (played.orderly script shape proper h is)
-    (c.legal_histories_keep_the_promises.ensures script shape h valid controllers workers few legal) (played.log script shape proper h is)
+    (c.legal_histories_keep_the_promises.ensures script shape h fine.valid fine.some_controllers fine.some_workers fine.few_events legal)
+    (played.log script shape proper h is)
     (played.used script shape proper) (c.settled_plays_are_at_rest.ensures script shape proper h is) (played.full script shape proper)
 
 pub returns-clause-report : goal.returns-clause-report
-returns-clause-report c script shape valid lanes proper controllers few_controllers workers few_workers few =
+returns-clause-report c script shape fine small =
+    let proper = fine.fits in
     let played = c.plays_are_orderly_histories.ensures in
     let h : History = record { events = record { items = play_of script shape; room = 0 } } in
     let legal = played.history script shape proper h refl in
@@ -60,8 +63,9 @@ returns-clause-report c script shape valid lanes proper controllers few_controll
     record {
       history = h;
       told = of_play script shape h refl legal orderly
-          (c.legal_histories_keep_the_promises.ensures script shape h valid controllers workers few legal)
+          (c.legal_histories_keep_the_promises.ensures script shape h fine.valid fine.some_controllers fine.some_workers fine.few_events
+          legal)
           (played.log script shape proper h refl) (played.used script shape proper)
           (c.settled_plays_are_at_rest.ensures script shape proper h refl) (played.full script shape proper);
-      events = c.orderly_histories_have_small_numbers.ensures script shape h lanes few_controllers few_workers legal orderly;
+      events = c.orderly_histories_have_small_numbers.ensures script shape h small.lanes small.few_controllers small.few_workers legal orderly;
     }

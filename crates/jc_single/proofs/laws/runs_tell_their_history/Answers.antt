@@ -1,5 +1,5 @@
 -- The script is what the text says, or what a reaper makes of it.
-use Rattle.std.proofs.Common.{◌≡◌, ℕ, ◌<◌, ◌≤◌, ◌^◌, arith, List, Option, Result, Ok, Err, ap, refl, subst, sym, true≢false}
+use Rattle.std.proofs.Common.{◌≡◌, ℕ, ◌<◌, ◌^◌, arith, List, Option, Result, Ok, Err, ap, refl, subst, sym, true≢false}
 use Rattle.std.specs.Prelude.{IfOk, IsOkAnd, is_ok}
 use Rattle.std.specs.List.{AllByRecursion as Each}
 use Rattle.jc_types.specs.declared.actions.Command.{Command}
@@ -21,7 +21,7 @@ use Rattle.jc_single.proofs.ReapFacts.{AreByteLanes, AreValid, both, last-holds,
 use Rattle.jc_single.proofs.ShapeFacts.{first_lane, read_lanes, read_within}
 use Rattle.jc_single.specs.Played.{as_script, at_rest, reaped_of}
 use Rattle.jc_single.specs.RunAnswers.{Printed, answer_of, report_printed, reported}
-use Rattle.jc_single.specs.Headlines.{IsReport}
+use Rattle.jc_single.specs.Headlines.{HasSmallNumbers, IsPlayable, IsReport}
 use Rattle.jc_single.proofs.laws.runs_tell_their_history.Goals as goal
 
 printed-in : Result Printed BadLine → Printed → Printed
@@ -71,9 +71,7 @@ module _ (shape : Shape) where
     reaped-fine (Ok commands) (Ok ttls) fine = last-fine (record { commands = commands }) ttls (fine commands refl)
 
   -- The report of a script whose commands are fine.
-  of-fine : IsFitShape shape → ((script : Script) (shape : Shape) → AreValid script.commands → AreByteLanes script.commands
-      → AreWithin shape script.commands → 0 < shape.controllers → shape.controllers ≤ 2 ^ 32 → 0 < shape.workers
-      → shape.workers ≤ 2 ^ 32 → shape.events ≤ 200000
+  of-fine : IsFitShape shape → ((script : Script) (shape : Shape) → IsPlayable script shape → HasSmallNumbers script shape
       → IsReport 0 script shape (is_full script shape) (report_printed script shape).text)
       → (script : Script) → IsFine shape script.commands
       → IsReport 0 script shape (report_printed script shape).full (report_printed script shape).text
@@ -81,8 +79,17 @@ module _ (shape : Shape) where
   of-fine fits tells script fine =
       let controllers = fits.few_controllers in
       let workers = fits.few_workers in
-      tells script shape fine.valid fine.lanes fine.within fits.some_controllers (omega (arith, controllers)) fits.some_workers
-      (omega (arith, workers)) fits.few_events
+      tells script shape (record {
+        valid = fine.valid;
+        fits = fine.within;
+        some_controllers = fits.some_controllers;
+        some_workers = fits.some_workers;
+        few_events = fits.few_events;
+      }) (record {
+        lanes = fine.lanes;
+        few_controllers = omega (arith, controllers);
+        few_workers = omega (arith, workers);
+      })
 
   -- What is printed of a script whose commands are fine is the report of a history of it.
   told-of : (printed : Printed) (r : Result Script BadLine) → IfOk r (λ script. IsFine shape script.commands)

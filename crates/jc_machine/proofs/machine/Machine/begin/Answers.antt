@@ -11,7 +11,7 @@ pub begin-requires-clause-worker : goal.begin-requires-clause-worker
 begin-requires-clause-worker c = let b = before c.self.inside.script c.self.inside.shape
     c.self.inside.history.events.items c.self.inside.lanes c.self.inside.store c.self.inside.members.items
     c.self.inside.fates c.self.inside.clock c.args.self.now c.args.event (does.Begin c.args.controller c.args.worker)
-    c.self.invariant c.self.view_is c.requires.admits c.requires.acts c.requires.room in let there = member b
+    c.self.invariant c.self.view_is c.requires.admits c.requires.acts c.requires.unfull in let there = member b
     c.args.controller c.index_mut-member.result.now (within b).0 c.index_mut-member.ensures.value in worker b
     c.args.controller c.args.worker c.index_mut-member.result.now there (within b).1
 
@@ -20,7 +20,7 @@ begin-requires-clause-plans c =
     let b = before c.self.inside.script c.self.inside.shape c.self.inside.history.events.items c.self.inside.lanes
     c.self.inside.store c.self.inside.members.items c.self.inside.fates c.self.inside.clock c.args.self.now
     c.args.event (does.Begin c.args.controller c.args.worker) c.self.invariant c.self.view_is c.requires.admits
-    c.requires.acts c.requires.room in let there = member b c.args.controller c.index_mut-member.result.now
+    c.requires.acts c.requires.unfull in let there = member b c.args.controller c.index_mut-member.result.now
     (within b).0 c.index_mut-member.ensures.value in plans_at c.self.inside.shape (past b) c.self.inside.store
     c.self.inside.members.items (fates_in c.self.inside.fates) c.self.inside.clock c.self.invariant.machine.run
     c.args.controller c.index_mut-member.result.now there (short b)
@@ -32,7 +32,7 @@ old : (c : After-record_twice-reply) → Before c.self.inside.script c.self.insi
 old c = before c.self.inside.script c.self.inside.shape c.self.inside.history.events.items c.self.inside.lanes
     c.self.inside.store c.self.inside.members.items c.self.inside.fates c.self.inside.clock c.args.self.now c.args.event
     (does.Begin c.args.controller c.args.worker) c.self.invariant c.self.view_is c.requires.admits c.requires.acts
-    c.requires.room
+    c.requires.unfull
 
 -- How it is afterwards.
 after : (c : After-record_twice-reply) → After c.self.inside.script c.self.inside.shape

@@ -13,7 +13,7 @@ old_end : (c : After-record-reply) → Before c.self.inside.script c.self.inside
     c.args.self.now c.args.event (does.Clock c.args.add)
 old_end c = before c.self.inside.script c.self.inside.shape c.self.inside.history.events.items c.self.inside.lanes
     c.self.inside.store c.self.inside.members.items c.self.inside.fates c.self.inside.clock c.args.self.now c.args.event
-    (does.Clock c.args.add) c.self.invariant c.self.view_is c.requires.admits c.requires.acts c.requires.room
+    (does.Clock c.args.add) c.self.invariant c.self.view_is c.requires.admits c.requires.acts c.requires.unfull
 
 end : (c : After-record-reply) → After c.self.inside.script c.self.inside.shape c.record-reply.new.history.items
     c.record-reply.new.lanes c.self.inside.store c.self.inside.members.items c.self.inside.fates c.self.inside.clock
@@ -38,7 +38,7 @@ old_tick : (c : After-record-reply-in-Some)
     (does.Clock c.args.add)
 old_tick c = before c.self.inside.script c.self.inside.shape c.self.inside.history.events.items c.self.inside.lanes
     c.self.inside.store c.self.inside.members.items c.self.inside.fates c.self.inside.clock c.args.self.now c.args.event
-    (does.Clock c.args.add) c.self.invariant c.self.view_is c.requires.admits c.requires.acts c.requires.room
+    (does.Clock c.args.add) c.self.invariant c.self.view_is c.requires.admits c.requires.acts c.requires.unfull
 
 tick : (c : After-record-reply-in-Some) → After c.self.inside.script c.self.inside.shape
     c.record-reply-in-Some.new.history.items c.record-reply-in-Some.new.lanes c.self.inside.store

@@ -14,7 +14,7 @@ old : (c : After-record-reply) → Before c.self.inside.script c.self.inside.sha
 old c = before c.self.inside.script c.self.inside.shape c.self.inside.history.events.items c.self.inside.lanes
     c.self.inside.store c.self.inside.members.items c.self.inside.fates c.self.inside.clock c.args.self.now c.args.event
     (does.Create c.args.key.now c.args.spec) c.self.invariant c.self.view_is c.requires.may.admits c.requires.may.acts
-    c.requires.may.room
+    c.requires.may.unfull
 
 -- How it is afterwards.
 after : (c : After-record-reply) → After c.self.inside.script c.self.inside.shape c.record-reply.new.history.items

@@ -12,7 +12,7 @@ pub deliver-requires : goal.deliver-requires
 deliver-requires c = let b = before c.self.inside.script c.self.inside.shape c.self.inside.history.events.items
     c.self.inside.lanes c.self.inside.store c.self.inside.members.items c.self.inside.fates c.self.inside.clock
     c.args.self.now c.args.event (does.Deliver c.args.controller c.args.kind) c.self.invariant c.self.view_is
-    c.requires.admits c.requires.acts c.requires.room in let there = member b c.args.controller
+    c.requires.admits c.requires.acts c.requires.unfull in let there = member b c.args.controller
     c.index_mut-member.result.now (within b) c.index_mut-member.ensures.value in record {
       few_pods = few-pods c.self.inside.store c.index_mut-member.result.now.con
           (c.self.invariant.machine.run.each c.args.controller c.index_mut-member.result.now there).holds (room_left b);
@@ -25,7 +25,7 @@ old : (c : After-record-reply) → Before c.self.inside.script c.self.inside.sha
 old c = before c.self.inside.script c.self.inside.shape c.self.inside.history.events.items c.self.inside.lanes
     c.self.inside.store c.self.inside.members.items c.self.inside.fates c.self.inside.clock c.args.self.now c.args.event
     (does.Deliver c.args.controller c.args.kind) c.self.invariant c.self.view_is c.requires.admits c.requires.acts
-    c.requires.room
+    c.requires.unfull
 
 -- How it is afterwards.
 after : (c : After-record-reply) → After c.self.inside.script c.self.inside.shape c.record-reply.new.history.items

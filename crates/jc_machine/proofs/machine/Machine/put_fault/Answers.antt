@@ -11,7 +11,7 @@ pub put_fault-requires : goal.put_fault-requires
 put_fault-requires c = let b = before c.self.inside.script c.self.inside.shape c.self.inside.history.events.items
     c.self.inside.lanes c.self.inside.store c.self.inside.members.items c.self.inside.fates c.self.inside.clock
     c.args.self.now c.args.event (does.PutFault c.args.controller c.args.worker c.args.fault) c.self.invariant
-    c.self.view_is c.requires.admits c.requires.acts c.requires.room in let there = member b c.args.controller
+    c.self.view_is c.requires.admits c.requires.acts c.requires.unfull in let there = member b c.args.controller
     c.index_mut-member.result.now (within b).0 c.index_mut-member.ensures.value in faulty b c.args.controller
     c.args.worker c.index_mut-member.result.now there (within b).1
 
@@ -22,7 +22,7 @@ old : (c : After-record-reply) → Before c.self.inside.script c.self.inside.sha
 old c = before c.self.inside.script c.self.inside.shape c.self.inside.history.events.items c.self.inside.lanes
     c.self.inside.store c.self.inside.members.items c.self.inside.fates c.self.inside.clock c.args.self.now c.args.event
     (does.PutFault c.args.controller c.args.worker c.args.fault) c.self.invariant c.self.view_is c.requires.admits
-    c.requires.acts c.requires.room
+    c.requires.acts c.requires.unfull
 
 -- How it is afterwards.
 after : (c : After-record-reply) → After c.self.inside.script c.self.inside.shape c.record-reply.new.history.items

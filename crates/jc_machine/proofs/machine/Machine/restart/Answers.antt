@@ -15,7 +15,7 @@ old : (c : After-record-reply) → Before c.self.inside.script c.self.inside.sha
     c.args.self.now c.args.event (does.Restart c.args.controller)
 old c = before c.self.inside.script c.self.inside.shape c.self.inside.history.events.items c.self.inside.lanes
     c.self.inside.store c.self.inside.members.items c.self.inside.fates c.self.inside.clock c.args.self.now c.args.event
-    (does.Restart c.args.controller) c.self.invariant c.self.view_is c.requires.admits c.requires.acts c.requires.room
+    (does.Restart c.args.controller) c.self.invariant c.self.view_is c.requires.admits c.requires.acts c.requires.unfull
 
 fresh : (c : After-record-reply) → KnowsNothing c.self.inside.shape.workers c.become_other.new.self
 fresh c = subst (KnowsNothing c.self.inside.shape.workers) (sym c.become_other.ensures) c.in_ok-fresh.ensures

@@ -10,7 +10,7 @@ pub step-requires-clause-worker : goal.step-requires-clause-worker
 step-requires-clause-worker c = let b = before c.self.inside.script c.self.inside.shape
     c.self.inside.history.events.items c.self.inside.lanes c.self.inside.store c.self.inside.members.items
     c.self.inside.fates c.self.inside.clock c.args.self.now c.args.event (does.Step c.args.controller c.args.worker)
-    c.self.invariant c.self.view_is c.requires.admits c.requires.acts c.requires.room in let there = member b
+    c.self.invariant c.self.view_is c.requires.admits c.requires.acts c.requires.unfull in let there = member b
     c.args.controller c.index_mut-member.result.now (within b).0 c.index_mut-member.ensures.value in worker b
     c.args.controller c.args.worker c.index_mut-member.result.now there (within b).1
 
@@ -18,7 +18,7 @@ pub step-requires-clause-faulty : goal.step-requires-clause-faulty
 step-requires-clause-faulty c = let b = before c.self.inside.script c.self.inside.shape
     c.self.inside.history.events.items c.self.inside.lanes c.self.inside.store c.self.inside.members.items
     c.self.inside.fates c.self.inside.clock c.args.self.now c.args.event (does.Step c.args.controller c.args.worker)
-    c.self.invariant c.self.view_is c.requires.admits c.requires.acts c.requires.room in let there = member b
+    c.self.invariant c.self.view_is c.requires.admits c.requires.acts c.requires.unfull in let there = member b
     c.args.controller c.index_mut-member.result.now (within b).0 c.index_mut-member.ensures.value in faulty b
     c.args.controller c.args.worker c.index_mut-member.result.now there (within b).1
 
@@ -27,7 +27,7 @@ step-requires-clause-busy c =
     let b = before c.self.inside.script c.self.inside.shape c.self.inside.history.events.items c.self.inside.lanes
     c.self.inside.store c.self.inside.members.items c.self.inside.fates c.self.inside.clock c.args.self.now
     c.args.event (does.Step c.args.controller c.args.worker) c.self.invariant c.self.view_is c.requires.admits
-    c.requires.acts c.requires.room in let there = member b c.args.controller c.index_mut-member.result.now
+    c.requires.acts c.requires.unfull in let there = member b c.args.controller c.index_mut-member.result.now
     (within b).0 c.index_mut-member.ensures.value in λ sync mine. busy_at c.self.inside.shape (past b)
     c.self.inside.store c.self.inside.members.items (fates_in c.self.inside.fates) c.self.inside.clock
     c.self.invariant.machine.run c.args.controller c.index_mut-member.result.now there c.args.worker sync mine
@@ -37,7 +37,7 @@ step-requires-clause-room c = room_left
     (before c.self.inside.script c.self.inside.shape c.self.inside.history.events.items c.self.inside.lanes
     c.self.inside.store c.self.inside.members.items c.self.inside.fates c.self.inside.clock c.args.self.now c.args.event
     (does.Step c.args.controller c.args.worker) c.self.invariant c.self.view_is c.requires.admits c.requires.acts
-    c.requires.room)
+    c.requires.unfull)
 
 -- How it is before.
 old : (c : After-record-reply) → Before c.self.inside.script c.self.inside.shape c.self.inside.history.events.items
@@ -46,7 +46,7 @@ old : (c : After-record-reply) → Before c.self.inside.script c.self.inside.sha
 old c = before c.self.inside.script c.self.inside.shape c.self.inside.history.events.items c.self.inside.lanes
     c.self.inside.store c.self.inside.members.items c.self.inside.fates c.self.inside.clock c.args.self.now c.args.event
     (does.Step c.args.controller c.args.worker) c.self.invariant c.self.view_is c.requires.admits c.requires.acts
-    c.requires.room
+    c.requires.unfull
 
 -- How it is afterwards.
 after : (c : After-record-reply) → After c.self.inside.script c.self.inside.shape c.record-reply.new.history.items

@@ -15,13 +15,13 @@ invariant_of-self-in-Plan g c =
     let told = c.in_ok-work.ensures.plan c.in-Plan.work c.in-Plan.is in
     let old = c.self.inside.kept.seen in
     let new = c.turn.new.self.seen in
-    (c.self.invariant.0, prefix_trans c.self.inside.log.seen (reverse old.pasts) (reverse new.pasts) c.self.invariant.1 (same_begins old new told.4))
+    (c.self.invariant.0, prefix_trans c.self.inside.log.seen (reverse old.pasts) (reverse new.pasts) c.self.invariant.1 (same_begins old new told.seen))
 
 pub task-requires-clause-taken : goal.task-requires-clause-taken
 task-requires-clause-taken g c =
     let told = c.in_ok-work.ensures.plan c.in-Plan.work c.in-Plan.is in
-    subst (λ (s : Seen). WasTaken g.J.Naming.script g.J.Naming.shape (reverse s.pasts) c.in-Plan.work) (sym told.4)
-    (taken-now g.J.Naming.script g.J.Naming.shape c.self.inside.kept.seen c.keeps.ensures.named c.in-Plan.work told.0)
+    subst (λ (s : Seen). WasTaken g.J.Naming.script g.J.Naming.shape (reverse s.pasts) c.in-Plan.work) (sym told.seen)
+    (taken-now g.J.Naming.script g.J.Naming.shape c.self.inside.kept.seen c.keeps.ensures.named c.in-Plan.work told.basis)
 
 pub invariant_of-self-in-Went : goal.invariant_of-self-in-Went
 invariant_of-self-in-Went g c =
@@ -41,4 +41,4 @@ returns-in-Went-clause-own g c =
 -- A plan that is taken leaves what has happened.
 pub returns-in-Plan-clause-own : goal.returns-in-Plan-clause-own
 returns-in-Plan-clause-own g c =
-    inl (ap (λ (s : Shared). s.seen) c.task.ensures.same ∙ (c.in_ok-work.ensures.plan c.in-Plan.work c.in-Plan.is).4 ∙ ap (λ (s : Shared). s.seen) c.self.view_is)
+    inl (ap (λ (s : Shared). s.seen) c.task.ensures.same ∙ (c.in_ok-work.ensures.plan c.in-Plan.work c.in-Plan.is).seen ∙ ap (λ (s : Shared). s.seen) c.self.view_is)
