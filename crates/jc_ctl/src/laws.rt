@@ -32,7 +32,7 @@ use jc_script::scripts_fit_their_shape;
 use jc_single::{
     Status, legal_histories_keep_the_promises, orderly_histories_have_small_numbers,
     plays_are_orderly_histories, reaped_commands_can_be_said, reaped_commands_fit,
-    runs_tell_their_history,
+    runs_tell_their_history, single_runs_end_as_told,
 };
 use jc_words::orders_fit;
 
