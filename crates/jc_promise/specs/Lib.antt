@@ -19,3 +19,4 @@ pub use Rattle.jc_order.specs.Plays
 pub use Rattle.jc_history.specs.Replies
 pub use Rattle.jc_runs.specs.Seen
 pub use Rattle.jc_runs.specs.ValidActions
+pub use Rattle.jc_rest.specs.Stuck

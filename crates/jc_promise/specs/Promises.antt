@@ -1,11 +1,10 @@
 -- What the program promises of a history that it prints.
 --     IsToldAlone script shape h       no other history of the script has the same lines
 --     RestsWell shape deeds log        where nothing is left to do, no ended pod is forgotten
---     EndsOrWaits shape deeds log      each Job has ended, or waits for what only the outside can give
 --     WaitsWell shape deeds log        where nothing is left to do, no Job is stuck
 --     ReleasesWell shape deeds log     where nothing is left to do, no orphan is left
 --     KeepsPromises script shape h     all together
-use Rattle.std.specs.Prelude.{◌≡◌, ◌<◌, ℕ, true, List, map, Some}
+use Rattle.std.specs.Prelude.{◌≡◌, true, List, map, Some}
 use Rattle.jc_types.specs.declared.actions.Script.{Script}
 use Rattle.jc_types.specs.declared.objects.Entry.{Entry}
 use Rattle.jc_types.specs.declared.objects.Job.{Job}
@@ -17,8 +16,6 @@ use Rattle.jc_log.specs.Log.{job_in}
 use Rattle.jc_runs.specs.Once.{OnceAtEach}
 use Rattle.jc_history.specs.Available.{is_quiescent}
 use Rattle.jc_history.specs.Legal.{IsHistory}
-use Rattle.jc_history.specs.Registers.{backoff}
-use Rattle.jc_history.specs.Diaries.{notes}
 use Rattle.jc_history.specs.Replies.{log_given}
 use Rattle.jc_runs.specs.Conflicts.{AreToldLater}
 use Rattle.jc_bounds.specs.Histories.{HoldsBounds}
@@ -26,7 +23,7 @@ use Rattle.jc_causes.specs.Causes.{AreCaused}
 use Rattle.jc_rest.specs.LetGo.{EndedAreLetGo}
 use Rattle.jc_rest.specs.Lost.{AreLostWell}
 use Rattle.jc_rest.specs.Orphans.{LeavesNone}
-use Rattle.jc_rest.specs.Stuck.{IsWaiting, is_sure}
+use Rattle.jc_rest.specs.Stuck.{NoneIsStuck}
 use Rattle.jc_promise.specs.QuietEnds.{SyncsWell}
 use Rattle.jc_lines.specs.Events.{event_lines}
 use Rattle.jc_lines.specs.Told.{AreEvents}
@@ -45,17 +42,11 @@ abbrev pub RestsWell : Shape → List Deed → List Entry → Type 0
 RestsWell shape past log = is_quiescent shape past log ≡ true
     → (k : Key) (job : Job) → job_in k log ≡ Some job → EndedAreLetGo job log
 
--- Each Job that is there has ended; or how it will end is not decided, and it waits for something that only the
--- outside can give. So it is for each controller that has added the Job's key since its pod cache last skipped entries
--- of the log.
-abbrev pub EndsOrWaits : Shape → List Deed → List Entry → Type 0
-EndsOrWaits shape past log = (c : ℕ) → c < shape.controllers → (k : Key) (job : Job)
-    → job_in k log ≡ Some job → is_sure k (notes shape c past log) ≡ true
-    → IsWaiting past (backoff k (notes shape c past log)) log job
-
--- Where nothing is left to do, that is so.
+-- Where nothing is left to do, each Job that is there has ended; or how it will end is not decided, and it waits
+-- for something that only the outside can give. So it is for each controller that has added the Job's key since its
+-- pod cache last skipped entries of the log.
 abbrev pub WaitsWell : Shape → List Deed → List Entry → Type 0
-WaitsWell shape past log = is_quiescent shape past log ≡ true → EndsOrWaits shape past log
+WaitsWell shape past log = is_quiescent shape past log ≡ true → NoneIsStuck shape past log
 
 -- Where nothing is left to do, each pod whose Job is gone has lost its finalizer, if some controller has added the
 -- key of its owner since its cache of Jobs had seen the last entry about the pod or a Job of that key.

@@ -8,8 +8,8 @@ ghost use Rattle.jc_types.specs.declared.runs.History.{History};
 ghost use Rattle.jc_types.specs.declared.runs.Shape.{Shape};
 ghost use Rattle.jc_promise.specs.Deeds.{deeds};
 ghost use Rattle.jc_promise.specs.Play.{is_full, play_of};
-ghost use Rattle.jc_promise.specs.Promises.{EndsOrWaits};
 ghost use Rattle.jc_promise.specs.Replies.{log_given};
+ghost use Rattle.jc_promise.specs.Stuck.{NoneIsStuck};
 ghost use Rattle.jc_reap.specs.TtlLines.{ttls_of};
 ghost use Rattle.jc_script.specs.Scripts.{script_of};
 ghost use Rattle.jc_words.specs.Words.{order_of};
@@ -57,7 +57,7 @@ pub fn plays_tell_their_history()
 pub fn jobs_end_or_wait()
     ensures { (script : Script) (shape : Shape) (history : History)
         → IsSettledPlay script shape history
-        → EndsOrWaits shape (deeds script history) (log_given shape (deeds script history)) }
+        → NoneIsStuck shape (deeds script history) (log_given shape (deeds script history)) }
 {
     settled_plays_are_at_rest();
     plays_are_orderly_histories();
