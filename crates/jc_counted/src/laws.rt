@@ -1,4 +1,4 @@
-//! Laws on the Jobs of histories. Each function is empty: what it ensures holds of every history, and its callers may cite
+//! Laws on the Jobs of histories. Each function does nothing: what it ensures holds of every history, and its callers may cite
 //! it.
 
 ghost use Rattle.std.specs.Prelude.{◌≡◌, List, Some, true};

@@ -1,4 +1,4 @@
-//! Laws on audits, and on how runs end. Each function is empty: what it ensures holds of all bytes, and its callers may
+//! Laws on audits, and on how runs end. Each function does nothing: what it ensures holds of all bytes, and its callers may
 //! cite it.
 
 ghost use Rattle.std.specs.Prelude.{◌≡◌, ◌≢◌, ◌≤◌, ◌⊎◌, Bool, IfSome, IsOkAnd, List, Ok, Option, Some, length, ℕ};

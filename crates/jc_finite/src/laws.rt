@@ -1,4 +1,4 @@
-//! The law on the end of every settle. The function is empty: what it ensures holds of every history, and its callers may
+//! The law on the end of every settle. The function does nothing: what it ensures holds of every history, and its callers may
 //! cite it.
 
 ghost use Rattle.std.specs.Prelude.{◌<◌, List};

@@ -9,6 +9,7 @@ use Rattle.jc_types.specs.declared.replies.Reply.TheVariants as reply
 use Rattle.jc_log.specs.Acts.{Act}
 use Rattle.jc_log.specs.Deeds.{Deed}
 
+-- The versions that the reply tells are at most n.
 abbrev pub TellsWithin : ℕ → Reply → Type 0
 TellsWithin n (reply.Listed at) = at.0 ≤ n
 TellsWithin n (reply.Delivered version) = version.0 ≤ n
@@ -22,5 +23,6 @@ IsTold n (does.Deliver controller kind) reply = TellsWithin n reply
 IsTold n (does.Begin controller worker) reply = TellsWithin n reply
 IsTold n other reply = Unit {0}
 
+-- So it is of each of the deeds.
 abbrev pub AreTold : ℕ → List Deed → Type 0
 AreTold n deeds = Each (λ d. IsTold n d.act d.reply) deeds

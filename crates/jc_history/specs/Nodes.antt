@@ -133,7 +133,7 @@ pub data NodeAct : Type 0 where
   Again : NodeAct
   Finish : End → NodeAct
 
--- The first container is to be restarted: more often, or as long as it would fail.
+-- The first container is to be restarted, under the policy OnFailure: more often, or as long as it would fail.
 abbrev pub is_again : Pod → End → Bool
 is_again pod end =
     restarts_on_failure pod.restart

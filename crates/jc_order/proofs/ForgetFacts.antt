@@ -41,7 +41,7 @@ use Rattle.jc_history.specs.Replies.{log_given}
 use Rattle.jc_history.proofs.DiaryFacts.{either}
 use Rattle.jc_history.proofs.LegalFacts.{legal-fit}
 use Rattle.jc_order.specs.Rest.{HasNothingToDo}
-use Rattle.jc_order.specs.Restless.{StandTogether, EndWell, FailsIf, HasCacheSeen, Stands, has_forgotten, has_job_of, is_forgotten, point}
+use Rattle.jc_order.specs.Restless.{StandTogether, AllEndRestless, FailsIf, HasCacheSeen, Stands, has_forgotten, has_job_of, is_forgotten, point}
 use Rattle.jc_order.proofs.HonestFacts.{honest}
 use Rattle.jc_order.proofs.RestFacts.{at-rest}
 use Rattle.jc_order.proofs.LastFacts.{last_told, last-from, last-told_at, last-within}
@@ -293,7 +293,7 @@ module _ (shape : Shape) (w : ℕ) (beyond : shape.workers ≤ w) where
 -- ---- at rest
 
 pub not-forgotten : (shape : Shape) (deeds : List Deed) → IsLegal shape deeds → 0 < shape.workers → is_quiescent shape deeds (log_given shape deeds) ≡ true → (c : ℕ) → c < shape.controllers
-    → (k : Key) (a b : ℕ) → a ≤ length (log_given shape deeds) → b ≤ length (log_given shape deeds) → Stands k a b (log_given shape deeds) → EndWell k a b (notes shape c deeds (log_given shape deeds)) → ⊥
+    → (k : Key) (a b : ℕ) → a ≤ length (log_given shape deeds) → b ≤ length (log_given shape deeds) → Stands k a b (log_given shape deeds) → AllEndRestless k a b (notes shape c deeds (log_given shape deeds)) → ⊥
 not-forgotten shape deeds legal some quiet c lt k a b job pod stands well =
     not-busy k a b (notes shape c deeds (log_given shape deeds)) fit idle.line free idle.delays
     (busy k a b (notes shape c deeds (log_given shape deeds)) fit (honest k a b shape c deeds legal stands well)

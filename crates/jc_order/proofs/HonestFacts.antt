@@ -32,7 +32,7 @@ use Rattle.jc_history.specs.Replies.{begin_gives, deliver_gives, gives, log_give
 use Rattle.jc_control.specs.Schedules.{log_end}
 use Rattle.jc_history.proofs.DiaryFacts.{grown-longer, legal-told}
 use Rattle.jc_history.proofs.LegalFacts.{notes-next}
-use Rattle.jc_order.specs.Restless.{AllAddOrRetry, EndWell, EndsWell, AddsOrRetries, Stands, StoodBefore}
+use Rattle.jc_order.specs.Restless.{AllAddOrRetry, AllEndRestless, EndsRestless, AddsOrRetries, Stands, StoodBefore}
 use Rattle.jc_order.proofs.RestlessFacts.{busy}
 
 -- ---- what a note says
@@ -189,11 +189,11 @@ all-true shape c (d ∷ past) legal =
     by false ih = act-true ih d.act refl
 
 -- Where all that they say is so, and the log stands so, they are told in order.
-true-honest : (k : Key) (a b : ℕ) (log : List Entry) → Stands k a b log → (notes : List Note) → AreTrue log notes → EndWell k a b notes → AllAddOrRetry k a b notes
+true-honest : (k : Key) (a b : ℕ) (log : List Entry) → Stands k a b log → (notes : List Note) → AreTrue log notes → AllEndRestless k a b notes → AllAddOrRetry k a b notes
 true-honest k a b log stands [] h well = tt
 true-honest k a b log stands (note ∷ older) h well = (one note h.0 well.0, true-honest k a b log stands older h.1 well.1)
   where
-    one : (note : Note) → IsTrue log note older → EndsWell k a b note older → AddsOrRetries k a b note older
+    one : (note : Note) → IsTrue log note older → EndsRestless k a b note older → AddsOrRetries k a b note older
     one (Listed kind at keys) h well = λ from. ap (has_key k) h.1 ∙ stands.listed kind at.0 from h.0
     one (Told kind version key) h well =
         (h.0, λ is. h.2 ∙ ap (λ v. option_and_then (told kind) (entry_at v log)) is ∙ stands.told_at kind (subst (λ v. v ≤ length log) is h.1))
@@ -202,6 +202,6 @@ true-honest k a b log stands (note ∷ older) h well = (one note h.0 well.0, tru
     one other h well = tt
 
 pub honest : (k : Key) (a b : ℕ) (shape : Shape) (c : ℕ) (deeds : List Deed) → IsLegal shape deeds
-    → Stands k a b (log_given shape deeds) → EndWell k a b (notes shape c deeds (log_given shape deeds))
+    → Stands k a b (log_given shape deeds) → AllEndRestless k a b (notes shape c deeds (log_given shape deeds))
     → AllAddOrRetry k a b (notes shape c deeds (log_given shape deeds))
 honest k a b shape c deeds legal stands well = true-honest k a b (log_given shape deeds) stands (notes shape c deeds (log_given shape deeds)) (all-true shape c deeds legal) well

@@ -1,6 +1,6 @@
 -- A sync that saw the last entry of its Job is never told of a conflict at a write of the status: the Job that is there
 -- is the one that it saw, or the one that it wrote itself, which would be a later entry.
-use Rattle.std.proofs.Common.{◌≡◌, ℕ, zero, suc, ◌+◌, ◌≤◌, ◌==◌, min, Bool, true, false, cond, not, List, [], ◌∷◌, ◌++◌, length, drop, slice_get, Option, Some, None, IfSome, is_some, refl, sym, ap, ◌∙◌, subst, arith, eq-eqb, eqb-true}
+use Rattle.std.proofs.Common.{◌≡◌, ℕ, ◌+◌, ◌≤◌, ◌==◌, min, Bool, true, false, cond, not, List, [], ◌∷◌, ◌++◌, length, drop, slice_get, Option, Some, None, IfSome, is_some, refl, sym, ap, ◌∙◌, subst, arith, eq-eqb, eqb-true}
 use Rattle.std.proofs.Common.{true≢false, ◌⊎◌, inl}
 use Rattle.std.specs.List.{AllByRecursion as Each}
 use Rattle.std.specs.Option.{option_map, option_or, option_to_list, unwrap_or}
@@ -54,7 +54,7 @@ use Rattle.jc_history.specs.Registers.{asks_status, made, pending, register, reg
 use Rattle.jc_history.specs.Replies.{gives, log_given, reply_given, step_gives, step_with}
 use Rattle.jc_history.proofs.DiaryFacts.{legal-told}
 use Rattle.jc_history.proofs.LegalFacts.{notes-next}
-use Rattle.jc_order.specs.Restless.{EndWell, EndsWell, FailsIf}
+use Rattle.jc_order.specs.Restless.{AllEndRestless, EndsRestless, FailsIf}
 use Rattle.jc_order.proofs.LastFacts.{job-kept, last_told, last-grows, last-job, last-new, tells}
 use Rattle.jc_history.proofs.RequestFacts.{first_of_drop as first-of-drop}
 
@@ -377,7 +377,7 @@ module _ (k : Key) (a : ℕ) where
 
   -- ---- how syncs end
 
-  one-well : (from b : ℕ) → from ≤ a → (note : Note) (older : List Note) → FailsIf k from b note → TriesNone note → EndsWell k a b note older
+  one-well : (from b : ℕ) → from ≤ a → (note : Note) (older : List Note) → FailsIf k from b note → TriesNone note → EndsRestless k a b note older
   one-well from b le (Ended w basis end now) older f tried = λ named saw p. by end (f named (omega (arith, le, saw)) p) (tried named saw)
     where
       by : (end : SyncEnd) → is_retried end ≡ true → IsNoRetry end → (forgets_caches end ≡ true) ⊎ (is_some (added_by_end end now (min (tries k older + 1) 7)) ≡ true)
@@ -388,6 +388,6 @@ module _ (k : Key) (a : ℕ) where
   one-well from b le other older f tried = tt
 
   -- Where syncs fail that saw the Job from an earlier version on, none that saw the last of it ends well.
-  pub all-well : (from b : ℕ) → from ≤ a → (notes : List Note) → Each (FailsIf k from b) notes → Each TriesNone notes → EndWell k a b notes
+  pub all-well : (from b : ℕ) → from ≤ a → (notes : List Note) → Each (FailsIf k from b) notes → Each TriesNone notes → AllEndRestless k a b notes
   all-well from b le [] f tried = tt
   all-well from b le (note ∷ older) f tried = (one-well from b le note older f.0 tried.0, all-well from b le older f.1 tried.1)

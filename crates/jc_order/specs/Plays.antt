@@ -22,6 +22,7 @@ abbrev pub AreWithin : Shape → List Command → Type 0
 AreWithin shape commands =
     Each (λ (command : Command). IsOfShape shape (act_of_action command.action)) commands
 
+-- So do those of the script.
 abbrev pub IsScriptFor : Script → Shape → Type 0
 IsScriptFor script shape = AreWithin shape script.commands
 

@@ -3,12 +3,12 @@
 --     HasCacheSeen number v           the cache has seen the version
 --     point kind a b                  the version that a cache of the kind has to see
 --     StoodBefore number v            the cache stood just before the version
---     AddsOrRetries k a b note older  a cache that comes to see one of both adds the key, and no sync
---                                     that saw both succeeds
+--     AddsOrRetries k a b note older  a cache that comes to see one of both adds the key, and the end of a
+--                                     sync that saw both adds a delay, or forgets the caches
 --     AllAddOrRetry k a b notes       so it is with each note
 --     IsBusy k a b notes              the key is dirty, or delayed, or has a sync that saw both
 --     Stands k a b log                the log lists the key from these versions on, and tells of it at them
---     EndsWell, EndWell k a b         no sync that saw both succeeds, by one note or by all of them
+--     EndsRestless, AllEndRestless    the end of a sync that saw both does, by one note or by all of them
 --     has_job_of k log                a Job of the key is there
 --     has_forgotten k j u log         the pod u of the Job j is there, tracked, and has ended
 --     StandTogether k j u log         the versions since when both are so
@@ -50,6 +50,8 @@ abbrev pub StoodBefore : Option Version → Version → Type 0
 StoodBefore None version = ⊥
 StoodBefore (Some before) version = version.0 ≡ before.0 + 1
 
+-- A cache that comes to see the entry of one of both adds the key; a delivery tells the next entry, and a sync begins with
+-- what the caches have seen; and the end of a sync that saw both adds a delay of the key, or forgets the caches.
 abbrev pub AddsOrRetries : Key → ℕ → ℕ → Note → List Note → Type 0
 AddsOrRetries k a b (Listed kind at keys) older = point kind a b ≤ at.0 → has_key k keys ≡ true
 AddsOrRetries k a b (Told kind version key) older =
@@ -62,10 +64,12 @@ AddsOrRetries k a b (Ended w basis end now) older =
     ⊎ (is_some (added_by_end end now (min (tries k older + 1) 7)) ≡ true)
 AddsOrRetries k a b note older = Unit {0}
 
+-- So it is with each note.
 abbrev pub AllAddOrRetry : Key → ℕ → ℕ → List Note → Type 0
 AllAddOrRetry k a b [] = Unit {0}
 AllAddOrRetry k a b (note ∷ older) = AddsOrRetries k a b note older × AllAddOrRetry k a b older
 
+-- The key is dirty, it is delayed, or a sync of it is under way that saw both.
 pub data IsBusy (k : Key) (a b : ℕ) (notes : List Note) : Type 0 where
   Dirty : is_dirty k notes ≡ true → IsBusy k a b notes
   Waiting : is_some (delay k notes) ≡ true → IsBusy k a b notes
@@ -82,14 +86,15 @@ pub record Stands (k : Key) (a b : ℕ) (log : List Entry) : Type 0 where
   pub told_at : (kind : Kind) → point kind a b ≤ length log
       → option_and_then (told kind) (entry_at (point kind a b) log) ≡ Some k
 
--- No sync that saw both succeeds.
-abbrev pub EndsWell : Key → ℕ → ℕ → Note → List Note → Type 0
-EndsWell k a b (Ended w basis end now) older = AddsOrRetries k a b (Ended w basis end now) older
-EndsWell k a b note older = Unit {0}
+-- The end of a sync that saw both adds a delay of the key, or forgets the caches.
+abbrev pub EndsRestless : Key → ℕ → ℕ → Note → List Note → Type 0
+EndsRestless k a b (Ended w basis end now) older = AddsOrRetries k a b (Ended w basis end now) older
+EndsRestless k a b note older = Unit {0}
 
-abbrev pub EndWell : Key → ℕ → ℕ → List Note → Type 0
-EndWell k a b [] = Unit {0}
-EndWell k a b (note ∷ older) = EndsWell k a b note older × EndWell k a b older
+-- So does each.
+abbrev pub AllEndRestless : Key → ℕ → ℕ → List Note → Type 0
+AllEndRestless k a b [] = Unit {0}
+AllEndRestless k a b (note ∷ older) = EndsRestless k a b note older × AllEndRestless k a b older
 
 -- A Job of the key is there.
 abbrev pub has_job_of : Key → List Entry → Bool

@@ -26,7 +26,7 @@ ghost use Rattle.jc_history.specs.Replies.{diary, log_given};
 ghost use Rattle.jc_order.specs.Ends.{IsAtMost, IsUpToDate, Placed, basis_at_end};
 ghost use Rattle.jc_order.specs.Plays.{IsPlayed, IsScriptFor, ends_in_settle};
 ghost use Rattle.jc_order.specs.Rest.{HasComeToRest, IsSystemAtRest};
-ghost use Rattle.jc_order.specs.Restless.{AllAddOrRetry, EndWell, FailsIf, HasCacheSeen, IsBusy, StandTogether, Stands, has_forgotten, has_job_of};
+ghost use Rattle.jc_order.specs.Restless.{AllAddOrRetry, AllEndRestless, FailsIf, HasCacheSeen, IsBusy, StandTogether, Stands, has_forgotten, has_job_of};
 
 /// Floors and the numbers of caches are places of the log. So where both caches of a controller
 /// have seen the whole log no cache is behind for any key, and a begin starts a sync of the first
@@ -125,7 +125,7 @@ pub fn no_ended_pod_is_forgotten()
         → IsBusy k a b notes }
     ensures adds_or_retries { (k : Key) (a b : ℕ) (shape : Shape) (c : ℕ) (deeds : List Deed)
         → IsLegal shape deeds → Stands k a b (log_given shape deeds)
-        → EndWell k a b (diary shape c deeds) → AllAddOrRetry k a b (diary shape c deeds) }
+        → AllEndRestless k a b (diary shape c deeds) → AllAddOrRetry k a b (diary shape c deeds) }
     ensures rest { (shape : Shape) (deeds : List Deed) → HasComeToRest shape deeds
         → (c : ℕ) → c < shape.controllers
         → (k : Key) (j u : Uid) (both : StandTogether k j u (log_given shape deeds))

@@ -1,4 +1,4 @@
-//! The law on the end of each play of a script. The function is empty: what it ensures holds of
+//! The law on the end of each play of a script. The function does nothing: what it ensures holds of
 //! every play, and its callers may cite it.
 
 ghost use Rattle.std.specs.Prelude.{◌≡◌, ◌<◌, ◌≤◌, true, ℕ};

@@ -1,4 +1,4 @@
-//! Laws on the commands of a reaper. Each function is empty: what it ensures holds of every list, and its callers may
+//! Laws on the commands of a reaper. Each function does nothing: what it ensures holds of every list, and its callers may
 //! cite it.
 
 ghost use Rattle.std.specs.Prelude.{◌≡◌, ◌<◌, ◌≤◌, ◌+◌, ◌^◌, ◌++◌, ℕ, Bool, Err, List, Ok, Option, false, length, true};

@@ -30,7 +30,7 @@ use Rattle.jc_history.specs.Numbers.{number, number_told}
 use Rattle.jc_history.specs.Registers.{AllFit, asks_status, register}
 use Rattle.jc_history.specs.Replies.{gives, log_given, reply_given}
 use Rattle.jc_history.proofs.LegalFacts.{legal-fit, notes-next}
-use Rattle.jc_order.specs.Restless.{Dirty, EndWell, HasCacheSeen, IsBusy, StoodBefore}
+use Rattle.jc_order.specs.Restless.{Dirty, AllEndRestless, HasCacheSeen, IsBusy, StoodBefore}
 use Rattle.jc_order.proofs.HonestFacts.{AreTrue, IsTrue, all-true}
 use Rattle.jc_order.proofs.RestlessFacts.{began, ended, listed, same-busy, sent, ticked, told-more}
 use Rattle.jc_rest.specs.Orphans.{has_reached, is_sure_of}
@@ -206,13 +206,13 @@ module _ (pod : Pod) (a : ℕ) where
 
   module _ (b : ℕ) (log : List Entry) (lists : (n : ℕ) → b ≤ n → n ≤ length log → has_key pod.owner (listed_keys Pods (upto n log)) ≡ true)
       (tells-it : option_and_then (told Pods) (entry_at b log) ≡ Some pod.owner) where
-    busy-since : (notes : List Note) → AllFit notes → AreTrue log notes → AreTimely notes → EndWell pod.owner a b notes → is_sure_of pod a notes ≡ true → HasCacheSeen (number Pods notes) b → IsBusy pod.owner a b notes
+    busy-since : (notes : List Note) → AllFit notes → AreTrue log notes → AreTimely notes → AllEndRestless pod.owner a b notes → is_sure_of pod a notes ≡ true → HasCacheSeen (number Pods notes) b → IsBusy pod.owner a b notes
     busy-since [] fit so timely well sure p = absurd p
     busy-since (note ∷ older) fit so timely well sure p =
         by (split (has_key pod.owner (adds note older) && has_reached a (number Jobs (note ∷ older))) (is_sure_of pod a older) sure) (λ before seen. busy-since older fit.1 so.1 timely.1 well.1 before seen)
       where
         later : is_sure_of pod a older ≡ true → (HasCacheSeen (number Pods older) b → IsBusy pod.owner a b older)
-            → (note : Note) → (AllFit (note ∷ older)) → IsTrue log note older → EndWell pod.owner a b (note ∷ older)
+            → (note : Note) → (AllFit (note ∷ older)) → IsTrue log note older → AllEndRestless pod.owner a b (note ∷ older)
             → HasCacheSeen (number Pods (note ∷ older)) b → IsBusy pod.owner a b (note ∷ older)
         later before was (Listed Jobs at keys) fit t well p = same-busy pod.owner a b (Listed Jobs at keys) older (or_right (has_key pod.owner keys) (is_dirty pod.owner older)) refl (λ w. refl) (was p)
         later before was (Listed Pods at keys) fit t well p = listed pod.owner a b Pods at keys older (ap (has_key pod.owner) t.1 ∙ lists at.0 p t.0)
@@ -242,7 +242,7 @@ module _ (pod : Pod) (a : ℕ) where
 pub added-busy : (pod : Pod) (a b : ℕ) (shape : Shape) (c : ℕ) (deeds : List Deed) → IsLegal shape deeds
     → ((n : ℕ) → b ≤ n → n ≤ length (log_given shape deeds) → has_key pod.owner (listed_keys Pods (upto n (log_given shape deeds))) ≡ true)
     → option_and_then (told Pods) (entry_at b (log_given shape deeds)) ≡ Some pod.owner
-    → EndWell pod.owner a b (notes shape c deeds (log_given shape deeds)) → is_sure_of pod a (notes shape c deeds (log_given shape deeds)) ≡ true
+    → AllEndRestless pod.owner a b (notes shape c deeds (log_given shape deeds)) → is_sure_of pod a (notes shape c deeds (log_given shape deeds)) ≡ true
     → HasCacheSeen (number Pods (notes shape c deeds (log_given shape deeds))) b → IsBusy pod.owner a b (notes shape c deeds (log_given shape deeds))
 added-busy pod a b shape c deeds legal lists tells-it well sure p =
     busy-since pod a b (log_given shape deeds) lists tells-it (notes shape c deeds (log_given shape deeds)) (legal-fit shape c deeds legal) (all-true shape c deeds legal)

@@ -41,7 +41,7 @@ use Rattle.jc_history.specs.Legal.{IsLegal}
 use Rattle.jc_history.specs.Replies.{log_given}
 use Rattle.jc_history.proofs.LegalFacts.{legal-fit}
 use Rattle.jc_order.specs.Rest.{HasNothingToDo}
-use Rattle.jc_order.specs.Restless.{EndWell, HasCacheSeen}
+use Rattle.jc_order.specs.Restless.{AllEndRestless, HasCacheSeen}
 use Rattle.jc_order.proofs.ForgetFacts.{never-begins, notes-none}
 use Rattle.jc_order.proofs.LastFacts.{last_told, last-job, last-within, tells}
 use Rattle.jc_order.proofs.RestFacts.{at-rest}
@@ -241,7 +241,7 @@ module _ (stay : Stay) (shape : Shape) (deeds : List Deed) (legal : IsLegal shap
     pods = put.stays;
   }
 
-  well : pod.tracked ≡ true → EndWell pod.owner (last_about pod (log_given shape deeds)) put.from (notes shape c deeds (log_given shape deeds))
+  well : pod.tracked ≡ true → AllEndRestless pod.owner (last_about pod (log_given shape deeds)) put.from (notes shape c deeds (log_given shape deeds))
   well tracked =
       all-well pod.owner (last_about pod (log_given shape deeds)) (last_about pod (log_given shape deeds)) put.from (omega arith) (notes shape c deeds (log_given shape deeds))
       (all-fail stay shape pod.owner (last_about pod (log_given shape deeds)) put.from

@@ -16,7 +16,7 @@ use Rattle.jc_history.specs.Legal.{IsLegal}
 use Rattle.jc_history.specs.Notes.{Note, Listed, Told, Began, Ended}
 use Rattle.jc_history.specs.Numbers.{number}
 use Rattle.jc_history.specs.Replies.{log_given}
-use Rattle.jc_order.specs.Restless.{EndWell, EndsWell, StoodBefore, point}
+use Rattle.jc_order.specs.Restless.{AllEndRestless, EndsRestless, StoodBefore, point}
 use Rattle.jc_order.proofs.HonestFacts.{AreTrue, IsTrue, all-true}
 use Rattle.jc_rest.proofs.SureFacts.{ArePlain, IsPlain}
 
@@ -27,7 +27,7 @@ pub record TellsFrom (k : Key) (a b : ℕ) (log : List Entry) : Type 0 where
       → option_and_then (told kind) (entry_at (point kind a b) log) ≡ Some k
 
 -- Where all that the notes say is so, and the log tells so, they are plain.
-true-plain : (k : Key) (a b : ℕ) (log : List Entry) → TellsFrom k a b log → (notes : List Note) → AreTrue log notes → EndWell k a b notes → ArePlain k a b notes
+true-plain : (k : Key) (a b : ℕ) (log : List Entry) → TellsFrom k a b log → (notes : List Note) → AreTrue log notes → AllEndRestless k a b notes → ArePlain k a b notes
 true-plain k a b log tells [] h well = tt
 true-plain k a b log tells (note ∷ older) h well = (one note h.0 well.0, true-plain k a b log tells older h.1 well.1)
   where
@@ -37,7 +37,7 @@ true-plain k a b log tells (note ∷ older) h well = (one note h.0 well.0, true-
     told-at kind (Some before) version key stood within is e =
         is ∙ ap (λ v. option_and_then (told kind) (entry_at v log)) e ∙ tells.told_at kind (omega (arith, stood, e)) (subst (λ v. v ≤ length log) e within)
 
-    one : (note : Note) → IsTrue log note older → EndsWell k a b note older → IsPlain k a b note older
+    one : (note : Note) → IsTrue log note older → EndsRestless k a b note older → IsPlain k a b note older
     one (Listed Jobs at keys) h well = λ from. ap (has_key k) h.1 ∙ tells.listed at.0 from h.0
     one (Listed Pods at keys) h well = tt
     one (Told Jobs version key) h well = (h.0, told-at Jobs (number Jobs older) version key h.0 h.1 h.2)
@@ -47,6 +47,6 @@ true-plain k a b log tells (note ∷ older) h well = (one note h.0 well.0, true-
     one other h well = tt
 
 pub plain : (k : Key) (a b : ℕ) (shape : Shape) (c : ℕ) (deeds : List Deed) → IsLegal shape deeds
-    → TellsFrom k a b (log_given shape deeds) → EndWell k a b (notes shape c deeds (log_given shape deeds))
+    → TellsFrom k a b (log_given shape deeds) → AllEndRestless k a b (notes shape c deeds (log_given shape deeds))
     → ArePlain k a b (notes shape c deeds (log_given shape deeds))
 plain k a b shape c deeds legal tells well = true-plain k a b (log_given shape deeds) tells (notes shape c deeds (log_given shape deeds)) (all-true shape c deeds legal) well

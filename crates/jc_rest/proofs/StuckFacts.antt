@@ -42,7 +42,7 @@ use Rattle.jc_history.specs.Registers.{backoff, register}
 use Rattle.jc_history.specs.Replies.{log_given}
 use Rattle.jc_history.proofs.LegalFacts.{legal-fit}
 use Rattle.jc_order.specs.Rest.{HasNothingToDo}
-use Rattle.jc_order.specs.Restless.{EndWell, HasCacheSeen, point}
+use Rattle.jc_order.specs.Restless.{AllEndRestless, HasCacheSeen, point}
 use Rattle.jc_order.proofs.ForgetFacts.{never-begins, notes-none}
 use Rattle.jc_order.proofs.RestFacts.{at-rest}
 use Rattle.jc_order.proofs.RestlessFacts.{not-busy}
@@ -209,7 +209,7 @@ module _ (stay : Stay) (shape : Shape) (deeds : List Deed) (legal : IsLegal shap
       by false s = never-begins w _ (notes-none shape w (ltb-false w shape.workers s) c deeds (log_given shape deeds) legal)
 
   -- Where no sync that saw the last of the key ended well, the key is busy.
-  well-busy : EndWell k (last_told Jobs k (log_given shape deeds)) (last_told Pods k (log_given shape deeds)) (notes shape c deeds (log_given shape deeds)) → is_sure k (notes shape c deeds (log_given shape deeds)) ≡ true → ⊥
+  well-busy : AllEndRestless k (last_told Jobs k (log_given shape deeds)) (last_told Pods k (log_given shape deeds)) (notes shape c deeds (log_given shape deeds)) → is_sure k (notes shape c deeds (log_given shape deeds)) ≡ true → ⊥
   well-busy well sure =
       not-busy k (last_told Jobs k (log_given shape deeds)) (last_told Pods k (log_given shape deeds)) (notes shape c deeds (log_given shape deeds)) (legal-fit shape c deeds legal) idle.line free idle.delays
       (sure-busy k (last_told Jobs k (log_given shape deeds)) (last_told Pods k (log_given shape deeds)) (notes shape c deeds (log_given shape deeds)) (legal-fit shape c deeds legal)

@@ -52,7 +52,7 @@ use Rattle.jc_history.specs.Replies.{gives, log_given, step_gives}
 use Rattle.jc_sync.specs.Readings.{with_step}
 use Rattle.jc_history.proofs.DiaryFacts.{legal-told}
 use Rattle.jc_history.proofs.LegalFacts.{notes-next}
-use Rattle.jc_order.specs.Restless.{EndWell}
+use Rattle.jc_order.specs.Restless.{AllEndRestless}
 use Rattle.jc_order.proofs.HonestFacts.{longer-log}
 use Rattle.jc_order.proofs.LastFacts.{job-kept, last_told, last-grows, last-job, last-new, tells}
 use Rattle.jc_order.proofs.RetryFacts.{step-log, step-reply}
@@ -123,7 +123,7 @@ module _ (k : Key) (job : Job) (pods : List Pod) (a b : ℕ) where
   Rests notes n = (basis : Basis) × (basis.job ≡ Some job) × (basis.pods ≡ pods) × AsksNothing (planned basis) × (basis.backoff ≡ backoff k notes) × (a ≤ n) × (b ≤ n)
 
   abbrev pub Stance : List Note → ℕ → Type 0
-  Stance notes n = (EndWell k a b notes × AreKept notes n) ⊎ Rests notes n
+  Stance notes n = (AllEndRestless k a b notes × AreKept notes n) ⊎ Rests notes n
 
   grow : (notes : List Note) (m n : ℕ) → m ≤ n → Stance notes m → Stance notes n
   grow notes m n le (inl h) = inl (h.0, λ w basis r s. let q = h.1 w basis r s in let j = q.2 in let p = q.3 in (q.0, q.1, omega (arith, j, le), omega (arith, p, le), q.4, q.5))

@@ -1,4 +1,4 @@
-//! Laws on histories at rest. Each function is empty: what it ensures holds of every history, and
+//! Laws on histories at rest. Each function does nothing: what it ensures holds of every history, and
 //! its callers may cite it.
 
 ghost use Rattle.std.specs.Prelude.{◌≡◌, ◌<◌, List, Some};

@@ -11,7 +11,6 @@ use Rattle.jc_types.specs.declared.replies.Reply.{Reply}
 use Rattle.jc_types.specs.declared.replies.Reply.TheVariants as reply
 use Rattle.jc_types.specs.declared.runs.Shape.{Shape}
 use Rattle.jc_log.specs.Requests.{Answered, grown, refused}
-use Rattle.jc_log.specs.Acts.{Act}
 use Rattle.jc_log.specs.Deeds.{Deed}
 use Rattle.jc_ledger.specs.Syncs.{began_of}
 use Rattle.jc_ledger.specs.Tied.{IsWithin as IsReached}

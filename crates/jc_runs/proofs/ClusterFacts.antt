@@ -22,12 +22,6 @@ use Rattle.jc_runs.specs.Teams.{Team}
 newest_first : (items mid new : List Past) (past : Past) → new ≡ mid ++ past ∷ [] → mid ≡ items → reverse new ≡ past ∷ reverse items
 newest_first items mid new past e f = ap (λ (l : List Past). reverse l) (e ∙ ap (λ (l : List Past). l ++ past ∷ []) f) ∙ reverse-append items (past ∷ [])
 
--- What stays where nothing happened.
-pub same_cluster : (script : Script) (shape : Shape) (items new : List Past) (log next : List Entry) (teams : List Team)
-    (fates : Fates) (now : ℕ) → IsCluster script shape (reverse items) log teams fates now → new ≡ items → next ≡ log
-    → IsCluster script shape (reverse new) next teams fates now
-same_cluster script shape items new log next teams fates now c e l = subst (λ i. IsCluster script shape (reverse i) next teams fates now) (sym e) (subst (λ l. IsCluster script shape (reverse items) l teams fates now) (sym l) c)
-
 module _ (script : Script) (shape : Shape) (items mid new : List Past) (past : Past) (log next : List Entry) (teams news : List Team) (fates ends : Fates) (now later : ℕ) (old : IsCluster script shape (reverse items) log teams fates now)
     (is : new ≡ mid ++ past ∷ []) (mid_is : mid ≡ items) (run : IsMachine shape (deed script past ∷ deeds_in script (reverse items)) next news ends later) where
   abbrev pub before : Seen

@@ -20,7 +20,6 @@ use Rattle.jc_ledger.specs.declared.flights.Flight.{Flight}
 use Rattle.jc_ledger.specs.Flights.{Flies}
 use Rattle.jc_ledger.specs.Syncs.{began_of, is_begin}
 use Rattle.jc_asks.specs.declared.asks.Ask.{Ask}
-use Rattle.jc_asks.specs.declared.asks.Ask.TheVariants.{MakePod, MarkPod, LetPodGo, WriteFirst, ReleasePod, WriteSecond}
 use Rattle.jc_asks.specs.Asks.{asks_after, as_request}
 use Rattle.jc_sync.specs.Quiet.{GoesOnTo, IsUndisturbed, Leaves}
 use Rattle.jc_asks.specs.Readings.{is_step, step_told, steps_of, told_step, with_step}

@@ -31,7 +31,6 @@ use Rattle.jc_log.specs.Log.{job_in, pod_in}
 use Rattle.jc_states.specs.Pods.{is_marked}
 use Rattle.jc_types.specs.Equality.{same_status}
 use Rattle.jc_ledger.specs.declared.flights.Flight.{Flight}
-use Rattle.jc_log.specs.Acts.{Act}
 use Rattle.jc_log.specs.Deeds.{Deed}
 use Rattle.jc_history.specs.Agrees.{IsScheduleOf}
 use Rattle.jc_history.specs.Diaries.{end_by, moment, notes, on_step}
@@ -40,7 +39,7 @@ use Rattle.jc_history.specs.Notes.{Note, Asked, Ended, newest}
 use Rattle.jc_history.specs.SoFar.{is_write_first}
 use Rattle.jc_types.specs.declared.replies.Request.TheVariants as request
 use Rattle.jc_history.specs.Registers.{fault_told, is_first, asks_status, tells_written, made, pending, register, register_told}
-use Rattle.jc_asks.specs.Steps.{floor_given, Sync, as_answer, answered_to, end_given, first_answered, flight_after, make_gives, status_gives, written_gives, next_unless, stepped_at}
+use Rattle.jc_asks.specs.Steps.{floor_given, Sync, as_answer, answered_to, end_given, flight_after, make_gives, status_gives, written_gives, next_unless, stepped_at}
 use Rattle.jc_history.specs.Replies.{log_given}
 use Rattle.jc_history.proofs.DeedSteps as deed
 use Rattle.jc_history.proofs.HeldSteps as schedule

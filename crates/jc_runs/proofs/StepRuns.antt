@@ -13,7 +13,6 @@ use Rattle.jc_types.specs.declared.replies.Request.{Request}
 use Rattle.jc_types.specs.declared.replies.Answer.{Answer}
 use Rattle.jc_types.specs.declared.runs.Shape.{Shape}
 use Rattle.jc_log.specs.Requests.{Answered, grown, refused}
-use Rattle.jc_log.specs.Acts.{Act}
 use Rattle.jc_log.specs.Deeds.{Deed}
 use Rattle.jc_log.specs.Writes.{Stored}
 use Rattle.jc_ledger.specs.Syncs.{began_of}

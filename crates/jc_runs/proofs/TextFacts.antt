@@ -164,8 +164,5 @@ mark_texts given log pod now is = no_text_of given _ is (marked_texts log pod no
 pub strip_texts : (given : Reply) (log : List Entry) (pod : Uid) → given ≡ (release_gives log pod).reply → HasNoText given
 strip_texts given log pod is = no_text_of given _ is (released_texts log pod)
 
-pub node_texts : (given : Reply) (log : List Entry) (step : Option (Pod × NodeAct)) → given ≡ (node_gives log step).reply → HasNoText given
-node_texts given log step is = no_text_of given _ is (node_tells log step)
-
 pub step_texts : (given : Reply) (now : ℕ) (pending : Option Fault) (log : List Entry) (sync : Sync) → given ≡ (stepped now pending log sync).reply → HasNoText given
 step_texts given now pending log sync is = no_text_of given _ is (stepped_texts now pending log sync)

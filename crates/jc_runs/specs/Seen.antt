@@ -33,6 +33,7 @@ pub record Seen : Type 0 where
 abbrev pub deeds_in : Script → List Past → List Deed
 deeds_in script pasts = map (deed script) pasts
 
+-- Those of what was seen.
 abbrev pub deeds_seen : Seen → List Deed
 deeds_seen seen = deeds_in seen.script seen.pasts
 

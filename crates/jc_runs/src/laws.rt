@@ -1,4 +1,4 @@
-//! Laws on runs of a cluster. Each function is empty: what it ensures holds of every run, and its
+//! Laws on runs of a cluster. Each function does nothing: what it ensures holds of every run, and its
 //! callers may cite it. A machine's world is a history of deeds and its log, both newest first,
 //! with all that a machine then has.
 
@@ -104,8 +104,8 @@ pub fn legal_histories_count_once()
     allowed_updates_stay_valid();
 }
 
-/// In each legal history a status write or a let-go of a sync that is refused as a conflict is told a
-/// later version than it sent.
+/// In each legal history whose Jobs were created with valid specifications a status write or a let-go
+/// of a sync that is refused as a conflict is told a later version than it sent.
 pub fn legal_histories_tell_later_versions()
     ensures { (shape : Shape) (deeds : List Deed) → IsLegal shape deeds → AllAskValid deeds
         → AreToldLater shape deeds }

@@ -1,4 +1,4 @@
-//! Laws on what runs write. Each function is empty: what it ensures holds of every script, and its callers may cite it.
+//! Laws on what runs write. Each function does nothing: what it ensures holds of every script, and its callers may cite it.
 
 ghost use Rattle.std.specs.Prelude.{◌≡◌, ◌≢◌, IfSome, IsOkAnd, List, Ok, Option, Some, ℕ};
 ghost use Rattle.std.specs.Io.KnownBytes.{Keeps};
