@@ -34,7 +34,7 @@ use Rattle.jc_sync.specs.Ask.TheVariants.{MakePod, MarkPod, LetPodGo, WriteFirst
 use Rattle.jc_sync.specs.Asks.{asks_after, is_gone, left_when, writes_status}
 use Rattle.jc_sync.proofs.QuietFacts.{IfSome-at}
 use Rattle.jc_granted.specs.Ready.{IsOther, IsReady, IsThere, pod_asked}
-use Rattle.jc_making.specs.Grants.{AreNew, IsNew, frees, concerns}
+use Rattle.jc_making.specs.Grants.{AreNew, IsNew, LooksNew, frees, concerns}
 use Rattle.jc_bearing.proofs.TrackFacts.{IsChangeOf, Tracks, Under, map-same, put-replaced, replaced, tracks-dropped, tracks-replaced}
 use Rattle.jc_bearing.proofs.WriteKinds.{IsBorn, Makes, Puts, States, Takes, Writes}
 
@@ -79,6 +79,7 @@ pub record AreMade (old : List Entry) (k : Key) (job : Job) (done : List (Option
   pub new : AreNew (made_for job.uid old) done fresh
   pub owned : Each (λ (pod : Pod). same_uid pod.owner_uid job.uid ≡ true) fresh
   pub restarts : Each (λ (pod : Pod). pod.restart ≡ job.spec.template.restart) fresh
+  pub looks : Each (LooksNew job.spec.template) fresh
   pub made : made_for job.uid log ≡ made_for job.uid old + length done
   pub still : IsStill k log job
 
@@ -187,6 +188,7 @@ module _ (old log : List Entry) (basis : Basis) (sends : Version) (stored : Stor
             new = m.new;
             owned = m.owned;
             restarts = m.restarts;
+            looks = m.looks;
             made = made-kept job.uid ∙ m.made;
             still = record { current = m.still.current; there = jobs-kept basis.key ∙ m.still.there; is = m.still.is };
           };
@@ -297,6 +299,7 @@ module _ (old log : List Entry) (basis : Basis) (sends : Version) (stored : Stor
             new = snoc-new (made_for job.uid old) h.done h.fresh index pod m.new (subst (λ n. IsNew n index pod) m.made born.new);
             owned = Each-append (λ (p : Pod). same_uid p.owner_uid job.uid ≡ true) h.fresh (pod ∷ []) m.owned (ap (λ v. same_uid v job.uid) born.owner_uid ∙ same_uid-itself job.uid, tt);
             restarts = Each-append (λ (p : Pod). p.restart ≡ job.spec.template.restart) h.fresh (pod ∷ []) m.restarts (born.restart, tt);
+            looks = Each-append (LooksNew job.spec.template) h.fresh (pod ∷ []) m.looks (born.looks, tt);
             made = one-more ∙ counted m.made;
             still = record { current = m.still.current; there = m.still.there; is = m.still.is };
           }
@@ -339,6 +342,7 @@ module _ (old log : List Entry) (basis : Basis) (sends : Version) (stored : Stor
         new = m.new;
         owned = m.owned;
         restarts = m.restarts;
+        looks = m.looks;
         made = m.made;
         still = record {
           current = with_status log current status;

@@ -206,7 +206,7 @@ module _ (old : List Entry) (basis : Basis) (pods : basis.pods ≡ pods_under ba
     done = [];
     creates = sym (creates-plan (planned basis));
     count = refl;
-    makes = λ job saw. record { new = tt; owned = tt; restarts = tt; made = omega arith; still = record { current = job; there = sym job-is ∙ saw; is = refl } };
+    makes = λ job saw. record { new = tt; owned = tt; restarts = tt; looks = tt; made = omega arith; still = record { current = job; there = sym job-is ∙ saw; is = refl } };
     under = tt;
     apart = tt;
     asked = all-planned;
@@ -295,10 +295,12 @@ module _ (old log : List Entry) (basis : Basis) (p : HasItsPlan log basis) (h : 
         ∙ ap (λ (j : Job). record j { version = m.still.current.version; status = last_status (planned basis) job.status }) m.still.is
 
     its-all : HasAllFor old basis job log
+    unfolding own-is
     its-all = record {
       version = m.still.current.version;
       job_is = m.still.there ∙ ap (λ j. Some j) job-is;
       own = own-is;
+      looks = m.looks;
       made = m.made ∙ ap (λ (l : List (Option ℕ)). made_for job.uid old + length l) done-is;
     }
 

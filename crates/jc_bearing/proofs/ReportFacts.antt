@@ -1,4 +1,4 @@
--- What the node does to a pod, and how many pods are made for a Job at most.
+-- What the node does to a pod, and a bound on the pods that are made for a Job.
 use Rattle.std.proofs.Common.{◌≡◌, ℕ, zero, suc, ◌+◌, ◌≤◌, Bool, true, false, not, cond, ◌&&◌, List, [], ◌∷◌, ◌++◌, map, filter, find, Option, Some, None, is_some, refl, sym, ap, ◌∙◌, subst, arith, true≢false, eqb-true}
 use Rattle.std.specs.List.{AllByRecursion as Each}
 use Rattle.std.specs.Option.{option_map_or, unwrap_or}
@@ -112,7 +112,20 @@ none-said : (serial : ℕ) → end_at serial [] ≡ None
 none-said zero = refl
 none-said (suc n) = refl
 
-module _ (fates : Key → Option (List End)) (ends : List End) (log : List Entry) (job : Job) (pod : Pod) (act : NodeAct) (there : pod_in pod.uid log ≡ Some pod)
+-- A bound on pods of a Job, by how many were made and by its own pods: nothing that the node does to one of these raises it,
+-- and a pod without its finalizer counts for nothing.
+pub record NodeKeeps (ends : List End) (job : Job) (bound : ℕ → List Pod → ℕ) : Type 0 where
+  pub acts : (fates : Key → Option (List End)) (made : ℕ) (front back : List Pod) (log : List Entry) (pod : Pod) (act : NodeAct) → IsCounted job (front ++ pod ∷ back)
+      → pod_end fates pod ≡ end_at pod.serial ends → act_on fates pod ≡ Some act
+      → bound made (front ++ with_report log pod (change_by pod act) ∷ back) ≤ bound made (front ++ pod ∷ back)
+  pub gone : (made : ℕ) (front back : List Pod) (pod : Pod) → is_tracked pod ≡ false → bound made (front ++ pod ∷ back) ≡ bound made (front ++ back)
+
+-- The bound at a log.
+abbrev pub bound_in : (ℕ → List Pod → ℕ) → Job → List Entry → ℕ
+bound_in bound job log = bound (made_for job.uid log) (own_pods job (pods_under job.key log))
+
+module _ (bound : ℕ → List Pod → ℕ) (fates : Key → Option (List End)) (ends : List End) (log : List Entry) (job : Job) (keeps : NodeKeeps ends job bound) (pod : Pod) (act : NodeAct)
+    (there : pod_in pod.uid log ≡ Some pod)
     (counted : IsCounted job (own_pods job (pods_under job.key log))) (fated : unwrap_or (fates job.key) [] ≡ ends) (befalls : act_on fates pod ≡ Some act) where
   abbrev new : Pod
   new = with_report log pod (change_by pod act)
@@ -154,11 +167,11 @@ module _ (fates : Key → Option (List End)) (ends : List End) (log : List Entry
   gone-own = ap (own_pods job) (filter-drops is_under pod.uid (pods_in log)) ∙ filter-drops (is_own job) pod.uid (pods_under job.key log)
 
   abbrev left : List Pod → ℕ
-  left pods = creations_left ends (made_for job.uid log) job pods
+  left pods = bound (made_for job.uid log) pods
 
   -- It is none of them.
   module _ (none : pod_among pod.uid (own_pods job (pods_under job.key log)) ≡ None) where
-    none-more : (b : Bool) → creations_left ends (made_for job.uid log) job (own_pods job (pods_under job.key (cond b (PodGone new) (PodPut new) ∷ log))) ≤ creations_left ends (made_for job.uid log) job (own_pods job (pods_under job.key log))
+    none-more : (b : Bool) → bound (made_for job.uid log) (own_pods job (pods_under job.key (cond b (PodGone new) (PodPut new) ∷ log))) ≤ bound (made_for job.uid log) (own_pods job (pods_under job.key log))
     none-more true = let same = ap left (gone-own ∙ drop-absent pod.uid (own_pods job (pods_under job.key log)) none) in omega (arith, same)
     none-more false = let same = ap left (put-own ∙ none-same new (own_pods job (pods_under job.key log)) none) in omega (arith, same)
 
@@ -176,17 +189,16 @@ module _ (fates : Key → Option (List End)) (ends : List End) (log : List Entry
         ap (λ k. option_map_or (end_at pod.serial) (fates k) None) (same_key-eq pod.owner job.key mine)
         ∙ ended-by (fates job.key) fated
 
-    falls : creations_left ends (made_for job.uid log) job (at.front ++ new ∷ at.back) ≤ creations_left ends (made_for job.uid log) job (own_pods job (pods_under job.key log))
+    falls : bound (made_for job.uid log) (at.front ++ new ∷ at.back) ≤ bound (made_for job.uid log) (own_pods job (pods_under job.key log))
     falls =
-        subst (λ pods. creations_left ends (made_for job.uid log) job (at.front ++ new ∷ at.back) ≤ creations_left ends (made_for job.uid log) job pods) (sym at.are)
-        (node-falls fates ends (made_for job.uid log) job at.front at.back log pod (subst (IsCounted job) at.are counted) ended act befalls)
+        subst (λ pods. bound (made_for job.uid log) (at.front ++ new ∷ at.back) ≤ bound (made_for job.uid log) pods) (sym at.are)
+        (keeps.acts fates (made_for job.uid log) at.front at.back log pod act (subst (IsCounted job) at.are counted) ended befalls)
 
-    some-more : (b : Bool) → goes new ≡ b → creations_left ends (made_for job.uid log) job
-        (own_pods job (pods_under job.key (cond b (PodGone new) (PodPut new) ∷ log))) ≤ creations_left ends
-        (made_for job.uid log) job (own_pods job (pods_under job.key log))
+    some-more : (b : Bool) → goes new ≡ b → bound (made_for job.uid log) (own_pods job (pods_under job.key (cond b (PodGone new) (PodPut new) ∷ log)))
+        ≤ bound (made_for job.uid log) (own_pods job (pods_under job.key log))
     some-more true goes-now =
         let lost = not-true (is_tracked new) (and_parts (not (is_tracked new)) (is_final new.phase) (and_parts (is_marked new) (not (is_tracked new) && is_final new.phase) goes-now).1).0 in
-        let none = gone ends (made_for job.uid log) job at.front at.back new lost in
+        let none = keeps.gone (made_for job.uid log) at.front at.back new lost in
         let same = ap left (gone-own ∙ at.drop) in
         omega (arith, falls, none, same)
     some-more false stays = let same = ap left (put-own ∙ at.put) in omega (arith, falls, same)
@@ -197,7 +209,7 @@ module _ (fates : Key → Option (List End)) (ends : List End) (log : List Entry
       ap (λ l. cond (same_uid pod.owner_uid job.uid && is_never l) (made_for job.uid log + 1) (made_for job.uid log)) (living-live (life pod.uid log) pod there)
       ∙ ap (λ b. cond b (made_for job.uid log + 1) (made_for job.uid log)) (and-false (same_uid pod.owner_uid job.uid))
 
-  pub node-no-more : pods_at_most ends (pod_entry new ∷ log) job ≤ pods_at_most ends log job
+  pub node-no-more : bound_in bound job (pod_entry new ∷ log) ≤ bound_in bound job log
   node-no-more = by (goes new) refl (pod_among pod.uid (own_pods job (pods_under job.key log))) refl
     where
       mine-of : (q : Pod) → pod_among pod.uid (own_pods job (pods_under job.key log)) ≡ Some q → same_key pod.owner job.key ≡ true
@@ -209,20 +221,20 @@ module _ (fates : Key → Option (List End)) (ends : List End) (log : List Entry
           ap (λ (p : Pod). same_key p.owner job.key) (sym (is (find_passes (λ (p : Pod). same_uid p.uid pod.uid) (own_pods job (pods_under job.key log)) q found))) ∙ passes
 
       less : (b : Bool) → goes new ≡ b → (o : Option Pod) → pod_among pod.uid (own_pods job (pods_under job.key log)) ≡ o
-          → creations_left ends (made_for job.uid log) job (own_pods job (pods_under job.key (cond b (PodGone new) (PodPut new) ∷ log))) ≤ creations_left ends (made_for job.uid log) job (own_pods job (pods_under job.key log))
+          → bound (made_for job.uid log) (own_pods job (pods_under job.key (cond b (PodGone new) (PodPut new) ∷ log))) ≤ bound (made_for job.uid log) (own_pods job (pods_under job.key log))
       less b is None found = none-more found b
       less b is (Some q) found = some-more (ap is_some found) (mine-of q found) b is
 
-      by : (b : Bool) → goes new ≡ b → (o : Option Pod) → pod_among pod.uid (own_pods job (pods_under job.key log)) ≡ o → pods_at_most ends (cond b (PodGone new) (PodPut new) ∷ log) job ≤ pods_at_most ends log job
+      by : (b : Bool) → goes new ≡ b → (o : Option Pod) → pod_among pod.uid (own_pods job (pods_under job.key log)) ≡ o → bound_in bound job (cond b (PodGone new) (PodPut new) ∷ log) ≤ bound_in bound job log
       by b is o found =
           let fewer = less b is o found in
           let made = made-same b in
-          let all = ap (λ n. n + creations_left ends n job (own_pods job (pods_under job.key (cond b (PodGone new) (PodPut new) ∷ log)))) made in
+          let all = ap (λ n. bound n (own_pods job (pods_under job.key (cond b (PodGone new) (PodPut new) ∷ log)))) made in
           omega (arith, fewer, all)
 
 -- ---- a deed of the node
 
-module _ (shape : Shape) (past : List Deed) (d : Deed) (act : d.act ≡ does.Node) (ends : List End) (job : Job) (fated : unwrap_or (fate past job.key) [] ≡ ends)
+module _ (bound : ℕ → List Pod → ℕ) (shape : Shape) (past : List Deed) (d : Deed) (act : d.act ≡ does.Node) (ends : List End) (job : Job) (keeps : NodeKeeps ends job bound) (fated : unwrap_or (fate past job.key) [] ≡ ends)
     (counted : IsCounted job (own_pods job (pods_under job.key (log_given shape past)))) where
   abbrev log : List Entry
   log = log_given shape past
@@ -232,29 +244,41 @@ module _ (shape : Shape) (past : List Deed) (d : Deed) (act : d.act ≡ does.Nod
   grew = ap (λ a. grown (log_given shape past) (gives shape past (log_given shape past) a).entry) act
 
   -- A report that is refused changes nothing.
-  refused-or : (b : Bool) (r : Reply) (a : Answered) → pods_at_most ends (grown (log_given shape past) a.entry) job ≤ pods_at_most ends (log_given shape past) job
-      → pods_at_most ends (grown (log_given shape past) (cond b (refused r) a).entry) job ≤ pods_at_most ends (log_given shape past) job
+  refused-or : (b : Bool) (r : Reply) (a : Answered) → bound_in bound job (grown (log_given shape past) a.entry) ≤ bound_in bound job (log_given shape past)
+      → bound_in bound job (grown (log_given shape past) (cond b (refused r) a).entry) ≤ bound_in bound job (log_given shape past)
   refused-or true r a h = omega arith
   refused-or false r a h = h
 
   reported : (pod : Pod) (what : NodeAct) → Befalls (log_given shape past) (fate past) pod what
-      → pods_at_most ends (grown (log_given shape past) (report_phase_gives (log_given shape past) pod.uid (change_by pod what)).entry) job ≤ pods_at_most ends (log_given shape past) job
+      → bound_in bound job (grown (log_given shape past) (report_phase_gives (log_given shape past) pod.uid (change_by pod what)).entry) ≤ bound_in bound job (log_given shape past)
   reported pod what b =
-      subst (λ o. pods_at_most ends (grown (log_given shape past) (report_phase_at (log_given shape past) (change_by pod what) o).entry) job ≤ pods_at_most ends (log_given shape past) job) (sym b.there)
+      subst (λ o. bound_in bound job (grown (log_given shape past) (report_phase_at (log_given shape past) (change_by pod what) o).entry) ≤ bound_in bound job (log_given shape past)) (sym b.there)
       (refused-or (is_final pod.phase) (reply.Final pod.phase) _
       (refused-or (same_phase pod.phase Running && same_phase (change_by pod what).phase Pending) (reply.BadStep Running Pending) _
       (unless (find (is_unnamed pod) (change_by pod what).containers))))
     where
-      unless : (o : Option ContainerChange) → pods_at_most ends (grown (log_given shape past) (report_unless (log_given shape past) pod (change_by pod what) o).entry) job ≤ pods_at_most ends (log_given shape past) job
+      unless : (o : Option ContainerChange) → bound_in bound job (grown (log_given shape past) (report_unless (log_given shape past) pod (change_by pod what) o).entry) ≤ bound_in bound job (log_given shape past)
       unless (Some unnamed) = omega arith
       unless None =
           refused-or (same_course_of pod (with_report (log_given shape past) pod (change_by pod what))) (reply.Unchanged pod.version) _
-          (node-no-more (fate past) ends (log_given shape past) job pod what b.there counted fated b.acts)
+          (node-no-more bound (fate past) ends (log_given shape past) job keeps pod what b.there counted fated b.acts)
 
-  pub node-turn : pods_at_most ends (log_given shape (d ∷ past)) job ≤ pods_at_most ends (log_given shape past) job
-  node-turn = subst (λ l. pods_at_most ends l job ≤ pods_at_most ends (log_given shape past) job) (sym grew) (by (node_step (log_given shape past) (fate past)) refl)
+  pub node-bound : bound_in bound job (log_given shape (d ∷ past)) ≤ bound_in bound job (log_given shape past)
+  node-bound = subst (λ l. bound_in bound job l ≤ bound_in bound job (log_given shape past)) (sym grew) (by (node_step (log_given shape past) (fate past)) refl)
     where
       by : (o : Option (Pod × NodeAct)) → node_step (log_given shape past) (fate past) ≡ o
-          → pods_at_most ends (grown (log_given shape past) (node_gives (log_given shape past) o).entry) job ≤ pods_at_most ends (log_given shape past) job
+          → bound_in bound job (grown (log_given shape past) (node_gives (log_given shape past) o).entry) ≤ bound_in bound job (log_given shape past)
       by None is = omega arith
       by (Some step) is = reported step.0 step.1 (node-step-befalls (log_given shape past) (fate past) step is)
+
+-- ---- pods that are made at most
+
+at-most-kept : (ends : List End) (job : Job) → NodeKeeps ends job (λ made own. made + creations_left ends made job own)
+at-most-kept ends job = record {
+  acts = λ fates made front back log pod act counted ended befalls. let fewer = node-falls fates ends made job front back log pod counted ended act befalls in omega (arith, fewer);
+  gone = λ made front back pod lost. ap (λ n. made + n) (gone ends made job front back pod lost);
+}
+
+pub node-turn : (shape : Shape) (past : List Deed) (d : Deed) → d.act ≡ does.Node → (ends : List End) (job : Job) → unwrap_or (fate past job.key) [] ≡ ends
+    → IsCounted job (own_pods job (pods_under job.key (log_given shape past))) → pods_at_most ends (log_given shape (d ∷ past)) job ≤ pods_at_most ends (log_given shape past) job
+node-turn shape past d act ends job fated counted = node-bound (λ made own. made + creations_left ends made job own) shape past d act ends job (at-most-kept ends job) fated counted

@@ -26,7 +26,7 @@ use Rattle.jc_sync.specs.Flight.{Flight}
 use Rattle.jc_sync.specs.Steps.{answered_to, make_gives, status_gives, written_gives}
 use Rattle.jc_log.proofs.WriteFacts.{life-uid}
 use Rattle.jc_granted.specs.Ready.{IsActiveAt, IsReady, IsThere, pod_asked}
-use Rattle.jc_making.specs.Grants.{IsNew}
+use Rattle.jc_making.specs.Grants.{IsNew, LooksNew}
 use Rattle.jc_bearing.proofs.TrackFacts.{IsChangeOf}
 
 -- The pod that is made.
@@ -36,6 +36,7 @@ pub record IsBorn (log : List Entry) (job : Job) (index : Option ℕ) (pod : Pod
   pub owner_uid : pod.owner_uid ≡ job.uid
   pub new : IsNew (made_for job.uid log) index pod
   pub restart : pod.restart ≡ job.spec.template.restart
+  pub looks : LooksNew job.spec.template pod
 
 -- The entry of the request: a new pod, one that is written again or is gone, or a status.
 pub data Writes (log : List Entry) (basis : Basis) : Ask → Entry → Type 0 where
@@ -59,7 +60,7 @@ module _ (log : List Entry) (now : ℕ) (flight : Flight) where
       by None is g = absurd (none_some e g)
       by (Some job) is g =
           subst (W (MakePod index)) (some_is (PodPut (made_pod log job index now)) e g)
-          (Makes job index (made_pod log job index now) is (record { uid = refl; owner = refl; owner_uid = refl; new = record { serial_is = refl; index_is = refl; active = refl }; restart = refl }))
+          (Makes job index (made_pod log job index now) is (record { uid = refl; owner = refl; owner_uid = refl; new = record { serial_is = refl; index_is = refl; active = refl }; restart = refl; looks = refl }))
 
   -- What is not refused is what is accepted.
   not-refused : (b : Bool) (r : Reply) (a : Answered) (e : Entry) → (cond b (refused r) a).entry ≡ Some e → a.entry ≡ Some e

@@ -24,7 +24,7 @@ use Rattle.jc_runs.specs.Diaries.{moment}
 use Rattle.jc_runs.specs.Replies.{log_given}
 use Rattle.jc_settle.specs.Settles.{IsCalm, is_telling, settled_on}
 use Rattle.jc_calm.specs.SettleTurns.{faults_pending}
-use Rattle.jc_making.specs.Grants.{AllGranted, job_left}
+use Rattle.jc_making.specs.Grants.{AllGranted, LooksNew, job_left}
 use Rattle.jc_bearing.specs.Served.{ServesAll}
 
 -- The Job at the version.
@@ -32,13 +32,14 @@ abbrev pub at_version : Version → Job → Job
 at_version version job = record job { version = version }
 
 -- The Job has the status that the plan leaves, and is else as it was, but for its version. Its own pods are those that
--- were there, as the plan has them, but for some that lost their finalizer and are gone, with the new ones; of these so
--- many were made as it was to make.
+-- were there, as the plan has them, but for some that lost their finalizer and are gone, with the new ones, which look
+-- new; of these so many were made as it was to make.
 pub record HasAllFor (log : List Entry) (basis : Basis) (job : Job) (new : List Entry) : Type 0 where
   pub version : Version
   pub job_is : job_in basis.key new ≡ Some (at_version version (job_left (planned basis) job))
   pub own : AllGranted (planned basis) (made_for job.uid log) (own_pods job (pods_under basis.key log))
       (own_pods job (pods_under basis.key new))
+  pub looks : Each (LooksNew job.spec.template) own.fresh
   pub made : made_for job.uid new ≡ made_for job.uid log + length (planned basis).creates
 
 -- Each Job of another key is as it was, and so are the pods that were made for it; no pod was made for another UID, and

@@ -30,8 +30,8 @@ use jc_runs::allowed_updates_stay_valid;
 /// worker, there are so many events, all of them lists, deliveries and steps of that sync, after which it is calm. Its
 /// Job has the status that the plan leaves, and is else as it was, but for its version. The Job's own pods are those
 /// that were there, as the plan has them, but for some that lost their finalizer and are gone, and behind them the new
-/// ones, one for each index that the plan has. Each other Job is as it was, and so are the pods that were made for Jobs
-/// of other keys. The moment is the same, and no fault is new.
+/// ones, one for each index that the plan has, each as it is made by the Job's template. Each other Job is as it was, and
+/// so are the pods that were made for Jobs of other keys. The moment is the same, and no fault is new.
 pub fn whole_syncs_do_what_they_plan()
     ensures { (shape : Shape) (past : List Deed) (c w : ℕ) (basis : Basis) (begin : Deed)
         → 0 < shape.workers → IsLegal shape past → AllAskValid past → IsCalm shape past

@@ -22,16 +22,17 @@ use Rattle.jc_remaining.proofs.OnwardFacts.{on-says}
 use Rattle.jc_ends.proofs.Descent.{Lowers, holds-of-all}
 use Rattle.jc_ends.proofs.TurnCounts.{coming_at}
 use Rattle.jc_remaining.specs.Nodes.{fate}
-use Rattle.jc_remaining.specs.Remaining.{HasEach, LastEndsSucceed}
+use Rattle.jc_remaining.specs.Remaining.{HasEach, LastEndsCount}
 use Rattle.jc_remaining.proofs.Sums.{has-each, keys_there}
-use Rattle.jc_finite.specs.Finite.{SucceedInTheEnd}
+use Rattle.jc_finite.specs.Finite.{EndInTheEnd}
+use Rattle.jc_finite.proofs.LastFacts.{jobs-count}
 use Rattle.jc_finite.proofs.Strong.{by-descent}
 use Rattle.jc_finite.proofs.SuccessFacts.{pods-come}
 use Rattle.jc_finite.proofs.TurnKinds.{AtRest, FewerFaults, FewerPods, IsFated, LessLeft, LessToCome, TurnKind, creations_at, left_at, turn-kind}
 
-module _ (stay : Stay) (shape : Shape) (fates : Key → Option (List End)) (lasts : LastEndsSucceed fates) where
+module _ (stay : Stay) (shape : Shape) (fates : Key → Option (List End)) where
   abbrev Fated : List Deed → Type 0
-  Fated past = IsFated stay shape fates lasts past
+  Fated past = IsFated stay shape fates past
 
   abbrev Rests : List Deed → Type 0
   Rests past = ComesToRest shape past
@@ -39,10 +40,10 @@ module _ (stay : Stay) (shape : Shape) (fates : Key → Option (List End)) (last
   -- Up to so many faults, with these keys.
   module _ (most : ℕ) (by-faults : (now : List Deed) → faults_pending shape now < most → Fated now → Rests now) (keys : List Key) where
     abbrev creations : List Deed → ℕ
-    creations past = creations_at stay shape fates lasts keys past
+    creations past = creations_at stay shape fates keys past
 
     abbrev left : List Deed → ℕ
-    left past = left_at stay shape fates lasts keys past
+    left past = left_at stay shape fates keys past
 
     record Has (past : List Deed) : Type 0 where
       fated : Fated past
@@ -61,9 +62,9 @@ module _ (stay : Stay) (shape : Shape) (fates : Key → Option (List End)) (last
     module _ (few : ℕ) (by-creations : (now : List Deed) → creations now < few → Has now → Rests now) where
       module _ (little : ℕ) (by-left : (now : List Deed) → left now < little → Within few now → Rests now) where
         one : (past : List Deed) → Below few little past → Rests past ⊎ Lowers (coming_at shape) (Below few little) Rests past
-        one past h = by (turn-kind stay shape fates lasts keys past h.has.fated h.has.each)
+        one past h = by (turn-kind stay shape fates keys past h.has.fated h.has.each)
           where
-            by : TurnKind stay shape fates lasts keys past → Rests past ⊎ Lowers (coming_at shape) (Below few little) Rests past
+            by : TurnKind stay shape fates keys past → Rests past ⊎ Lowers (coming_at shape) (Below few little) Rests past
             by (AtRest rests) = inl rests
             by (FewerFaults now later fewer) =
                 let enough = h.has.faults in inl (later.back (by-faults now (omega (arith, fewer, enough)) later.fated))
@@ -104,13 +105,13 @@ module _ (stay : Stay) (shape : Shape) (fates : Key → Option (List End)) (last
       (λ past h more. on-creations (faults_pending shape past) more (keys_there (log_given shape past)) past
       (record { fated = h; each = has-each (log_given shape past); faults = omega arith }))
 
-pub settle-ends : Stay → (shape : Shape) (past : List Deed) → IsLegal shape past → AllAskValid past → 0 < shape.workers → IsMoment shape.start → SucceedInTheEnd past → ComesToRest shape past
+pub settle-ends : Stay → (shape : Shape) (past : List Deed) → IsLegal shape past → AllAskValid past → 0 < shape.workers → IsMoment shape.start → EndInTheEnd past → ComesToRest shape past
 settle-ends stay shape past legal valid some start ends = by (calms-down shape some past legal)
   where
     by : CalmsDown shape past → ComesToRest shape past
-    by h = rest-earlier shape h.events past (subst (ComesToRest shape) (sym h.are) (fated-ends stay shape (fate past) ends.lasts (h.run ++ past) fated))
+    by h = rest-earlier shape h.events past (subst (ComesToRest shape) (sym h.are) (fated-ends stay shape (fate past) (h.run ++ past) fated))
       where
-        fated : IsFated stay shape (fate past) ends.lasts (h.run ++ past)
+        fated : IsFated stay shape (fate past) (h.run ++ past)
         fated = record {
           between = record {
             workers = some;
@@ -123,4 +124,7 @@ settle-ends stay shape past legal valid some start ends = by (calms-down shape s
           comes = λ events.
               subst (λ deeds. Each (ComesTo (fate past)) (pods_in (log_given shape deeds))) (on-adds shape h.events events past ∙ ap (settled_on shape events) h.are)
               (pods-come shape (fate past) past ends.restarts (h.events + events));
+          lasts = λ events.
+              subst (λ deeds. LastEndsCount (fate past) (log_given shape deeds)) (on-adds shape h.events events past ∙ ap (settled_on shape events) h.are)
+              (jobs-count shape (fate past) past ends.lasts (h.events + events));
         }

@@ -30,18 +30,20 @@ use Rattle.jc_ends.proofs.Descent.{Falls}
 use Rattle.jc_ends.proofs.TurnCounts.{clock-lessens, coming_at, finds-lessens, writes-lessens}
 use Rattle.jc_remaining.specs.Nodes.{fate}
 use Rattle.jc_remaining.specs.Plans.{planned}
-use Rattle.jc_remaining.specs.Remaining.{FitsAll, HasEach, LastEndsSucceed, all_creations, all_left}
+use Rattle.jc_remaining.specs.Remaining.{FitsAll, HasEach, LastEndsCount, all_creations, all_left}
 use Rattle.jc_remaining.proofs.NodeLeaves.{node-creations, node-left}
 use Rattle.jc_remaining.proofs.StatusAlone.{status-alone}
 use Rattle.jc_remaining.proofs.SyncFacts.{sync-creations-most}
 use Rattle.jc_remaining.proofs.SyncLeaves.{Fewer, LeavesLess, Less, each-kept, sync-leaves}
 
-module _ (stay : Stay) (shape : Shape) (fates : Key → Option (List End)) (lasts : LastEndsSucceed fates) where
-  -- A state between turns, where the pods end as these fates say, and the restarts of each end too.
+module _ (stay : Stay) (shape : Shape) (fates : Key → Option (List End)) where
+  -- A state between turns, where the pods end as these fates say, the restarts of each end too, and no Job ignores the last end
+  -- of its fate.
   pub record IsFated (past : List Deed) : Type 0 where
     pub between : IsBetweenTurns shape past
     pub same : fate past ≡ fates
     pub comes : (events : ℕ) → Each (ComesTo fates) (pods_in (log_given shape (settled_on shape events past)))
+    pub lasts : (events : ℕ) → LastEndsCount fates (log_given shape (settled_on shape events past))
 
   -- So it is after some events more, where it is between turns.
   fated-on : (past : List Deed) → IsFated past → (n : ℕ) (now : List Deed) → settled_on shape n past ≡ now → IsBetweenTurns shape now → IsFated now
@@ -51,6 +53,8 @@ module _ (stay : Stay) (shape : Shape) (fates : Key → Option (List End)) (last
     comes = λ events.
         subst (λ deeds. Each (ComesTo fates) (pods_in (log_given shape deeds))) (on-adds shape n events past ∙ ap (settled_on shape events) are)
         (g.comes (n + events));
+    lasts = λ events.
+        subst (λ deeds. LastEndsCount fates (log_given shape deeds)) (on-adds shape n events past ∙ ap (settled_on shape events) are) (g.lasts (n + events));
   }
 
   module _ (keys : List Key) where
@@ -125,7 +129,7 @@ module _ (stay : Stay) (shape : Shape) (fates : Key → Option (List End)) (last
         asks fine some = by (runs-whole stay shape g.between.workers past g.between.legal g.between.valid g.between.calm c w basis begin b fine)
           where
             by : RunsWhole shape past c w basis begin → TurnKind past
-            by r = of (sync-leaves keys (log_given shape past) (log_given shape (r.run ++ begin ∷ past)) basis r.saw r.all each fates lasts fits some)
+            by r = of (sync-leaves keys (log_given shape past) (log_given shape (r.run ++ begin ∷ past)) basis r.saw r.all each fates (g.lasts 0) fits some)
               where
                 now : List Deed
                 now = r.run ++ begin ∷ past
@@ -142,7 +146,7 @@ module _ (stay : Stay) (shape : Shape) (fates : Key → Option (List End)) (last
         writes job status write h m =
             LessToCome (settled_on shape m.events past) (later m.events (settled_on shape m.events past) refl m.calm)
             (subst (HasEach keys) (sym m.log_is) (each-kept keys (log_given shape past) _ basis saw all each)) m.faults
-            (subst (λ l. all_creations fates l keys ≤ creations_at past) (sym m.log_is) (sync-creations-most fates lasts (log_given shape past) _ basis saw all fits keys))
+            (subst (λ l. all_creations fates l keys ≤ creations_at past) (sym m.log_is) (sync-creations-most fates (log_given shape past) (g.lasts 0) _ basis saw all fits keys))
             (let same : left_at (settled_on shape m.events past) ≡ left_at past = ap (λ l. all_left fates (pods_in l)) m.log_is in omega (arith, same))
             (writes-lessens stay shape g.between.start past g.between.legal g.between.valid c w basis begin b job status write h m)
           where

@@ -1,4 +1,4 @@
-//! That every settle ends whose pods succeed in the end.
+//! That every settle ends whose pods succeed in the end, or fail so that it counts.
 #![tactic(auto)]
 
 mod laws;

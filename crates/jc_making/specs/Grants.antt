@@ -5,12 +5,17 @@
 --     AllBecome plan own after   what it makes of all, but for pods that are gone since
 --     IsNew serial index pod     a pod that was just made
 --     AreNew made indexes pods   these are, one for each index, where so many were made before
+--     as_new template pod        the pod as it is made
+--     LooksNew template pod      the pod is as it was made
 --     AllGranted plan made own now    the own pods are these then
 --     job_left plan job          the Job with the status that is left
-use Rattle.std.specs.Prelude.{◌≡◌, ℕ, suc, Bool, true, false, ◌||◌, List, [], ◌∷◌, ◌++◌, Option}
+use Rattle.std.specs.Prelude.{◌≡◌, ℕ, suc, Bool, true, false, ◌||◌, List, [], ◌∷◌, ◌++◌, Option, None}
 use Rattle.jc_types.specs.declared.numbers.Uid.{Uid}
 use Rattle.jc_types.specs.declared.objects.Job.{Job}
+use Rattle.jc_types.specs.declared.objects.Phase.TheVariants.{Pending}
 use Rattle.jc_types.specs.declared.objects.Pod.{Pod}
+use Rattle.jc_types.specs.declared.specifications.Template.{Template}
+use Rattle.jc_log.specs.Requests.{new_containers}
 use Rattle.jc_states.specs.PodLists.{IsRising}
 use Rattle.jc_states.specs.Pods.{is_marked, is_tracked_active}
 use Rattle.jc_states.specs.UidLists.{is_in}
@@ -53,6 +58,19 @@ AreNew made [] [] = Unit {0}
 AreNew made [] (pod ∷ pods) = ⊥
 AreNew made (index ∷ indexes) [] = ⊥
 AreNew made (index ∷ indexes) (pod ∷ pods) = IsNew made index pod × AreNew (suc made) indexes pods
+
+-- The pod as it is made: pending, with the containers of the template and no condition.
+abbrev pub as_new : Template → Pod → Pod
+as_new template pod = record pod {
+  phase = Pending;
+  containers = new_containers template;
+  conditions = [];
+  marked = None;
+}
+
+-- The pod is as it was made for a Job of the template.
+abbrev pub LooksNew : Template → Pod → Type 0
+LooksNew template pod = as_new template pod ≡ pod
 
 -- The own pods, once all requests are granted: what has become of those that were there, and behind them the new ones.
 pub record AllGranted (plan : Planned) (made : ℕ) (own now : List Pod) : Type 0 where

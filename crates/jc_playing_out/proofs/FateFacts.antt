@@ -1,5 +1,5 @@
 -- What is so of each fate that a script puts is so of the fates in each play of it.
-use Rattle.std.proofs.Common.{◌≡◌, ℕ, zero, suc, Bool, true, false, cond, List, [], ◌∷◌, map, slice_get, Option, Some, None, IfSome, refl, sym, ap, ◌∙◌, subst}
+use Rattle.std.proofs.Common.{◌≡◌, ℕ, zero, suc, Bool, true, false, cond, List, [], ◌∷◌, map, slice_get, Option, Some, None, refl, sym, ap, ◌∙◌, subst}
 use Rattle.std.proofs.lemmas.Option.{none-some as none_some, same_Some}
 use Rattle.std.specs.List.{AllByRecursion as Each}
 use Rattle.std.specs.Option.{option_or, unwrap_or}
@@ -15,15 +15,16 @@ use Rattle.jc_types.specs.declared.runs.Event.TheVariants as event
 use Rattle.jc_types.specs.declared.runs.Past.{Past}
 use Rattle.jc_types.specs.declared.runs.Sys.{Sys}
 use Rattle.jc_types.specs.declared.runs.Sys.TheVariants as sys
+use Rattle.jc_types.specs.declared.specifications.JobSpec.{JobSpec}
 use Rattle.jc_types.proofs.ListFacts.{Each-weaker}
 use Rattle.jc_log.specs.Acts as does
 use Rattle.jc_log.specs.Acts.{Act}
 use Rattle.jc_log.specs.Deeds.{Deed, act_of_action, act_of_command, act_of_event, act_of_system, deed}
-use Rattle.jc_history.specs.Nodes.{fate, fate_told, last_end}
-use Rattle.jc_finite.specs.Making.{fails}
-use Rattle.jc_finite.specs.Remaining.{LastEndsSucceed}
-use Rattle.jc_finite.specs.Finite.{RestartsEnd, SucceedAll, SucceedAlways, SucceedInTheEnd}
-use Rattle.jc_playing_out.specs.PlayingOut.{EndsSucceed, EndsSucceedFor, FatesEndWell, FatesSucceed, LastEndSucceeds, RestartsWell}
+use Rattle.jc_history.specs.Nodes.{fate, fate_told}
+use Rattle.jc_finite.specs.Finite.{EndInTheEnd, LastEndCounts, RestartsEnd, SucceedAll, SucceedAlways}
+use Rattle.jc_finite.specs.Retries.{CountsAtLast}
+use Rattle.jc_finite.proofs.SuccessCounts.{success-counts}
+use Rattle.jc_playing_out.specs.PlayingOut.{LastEndCountsFor, CountsInTheEnd, EndsSucceed, EndsSucceedFor, FatesEndWell, FatesSucceed, LastEndSucceeds, RestartsWell}
 
 module _ (Q : List End → Type 0) (k : Key) where
   -- It is so of a fate of the key that the act puts.
@@ -88,25 +89,56 @@ fates-succeed script h pasts key ends is =
     by (action.Fate other ends) h = λ s. h
     by other h = tt
 
--- ---- where the last one is
+-- ---- where the last one counts
+
+-- What is so of each command, and of each act of the system, is so of each deed of a play.
+module _ (P : Act → Type 0) (unknown : P does.Unknown) (system : (x : Sys) → P (act_of_system x)) (script : Script) (h : Each (λ (command : Command). P (act_of_action command.action)) script.commands) where
+  so-at : (commands : List Command) (n : ℕ) → Each (λ (command : Command). P (act_of_action command.action)) commands → P (act_of_command (slice_get commands n))
+  so-at [] zero all = unknown
+  so-at [] (suc n) all = unknown
+  so-at (command ∷ commands) zero all = all.0
+  so-at (command ∷ commands) (suc n) all = so-at commands n all.1
+
+  so-by : (e : Event) → P (act_of_event script.commands e)
+  so-by (event.Command lane number) = so-at script.commands number h
+  so-by (event.System x) = system x
+
+  so-all : (pasts : List Past) → Each (λ (d : Deed). P d.act) (map (deed script) pasts)
+  so-all [] = tt
+  so-all (past ∷ pasts) = (so-by past.event, so-all pasts)
 
 module _ (script : Script) (h : FatesEndWell script) (pasts : List Past) where
-  abbrev Last : List End → Type 0
-  Last ends = IfSome (last_end ends) (λ end. fails end ≡ false)
+  abbrev Counts : Act → Type 0
+  Counts act = LastEndCounts (fate (map (deed script) pasts)) act
 
-  lasts-succeed : LastEndsSucceed (fate (map (deed script) pasts))
-  lasts-succeed key = by (fate (map (deed script) pasts) key) refl
+  lasts-of : (a : Action1) → CountsInTheEnd script.commands a → Counts (act_of_action a)
+  lasts-of (action.Create key spec) counts = by (fate (map (deed script) pasts) key) refl
     where
-      of : (a : Action1) → LastEndSucceeds a → PutsBy Last key a
-      of (action.Fate other ends) h = λ s. h
+      of : (a : Action1) → LastEndCountsFor key spec a → PutsBy (λ ends. CountsAtLast ends spec) key a
+      of (action.Fate other ends) h = h
       of other h = tt
 
-      by : (o : Option (List End)) → fate (map (deed script) pasts) key ≡ o → Last (unwrap_or o [])
+      by : (o : Option (List End)) → fate (map (deed script) pasts) key ≡ o → CountsAtLast (unwrap_or o []) spec
       by None is = tt
       by (Some ends) is =
-          fates-are Last key script
-          (Each-weaker (λ (command : Command). LastEndSucceeds command.action) (λ (command : Command). PutsBy Last key command.action) (λ command. of command.action) script.commands h.lasts)
+          fates-are (λ ends. CountsAtLast ends spec) key script
+          (Each-weaker (λ (command : Command). LastEndCountsFor key spec command.action) (λ (command : Command). PutsBy (λ ends. CountsAtLast ends spec) key command.action) (λ command. of command.action) script.commands counts)
           pasts ends is
+  lasts-of other counts = tt
+
+  system-counts : (x : Sys) → Counts (act_of_system x)
+  system-counts (sys.List controller kind) = tt
+  system-counts (sys.Deliver controller kind) = tt
+  system-counts (sys.Begin controller worker) = tt
+  system-counts (sys.Step controller worker) = tt
+  system-counts sys.Node = tt
+  system-counts (sys.Clock add) = tt
+
+  lasts-all : Each (λ (d : Deed). Counts d.act) (map (deed script) pasts)
+  lasts-all =
+      so-all Counts tt system-counts script
+      (Each-weaker (λ (command : Command). CountsInTheEnd script.commands command.action) (λ (command : Command). Counts (act_of_action command.action)) (λ command. lasts-of command.action) script.commands h.lasts)
+      pasts
 
   restarts-of : (a : Action1) → RestartsWell script.commands a → RestartsEnd (fate (map (deed script) pasts)) (act_of_action a)
   restarts-of (action.Create key spec) well = λ policy. by (well policy) (fate (map (deed script) pasts) key) refl
@@ -143,5 +175,22 @@ module _ (script : Script) (h : FatesEndWell script) (pasts : List Past) where
   restarts-all [] = tt
   restarts-all (past ∷ some) = (restarts-by past.event, restarts-all some)
 
-  pub fates-end-well : SucceedInTheEnd (map (deed script) pasts)
-  fates-end-well = record { lasts = lasts-succeed; restarts = restarts-all pasts }
+  pub fates-end-well : EndInTheEnd (map (deed script) pasts)
+  fates-end-well = record { lasts = lasts-all; restarts = restarts-all pasts }
+
+-- ---- where the last one is a success
+
+pub successes-count : (commands : List Command) → Each (λ (command : Command). LastEndSucceeds command.action) commands → Each (λ (command : Command). CountsInTheEnd commands command.action) commands
+successes-count commands h = each commands
+  where
+    of : (key : Key) (spec : JobSpec) (a : Action1) → LastEndSucceeds a → LastEndCountsFor key spec a
+    of key spec (action.Fate other ends) last = λ same. success-counts ends spec last
+    of key spec other last = tt
+
+    by : (a : Action1) → CountsInTheEnd commands a
+    by (action.Create key spec) = Each-weaker (λ (command : Command). LastEndSucceeds command.action) (λ (command : Command). LastEndCountsFor key spec command.action) (λ command. of key spec command.action) commands h
+    by other = tt
+
+    each : (some : List Command) → Each (λ (command : Command). CountsInTheEnd commands command.action) some
+    each [] = tt
+    each (command ∷ some) = (by command.action, each some)

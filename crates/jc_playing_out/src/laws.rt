@@ -1,8 +1,9 @@
 //! The law on the end of each play of a script. The function does nothing: what it ensures holds of
 //! every play, and its callers may cite it.
 
-ghost use Rattle.std.specs.Prelude.{◌≡◌, ◌<◌, ◌≤◌, true, ℕ};
+ghost use Rattle.std.specs.Prelude.{◌≡◌, ◌<◌, ◌≤◌, List, true, ℕ};
 ghost use Rattle.std.specs.List.{AllByRecursion as Each};
+ghost use Rattle.jc_types.specs.declared.actions.Command.{Command};
 ghost use Rattle.jc_types.specs.declared.actions.Script.{Script};
 ghost use Rattle.jc_types.specs.declared.runs.History.{History};
 ghost use Rattle.jc_types.specs.declared.runs.Shape.{Shape};
@@ -13,7 +14,7 @@ ghost use Rattle.jc_history.specs.Available.{is_quiescent};
 ghost use Rattle.jc_history.specs.Play.{play_of};
 ghost use Rattle.jc_history.specs.Replies.{log_given};
 ghost use Rattle.jc_order.specs.Plays.{IsScriptFor, PlayEnds, allowing, ends_in_settle};
-ghost use Rattle.jc_playing_out.specs.PlayingOut.{FatesEndWell, FatesSucceed};
+ghost use Rattle.jc_playing_out.specs.PlayingOut.{CountsInTheEnd, FatesEndWell, FatesSucceed, LastEndSucceeds};
 
 use jc_finite::settles_end;
 use jc_order::settled_plays_are_at_rest;
@@ -22,9 +23,10 @@ use jc_runs::valid_scripts_ask_valid;
 /// **Each play of a script ends** whose pods succeed: there is a number of events from which on,
 /// with a shape that allows so many, the play on one thread is not full. So all commands are
 /// played, each sync of them ends, and each settle comes to rest; how many more events the shape
-/// allows changes nothing of it. So it is also where some ends fail, if the last end of each fate
-/// is a success, and each end of a key for which a Job of the policy OnFailure is created. Where
-/// the last command is a settle, nothing is left to do at its end.
+/// allows changes nothing of it. So it is also where pods fail, if no Job's failure policy ignores
+/// the last end of a fate of its key, and each end of a key for which a Job of the policy OnFailure
+/// is created is a success. A success is never ignored, so it is enough that the last end of each
+/// fate is one. Where the last command is a settle, nothing is left to do at its end.
 pub fn plays_end()
     ensures ends { (script : Script) (shape : Shape)
         → AreValidCommands script.commands
@@ -34,6 +36,9 @@ pub fn plays_end()
         → AreValidCommands script.commands
         → IsScriptFor script shape → 0 < shape.workers → IsMoment shape.start
         → FatesEndWell script → PlayEnds script shape }
+    ensures succeeding { (commands : List Command)
+        → Each (λ (command : Command). LastEndSucceeds command.action) commands
+        → Each (λ (command : Command). CountsInTheEnd commands command.action) commands }
     ensures rests { (script : Script) (shape : Shape) → IsScriptFor script shape
         → ends_in_settle script.commands ≡ true
         → (it : PlayEnds script shape) (n : ℕ) → it.events ≤ n

@@ -1,4 +1,4 @@
-//! That each play of a script whose pods succeed ends.
+//! That each play of a script ends whose pods succeed in the end, or fail so that it counts.
 #![tactic(auto)]
 
 mod laws;

@@ -21,10 +21,9 @@ use Rattle.jc_settle.specs.Left.{ComesTo}
 use Rattle.jc_settle.specs.Settles.{next_of_settle}
 use Rattle.jc_making.specs.Making.{IsCounted}
 use Rattle.jc_making.specs.Nodes.{fate}
-use Rattle.jc_bearing.proofs.ReportFacts.{node-turn}
 use Rattle.jc_bounded.proofs.NodeTurns.{node-jobs}
-use Rattle.jc_bounded.proofs.OnwardFacts.{next-more}
-use Rattle.jc_remaining.specs.Remaining.{FitsAll, all_creations, all_left, creations_for, creations_under, ends_of}
+use Rattle.jc_remaining.specs.Remaining.{FitsAll, all_creations, all_left, creations_for, creations_under}
+use Rattle.jc_remaining.proofs.AllowedFacts.{node-for}
 use Rattle.jc_remaining.proofs.NodePods.{node-writes, pods-less}
 use Rattle.jc_remaining.proofs.Sums.{creations-most}
 
@@ -58,6 +57,5 @@ node-creations shape past d keys a fits = creations-most (fate past) (log_given 
             let was : creations_under (fate past) (log_given shape past) k ≡ creations_for (fate past) (log_given shape past) job = ap (λ x. option_map_or (creations_for (fate past) (log_given shape past)) x 0) there in
             let keyed = job_in-key k (log_given shape past) job there in
             let counted = subst (λ q. IsCounted job (own_pods job (pods_under q (log_given shape past)))) (sym keyed) (fits.counted k job there) in
-            let turn = node-turn shape past d a (ends_of (fate past) job.key) job refl counted in
-            let more = next-more shape past d job.uid in
-            omega (arith, now, was, turn, more)
+            let turn = node-for shape past d a job counted in
+            omega (arith, now, was, turn)

@@ -85,6 +85,7 @@ module _ (log : List Entry) (basis : Basis) (job : Job) (status : JobStatus) (sa
       new = subst (λ indexes. AreNew (made_for job.uid log) indexes []) (sym creates) tt;
       rising = rises_filter 0 (is_own job) (pods_under basis.key log) (rises_filter 0 (λ (pod : Pod). same_key pod.owner basis.key) (pods_in log) (pods_in-rises log));
     };
+    looks = tt;
     made = let none = made-none in omega (arith, none);
   }
 

@@ -35,35 +35,23 @@ use Rattle.jc_plan.proofs.OneWay.{goes-seen}
 use Rattle.jc_plan.proofs.PartFacts.{planned-here}
 use Rattle.jc_plan.proofs.PlanFacts.{plan-let_goes, plan-marks, plan-releases}
 use Rattle.jc_calm.specs.SettleTurns.{pods_asked}
-use Rattle.jc_making.specs.Grants.{frees, job_left}
-use Rattle.jc_bearing.specs.Whole.{DoesAll, HasAllFor, SawLog, at_version}
-use Rattle.jc_bearing.proofs.AtMostFacts.{no-more, no-other}
+use Rattle.jc_making.specs.Grants.{frees}
+use Rattle.jc_bearing.specs.Whole.{DoesAll, SawLog}
 use Rattle.jc_bearing.proofs.DoneFacts.{WasSeen, all-seen, own-seen}
-use Rattle.jc_remaining.specs.Remaining.{FitsAll, HasEach, LastEndsSucceed, all_creations, all_left, creations_for, creations_under, ends_of}
+use Rattle.jc_remaining.specs.Remaining.{FitsAll, HasEach, LastEndsCount, all_creations, all_left, creations_for, creations_under}
+use Rattle.jc_remaining.proofs.AllowedFacts.{other-for, own-fewer}
 use Rattle.jc_remaining.proofs.Sums.{creations-fewer, creations-most}
 use Rattle.jc_remaining.proofs.ServedFacts.{Frees, IsOneOf, IsWanted, Marks, all-less, all-most}
 
 -- ---- pods that may still be made
 
-module _ (fates : Key → Option (List End)) (lasts : LastEndsSucceed fates) (log new : List Entry) (basis : Basis) (saw : SawLog log basis) (all : DoesAll log basis new) (fits : FitsAll log) where
+module _ (fates : Key → Option (List End)) (log : List Entry) (lasts : LastEndsCount fates log) (new : List Entry) (basis : Basis) (saw : SawLog log basis) (all : DoesAll log basis new) (fits : FitsAll log) where
   abbrev made : ℕ
   made = length (planned basis).creates
 
   -- For its own Job as many fewer as it makes.
-  module _ (job : Job) (there : job_in basis.key log ≡ Some job) where
-    its : HasAllFor log basis job new
-    its = all.its job (saw.job ∙ there)
-
-    abbrev then : Job
-    then = at_version its.version (job_left (planned basis) job)
-
-    its-fewer : creations_under fates new basis.key + made ≤ creations_under fates log basis.key
-    its-fewer =
-        let few = no-more (ends_of fates job.key) log new basis job then saw all there its.job_is (fits.counted basis.key job there) (lasts job.key) in
-        let more = its.made in
-        let now : creations_under fates new basis.key ≡ creations_for fates new then = ap (λ o. option_map_or (creations_for fates new) o 0) its.job_is in
-        let was : creations_under fates log basis.key ≡ creations_for fates log job = ap (λ o. option_map_or (creations_for fates log) o 0) there in
-        omega (arith, few, more, now, was)
+  its-fewer : (job : Job) → job_in basis.key log ≡ Some job → creations_under fates new basis.key + made ≤ creations_under fates log basis.key
+  its-fewer job there = own-fewer fates log new basis all job saw there (fits.counted basis.key job there) (lasts basis.key job there)
 
   none-then : (k : Key) → job_in k new ≡ None → creations_under fates new k ≡ 0
   none-then k none = ap (λ o. option_map_or (creations_for fates new) o 0) none
@@ -92,10 +80,7 @@ module _ (fates : Key → Option (List End)) (lasts : LastEndsSucceed fates) (lo
               (λ same. true≢false (sym (same_key-itself k) ∙ ap (λ q. same_key q k) (sym (fits.apart basis.key k seen job (sym is) there same)) ∙ apart))
 
           same : creations_for fates new job ≡ creations_for fates log job
-          same =
-              let all-same = no-other (ends_of fates job.key) log new basis job all (ap (same_key basis.key) (job_in-key k log job there) ∙ apart) (uids basis.job saw.job) in
-              let made-same = all.others.made job.uid (uids basis.job saw.job) in
-              omega (arith, all-same, made-same)
+          same = other-for fates log new basis all job (ap (same_key basis.key) (job_in-key k log job there) ∙ apart) (uids basis.job saw.job)
 
   any-most : (k : Key) → creations_under fates new k ≤ creations_under fates log k
   any-most k = by (same_key basis.key k) refl

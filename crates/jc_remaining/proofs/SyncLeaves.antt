@@ -12,7 +12,7 @@ use Rattle.jc_log.specs.Log.{job_in, pods_in}
 use Rattle.jc_plan.specs.Plans.{planned}
 use Rattle.jc_calm.specs.SettleTurns.{pods_asked}
 use Rattle.jc_bearing.specs.Whole.{DoesAll, SawLog}
-use Rattle.jc_remaining.specs.Remaining.{FitsAll, HasEach, LastEndsSucceed, all_creations, all_left}
+use Rattle.jc_remaining.specs.Remaining.{FitsAll, HasEach, LastEndsCount, all_creations, all_left}
 use Rattle.jc_remaining.proofs.SyncFacts.{sync-creations-fewer, sync-creations-most, sync-left-less}
 
 -- Fewer pods may be made; or no more, and less is left of those that are there.
@@ -21,12 +21,12 @@ pub data LeavesLess (fates : Key → Option (List End)) (keys : List Key) (log n
   Less : all_creations fates new keys ≤ all_creations fates log keys → all_left fates (pods_in new) < all_left fates (pods_in log) → LeavesLess fates keys log new
 
 module _ (keys : List Key) (log new : List Entry) (basis : Basis) (saw : SawLog log basis) (all : DoesAll log basis new) (each : HasEach keys log) where
-  pub sync-leaves : (fates : Key → Option (List End)) → LastEndsSucceed fates → FitsAll log → 0 < pods_asked (planned basis) → LeavesLess fates keys log new
+  pub sync-leaves : (fates : Key → Option (List End)) → LastEndsCount fates log → FitsAll log → 0 < pods_asked (planned basis) → LeavesLess fates keys log new
   sync-leaves fates lasts fits some = by (planned basis).creates refl
     where
       by : (creates : List (Option ℕ)) → (planned basis).creates ≡ creates → LeavesLess fates keys log new
-      by [] is = Less (sync-creations-most fates lasts log new basis saw all fits keys) (sync-left-less log basis saw fates new all is some)
-      by (index ∷ more) is = Fewer (sync-creations-fewer fates lasts log new basis saw all fits keys each (let n = ap length is in omega (arith, n)))
+      by [] is = Less (sync-creations-most fates log lasts new basis saw all fits keys) (sync-left-less log basis saw fates new all is some)
+      by (index ∷ more) is = Fewer (sync-creations-fewer fates log lasts new basis saw all fits keys each (let n = ap length is in omega (arith, n)))
 
   -- No Job is new.
   pub each-kept : HasEach keys new

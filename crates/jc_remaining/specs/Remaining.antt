@@ -6,9 +6,9 @@
 --     all_creations fates log keys       for the Jobs of all these keys
 --     all_left fates pods                how many writes of these pods are left, at most
 --     HasEach keys log                   each Job that is there has one of the keys
---     LastEndsSucceed fates              the last end of each fate is a success
+--     LastEndsCount fates log            no Job that is there ignores the last end of its fate
 --     FitsAll log                        what counts of each Job is in order, and no two Jobs have one UID
-use Rattle.std.specs.Prelude.{◌≡◌, ℕ, ◌+◌, true, false, List, [], ◌∷◌, Option, Some, IfSome, unwrap_or}
+use Rattle.std.specs.Prelude.{◌≡◌, ℕ, ◌+◌, true, List, [], ◌∷◌, Option, Some, unwrap_or}
 use Rattle.std.specs.List.{list_any}
 use Rattle.std.specs.Option.{option_map_or}
 use Rattle.jc_types.specs.Keys.{same_key, same_uid}
@@ -20,17 +20,17 @@ use Rattle.jc_types.specs.declared.objects.Pod.{Pod}
 use Rattle.jc_states.specs.Bases.{own_pods}
 use Rattle.jc_log.specs.Log.{job_in, made_for, pods_under}
 use Rattle.jc_settle.specs.Left.{pod_left}
-use Rattle.jc_making.specs.Making.{IsCounted, creations_left, fails}
-use Rattle.jc_making.specs.Nodes.{last_end}
+use Rattle.jc_making.specs.Making.{IsCounted}
+use Rattle.jc_retries.specs.Retries.{CountsAtLast, creations_allowed}
 
 -- How the pods of the key end, one after the other; none ends, where nothing says so.
 abbrev pub ends_of : (Key → Option (List End)) → Key → List End
 ends_of fates key = unwrap_or (fates key) []
 
--- How many pods may still be made for the Job, at most.
+-- How many pods may still be made for the Job, at most, also where its pods fail.
 abbrev pub creations_for : (Key → Option (List End)) → List Entry → Job → ℕ
 creations_for fates log job =
-    creations_left (ends_of fates job.key) (made_for job.uid log) job
+    creations_allowed (ends_of fates job.key) (made_for job.uid log) job
     (own_pods job (pods_under job.key log))
 
 -- The same for the Job of the key, where there is one.
@@ -52,10 +52,10 @@ abbrev pub HasEach : List Key → List Entry → Type 0
 HasEach keys log =
     (key : Key) (job : Job) → job_in key log ≡ Some job → list_any (same_key key) keys ≡ true
 
--- The last end of each fate is a success.
-abbrev pub LastEndsSucceed : (Key → Option (List End)) → Type 0
-LastEndsSucceed fates =
-    (key : Key) → IfSome (last_end (ends_of fates key)) (λ end. fails end ≡ false)
+-- The last end of the fate of each Job that is there is no failure that its policy ignores.
+abbrev pub LastEndsCount : (Key → Option (List End)) → List Entry → Type 0
+LastEndsCount fates log =
+    (key : Key) (job : Job) → job_in key log ≡ Some job → CountsAtLast (ends_of fates key) job.spec
 
 -- What counts of each Job that is there is in order, and Jobs of different keys have different UIDs.
 pub record FitsAll (log : List Entry) : Type 0 where

@@ -18,16 +18,17 @@ ghost use Rattle.jc_settle.specs.Settles.{next_of_settle};
 ghost use Rattle.jc_calm.specs.SettleTurns.{pods_asked};
 ghost use Rattle.jc_making.specs.Nodes.{fate};
 ghost use Rattle.jc_bearing.specs.Whole.{DoesAll, SawLog};
-ghost use Rattle.jc_remaining.specs.Remaining.{FitsAll, HasEach, LastEndsSucceed, all_creations, all_left};
+ghost use Rattle.jc_remaining.specs.Remaining.{FitsAll, HasEach, LastEndsCount, all_creations, all_left};
 
-/// **A whole sync leaves less to be written of pods**: where it makes pods, fewer may still be made for all Jobs. Where it
-/// makes none no more may be made, and less is left of the pods that are there if it marks one, lets one go or releases one.
+/// **A whole sync leaves less to be written of pods**: where it makes pods, fewer may still be made for all Jobs, if no Job
+/// ignores the last end of its fate. Where it makes none no more may be made, and less is left of the pods that are there if
+/// it marks one, lets one go or releases one.
 pub fn whole_syncs_leave_less()
     ensures none_more { (fates : Key → Option (List End)) (keys : List Key) (log new : List Entry) (basis : Basis)
-        → LastEndsSucceed fates → FitsAll log → SawLog log basis → DoesAll log basis new
+        → LastEndsCount fates log → FitsAll log → SawLog log basis → DoesAll log basis new
         → all_creations fates new keys ≤ all_creations fates log keys }
     ensures fewer { (fates : Key → Option (List End)) (keys : List Key) (log new : List Entry) (basis : Basis)
-        → LastEndsSucceed fates → FitsAll log → SawLog log basis → DoesAll log basis new
+        → LastEndsCount fates log → FitsAll log → SawLog log basis → DoesAll log basis new
         → HasEach keys log → 0 < length (planned basis).creates
         → all_creations fates new keys < all_creations fates log keys }
     ensures same { (fates : Key → Option (List End)) (log new : List Entry) (basis : Basis)

@@ -5,10 +5,10 @@ use Rattle.std.specs.Option.{option_map_or, option_or}
 use Rattle.jc_types.specs.declared.actions.End.{End}
 use Rattle.jc_types.specs.declared.objects.Job.{Job}
 use Rattle.jc_types.specs.declared.objects.Pod.{Pod}
-use Rattle.jc_making.specs.Grants.{AreNew}
+use Rattle.jc_making.specs.Grants.{AreNew, LooksNew, as_new}
 use Rattle.jc_making.specs.Nodes.{end_at, last_end}
 use Rattle.jc_making.proofs.Lists.{length-with, one_if}
-use Rattle.jc_retries.specs.Retries.{CountsAtLast, LooksNew, as_new, is_ignored_end, will_be_ignored}
+use Rattle.jc_retries.specs.Retries.{CountsAtLast, is_ignored_end, will_be_ignored}
 
 module _ (ends : List End) (job : Job) (last : CountsAtLast ends job.spec) where
   -- Behind the last of the ends it is not ignored.

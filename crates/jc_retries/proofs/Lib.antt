@@ -4,3 +4,4 @@ pub mod FailureFacts
 pub mod IgnoredFacts
 pub mod RetryPlans
 pub mod RetryNodes
+pub mod SuccessCounts

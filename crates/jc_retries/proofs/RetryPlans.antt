@@ -13,11 +13,11 @@ use Rattle.jc_states.specs.Conditions.{has_target}
 use Rattle.jc_states.specs.PodLists.{IsRising}
 use Rattle.jc_plan.specs.Plans.{planned}
 use Rattle.jc_plan.specs.Statuses.{decided_in, is_end_decided}
-use Rattle.jc_making.specs.Grants.{AllGranted, job_left}
+use Rattle.jc_making.specs.Grants.{AllGranted, LooksNew, job_left}
 use Rattle.jc_making.specs.Making.{IsCounted}
 use Rattle.jc_making.proofs.CreationFacts.{kept, kept-few, tracked-now}
 use Rattle.jc_making.proofs.LowerFacts.{no-more, none-left, none-made, places-fall, target-then}
-use Rattle.jc_retries.specs.Retries.{CountsAtLast, LooksNew, creations_allowed, failures_left, ignored_left, is_spent, may_be_retried, will_be_ignored}
+use Rattle.jc_retries.specs.Retries.{CountsAtLast, creations_allowed, failures_left, ignored_left, is_spent, may_be_retried, will_be_ignored}
 use Rattle.jc_retries.proofs.FailureFacts.{failures-stay, spent-decided}
 use Rattle.jc_retries.proofs.IgnoredFacts.{new-ignored}
 

@@ -6,29 +6,26 @@
 --     pods_failed job own        how many of its pods have failed, whether the status says it already or not
 --     is_spent job own           more than the backoff limit allows
 --     failures_left job own      failures that are left until then
---     started pod            the pod, once the node has started it
+--     started pod                the pod, once the node has started it
 --     ended_by end pod           the pod, once the node has let it end so
 --     is_ignored_end spec end pod    the policy then ignores its failure
---     as_new template pod        the pod as it is made
 --     will_be_ignored ends job pod   so an active pod is to end
 --     ignored_left ends made job own     ends to come that are ignored, at most
 --     may_be_retried ends made job own, creations_allowed ends made job own    how many pods may still be made
 --     CountsAtLast ends spec     the last of the ends is not ignored
---     LooksNew template pod      the pod is as it was made
-use Rattle.std.specs.Prelude.{◌≡◌, ℕ, ◌+◌, ◌-◌, min, nat_lt, Bool, false, ◌&&◌, ◌||◌, if◌then◌else◌, List, [], filter, length, drop, None, IfSome}
+use Rattle.std.specs.Prelude.{◌≡◌, ℕ, ◌+◌, ◌-◌, min, nat_lt, Bool, false, ◌&&◌, ◌||◌, if◌then◌else◌, List, [], filter, length, drop, IfSome}
 use Rattle.std.specs.Option.{option_map_or}
 use Rattle.jc_types.specs.declared.actions.End.{End}
 use Rattle.jc_types.specs.declared.objects.Job.{Job}
-use Rattle.jc_types.specs.declared.objects.Phase.TheVariants.{Pending}
 use Rattle.jc_types.specs.declared.objects.Pod.{Pod}
 use Rattle.jc_types.specs.declared.specifications.JobSpec.{JobSpec}
-use Rattle.jc_types.specs.declared.specifications.Template.{Template}
-use Rattle.jc_log.specs.Requests.{new_containers, with_report}
+use Rattle.jc_log.specs.Requests.{with_report}
 use Rattle.jc_states.specs.Conditions.{has_target}
 use Rattle.jc_states.specs.Pods.{is_pending, tracked_active_pods}
 use Rattle.jc_failpol.specs.declared.outcomes.Outcome.TheVariants.{Failed, Ignored}
 use Rattle.jc_failpol.specs.Outcomes.{is_failed, outcome_of, same_outcome}
 use Rattle.jc_account.specs.Judged.{candidates}
+use Rattle.jc_making.specs.Grants.{as_new}
 use Rattle.jc_making.specs.Making.{of_use, places}
 use Rattle.jc_making.specs.Nodes.{end_at, finishes, last_end, start_change}
 
@@ -70,15 +67,6 @@ ended_by end pod =
 abbrev pub is_ignored_end : JobSpec → End → Pod → Bool
 is_ignored_end spec end pod = same_outcome (outcome_of spec (ended_by end pod)) Ignored
 
--- The pod as it is made: pending, with the containers of the template and no condition.
-abbrev pub as_new : Template → Pod → Pod
-as_new template pod = record pod {
-  phase = Pending;
-  containers = new_containers template;
-  conditions = [];
-  marked = None;
-}
-
 -- The pod is to end so that its failure is ignored.
 abbrev pub will_be_ignored : List End → Job → Pod → Bool
 will_be_ignored ends job pod =
@@ -110,7 +98,3 @@ creations_allowed ends made job own =
 abbrev pub CountsAtLast : List End → JobSpec → Type 0
 CountsAtLast ends spec =
     IfSome (last_end ends) (λ end. (any : Pod) → is_ignored_end spec end (as_new spec.template any) ≡ false)
-
--- The pod is as it was made for a Job of the template.
-abbrev pub LooksNew : Template → Pod → Type 0
-LooksNew template pod = as_new template pod ≡ pod

@@ -16,11 +16,11 @@ ghost use Rattle.jc_states.specs.PodLists.{IsRising};
 ghost use Rattle.jc_states.specs.Pods.{is_tracked};
 ghost use Rattle.jc_plan.specs.Plans.{planned};
 ghost use Rattle.jc_making.specs.Examples.{runs_as, with_phase};
-ghost use Rattle.jc_making.specs.Grants.{AllGranted, job_left};
+ghost use Rattle.jc_making.specs.Grants.{AllGranted, LooksNew, job_left};
 ghost use Rattle.jc_making.specs.Making.{IsCounted};
 ghost use Rattle.jc_making.specs.Nodes.{NodeAct, act_on, change_by, end_at, pod_end};
 ghost use Rattle.jc_retries.specs.RetrySamples.{all_fail, once_more_job};
-ghost use Rattle.jc_retries.specs.Retries.{CountsAtLast, LooksNew, creations_allowed, pods_failed};
+ghost use Rattle.jc_retries.specs.Retries.{CountsAtLast, creations_allowed, pods_failed};
 
 /// A failure that counts goes on to count: once all requests of a plan are granted no fewer of the Job's pods have failed
 /// than before, whether the status says it already or not.
