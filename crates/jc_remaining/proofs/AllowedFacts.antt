@@ -20,9 +20,9 @@ use Rattle.jc_log.proofs.PodFacts.{pods_in-rises}
 use Rattle.jc_log.proofs.WriteFacts.{job_in-key}
 use Rattle.jc_plan.specs.Plans.{planned}
 use Rattle.jc_runs.specs.Replies.{log_given}
-use Rattle.jc_making.specs.Grants.{AllBecome, AllGranted, job_left}
-use Rattle.jc_making.specs.Making.{IsCounted}
-use Rattle.jc_making.specs.Nodes.{fate}
+use Rattle.jc_retries.specs.Grants.{AllBecome, AllGranted, job_left}
+use Rattle.jc_retries.specs.Making.{IsCounted}
+use Rattle.jc_retries.specs.Nodes.{fate}
 use Rattle.jc_retries.specs.Retries.{CountsAtLast, creations_allowed}
 use Rattle.jc_retries.proofs.RetryNodes.{gone-allowed, retries-fall}
 use Rattle.jc_retries.proofs.RetryPlans.{uses-up}

@@ -19,8 +19,8 @@ use Rattle.jc_runs.specs.Legal.{IsLegal}
 use Rattle.jc_runs.specs.Replies.{log_given}
 use Rattle.jc_settle.specs.Left.{ComesTo}
 use Rattle.jc_settle.specs.Settles.{next_of_settle}
-use Rattle.jc_making.specs.Making.{IsCounted}
-use Rattle.jc_making.specs.Nodes.{fate}
+use Rattle.jc_retries.specs.Making.{IsCounted}
+use Rattle.jc_retries.specs.Nodes.{fate}
 use Rattle.jc_bounded.proofs.NodeTurns.{node-jobs}
 use Rattle.jc_remaining.specs.Remaining.{FitsAll, all_creations, all_left, creations_for, creations_under}
 use Rattle.jc_remaining.proofs.AllowedFacts.{node-for}

@@ -32,7 +32,7 @@ use Rattle.jc_log.specs.Deeds.{Deed, act_of_system}
 use Rattle.jc_log.specs.Log.{next_version, pod_in, pods_in}
 use Rattle.jc_log.specs.Requests.{accepted, grown, refused, is_unnamed, named, pod_entry, report_phase_at, report_unless, same_course_of, with_report}
 use Rattle.jc_log.proofs.PodFacts.{pods_in-among, pods_in-rises}
-use Rattle.jc_making.specs.Nodes.{Again, Finish, NodeAct, Start, Stop, act_with, change_by, exits, fate, first_container, killed, node_step, once_more, pod_end, with_exit}
+use Rattle.jc_retries.specs.Nodes.{Again, Finish, NodeAct, Start, Stop, act_with, change_by, exits, fate, first_container, killed, node_step, once_more, pod_end, with_exit}
 use Rattle.jc_runs.specs.Replies.{gives, log_given, node_gives}
 use Rattle.jc_runs.specs.Legal.{IsLegal}
 use Rattle.jc_settle.specs.Comes.{Acts, Begins, Comes, Delivers, Lists, Steps, Ticks}
@@ -42,7 +42,7 @@ use Rattle.jc_settle.proofs.ComesFacts.{first-comes}
 use Rattle.jc_settle.proofs.OnFacts.{next-is}
 use Rattle.jc_calm.specs.SettleTurns.{is_node}
 use Rattle.jc_settle.proofs.LeftFacts.{node-lowers}
-use Rattle.jc_making.proofs.NodeSteps.{Befalls, node-step-befalls}
+use Rattle.jc_retries.proofs.NodeSteps.{Befalls, node-step-befalls}
 use Rattle.jc_bearing.proofs.ReportFacts.{Among, Only, splits}
 use Rattle.jc_bearing.proofs.TrackFacts.{put-replaced}
 use Rattle.jc_remaining.specs.Remaining.{all_left}

@@ -6,9 +6,9 @@ use Rattle.jc_types.specs.declared.objects.Key.{Key}
 use Rattle.jc_types.specs.declared.objects.Pod.{Pod}
 use Rattle.jc_states.specs.Pods.{is_active, is_marked, is_open}
 use Rattle.jc_states.specs.UidLists.{is_in}
-use Rattle.jc_making.specs.Nodes.{pod_end}
+use Rattle.jc_retries.specs.Nodes.{pod_end}
 use Rattle.jc_plan.specs.declared.plans.Planned.{Planned}
-use Rattle.jc_making.specs.Grants.{frees}
+use Rattle.jc_retries.specs.Grants.{frees}
 use Rattle.jc_settle.specs.Left.{left_to_end, left_while_open, pod_left}
 use Rattle.jc_bearing.specs.Served.{AllServed, IsGone, IsRewritten, IsServed, NonePod, Served}
 use Rattle.jc_remaining.specs.Remaining.{all_left}

@@ -23,7 +23,7 @@ use Rattle.jc_log.proofs.WriteFacts.{job_in-key}
 use Rattle.jc_plan.specs.PodNumbers.{is_let_go_of}
 use Rattle.jc_plan.specs.Plans.{last_status, planned}
 use Rattle.jc_plan.specs.declared.plans.Planned.{Planned}
-use Rattle.jc_making.specs.Grants.{AllBecome, AreNew, Nothing, Stays, concerns, frees}
+use Rattle.jc_retries.specs.Grants.{AllBecome, AreNew, Nothing, Stays, concerns, frees}
 use Rattle.jc_bearing.specs.Served.{AllServed, NonePod, Served}
 use Rattle.jc_bearing.specs.Whole.{DoesAll, HasAllFor, SawLog}
 use Rattle.jc_bearing.proofs.TrackFacts.{rewritten-itself}

@@ -35,7 +35,7 @@ use Rattle.jc_plan.proofs.OneWay.{goes-seen}
 use Rattle.jc_plan.proofs.PartFacts.{planned-here}
 use Rattle.jc_plan.proofs.PlanFacts.{plan-let_goes, plan-marks, plan-releases}
 use Rattle.jc_calm.specs.SettleTurns.{pods_asked}
-use Rattle.jc_making.specs.Grants.{frees}
+use Rattle.jc_retries.specs.Grants.{frees}
 use Rattle.jc_bearing.specs.Whole.{DoesAll, SawLog}
 use Rattle.jc_bearing.proofs.DoneFacts.{WasSeen, all-seen, own-seen}
 use Rattle.jc_remaining.specs.Remaining.{FitsAll, HasEach, LastEndsCount, all_creations, all_left, creations_for, creations_under}

@@ -3,8 +3,8 @@ pub mod Remaining
 -- ends count, which policies restart, and what a sync plans.
 pub use Rattle.jc_bearing.specs.Whole
 pub use Rattle.jc_bounded.specs.Faultless
-pub use Rattle.jc_making.specs.Making
-pub use Rattle.jc_making.specs.Nodes
+pub use Rattle.jc_retries.specs.Making
+pub use Rattle.jc_retries.specs.Nodes
 pub use Rattle.jc_plan.specs.Decisions
 pub use Rattle.jc_plan.specs.Plans
 pub use Rattle.jc_retries.specs.Retries

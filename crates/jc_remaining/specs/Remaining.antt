@@ -20,7 +20,7 @@ use Rattle.jc_types.specs.declared.objects.Pod.{Pod}
 use Rattle.jc_states.specs.Bases.{own_pods}
 use Rattle.jc_log.specs.Log.{job_in, made_for, pods_under}
 use Rattle.jc_settle.specs.Left.{pod_left}
-use Rattle.jc_making.specs.Making.{IsCounted}
+use Rattle.jc_retries.specs.Making.{IsCounted}
 use Rattle.jc_retries.specs.Retries.{CountsAtLast, creations_allowed}
 
 -- How the pods of the key end, one after the other; none ends, where nothing says so.

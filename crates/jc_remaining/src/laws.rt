@@ -16,7 +16,7 @@ ghost use Rattle.jc_states.specs.declared.bases.Basis.{Basis};
 ghost use Rattle.jc_settle.specs.Left.{ComesTo};
 ghost use Rattle.jc_settle.specs.Settles.{next_of_settle};
 ghost use Rattle.jc_calm.specs.SettleTurns.{pods_asked};
-ghost use Rattle.jc_making.specs.Nodes.{fate};
+ghost use Rattle.jc_retries.specs.Nodes.{fate};
 ghost use Rattle.jc_bearing.specs.Whole.{DoesAll, SawLog};
 ghost use Rattle.jc_remaining.specs.Remaining.{FitsAll, HasEach, LastEndsCount, all_creations, all_left};
 
