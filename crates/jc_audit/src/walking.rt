@@ -103,7 +103,7 @@ pub fn take(alloc: Global, machine: &mut Machine, rest: &[u8]) -> Result<Option<
         return Ok(None);
     }
     let Some(read) = read_event(alloc, rest)? else {
-        // (so it is no line of the clock either)
+        // It is no line of the clock either: none of more seconds than are read can come.
         clock_fits(machine);
         return Ok(None);
     };

@@ -46,8 +46,8 @@ impl Cluster {
     /// ignored, was active and was let go, or has succeeded and its index was complete or past the
     /// completions: so no ended pod that needs a count lost it uncounted, but by a command.
     ///
-    /// Where the shape has a single controller: no pod was made beyond a Job's parallelism (batch/v1), since
-    /// each pod fitted when it was made, also one whose reply was lost. And a Job
+    /// Where the shape has a single controller: a pod was made only where its Job, as the pod's sync saw
+    /// it, had fewer than may run at once (batch/v1), also one whose reply was lost. And a Job
     /// that has finished stayed finished: from the write that set Complete or Failed on, while the Job
     /// was there, its status did not change, none of its pods was open or had its finalizer, and none
     /// was made.

@@ -54,7 +54,7 @@ fn exits(alloc: Global, containers: &[Container], exit: i32) -> Result<Container
     Ok(changes)
 }
 
-// The phase of a pod whose first container has exited with the code.
+// The phase of a pod whose first container that is no init container has exited with the code.
 fn phase_after(exit: i32) -> Phase
     ensures { result ≡ (if int_eq exit (pos 0) then Succeeded else Failed) }
 {

@@ -1,11 +1,11 @@
 //! How the pods of each key are to end.
 
-ghost use Rattle.std.specs.Prelude.{◌≡◌, ◌≢◌, [], IfOk, IfSome, OnErr, OnOk, Some, if◌then◌else◌, option_copied};
+ghost use Rattle.std.specs.Prelude.{◌≡◌, ◌≢◌, [], IfOk, IfSome, OnErr, OnOk, option_copied};
 ghost use Rattle.jc_types.specs.declared.objects.Key.{Key};
 ghost use Rattle.jc_types.specs.Keys.{same_key};
 ghost use Rattle.jc_log.specs.Tables.{puts};
 ghost use Rattle.jc_history.specs.Nodes.{end_at, last_end, pod_end};
-ghost use Rattle.jc_node.specs.Fated.{ends_at_key};
+ghost use Rattle.jc_node.specs.Fated.{DecidesEnds, ends_at_key};
 
 use jc_table::Table;
 use jc_types::{Copied, End, Ends, Key, Pod, Want};
@@ -72,8 +72,7 @@ impl Fates {
     pub fn set(&mut self, key: &Key, ends: Ends) -> Result<(), Want>
         requires some_ends { ends ≢ [] }
         ensures rows { OnOk result (self.new ≡ puts same_key self.old key.now ends) }
-        ensures fates { OnOk result ((other : Key) → ends_at_key self.new other
-            ≡ (if same_key key.now other then Some ends else ends_at_key self.old other)) }
+        ensures fates { OnOk result (DecidesEnds key.now ends self.old self.new) }
         ensures kept { OnErr result (self.new ≡ self.old) }
     {
         self.rows.put(key.copy()?, ends)

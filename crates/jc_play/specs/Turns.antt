@@ -1,6 +1,6 @@
 -- What a machine does of itself.
 --     earliest_of found other     the earlier of two moments, where they are there
---     played full seen            what has happened to a machine, as a play so far
+--     playing_of full seen        what has happened to a machine, as a play so far
 --     next_to_settle script shape what comes next in a play that settles: the first that is available
 --     next_to_bring, next_to_step what brings a cache on, and what a worker does
 --     IsComing seen event         the event is one of the system that is available

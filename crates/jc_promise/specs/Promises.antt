@@ -4,14 +4,14 @@
 --     WaitsWell shape deeds log        where nothing is left to do, no Job is stuck
 --     ReleasesWell shape deeds log     where nothing is left to do, no orphan is left
 --     KeepsPromises script shape h     all together
-use Rattle.std.specs.Prelude.{◌≡◌, true, List, map, Some}
+use Rattle.std.specs.Prelude.{◌≡◌, true, List, Some}
 use Rattle.jc_types.specs.declared.actions.Script.{Script}
 use Rattle.jc_types.specs.declared.objects.Entry.{Entry}
 use Rattle.jc_types.specs.declared.objects.Job.{Job}
 use Rattle.jc_types.specs.declared.objects.Key.{Key}
 use Rattle.jc_types.specs.declared.runs.History.{History}
 use Rattle.jc_types.specs.declared.runs.Shape.{Shape}
-use Rattle.jc_log.specs.Deeds.{Deed, deed, deeds}
+use Rattle.jc_log.specs.Deeds.{Deed, deeds}
 use Rattle.jc_log.specs.Log.{job_in}
 use Rattle.jc_runs.specs.Once.{OnceAtEach}
 use Rattle.jc_history.specs.Available.{is_quiescent}
@@ -25,15 +25,13 @@ use Rattle.jc_rest.specs.Lost.{AreLostWell}
 use Rattle.jc_rest.specs.Orphans.{LeavesNone}
 use Rattle.jc_rest.specs.Stuck.{NoneIsStuck}
 use Rattle.jc_promise.specs.QuietEnds.{SyncsWell}
-use Rattle.jc_lines.specs.Events.{event_lines}
-use Rattle.jc_lines.specs.Told.{AreEvents}
+use Rattle.jc_lines.specs.Told.{AreEvents, HaveSameLines}
 
 -- The lines of its events tell the history: no other one of the script has the same.
 abbrev pub IsToldAlone : Script → Shape → History → Type 0
 IsToldAlone script shape history = (other : History) → IsHistory script shape other
     → AreEvents history.events.items → AreEvents other.events.items
-    → event_lines 1 (map (deed script) other.events.items)
-    ≡ event_lines 1 (map (deed script) history.events.items)
+    → HaveSameLines script other.events.items history.events.items
     → other.events.items ≡ history.events.items
 
 -- Where nothing is left to do, each pod that has ended, of a Job that is there, has lost its

@@ -45,8 +45,7 @@ fn done<J: Naming>(kept: &mut Kept<J>, event: Event) -> Result<SeenReply, ApplyF
 /// of the script, and has counted once. The seat has then seen it, with the event where it was
 /// done, and the cluster is back. `Out` comes exactly where the seat's count of tries that found
 /// the cluster out rose; it has risen by one then, and is else as before. With `Out` the seat has seen
-/// what it had seen; `NotNow` comes exactly where the
-/// event cannot come after the history that was found.
+/// what it had seen; `NotNow` comes exactly where the event cannot come after the history that was found.
 ///
 /// # Errors
 /// `HistoryFull` exactly where the event can come, and the history that was found has as many

@@ -51,19 +51,6 @@ pub fn plays_tell_their_history()
     settled_plays_are_at_rest();
 }
 
-/// **Each Job that can end does end**: where the play of a script ends, has events enough and its last command is a settle,
-/// each Job that is there at its end has ended, or waits for what only the outside can give. Of which scripts it is so that
-/// the play ends, `plays_end` of `jc_playing_out` says by their text.
-pub fn jobs_end_or_wait()
-    ensures { (script : Script) (shape : Shape) (history : History)
-        → IsSettledPlay script shape history
-        → NoneIsStuck shape (deeds script history) (log_given shape (deeds script history)) }
-{
-    settled_plays_are_at_rest();
-    plays_are_orderly_histories();
-    legal_histories_keep_the_promises();
-}
-
 /// So is what is printed of a text that is a script, also with a reaper's commands behind it.
 pub fn runs_tell_their_history()
     ensures { (order : Order) (input : List ℕ) (printed : Printed)
@@ -74,6 +61,20 @@ pub fn runs_tell_their_history()
     plays_tell_their_history();
     scripts_fit_their_shape();
     reaped_commands_fit();
+}
+
+/// **No Job is stuck where a play ends**: where the play of a script ends, has events enough and its last command is a
+/// settle, each Job that is there at its end has ended, or waits for what only the outside can give; so it is for each
+/// controller that has added its key since its pod cache last skipped entries of the log. Of which scripts it is so that
+/// the play ends, `plays_end` of `jc_playing_out` says by their text.
+pub fn jobs_end_or_wait()
+    ensures { (script : Script) (shape : Shape) (history : History)
+        → IsSettledPlay script shape history
+        → NoneIsStuck shape (deeds script history) (log_given shape (deeds script history)) }
+{
+    settled_plays_are_at_rest();
+    plays_are_orderly_histories();
+    legal_histories_keep_the_promises();
 }
 
 /// **What a reaper's commands find (`ttlSecondsAfterFinished` of batch/v1)**: where the words ask for a reaper,

@@ -12,7 +12,7 @@ use crate::starts::{Start, Worker};
 use jc_table::Table;
 use jc_types::{Action1, Command, Event, Past, Reply, Request, Script, Sys};
 
-/// The controller and the worker of a step.
+/// The controller and the worker of a command that steps; `None` exactly where it does something else.
 fn stepper_of_command(action: &Action1) -> Option<(u32, u32)>
     ensures { result ≡ stepper (act_of_action action.now) }
 {
@@ -22,7 +22,7 @@ fn stepper_of_command(action: &Action1) -> Option<(u32, u32)>
     }
 }
 
-/// The controller and the worker of a step.
+/// The controller and the worker of an event that is a step; `None` exactly where it is none.
 fn stepper(commands: &[Command], event: &Event) -> Option<(u32, u32)>
     requires { IsPlace commands.now event.now }
     ensures { result ≡ stepper (act_of_event commands.now event.now) }

@@ -375,7 +375,7 @@ fn script_in(alloc: Global, text: &str, shape: &Shape) -> Result<Script, Fail>
     }
 }
 
-// What two seats of a turn lock leave of the script, by the call itself that gives them this lock: no word asks for it.
+// What two seats of a turn lock leave of the script, by the call itself that gives them this lock.
 fn left_by_turn<R: Threads + Wait + Sync, G: Gate + Sync>(
     rt: &R,
     alloc: Global,
