@@ -20,5 +20,5 @@ pub use laws::{
     runs_tell_their_history, single_runs_end_as_told,
 };
 pub use orders::Output;
-pub use single::{MOST_BYTES, ended, run_order, run_single, write_output};
+pub use single::{MOST_BYTES, run_order, run_single, write_output};
 pub use status::Status;

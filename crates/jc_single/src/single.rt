@@ -47,7 +47,7 @@ fn read_input<S: Source>(alloc: Global, order: &Order, source: &mut S) -> Result
 }
 
 /// The status of a run that has written all.
-pub fn ended(full: bool) -> Status
+fn ended(full: bool) -> Status
     ensures { result ≡ (if full then Status.HistoryFull else Status.Ok) }
 {
     if full {
