@@ -8,6 +8,7 @@
 --     drafts now log               the Jobs whose status is a draft
 --     statuses_to_come now log     2 for each of the former, and 1 for each of the latter
 --     AsksForNoPod plan            no pod is made, marked, let go or released
+--     WritesOnly log basis job status   a sync asks for no pod, and writes the status first
 use Rattle.std.specs.Prelude.{◌≡◌, ℕ, ◌+◌, ◌*◌, nat_lt, Bool, false, not, List, [], length, filter, Option, Some, None}
 use Rattle.jc_types.specs.declared.objects.Entry.{Entry}
 use Rattle.jc_types.specs.declared.objects.Job.{Job}
@@ -15,12 +16,14 @@ use Rattle.jc_types.specs.declared.objects.Key.{Key}
 use Rattle.jc_types.specs.declared.objects.Pod.{Pod}
 use Rattle.jc_types.specs.declared.statuses.JobStatus.{JobStatus}
 use Rattle.jc_types.specs.Equality.{same_status}
+use Rattle.jc_states.specs.declared.bases.Basis.{Basis}
 use Rattle.jc_states.specs.Bases.{own_pods}
 use Rattle.jc_log.specs.Log.{jobs_in, pods_under}
 use Rattle.jc_finish.specs.Starts.{deadline_of}
 use Rattle.jc_manage.specs.declared.results.Wants.{Wants}
 use Rattle.jc_plan.specs.declared.plans.Planned.{Planned}
-use Rattle.jc_plan.specs.Next.{next_counted, next_decided}
+use Rattle.jc_plan.specs.Next.{ListsNoSuccess, next_counted, next_decided}
+use Rattle.jc_plan.specs.Plans.{planned}
 use Rattle.jc_plan.specs.Statuses.{filled, is_over, is_end_decided}
 
 -- No pod is made, marked or let go.
@@ -72,3 +75,12 @@ pub record AsksForNoPod (plan : Planned) : Type 0 where
   pub marks : plan.marks ≡ []
   pub let_goes : plan.let_goes ≡ []
   pub releases : plan.releases ≡ []
+
+-- A sync of the Job asks for no pod, and writes the status first. It saw the Job, which lists no success, and the pods of
+-- its key as they stand in the log.
+pub record WritesOnly (log : List Entry) (basis : Basis) (job : Job) (status : JobStatus) : Type 0 where
+  pub saw : basis.job ≡ Some job
+  pub pods : basis.pods ≡ pods_under basis.key log
+  pub tidy : ListsNoSuccess job
+  pub asks : AsksForNoPod (planned basis)
+  pub first : (planned basis).first ≡ Some status

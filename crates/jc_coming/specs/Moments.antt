@@ -4,9 +4,10 @@
 --     moments_to_come now log notes         how many moments are ahead: deadlines, and ends of backoffs
 --     is_moment_to_come now log notes k m   m is such a moment of the Job of the key
 --     keys_to_come now log notes            2 for each key in line, and 3 for each that is delayed to another moment
+--     TicksIdly now later log notes         the clock moves on, no key is in line, and no moment passes
 --     ShowsAll notes log basis              the basis has what the log and the notes say of its key
 --     empty_sync w basis ended notes        the notes after a sync that asks for nothing
-use Rattle.std.specs.Prelude.{◌≡◌, ℕ, ◌+◌, ◌*◌, ◌==◌, nat_lt, Bool, false, not, ◌&&◌, ◌||◌, List, ◌∷◌, length, filter, if◌then◌else◌, Option, Some, None}
+use Rattle.std.specs.Prelude.{◌≡◌, ℕ, ◌+◌, ◌*◌, ◌≤◌, ◌==◌, nat_lt, Bool, false, not, ◌&&◌, ◌||◌, List, [], ◌∷◌, length, filter, if◌then◌else◌, Option, Some, None}
 use Rattle.jc_types.specs.declared.objects.Entry.{Entry}
 use Rattle.jc_types.specs.declared.objects.Job.{Job}
 use Rattle.jc_types.specs.declared.objects.Key.{Key}
@@ -21,7 +22,7 @@ use Rattle.jc_plan.specs.Backoffs.{opening}
 use Rattle.jc_plan.specs.Plans.{planned}
 use Rattle.jc_history.specs.Delays.{delays}
 use Rattle.jc_history.specs.Lines.{line}
-use Rattle.jc_history.specs.Notes.{Note, Began, Ended}
+use Rattle.jc_history.specs.Notes.{Note, Began, Ended, Ticked}
 use Rattle.jc_history.specs.Registers.{backoff}
 use Rattle.jc_coming.specs.Drafts.{is_ahead}
 
@@ -68,6 +69,12 @@ astray now log notes =
 -- it goes into line.
 abbrev pub keys_to_come : ℕ → List Entry → List Note → ℕ
 keys_to_come now log notes = 2 * length (line notes) + 3 * length (astray now log notes)
+
+-- The clock moves on to the later moment, no key is in line, and no moment passes.
+pub record TicksIdly (now later : ℕ) (log : List Entry) (notes : List Note) : Type 0 where
+  pub on : now ≤ later
+  pub idle : line notes ≡ []
+  pub same : moments_to_come later log (Ticked later ∷ notes) ≡ moments_to_come now log notes
 
 -- The basis has the Job and the pods of its key as the log has them, and the key's backoff as the notes have it.
 pub record ShowsAll (notes : List Note) (log : List Entry) (basis : Basis) : Type 0 where

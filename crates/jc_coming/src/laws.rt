@@ -1,7 +1,7 @@
 //! Laws on what is still to come where no pod is written. Each function is empty: what it ensures holds of every log, all
 //! notes and every plan, and its callers may cite it.
 
-ghost use Rattle.std.specs.Prelude.{◌≡◌, ◌<◌, ◌≤◌, ◌∷◌, List, None, Some, [], true, ℕ};
+ghost use Rattle.std.specs.Prelude.{◌≡◌, ◌<◌, ◌≤◌, ◌∷◌, List, None, Some, true, ℕ};
 ghost use Rattle.jc_types.specs.declared.objects.Entry.{Entry};
 ghost use Rattle.jc_types.specs.declared.objects.Entry.TheVariants.{JobPut};
 ghost use Rattle.jc_types.specs.declared.objects.Job.{Job};
@@ -9,18 +9,24 @@ ghost use Rattle.jc_types.specs.declared.objects.Key.{Key};
 ghost use Rattle.jc_types.specs.declared.statuses.JobStatus.{JobStatus};
 ghost use Rattle.jc_states.specs.declared.bases.Basis.{Basis};
 ghost use Rattle.jc_states.specs.Bases.{own_pods};
-ghost use Rattle.jc_log.specs.Log.{job_in, pods_under};
+ghost use Rattle.jc_log.specs.Log.{job_in};
 ghost use Rattle.jc_log.specs.Range.{end_of_moments};
 ghost use Rattle.jc_log.specs.Requests.{with_status};
 ghost use Rattle.jc_control.specs.Schedules.{log_end};
-ghost use Rattle.jc_plan.specs.Next.{ListsNoSuccess};
 ghost use Rattle.jc_plan.specs.Plans.{planned};
 ghost use Rattle.jc_history.specs.Delays.{least_delay};
 ghost use Rattle.jc_history.specs.Fresh.{basis};
 ghost use Rattle.jc_history.specs.Lines.{line};
 ghost use Rattle.jc_history.specs.Notes.{Note, Ticked};
-ghost use Rattle.jc_coming.specs.Drafts.{AsksForNoPod, next_quiet, statuses_to_come};
-ghost use Rattle.jc_coming.specs.Moments.{ShowsAll, empty_sync, is_moment_to_come, keys_to_come, moments_to_come};
+ghost use Rattle.jc_coming.specs.Drafts.{AsksForNoPod, WritesOnly, next_quiet, statuses_to_come};
+ghost use Rattle.jc_coming.specs.Moments.{
+  ShowsAll,
+  TicksIdly,
+  empty_sync,
+  is_moment_to_come,
+  keys_to_come,
+  moments_to_come,
+};
 
 /// What a sync starts from, where both caches have seen the whole log, shows all that the log and the notes say of its
 /// key.
@@ -34,14 +40,11 @@ pub fn bases_of_the_whole_log_show_all()
 /// status, and no other first one.
 pub fn a_written_status_is_no_draft()
     ensures fewer { (log : List Entry) (job : Job) (basis : Basis) (status : JobStatus)
-        → basis.job ≡ Some job → job_in basis.key log ≡ Some job
-        → basis.pods ≡ pods_under basis.key log → ListsNoSuccess job
-        → AsksForNoPod (planned basis) → (planned basis).first ≡ Some status
+        → WritesOnly log basis job status → job_in basis.key log ≡ Some job
         → statuses_to_come basis.now (JobPut (with_status log job status) ∷ log)
         < statuses_to_come basis.now log }
     ensures next { (log : List Entry) (job : Job) (basis : Basis) (status : JobStatus)
-        → basis.job ≡ Some job → basis.pods ≡ pods_under basis.key log → ListsNoSuccess job
-        → AsksForNoPod (planned basis) → (planned basis).first ≡ Some status
+        → WritesOnly log basis job status
         → next_quiet basis.now (with_status log job status) (own_pods job basis.pods) ≡ status }
     ensures once { (basis : Basis) → AsksForNoPod (planned basis) → (planned basis).second ≡ None }
 {}
@@ -64,12 +67,10 @@ pub fn the_clock_brings_nothing_new()
     ensures moments { (now later : ℕ) (log : List Entry) (notes : List Note) → now ≤ later
         → moments_to_come later log (Ticked later ∷ notes) ≤ moments_to_come now log notes }
     ensures keys { (now later : ℕ) (log : List Entry) (notes : List Note)
-        → now ≤ later → line notes ≡ []
-        → moments_to_come later log (Ticked later ∷ notes) ≡ moments_to_come now log notes
+        → TicksIdly now later log notes
         → keys_to_come later log (Ticked later ∷ notes) ≤ keys_to_come now log notes }
     ensures due { (now later : ℕ) (log : List Entry) (notes : List Note) (due : ℕ)
-        → now ≤ later → line notes ≡ [] → least_delay notes ≡ Some due → due ≤ later
-        → moments_to_come later log (Ticked later ∷ notes) ≡ moments_to_come now log notes
+        → TicksIdly now later log notes → least_delay notes ≡ Some due → due ≤ later
         → keys_to_come later log (Ticked later ∷ notes) < keys_to_come now log notes }
 {}
 

@@ -1,5 +1,6 @@
 -- What it means that a request of a sync is granted.
 --     grants asked given          the answer grants the request
+--     GrantsOne d                 the deed grants a request
 --     IsGranted shape past d      the deed's request is granted and its entry appended, or none was left
 use Rattle.std.specs.Prelude.{◌≡◌, ◌+◌, Bool, true, false, List, ◌∷◌, length}
 use Rattle.jc_types.specs.declared.replies.Answer.{Answer}
@@ -20,6 +21,13 @@ grants (request.LetGo pod) (answer.Released version) = true
 grants request.Status (answer.Written version) = true
 grants (request.Release pod) (answer.Released version) = true
 grants asked given = false
+
+-- The deed grants a request.
+pub record GrantsOne (d : Deed) : Type 0 where
+  pub asked : Request
+  pub given : Answer
+  pub reply_is : d.reply ≡ reply.Stepped asked given
+  pub granted : grants asked given ≡ true
 
 -- The deed's request is granted, and the log is longer by its entry; or no request was left, and the sync ends.
 pub data IsGranted (shape : Shape) (past : List Deed) (d : Deed) : Type 0 where

@@ -1,4 +1,6 @@
 -- What a sync that began in a settle has done once it ends.
+--     SyncsInSettle shape run past c w basis    a sync that began in a settle is under way
+--     EndsInSettle shape run past c w basis d   the deed ends it
 --     IsMarked pod, IsStopped pod     the pod is marked; it is, and has no finalizer
 --     HasStatus log basis job status  the Job that the sync saw is there, with the status
 --     HasItsPlan log basis            what the plan of the basis asks for is so
@@ -8,22 +10,50 @@
 --     status_after plan left status   the status once these are made, from this one on
 --     ComesToSecond log basis ..      the Job is there, and has the second status once these are made
 --     IsDoing log basis left          each request of the plan is done or left
-use Rattle.std.specs.Prelude.{◌≡◌, ◌⊎◌, ℕ, ◌+◌, true, false, List, [], ◌∷◌, length, Some, IfSome, unwrap_or}
+use Rattle.std.specs.Prelude.{◌≡◌, ◌⊎◌, ℕ, ◌+◌, ◌<◌, true, false, List, [], ◌∷◌, ◌++◌, length, Some, IfSome, unwrap_or}
 use Rattle.std.specs.List.{AllByRecursion as Each}
 use Rattle.jc_types.specs.declared.numbers.Uid.{Uid}
 use Rattle.jc_types.specs.declared.objects.Entry.{Entry}
 use Rattle.jc_types.specs.declared.objects.Job.{Job}
 use Rattle.jc_types.specs.declared.objects.Pod.{Pod}
+use Rattle.jc_types.specs.declared.replies.Reply.TheVariants.{Ended}
+use Rattle.jc_types.specs.declared.runs.Shape.{Shape}
 use Rattle.jc_types.specs.declared.statuses.JobStatus.{JobStatus}
 use Rattle.jc_states.specs.Pods.{is_marked}
 use Rattle.jc_states.specs.declared.bases.Basis.{Basis}
+use Rattle.jc_log.specs.Acts as does
+use Rattle.jc_log.specs.Deeds.{Deed}
 use Rattle.jc_log.specs.Log.{is_lost, job_in, life, made_for, upto}
 use Rattle.jc_plan.specs.Plans.{planned}
 use Rattle.jc_plan.specs.Statuses.{second_value}
 use Rattle.jc_plan.specs.declared.plans.Planned.{Planned}
+use Rattle.jc_history.specs.Legal.{IsLegal, IsLegalNext}
+use Rattle.jc_history.specs.Registers.{register}
+use Rattle.jc_history.specs.Replies.{diary}
+use Rattle.jc_runs.specs.Machines.{AllAskValid}
+use Rattle.jc_settle.specs.Serial.{IsSettling, RunsAlone}
 use Rattle.jc_sync.specs.Ask.{Ask}
 use Rattle.jc_sync.specs.Ask.TheVariants.{MakePod, MarkPod, LetPodGo, WriteFirst, ReleasePod, WriteSecond}
 use Rattle.jc_granted.specs.Ready.{IsOther, IsThere}
+
+-- A sync that began in a settle is under way, behind a legal history whose Jobs were created with valid specifications.
+pub record SyncsInSettle (shape : Shape) (run past : List Deed) (c w : ℕ) (basis : Basis) : Type 0 where
+  pub legal : IsLegal shape (run ++ past)
+  pub valid : AllAskValid (run ++ past)
+  pub some : 0 < shape.workers
+  pub settling : IsSettling shape run past
+  pub controller : c < shape.controllers
+  pub worker : w < shape.workers
+  pub begun : register w (diary shape c (run ++ past)) ≡ Some basis
+  pub alone : RunsAlone shape run past c w basis
+
+-- The deed ends it.
+pub record EndsInSettle (shape : Shape) (run past : List Deed) (c w : ℕ) (basis : Basis) (d : Deed)
+    : Type 0 where
+  pub sync : SyncsInSettle shape run past c w basis
+  pub next : IsLegalNext shape (run ++ past) d
+  pub act : d.act ≡ does.Step c w
+  pub reply_is : d.reply ≡ Ended
 
 -- The pod is marked.
 abbrev pub IsMarked : Pod → Type 0

@@ -1,12 +1,10 @@
 //! Laws on the requests of a sync that began in a settle. Each function is empty: what it ensures holds of every history,
 //! and its callers may cite it.
 
-ghost use Rattle.std.specs.Prelude.{◌≡◌, ◌<◌, ◌∷◌, ◌++◌, List, None, Some, length, true, ℕ};
+ghost use Rattle.std.specs.Prelude.{◌≡◌, ◌∷◌, ◌++◌, List, None, Some, length, ℕ};
 ghost use Rattle.jc_types.specs.declared.objects.Entry.{Entry};
 ghost use Rattle.jc_types.specs.declared.objects.Job.{Job};
-ghost use Rattle.jc_types.specs.declared.replies.Answer.{Answer};
 ghost use Rattle.jc_types.specs.declared.replies.Reply.TheVariants as reply;
-ghost use Rattle.jc_types.specs.declared.replies.Request.{Request};
 ghost use Rattle.jc_types.specs.declared.runs.Shape.{Shape};
 ghost use Rattle.jc_states.specs.declared.bases.Basis.{Basis};
 ghost use Rattle.jc_log.specs.Acts as does;
@@ -25,10 +23,8 @@ ghost use Rattle.jc_sync.specs.SyncPlaces.{IsAt};
 ghost use Rattle.jc_sync.specs.Quiet.{EndedAreLost, HasNext};
 ghost use Rattle.jc_sync.specs.Sends.{sent_first};
 ghost use Rattle.jc_sync.specs.Steps.{answered_to, stepped_at};
-ghost use Rattle.jc_runs.specs.Machines.{AllAskValid};
-ghost use Rattle.jc_settle.specs.Serial.{IsSettling, RunsAlone};
-ghost use Rattle.jc_granted.specs.SyncsDone.{HasItsPlan};
-ghost use Rattle.jc_granted.specs.Granted.{IsGranted, grants};
+ghost use Rattle.jc_granted.specs.SyncsDone.{EndsInSettle, HasItsPlan, SyncsInSettle};
+ghost use Rattle.jc_granted.specs.Granted.{GrantsOne, IsGranted};
 ghost use Rattle.jc_granted.specs.Ready.{AreReady, Grants, StayReady};
 
 use jc_runs::allowed_updates_stay_valid;
@@ -58,9 +54,9 @@ pub fn plans_on_the_whole_log_are_ready()
 /// A sync goes on with each request that is granted, in every legal history; it ends where none is left.
 pub fn granted_syncs_go_on()
     ensures on { (shape : Shape) (past : List Deed) (d : Deed) (c w : ℕ) (basis : Basis)
-        (asked : Request) (given : Answer) → IsLegal shape past → d.act ≡ does.Step c w
-        → register w (diary shape c past) ≡ Some basis → d.reply ≡ reply.Stepped asked given
-        → grants asked given ≡ true → register w (diary shape c (d ∷ past)) ≡ Some basis }
+        → IsLegal shape past → d.act ≡ does.Step c w
+        → register w (diary shape c past) ≡ Some basis → GrantsOne d
+        → register w (diary shape c (d ∷ past)) ≡ Some basis }
     ensures ends { (shape : Shape) (past : List Deed) (d : Deed) (c w : ℕ) (basis : Basis)
         → IsLegal shape past → d.act ≡ does.Step c w
         → register w (diary shape c past) ≡ Some basis → d.reply ≡ reply.Ended
@@ -73,10 +69,7 @@ pub fn granted_syncs_go_on()
 /// that is gone, and none that it would leave as it is.
 pub fn requests_in_a_settle_are_granted()
     ensures { (shape : Shape) (run past : List Deed) (c w : ℕ) (basis : Basis) (d : Deed)
-        → IsLegal shape (run ++ past) → AllAskValid (run ++ past) → 0 < shape.workers
-        → IsSettling shape run past → c < shape.controllers → w < shape.workers
-        → register w (diary shape c (run ++ past)) ≡ Some basis
-        → RunsAlone shape run past c w basis
+        → SyncsInSettle shape run past c w basis
         → pending w (diary shape c (run ++ past)) ≡ None
         → IsLegalNext shape (run ++ past) d → d.act ≡ does.Step c w
         → IsGranted shape (run ++ past) d }
@@ -91,25 +84,13 @@ pub fn requests_in_a_settle_are_granted()
 /// its finalizer.
 pub fn syncs_in_a_settle_do_what_they_plan()
     ensures plan { (shape : Shape) (run past : List Deed) (c w : ℕ) (basis : Basis) (d : Deed)
-        → IsLegal shape (run ++ past) → AllAskValid (run ++ past) → 0 < shape.workers
-        → IsSettling shape run past → c < shape.controllers → w < shape.workers
-        → register w (diary shape c (run ++ past)) ≡ Some basis
-        → RunsAlone shape run past c w basis
-        → IsLegalNext shape (run ++ past) d → d.act ≡ does.Step c w → d.reply ≡ reply.Ended
+        → EndsInSettle shape run past c w basis d
         → HasItsPlan (log_given shape (run ++ past)) basis }
     ensures next { (shape : Shape) (run past : List Deed) (c w : ℕ) (basis : Basis) (d : Deed)
-        (job : Job) → IsLegal shape (run ++ past) → AllAskValid (run ++ past) → 0 < shape.workers
-        → IsSettling shape run past → c < shape.controllers → w < shape.workers
-        → register w (diary shape c (run ++ past)) ≡ Some basis
-        → RunsAlone shape run past c w basis → basis.job ≡ Some job
-        → IsLegalNext shape (run ++ past) d → d.act ≡ does.Step c w → d.reply ≡ reply.Ended
+        (job : Job) → EndsInSettle shape run past c w basis d → basis.job ≡ Some job
         → HasNext (log_given shape (run ++ past)) basis job }
     ensures ended { (shape : Shape) (run past : List Deed) (c w : ℕ) (basis : Basis) (d : Deed)
-        (job : Job) → IsLegal shape (run ++ past) → AllAskValid (run ++ past) → 0 < shape.workers
-        → IsSettling shape run past → c < shape.controllers → w < shape.workers
-        → register w (diary shape c (run ++ past)) ≡ Some basis
-        → RunsAlone shape run past c w basis → basis.job ≡ Some job
-        → IsLegalNext shape (run ++ past) d → d.act ≡ does.Step c w → d.reply ≡ reply.Ended
+        (job : Job) → EndsInSettle shape run past c w basis d → basis.job ≡ Some job
         → EndedAreLost (log_given shape (run ++ past)) basis job }
 {
     allowed_updates_stay_valid();

@@ -9,19 +9,24 @@
 --     LooksNew template pod      the pod is as it was made
 --     AllGranted plan made own now    the own pods are these then
 --     job_left plan job          the Job with the status that is left
-use Rattle.std.specs.Prelude.{◌≡◌, ℕ, suc, Bool, true, false, ◌||◌, List, [], ◌∷◌, ◌++◌, Option, None}
+--     SyncGranted basis job made now    all requests of a sync of the Job are granted
+--     UsesUp counts ends made job basis now    by this count at least as many fewer pods may be made as the plan makes
+use Rattle.std.specs.Prelude.{◌≡◌, ℕ, suc, ◌+◌, ◌≤◌, Bool, true, false, ◌||◌, List, [], ◌∷◌, ◌++◌, length, Option, Some, None}
+use Rattle.jc_types.specs.declared.actions.End.{End}
 use Rattle.jc_types.specs.declared.numbers.Uid.{Uid}
 use Rattle.jc_types.specs.declared.objects.Job.{Job}
 use Rattle.jc_types.specs.declared.objects.Phase.TheVariants.{Pending}
 use Rattle.jc_types.specs.declared.objects.Pod.{Pod}
 use Rattle.jc_types.specs.declared.specifications.Template.{Template}
 use Rattle.jc_log.specs.Requests.{new_containers}
+use Rattle.jc_states.specs.declared.bases.Basis.{Basis}
+use Rattle.jc_states.specs.Bases.{own_pods}
 use Rattle.jc_states.specs.PodLists.{IsRising}
 use Rattle.jc_states.specs.Pods.{is_marked, is_tracked_active}
 use Rattle.jc_states.specs.UidLists.{is_in}
 use Rattle.jc_plan.specs.declared.plans.Planned.{Planned}
 use Rattle.jc_plan.specs.PodNumbers.{is_let_go_of}
-use Rattle.jc_plan.specs.Plans.{last_status}
+use Rattle.jc_plan.specs.Plans.{last_status, planned}
 
 -- The plan takes the finalizer of the pod of the UID: it releases it, or lets it go.
 abbrev pub frees : Planned → Uid → Bool
@@ -84,3 +89,18 @@ pub record AllGranted (plan : Planned) (made : ℕ) (own now : List Pod) : Type 
 -- The Job with the status that is left.
 abbrev pub job_left : Planned → Job → Job
 job_left plan job = record job { status = last_status plan job.status }
+
+-- All requests of a sync of the Job are granted, where so many pods were made before: it saw the Job, and pods in the
+-- order of their UIDs, and the Job's own pods are these then.
+pub record SyncGranted (basis : Basis) (job : Job) (made : ℕ) (now : List Pod) : Type 0 where
+  pub job_is : basis.job ≡ Some job
+  pub rising : IsRising basis.pods
+  pub all : AllGranted (planned basis) made (own_pods job basis.pods) now
+
+-- By a count of the pods that may be made, at least as many fewer may be after the sync as its plan makes. What counts is
+-- how pods end, how many were made, the Job, and its own pods.
+abbrev pub UsesUp : (List End → ℕ → Job → List Pod → ℕ) → List End → ℕ → Job → Basis → List Pod → Type 0
+UsesUp counts ends made job basis now =
+    counts ends (made + length (planned basis).creates) (job_left (planned basis) job) now
+    + length (planned basis).creates
+    ≤ counts ends made job (own_pods job basis.pods)

@@ -9,21 +9,29 @@
 --     places job own            the successes that the Job lacks
 --     of_use job own            the active tracked pods, without those that are spare
 --     fails end, will_fail ends pod    the end is no success; it is that of the pod
+--     LastIsSuccess ends        the last of the ends is a success
 --     misses ends made own      ends to come that are no success
 --     creations_left ends made job own    how many pods may still be made
+--     NodeMakes ends pod after  what the node makes of a pod
 --     IsCounted job own         what is known of every Job, and of its pods
-use Rattle.std.specs.Prelude.{◌≡◌, ℕ, pos, ◌+◌, ◌-◌, ◌==◌, min, nat_le, Bool, true, false, not, ◌||◌, if◌then◌else◌, List, [], map, filter, length, drop, Option, Some, None, IsSome, unwrap_or}
+--     IsCountedIn log key job   so it is of its pods in the log
+use Rattle.std.specs.Prelude.{◌≡◌, ℕ, pos, ◌+◌, ◌-◌, ◌==◌, min, nat_le, Bool, true, false, not, ◌||◌, if◌then◌else◌, List, [], map, filter, length, drop, Option, Some, None, IsSome, IfSome, unwrap_or}
 use Rattle.std.specs.List.{AllByRecursion as Each, range_with_len}
 use Rattle.std.specs.Option.{option_map_or}
 use Rattle.std.specs.Ordering.{int_eq}
 use Rattle.jc_ranges.specs.Sets.{IsIncreasing, has}
 use Rattle.jc_types.specs.declared.actions.End.{End}
+use Rattle.jc_types.specs.declared.objects.Entry.{Entry}
 use Rattle.jc_types.specs.declared.objects.Job.{Job}
+use Rattle.jc_types.specs.declared.objects.Key.{Key}
 use Rattle.jc_types.specs.declared.objects.Pod.{Pod}
 use Rattle.jc_types.specs.declared.specifications.Mode.{Mode}
 use Rattle.jc_types.specs.declared.specifications.Mode.TheVariants.{NonIndexed, Indexed}
 use Rattle.jc_types.specs.declared.statuses.IndexCount.{IndexCount}
 use Rattle.jc_types.specs.ValidSpecs.{IsValidSpec}
+use Rattle.jc_log.specs.Log.{pods_under}
+use Rattle.jc_log.specs.Requests.{with_report}
+use Rattle.jc_states.specs.Bases.{own_pods}
 use Rattle.jc_states.specs.Conditions.{has_end, has_target}
 use Rattle.jc_states.specs.Listed.{is_listed}
 use Rattle.jc_states.specs.PodLists.{IsRising}
@@ -34,7 +42,7 @@ use Rattle.jc_account.specs.Judged.{candidates}
 use Rattle.jc_account.specs.Modes.{completed_after}
 use Rattle.jc_perindex.specs.Failures.{has_failed}
 use Rattle.jc_manage.specs.LetGoes.{remaining}
-use Rattle.jc_history.specs.Nodes.{end_at}
+use Rattle.jc_history.specs.Nodes.{NodeAct, act_on, change_by, end_at, last_end, pod_end}
 
 -- ---- what counts of a Job now, whether its status says it already or not
 
@@ -102,6 +110,10 @@ of_use job own = remaining job.spec.mode (is_closed job own) (tracked_active_pod
 abbrev pub fails : End → Bool
 fails end = not (int_eq end.exit (pos 0))
 
+-- The last of the ends, where there is one, is a success.
+abbrev pub LastIsSuccess : List End → Type 0
+LastIsSuccess ends = IfSome (last_end ends) (λ end. fails end ≡ false)
+
 -- So the pod is to end.
 abbrev pub will_fail : List End → Pod → Bool
 will_fail ends pod = option_map_or fails (end_at pod.serial ends) false
@@ -124,6 +136,16 @@ creations_left ends made job own =
 
 -- ---- what is known
 
+-- What the node makes of a pod: by the fates, which give the pod the one of the ends at its serial, something befalls it,
+-- and is reported of it.
+pub record NodeMakes (ends : List End) (pod after : Pod) : Type 0 where
+  pub fates : Key → Option (List End)
+  pub fated : pod_end fates pod ≡ end_at pod.serial ends
+  pub act : NodeAct
+  pub befalls : act_on fates pod ≡ Some act
+  pub log : List Entry
+  pub after_is : after ≡ with_report log pod (change_by pod act)
+
 -- What is known of every Job, and of its own pods: its specification is valid; what has ended has a target; indexes
 -- ascend, pods do by UID; of an Indexed Job no success is listed, and each pod has an index; and no pod that is listed is
 -- still active.
@@ -136,3 +158,7 @@ pub record IsCounted (job : Job) (own : List Pod) : Type 0 where
   pub none : job.spec.mode ≡ Indexed → job.status.uncounted_succeeded ≡ []
   pub numbered : job.spec.mode ≡ Indexed → Each (λ pod. IsSome pod.index) own
   pub listed : Each (λ pod. is_listed job.status pod.uid ≡ true → is_active pod ≡ false) own
+
+-- So it is of the Job, and of its own pods among those of the key in the log.
+abbrev pub IsCountedIn : List Entry → Key → Job → Type 0
+IsCountedIn log key job = IsCounted job (own_pods job (pods_under key log))

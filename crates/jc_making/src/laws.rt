@@ -1,26 +1,27 @@
 //! Laws on how many pods a Job may still make. Each function is empty: what it ensures holds of every Job and its own
 //! pods, and its callers may cite it.
 
-ghost use Rattle.std.specs.Prelude.{◌≡◌, ◌++◌, ◌+◌, ◌≤◌, ◌∷◌, IfSome, List, None, Option, Some, [], false, length, ℕ};
+ghost use Rattle.std.specs.Prelude.{◌≡◌, ◌++◌, ◌≤◌, ◌∷◌, List, None, Some, [], false, ℕ};
 ghost use Rattle.jc_types.specs.declared.actions.End.{End};
-ghost use Rattle.jc_types.specs.declared.objects.Entry.{Entry};
 ghost use Rattle.jc_types.specs.declared.objects.Job.{Job};
-ghost use Rattle.jc_types.specs.declared.objects.Key.{Key};
 ghost use Rattle.jc_types.specs.declared.objects.Phase.TheVariants.{Failed, Succeeded};
 ghost use Rattle.jc_types.specs.declared.objects.Pod.{Pod};
 ghost use Rattle.jc_types.specs.declared.specifications.Mode.TheVariants.{Indexed, NonIndexed};
-ghost use Rattle.jc_log.specs.Requests.{with_report};
 ghost use Rattle.jc_states.specs.declared.bases.Basis.{Basis};
 ghost use Rattle.jc_states.specs.Bases.{own_pods};
 ghost use Rattle.jc_states.specs.Conditions.{has_end};
-ghost use Rattle.jc_states.specs.PodLists.{IsRising};
 ghost use Rattle.jc_states.specs.Pods.{is_tracked};
-ghost use Rattle.jc_plan.specs.Next.{ListsNoSuccess};
 ghost use Rattle.jc_plan.specs.Plans.{planned};
-ghost use Rattle.jc_history.specs.Nodes.{NodeAct, act_on, change_by, end_at, last_end, pod_end};
-ghost use Rattle.jc_making.specs.Grants.{AllGranted, job_left};
+ghost use Rattle.jc_making.specs.Grants.{SyncGranted, UsesUp, job_left};
 ghost use Rattle.jc_making.specs.Examples.{with_phase, one_fails, runs_as, small_indexed, small_job};
-ghost use Rattle.jc_making.specs.Making.{IsCounted, completed_now, creations_left, fails, pods_succeeded};
+ghost use Rattle.jc_making.specs.Making.{
+  IsCounted,
+  LastIsSuccess,
+  NodeMakes,
+  completed_now,
+  creations_left,
+  pods_succeeded,
+};
 
 /// How many pods may still be made for small Jobs of three completions, of which two may run at once, where the first pod
 /// fails. Four, before any is made. Where two run it is two more, and so it is once the first has failed; one, once there is
@@ -44,16 +45,14 @@ pub fn small_jobs_are_worked_out()
 
 /// What counts of a Job is the same before a sync and after it, once all its requests are granted, whatever these are:
 /// what moves from pods to lists and from lists to totals counts before and after. Of a Job that is not Indexed these
-/// are its successes, and of an Indexed one that has not ended and lists no success the completed indexes.
+/// are its successes, and of an Indexed one that has not ended the completed indexes.
 pub fn plans_keep_what_counts()
     ensures successes { (job : Job) (basis : Basis) (made : ℕ) (now : List Pod)
-        → basis.job ≡ Some job → IsRising basis.pods → job.spec.mode ≡ NonIndexed
-        → AllGranted (planned basis) made (own_pods job basis.pods) now
+        → SyncGranted basis job made now → job.spec.mode ≡ NonIndexed
         → pods_succeeded (job_left (planned basis) job) now ≡ pods_succeeded job (own_pods job basis.pods) }
     ensures indexes { (job : Job) (basis : Basis) (made : ℕ) (now : List Pod)
-        → basis.job ≡ Some job → IsRising basis.pods → ListsNoSuccess job
+        → SyncGranted basis job made now
         → job.spec.mode ≡ Indexed → has_end job.status.conditions ≡ false
-        → AllGranted (planned basis) made (own_pods job basis.pods) now
         → completed_now (job_left (planned basis) job) now
         ≡ completed_now job (own_pods job basis.pods) }
 {}
@@ -64,23 +63,17 @@ pub fn plans_keep_what_counts()
 /// `settles_make_no_pod_beyond` of `jc_bounded`.
 pub fn plans_use_up_what_may_be_made()
     ensures { (ends : List End) (made : ℕ) (job : Job) (basis : Basis) (now : List Pod)
-        → basis.job ≡ Some job → IsRising basis.pods → IsCounted job (own_pods job basis.pods)
-        → IfSome (last_end ends) (λ end. fails end ≡ false)
-        → AllGranted (planned basis) made (own_pods job basis.pods) now
-        → creations_left ends (made + length (planned basis).creates) (job_left (planned basis) job) now
-        + length (planned basis).creates
-        ≤ creations_left ends made job (own_pods job basis.pods) }
+        → SyncGranted basis job made now → IsCounted job (own_pods job basis.pods) → LastIsSuccess ends
+        → UsesUp creations_left ends made job basis now }
 {}
 
 /// Whatever the node does to one of the Job's pods, that starts, restarts, succeeds, fails, or is stopped as it was marked,
 /// no more pods may be made afterwards than before: one that succeeds takes a place along, and one that fails was one of the
 /// failures that were to come. A pod without its finalizer counts for nothing, so it makes no difference where it goes.
 pub fn the_node_needs_no_more_pods()
-    ensures acts { (fates : Key → Option (List End)) (ends : List End) (made : ℕ) (job : Job)
-        (front back : List Pod) (log : List Entry) (pod : Pod) (act : NodeAct)
-        → IsCounted job (front ++ pod ∷ back)
-        → pod_end fates pod ≡ end_at pod.serial ends → act_on fates pod ≡ Some act
-        → creations_left ends made job (front ++ with_report log pod (change_by pod act) ∷ back)
+    ensures acts { (ends : List End) (made : ℕ) (job : Job) (front back : List Pod) (pod after : Pod)
+        → IsCounted job (front ++ pod ∷ back) → NodeMakes ends pod after
+        → creations_left ends made job (front ++ after ∷ back)
         ≤ creations_left ends made job (front ++ pod ∷ back) }
     ensures gone { (ends : List End) (made : ℕ) (job : Job) (front back : List Pod) (pod : Pod)
         → is_tracked pod ≡ false → creations_left ends made job (front ++ pod ∷ back)

@@ -7,7 +7,8 @@
 --     EndsSucceedFor key action     each end of a fate of the key is a success
 --     RestartsWell commands action  where a Job of OnFailure is created, each end of each fate of its key is one
 --     FatesEndWell script           the last end of each fate counts, and what is created restarts well
-use Rattle.std.specs.Prelude.{◌≡◌, true, false, List, IfSome}
+--     PlaysInFull script shape it history    the history is the play's, with events enough
+use Rattle.std.specs.Prelude.{◌≡◌, ℕ, ◌≤◌, true, false, List, IfSome}
 use Rattle.std.specs.List.{AllByRecursion as Each}
 use Rattle.jc_types.specs.Keys.{same_key}
 use Rattle.jc_types.specs.declared.actions.Action1.{Action1}
@@ -15,8 +16,12 @@ use Rattle.jc_types.specs.declared.actions.Action1.TheVariants as act
 use Rattle.jc_types.specs.declared.actions.Command.{Command}
 use Rattle.jc_types.specs.declared.actions.Script.{Script}
 use Rattle.jc_types.specs.declared.objects.Key.{Key}
+use Rattle.jc_types.specs.declared.runs.History.{History}
+use Rattle.jc_types.specs.declared.runs.Shape.{Shape}
 use Rattle.jc_types.specs.declared.specifications.JobSpec.{JobSpec}
 use Rattle.jc_history.specs.Nodes.{last_end}
+use Rattle.jc_history.specs.Play.{play_of}
+use Rattle.jc_order.specs.Plays.{PlayEnds, allowing}
 use Rattle.jc_finite.specs.Decisions.{restarts_on_failure}
 use Rattle.jc_finite.specs.Making.{fails}
 use Rattle.jc_finite.specs.Finite.{SucceedAll}
@@ -63,3 +68,10 @@ RestartsWell commands other = Unit {0}
 pub record FatesEndWell (script : Script) : Type 0 where
   pub lasts : Each (λ (command : Command). CountsInTheEnd script.commands command.action) script.commands
   pub restarts : Each (λ (command : Command). RestartsWell script.commands command.action) script.commands
+
+-- The history is that of the play of the script, with a shape that allows events enough.
+pub record PlaysInFull (script : Script) (shape : Shape) (it : PlayEnds script shape) (history : History)
+    : Type 0 where
+  pub allowed : ℕ
+  pub enough : it.events ≤ allowed
+  pub plays : history.events.items ≡ play_of script (allowing allowed shape)

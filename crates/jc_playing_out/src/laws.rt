@@ -1,7 +1,7 @@
 //! The law on the end of each play of a script. The function does nothing: what it ensures holds of
 //! every play, and its callers may cite it.
 
-ghost use Rattle.std.specs.Prelude.{◌≡◌, ◌<◌, ◌≤◌, List, true, ℕ};
+ghost use Rattle.std.specs.Prelude.{◌≡◌, ◌<◌, List, true, ℕ};
 ghost use Rattle.std.specs.List.{AllByRecursion as Each};
 ghost use Rattle.jc_types.specs.declared.actions.Command.{Command};
 ghost use Rattle.jc_types.specs.declared.actions.Script.{Script};
@@ -11,10 +11,9 @@ ghost use Rattle.jc_log.specs.Deeds.{deeds};
 ghost use Rattle.jc_log.specs.Range.{IsMoment};
 ghost use Rattle.jc_states.specs.ValidActions.{AreValidCommands};
 ghost use Rattle.jc_history.specs.Available.{is_quiescent};
-ghost use Rattle.jc_history.specs.Play.{play_of};
 ghost use Rattle.jc_history.specs.Replies.{log_given};
-ghost use Rattle.jc_order.specs.Plays.{IsScriptFor, PlayEnds, allowing, ends_in_settle};
-ghost use Rattle.jc_playing_out.specs.PlayingOut.{CountsInTheEnd, FatesEndWell, FatesSucceed, LastEndSucceeds};
+ghost use Rattle.jc_order.specs.Plays.{IsScriptFor, PlayEnds, ends_in_settle};
+ghost use Rattle.jc_playing_out.specs.PlayingOut.{CountsInTheEnd, FatesEndWell, FatesSucceed, LastEndSucceeds, PlaysInFull};
 
 use jc_finite::settles_end;
 use jc_order::settled_plays_are_at_rest;
@@ -41,8 +40,7 @@ pub fn plays_end()
         → Each (λ (command : Command). CountsInTheEnd commands command.action) commands }
     ensures rests { (script : Script) (shape : Shape) → IsScriptFor script shape
         → ends_in_settle script.commands ≡ true
-        → (it : PlayEnds script shape) (n : ℕ) → it.events ≤ n
-        → (history : History) → history.events.items ≡ play_of script (allowing n shape)
+        → (it : PlayEnds script shape) (history : History) → PlaysInFull script shape it history
         → is_quiescent shape (deeds script history)
         (log_given shape (deeds script history)) ≡ true }
 {

@@ -3,6 +3,7 @@
 --     IsSettling shape run past            each deed of the run, the newest first, did what was first available
 --     SettlesTo shape past now             the deeds that came between these are those of a settle
 --     NoneBegan run                        no sync began in the run
+--     HasSync shape deeds c w              the worker has a sync under way
 --     IsAlone shape deeds c w              no other worker has a sync under way
 --     WritesAlone shape c w run past       each deed of the run is a step of the worker, or writes nothing
 --     RunsAlone shape run past c w basis   the worker's sync began in the run, alone and on the whole log, and is alone
@@ -50,11 +51,15 @@ is_begin_of_any other = false
 abbrev pub NoneBegan : List Deed → Type 0
 NoneBegan run = Each (λ (d : Deed). is_begin_of_any d.act ≡ false) run
 
+-- The worker has a sync under way.
+abbrev pub HasSync : Shape → List Deed → ℕ → ℕ → Type 0
+HasSync shape deeds c w = is_some (register w (diary shape c deeds)) ≡ true
+
 -- No worker but this one has a sync under way.
 abbrev pub IsAlone : Shape → List Deed → ℕ → ℕ → Type 0
 IsAlone shape deeds c w =
     (e v : ℕ) → e < shape.controllers → v < shape.workers
-    → is_some (register v (diary shape e deeds)) ≡ true → (c ≡ e) × (w ≡ v)
+    → HasSync shape deeds e v → (c ≡ e) × (w ≡ v)
 
 -- Each deed of the run is a step of the worker, or writes nothing.
 abbrev pub WritesAlone : Shape → ℕ → ℕ → List Deed → List Deed → Type 0

@@ -1,7 +1,7 @@
 //! Laws on what happens in a settle. Each function is empty: what it ensures holds of every history, and its callers may
 //! cite it.
 
-ghost use Rattle.std.specs.Prelude.{◌≡◌, ◌+◌, ◌++◌, ◌∷◌, ◌<◌, List, None, Option, Some, false, is_some, true, ℕ};
+ghost use Rattle.std.specs.Prelude.{◌≡◌, ◌+◌, ◌++◌, ◌∷◌, ◌<◌, List, None, Option, Some, false, true, ℕ};
 ghost use Rattle.jc_types.specs.declared.runs.Event.TheVariants.{System};
 ghost use Rattle.jc_types.specs.declared.runs.Shape.{Shape};
 ghost use Rattle.jc_types.specs.declared.runs.Sys.{Sys};
@@ -22,7 +22,7 @@ ghost use Rattle.jc_types.specs.declared.objects.Key.{Key};
 ghost use Rattle.jc_types.specs.declared.objects.Pod.{Pod};
 ghost use Rattle.jc_settle.specs.Comes.{Comes, SeesAll};
 ghost use Rattle.jc_settle.specs.Left.{ComesTo, pod_left};
-ghost use Rattle.jc_settle.specs.Serial.{IsAlone, IsOldOrAlone, IsSettling, SettlesTo};
+ghost use Rattle.jc_settle.specs.Serial.{HasSync, IsAlone, IsOldOrAlone, IsSettling, SettlesTo};
 ghost use Rattle.jc_settle.specs.Settles.{CalmsDown, CatchesUp, ComesToRest, next_of_settle, settled_on};
 ghost use Rattle.jc_order.specs.Plays.{IsPlayed};
 ghost use Rattle.jc_types.specs.declared.actions.Script.{Script};
@@ -67,8 +67,7 @@ pub fn settles_are_serial()
     ensures alone { (shape : Shape) (run past : List Deed) → IsLegal shape (run ++ past)
         → 0 < shape.workers → IsSettling shape run past
         → (c w : ℕ) → c < shape.controllers → w < shape.workers
-        → register w (diary shape c past) ≡ None
-        → is_some (register w (diary shape c (run ++ past))) ≡ true
+        → register w (diary shape c past) ≡ None → HasSync shape (run ++ past) c w
         → IsAlone shape (run ++ past) c w }
 {}
 

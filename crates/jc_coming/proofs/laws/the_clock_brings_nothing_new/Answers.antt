@@ -7,6 +7,6 @@ pub returns : goal.returns
 returns c = record {
   statuses = λ now later log. statuses-fall now later log;
   moments = λ now later log notes. moments-fall now later log notes;
-  keys = λ now later log notes le idle same. keys-stay now later log notes le same idle;
-  due = λ now later log notes due le idle least come same. due-fall now later log notes le same idle due least come;
+  keys = λ now later log notes it. keys-stay now later log notes it.on it.same it.idle;
+  due = λ now later log notes due it least come. due-fall now later log notes it.on it.same it.idle due least come;
 }

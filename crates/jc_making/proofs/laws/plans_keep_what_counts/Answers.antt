@@ -4,6 +4,6 @@ use Rattle.jc_making.proofs.laws.plans_keep_what_counts.Goals as goal
 
 pub returns : goal.returns
 returns c = record {
-  successes = λ job basis made now this rises plain after. successes-stay job basis this rises made now plain after;
-  indexes = λ job basis made now this rises tidy indexed unended after. indexes-stay job basis this rises indexed unended made now after;
+  successes = λ job basis made now it plain. successes-stay job basis it.job_is it.rising made now plain it.all;
+  indexes = λ job basis made now it indexed unended. indexes-stay job basis it.job_is it.rising indexed unended made now it.all;
 }

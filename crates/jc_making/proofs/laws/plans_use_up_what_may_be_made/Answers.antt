@@ -3,4 +3,4 @@ use Rattle.jc_making.proofs.LowerFacts.{lowers}
 use Rattle.jc_making.proofs.laws.plans_use_up_what_may_be_made.Goals as goal
 
 pub returns : goal.returns
-returns c = λ ends made job basis now this rises counted last after. lowers ends made job basis this rises counted last now after
+returns c = λ ends made job basis now it counted last. lowers ends made job basis it.job_is it.rising counted last now it.all

@@ -27,6 +27,7 @@ returns-clause-succeeding c = successes-count
 
 pub returns-clause-rests : goal.returns-clause-rests
 returns-clause-rests c =
-    λ script shape proper settles it n le history is.
-    sym (quiescent-same n shape (deeds script history))
-    ∙ c.settled_plays_are_at_rest.ensures script (allowing n shape) (within-same n shape script.commands proper) history is (it.unfull n le) settles
+    λ script shape proper settles it history out.
+    sym (quiescent-same out.allowed shape (deeds script history))
+    ∙ c.settled_plays_are_at_rest.ensures script (allowing out.allowed shape) (within-same out.allowed shape script.commands proper) history out.plays
+    (it.unfull out.allowed out.enough) settles
