@@ -36,8 +36,8 @@ pub data AllServed (plan : Planned) : List Pod → List Pod → Type 0 where
   IsGone : (old : Pod) (olds news : List Pod) → frees plan old.uid ≡ true → AllServed plan olds news
       → AllServed plan (old ∷ olds) news
 
--- So it is of all pods of the log, and behind them stand the new ones: as many as the plan makes, made for its key by the
--- template of its Job.
+-- So it is of all pods of the log, and behind them stand the new ones: as many as the plan makes, made for its key,
+-- and with the restart policy of its Job.
 pub record ServesAll (log : List Entry) (basis : Basis) (new : List Entry) : Type 0 where
   pub after : List Pod
   pub fresh : List Pod

@@ -51,7 +51,7 @@ pub record LeavesOthers (log : List Entry) (basis : Basis) (new : List Entry) : 
       → made_for u new ≡ made_for u log
   pub none : basis.job ≡ None → job_in basis.key new ≡ None
 
--- All that the plan asks for is so, also of pods whose Job is gone, and nothing else has changed.
+-- All that the plan asks for is so, also of pods whose Job is gone; and Jobs and pods of other keys are as they were.
 pub record DoesAll (log : List Entry) (basis : Basis) (new : List Entry) : Type 0 where
   pub its : (job : Job) → basis.job ≡ Some job → HasAllFor log basis job new
   pub others : LeavesOthers log basis new

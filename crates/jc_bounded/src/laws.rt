@@ -1,4 +1,4 @@
-//! Laws on how many pods a settle makes. Each function is empty: what it ensures holds of every history, and its callers
+//! Laws on how many pods a settle makes. Each function does nothing: what it ensures holds of every history, and its callers
 //! may cite it.
 
 ghost use Rattle.std.specs.Prelude.{◌≡◌, ◌⊎◌, ◌+◌, ◌<◌, ◌≤◌, List, Some, filter, length, true, ℕ};
@@ -19,17 +19,18 @@ ghost use Rattle.jc_bounded.specs.Faultless.{ComesFaultless, IsBetweenTurns, IsF
 
 use jc_runs::allowed_updates_stay_valid;
 
-/// Behind a legal history in which no fault was put, a settle comes to be calm with none pending; and so it stays.
+/// Behind a legal history in which no fault was put, a settle comes to be calm with none pending.
 pub fn settles_without_faults_calm_down()
     ensures { (shape : Shape) (past : List Deed) → 0 < shape.workers → IsMoment shape.start
         → IsLegal shape past → AllAskValid past → PutsNoFault past → ComesFaultless shape past }
 {}
 
 /// **No turn of a settle allows a Job more pods**: from a calm state where no fault is pending nothing is available, or the
-/// settle does one whole turn, a sync from its begin to its end, a deed of the node or one of the clock, with what the
-/// caches are told of it. Then it is as calm again; and of each Job that was there, the turn's own or another, the pods
-/// that were made for it and those that may still be are together no more than before, if its pods succeed at last. Where
-/// faults are pending too, a turn uses up one of them, or it is such a turn.
+/// settle goes on to another that is as calm, by a sync from its begin to its end, a deed of the node or one of the clock,
+/// with what the caches are told of it (of which kind it is, `calm_settles_go_on` of `jc_calm` says). Of each Job that was
+/// there, the turn's own or another, the pods that were made for it and those that may still be are together no more than
+/// before, if its pods have a fate and succeed at last. Where faults are pending too, a turn uses up one of them, or it is
+/// such a turn.
 pub fn turns_allow_no_more_pods()
     ensures faultless { (shape : Shape) (past : List Deed) → IsFaultless shape past
         → (is_quiescent shape past (log_given shape past) ≡ true) ⊎ TurnsOver shape past }

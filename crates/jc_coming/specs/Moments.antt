@@ -1,6 +1,6 @@
 -- The moments that are still to come, and the keys that are still to be synced, as a controller has noted them.
 --     deadline_by_status job                the deadline of a Job by the start time that its status has
---     held_back now notes log               the Jobs that the controller holds back
+--     held_back now log notes               the Jobs that the controller holds back
 --     moments_to_come now log notes         how many moments are ahead: deadlines, and ends of backoffs
 --     is_moment_to_come now log notes k m   m is such a moment of the Job of the key
 --     keys_to_come now log notes            2 for each key in line, and 3 for each that is delayed to another moment

@@ -1,4 +1,4 @@
--- Histories of machines that leave something undone for ever: at the end of each nothing is left to do.
+-- Histories of machines that leave something undone for ever: at the end of each but the last nothing is left to do.
 --     unmarked_pod       a pod of a Job whose failure is decided runs on
 --     unwritten_end      a suspended Job whose failure is decided does not get its end
 --     kept_orphan        a pod whose Job is gone keeps its finalizer

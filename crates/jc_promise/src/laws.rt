@@ -55,7 +55,8 @@ use jc_runs::{
 };
 
 /// **Whatever the script**: of each legal history of a script whose commands are valid, in any order of
-/// its lanes, with any number of controllers and workers, all promises hold (KEP-2307).
+/// its lanes, with any number of controllers and workers, but one at least, and at most 200,000 events, all
+/// promises hold (KEP-2307).
 pub fn legal_histories_keep_the_promises()
     ensures { (script : Script) (shape : Shape) (history : History)
         → AreValidCommands script.commands

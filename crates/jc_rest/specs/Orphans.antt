@@ -3,7 +3,7 @@
 --     last_about pod log           the version of the last such entry; 0 where there is none
 --     has_reached n number         the cache has seen the version
 --     is_sure_of pod n notes       the key of its owner was added since the cache of Jobs had seen the version
---     LeavesNone shape deeds log   each controller that is sure of an orphan has released it
+--     LeavesNone shape deeds log   an orphan of which some controller is sure has lost its finalizer
 use Rattle.std.specs.Prelude.{◌≡◌, ◌<◌, ℕ, nat_le, Bool, true, false, ◌&&◌, ◌||◌, List, [], ◌∷◌, length, if◌then◌else◌, Option, Some, None}
 use Rattle.jc_control.specs.Queued.{has_key}
 use Rattle.jc_types.specs.declared.numbers.Version.{Version}

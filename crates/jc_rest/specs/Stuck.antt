@@ -67,7 +67,8 @@ skips (Ended worker basis end now) older = forgets_caches end
 skips note older = false
 
 -- Since the pod cache last skipped entries the key was added to the line: by a list of the Jobs, by one of pods
--- with a pod of the key, by a delivery, or by the clock. So it is too where the cache never skipped any.
+-- with a pod of the key, by a delivery, by the clock, or as a begin found a cache behind. So it is too where the cache
+-- never skipped any.
 abbrev pub is_sure : Key → List Note → Bool
 is_sure k [] = true
 is_sure k (note ∷ older) = has_key k (adds note older) || not (skips note older) && is_sure k older

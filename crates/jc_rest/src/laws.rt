@@ -18,8 +18,8 @@ ghost use Rattle.jc_rest.specs.Stuck.{NoneIsStuck};
 
 use jc_runs::allowed_updates_stay_valid;
 
-/// **At rest no ended pod is forgotten (KEP-2307)**: where nothing is available any more, each pod
-/// that has ended, of a Job that is there, has lost its finalizer. So it is for any number of
+/// **At rest no ended pod is forgotten (KEP-2307)**: where nothing is available any more, behind a legal
+/// history whose Jobs were created with valid specifications, each pod that has ended, of a Job that is there, has lost its finalizer. So it is for any number of
 /// controllers and workers, with faults, lost replies, restarts, pods that lose their finalizers by
 /// commands, and caches that are listed anew; and however many pods have ended, though a sync counts
 /// in no more of them than fit into the lists, and leaves the others over.
@@ -35,7 +35,7 @@ pub fn no_ended_pod_is_forgotten_at_rest()
     allowed_updates_stay_valid();
 }
 
-/// In each legal history, of each pod that ever was there of a Job that is there, where it is
+/// In each legal history whose Jobs were created with valid specifications, of each pod that ever was there of a Job that is there, where it is
 /// without its finalizer now, or gone, one of the deeds took it: just before this deed the pod had
 /// it, and just after it not. It was a command that stripped this pod, or a release or let-go of
 /// this pod by a sync, and the sync had a cause: the pod was judged by an earlier write of the
@@ -50,8 +50,8 @@ pub fn finalizers_are_lost_with_a_cause()
     allowed_updates_stay_valid();
 }
 
-/// **At rest no Job is stuck (batch/v1)**: where nothing is available any more, each Job that is there has
-/// ended; or how it will end is not decided, and it waits for something that only the outside can give: it is
+/// **At rest no Job is stuck (batch/v1)**: where nothing is available any more, behind a legal history whose
+/// Jobs were created with valid specifications, each Job that is there has ended; or how it will end is not decided, and it waits for something that only the outside can give: it is
 /// suspended, it may run no pod, it has as many active pods as it wants and nothing says how one of them will
 /// end, or its pods are delayed past the last moment. So it is for each controller that has added the Job's
 /// key since its pod cache last skipped entries of the log.
@@ -65,7 +65,8 @@ pub fn no_job_is_stuck_at_rest()
     allowed_updates_stay_valid();
 }
 
-/// **At rest no orphan is left (KEP-2307)**: where nothing is available any more, each pod that is there and
+/// **At rest no orphan is left (KEP-2307)**: where nothing is available any more, behind a legal history whose
+/// Jobs were created with valid specifications, each pod that is there and
 /// whose Job is gone has lost its finalizer, if some controller has added the key of its owner since its cache
 /// of Jobs had seen the last entry about the pod or a Job of that key.
 ///
