@@ -1,4 +1,4 @@
-//! Laws on whole syncs of a settle. Each function is empty: what it ensures holds of every history, and its callers may
+//! Laws on whole syncs of a settle. Each function does nothing: what it ensures holds of every history, and its callers may
 //! cite it.
 
 ghost use Rattle.std.specs.Prelude.{◌≡◌, ◌<◌, ◌≤◌, ◌∷◌, IfSome, List, None, Some, false, ℕ};

@@ -1,4 +1,4 @@
-//! Laws on the requests of a sync that began in a settle. Each function is empty: what it ensures holds of every history,
+//! Laws on the requests of a sync that began in a settle. Each function does nothing: what it ensures holds of every history,
 //! and its callers may cite it.
 
 ghost use Rattle.std.specs.Prelude.{◌≡◌, ◌∷◌, ◌++◌, List, None, Some, length, ℕ};
