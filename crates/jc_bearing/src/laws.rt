@@ -7,19 +7,18 @@ ghost use Rattle.jc_types.specs.declared.actions.End.{End};
 ghost use Rattle.jc_types.specs.declared.objects.Entry.{Entry};
 ghost use Rattle.jc_types.specs.declared.objects.Job.{Job};
 ghost use Rattle.jc_types.specs.declared.runs.Shape.{Shape};
-ghost use Rattle.jc_states.specs.Bases.{own_pods};
 ghost use Rattle.jc_states.specs.declared.bases.Basis.{Basis};
 ghost use Rattle.jc_log.specs.Acts as does;
 ghost use Rattle.jc_log.specs.Deeds.{Deed};
-ghost use Rattle.jc_log.specs.Log.{job_in, pods_under};
+ghost use Rattle.jc_log.specs.Log.{job_in};
 ghost use Rattle.jc_runs.specs.Legal.{IsLegal};
 ghost use Rattle.jc_runs.specs.Registers.{pending};
 ghost use Rattle.jc_runs.specs.Replies.{diary, log_given};
 ghost use Rattle.jc_runs.specs.Machines.{AllAskValid};
 ghost use Rattle.jc_settle.specs.Settles.{IsCalm};
 ghost use Rattle.jc_calm.specs.SettleTurns.{BeginsAlone};
-ghost use Rattle.jc_making.specs.Making.{IsCounted, fails};
-ghost use Rattle.jc_making.specs.Nodes.{fate, last_end};
+ghost use Rattle.jc_making.specs.Making.{IsCountedIn, LastIsSuccess};
+ghost use Rattle.jc_making.specs.Nodes.{fate};
 ghost use Rattle.jc_bearing.specs.AtMost.{pods_at_most};
 ghost use Rattle.jc_bearing.specs.Whole.{DoesAll, RunsWhole, SawLog};
 
@@ -48,8 +47,7 @@ pub fn whole_syncs_make_no_pod_beyond()
     ensures own { (ends : List End) (log new : List Entry) (basis : Basis) (job now : Job)
         → SawLog log basis → DoesAll log basis new
         → job_in basis.key log ≡ Some job → job_in basis.key new ≡ Some now
-        → IsCounted job (own_pods job (pods_under basis.key log))
-        → IfSome (last_end ends) (λ end. fails end ≡ false)
+        → IsCountedIn log basis.key job → LastIsSuccess ends
         → pods_at_most ends new now ≤ pods_at_most ends log job }
     ensures others { (ends : List End) (log new : List Entry) (basis : Basis) (job : Job)
         → DoesAll log basis new → same_key basis.key job.key ≡ false
@@ -63,7 +61,7 @@ pub fn whole_syncs_make_no_pod_beyond()
 pub fn the_node_allows_no_more_pods()
     ensures { (shape : Shape) (past : List Deed) (d : Deed) (ends : List End) (job : Job)
         → d.act ≡ does.Node → fate past job.key ≡ Some ends
-        → IsCounted job (own_pods job (pods_under job.key (log_given shape past)))
+        → IsCountedIn (log_given shape past) job.key job
         → pods_at_most ends (log_given shape (d ∷ past)) job
         ≤ pods_at_most ends (log_given shape past) job }
 {}

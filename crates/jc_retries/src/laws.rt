@@ -1,33 +1,26 @@
 //! Laws on how many pods a Job may still make where its pods fail. Each function is empty: what it ensures holds of every
 //! Job and its own pods, and its callers may cite it.
 
-ghost use Rattle.std.specs.Prelude.{◌≡◌, ◌++◌, ◌+◌, ◌≤◌, ◌∷◌, List, None, Option, Some, [], false, length, ℕ};
+ghost use Rattle.std.specs.Prelude.{◌≡◌, ◌++◌, ◌≤◌, ◌∷◌, List, None, [], false, ℕ};
 ghost use Rattle.std.specs.List.{AllByRecursion as Each};
 ghost use Rattle.jc_types.specs.declared.actions.End.{End};
-ghost use Rattle.jc_types.specs.declared.objects.Entry.{Entry};
 ghost use Rattle.jc_types.specs.declared.objects.Job.{Job};
-ghost use Rattle.jc_types.specs.declared.objects.Key.{Key};
 ghost use Rattle.jc_types.specs.declared.objects.Phase.TheVariants.{Failed};
 ghost use Rattle.jc_types.specs.declared.objects.Pod.{Pod};
-ghost use Rattle.jc_log.specs.Requests.{with_report};
 ghost use Rattle.jc_states.specs.declared.bases.Basis.{Basis};
 ghost use Rattle.jc_states.specs.Bases.{own_pods};
-ghost use Rattle.jc_states.specs.PodLists.{IsRising};
 ghost use Rattle.jc_states.specs.Pods.{is_tracked};
 ghost use Rattle.jc_plan.specs.Plans.{planned};
 ghost use Rattle.jc_making.specs.Examples.{runs_as, with_phase};
-ghost use Rattle.jc_making.specs.Grants.{AllGranted, LooksNew, job_left};
-ghost use Rattle.jc_making.specs.Making.{IsCounted};
-ghost use Rattle.jc_making.specs.Nodes.{NodeAct, act_on, change_by, end_at, pod_end};
+ghost use Rattle.jc_making.specs.Grants.{LooksNew, SyncGranted, UsesUp, job_left};
+ghost use Rattle.jc_making.specs.Making.{IsCounted, NodeMakes};
 ghost use Rattle.jc_retries.specs.RetrySamples.{all_fail, once_more_job};
 ghost use Rattle.jc_retries.specs.Retries.{CountsAtLast, creations_allowed, pods_failed};
 
 /// A failure that counts goes on to count: once all requests of a plan are granted no fewer of the Job's pods have failed
 /// than before, whether the status says it already or not.
 pub fn plans_keep_failures()
-    ensures { (job : Job) (basis : Basis) (made : ℕ) (now : List Pod)
-        → basis.job ≡ Some job → IsRising basis.pods
-        → AllGranted (planned basis) made (own_pods job basis.pods) now
+    ensures { (job : Job) (basis : Basis) (made : ℕ) (now : List Pod) → SyncGranted basis job made now
         → pods_failed job (own_pods job basis.pods) ≤ pods_failed (job_left (planned basis) job) now }
 {}
 
@@ -36,24 +29,18 @@ pub fn plans_keep_failures()
 /// as many fewer to be made as it makes pods; and one that makes none leaves no more.
 pub fn plans_use_up_retries()
     ensures { (ends : List End) (made : ℕ) (job : Job) (basis : Basis) (now : List Pod)
-        → basis.job ≡ Some job → IsRising basis.pods → IsCounted job (own_pods job basis.pods)
-        → CountsAtLast ends job.spec
-        → (granted : AllGranted (planned basis) made (own_pods job basis.pods) now)
-        → Each (LooksNew job.spec.template) granted.fresh
-        → creations_allowed ends (made + length (planned basis).creates) (job_left (planned basis) job) now
-        + length (planned basis).creates
-        ≤ creations_allowed ends made job (own_pods job basis.pods) }
+        → IsCounted job (own_pods job basis.pods) → CountsAtLast ends job.spec
+        → (it : SyncGranted basis job made now) → Each (LooksNew job.spec.template) it.all.fresh
+        → UsesUp creations_allowed ends made job basis now }
 {}
 
 /// Whatever the node does to one of the Job's pods, no more pods may be made afterwards than before: one that succeeds
 /// takes a place along, and one that fails was one of the failures that were left, or of the ends that are ignored. A pod
 /// without its finalizer counts for nothing, so it makes no difference where it goes.
 pub fn the_node_uses_up_retries()
-    ensures acts { (fates : Key → Option (List End)) (ends : List End) (made : ℕ) (job : Job)
-        (front back : List Pod) (log : List Entry) (pod : Pod) (act : NodeAct)
-        → IsCounted job (front ++ pod ∷ back)
-        → pod_end fates pod ≡ end_at pod.serial ends → act_on fates pod ≡ Some act
-        → creations_allowed ends made job (front ++ with_report log pod (change_by pod act) ∷ back)
+    ensures acts { (ends : List End) (made : ℕ) (job : Job) (front back : List Pod) (pod after : Pod)
+        → IsCounted job (front ++ pod ∷ back) → NodeMakes ends pod after
+        → creations_allowed ends made job (front ++ after ∷ back)
         ≤ creations_allowed ends made job (front ++ pod ∷ back) }
     ensures gone { (ends : List End) (made : ℕ) (job : Job) (front back : List Pod) (pod : Pod)
         → is_tracked pod ≡ false → creations_allowed ends made job (front ++ pod ∷ back)
