@@ -9,6 +9,7 @@
 --     statuses_to_come now log     2 for each of the former, and 1 for each of the latter
 --     AsksForNoPod plan            no pod is made, marked, let go or released
 --     WritesOnly log basis job status   a sync asks for no pod, and writes the status first
+--     showing active any           a small Job whose status has so many active pods
 use Rattle.std.specs.Prelude.{◌≡◌, ℕ, ◌+◌, ◌*◌, nat_lt, Bool, false, not, List, [], length, filter, Option, Some, None}
 use Rattle.jc_types.specs.declared.objects.Entry.{Entry}
 use Rattle.jc_types.specs.declared.objects.Job.{Job}
@@ -19,6 +20,8 @@ use Rattle.jc_types.specs.Equality.{same_status}
 use Rattle.jc_states.specs.declared.bases.Basis.{Basis}
 use Rattle.jc_states.specs.Bases.{own_pods}
 use Rattle.jc_log.specs.Log.{jobs_in, pods_under}
+use Rattle.jc_log.specs.Requests.{empty_status}
+use Rattle.jc_history.specs.Samples.{sample_spec}
 use Rattle.jc_finish.specs.Starts.{deadline_of}
 use Rattle.jc_manage.specs.declared.results.Wants.{Wants}
 use Rattle.jc_plan.specs.declared.plans.Planned.{Planned}
@@ -84,3 +87,10 @@ pub record WritesOnly (log : List Entry) (basis : Basis) (job : Job) (status : J
   pub tidy : ListsNoSuccess job
   pub asks : AsksForNoPod (planned basis)
   pub first : (planned basis).first ≡ Some status
+
+-- A small Job whose status has so many active pods.
+abbrev pub showing : ℕ → Job → Job
+showing active any = record any {
+  spec = sample_spec;
+  status = record empty_status { active = active };
+}

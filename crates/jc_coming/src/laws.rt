@@ -1,7 +1,7 @@
 //! Laws on what is still to come where no pod is written. Each function is empty: what it ensures holds of every log, all
 //! notes and every plan, and its callers may cite it.
 
-ghost use Rattle.std.specs.Prelude.{◌≡◌, ◌<◌, ◌≤◌, ◌∷◌, List, None, Some, true, ℕ};
+ghost use Rattle.std.specs.Prelude.{◌≡◌, ◌<◌, ◌≤◌, ◌∷◌, List, [], None, Some, false, true, ℕ};
 ghost use Rattle.jc_types.specs.declared.objects.Entry.{Entry};
 ghost use Rattle.jc_types.specs.declared.objects.Entry.TheVariants.{JobPut};
 ghost use Rattle.jc_types.specs.declared.objects.Job.{Job};
@@ -18,7 +18,7 @@ ghost use Rattle.jc_history.specs.Delays.{least_delay};
 ghost use Rattle.jc_history.specs.Fresh.{basis};
 ghost use Rattle.jc_history.specs.Lines.{line};
 ghost use Rattle.jc_history.specs.Notes.{Note, Ticked};
-ghost use Rattle.jc_coming.specs.Drafts.{AsksForNoPod, WritesOnly, next_quiet, statuses_to_come};
+ghost use Rattle.jc_coming.specs.Drafts.{AsksForNoPod, WritesOnly, is_draft, next_quiet, showing, statuses_to_come};
 ghost use Rattle.jc_coming.specs.Moments.{
   ShowsAll,
   TicksIdly,
@@ -85,4 +85,14 @@ pub fn empty_syncs_take_a_key()
         → (planned basis).first ≡ None
         → keys_to_come basis.now log (empty_sync w basis ended notes)
         < keys_to_come basis.now log notes }
+{}
+
+/// What wrong machines do lowers nothing of what is to come. One that writes another status at each sync leaves a draft
+/// each time: here the number of active pods of a Job that has none, 1 and then 2. And a moment that has passed is none to
+/// come, so a clock that rings for it brings nothing nearer.
+pub fn wrong_machines_lower_nothing()
+    ensures first { (job : Job) → is_draft 0 (showing 1 job) [] ≡ true }
+    ensures second { (job : Job) → is_draft 0 (showing 2 job) [] ≡ true }
+    ensures passed { (now m : ℕ) (log : List Entry) (notes : List Note) (key : Key) → m ≤ now
+        → is_moment_to_come now log notes key m ≡ false }
 {}

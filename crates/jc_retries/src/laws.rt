@@ -49,13 +49,19 @@ pub fn the_node_uses_up_retries()
 
 /// How many pods may still be made for a small Job of three completions, of which two may run at once, where one failure is
 /// allowed and all pods fail. Six, before any is made: three, two for the failures that are left, and one for the end, which
-/// might be ignored. Three, where two run, and so it is once one has failed; and none once both have.
+/// might be ignored. Three, where two run, and so it is once one has failed; and none once both have. A third pod, that no
+/// plan makes, leaves as many to be made, and so it is once it was let go: a machine that makes pods and lets them go in
+/// turns lowers nothing, and would go on for ever.
 pub fn retries_are_worked_out()
     ensures none { (job : Job) (pod : Pod) → creations_allowed all_fail 0 (once_more_job job) [] ≡ 6 }
     ensures two { (job : Job) (pod : Pod) → creations_allowed all_fail 2 (once_more_job job)
         (runs_as 0 None pod ∷ runs_as 1 None pod ∷ []) ≡ 3 }
     ensures failed { (job : Job) (pod : Pod) → creations_allowed all_fail 2 (once_more_job job)
         (with_phase Failed (runs_as 0 None pod) ∷ runs_as 1 None pod ∷ []) ≡ 3 }
+    ensures surplus { (job : Job) (pod : Pod) → creations_allowed all_fail 3 (once_more_job job)
+        (runs_as 0 None pod ∷ runs_as 1 None pod ∷ runs_as 2 None pod ∷ []) ≡ 3 }
+    ensures let_go { (job : Job) (pod : Pod) → creations_allowed all_fail 3 (once_more_job job)
+        (runs_as 0 None pod ∷ runs_as 1 None pod ∷ []) ≡ 3 }
     ensures spent { (job : Job) (pod : Pod) → creations_allowed all_fail 2 (once_more_job job)
         (with_phase Failed (runs_as 0 None pod) ∷ with_phase Failed (runs_as 1 None pod) ∷ []) ≡ 0 }
 {}
