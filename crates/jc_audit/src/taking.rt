@@ -7,42 +7,14 @@ ghost use Rattle.jc_types.specs.declared.runs.Sys.TheVariants as sys;
 ghost use Rattle.jc_runs.specs.ValidActions.{IsValidAction};
 ghost use Rattle.jc_play.specs.Longer.{extended};
 ghost use Rattle.jc_runs.specs.Seen.{Admits, happened};
-ghost use Rattle.jc_play.specs.Actors.{CanCome, IsOfActor};
+ghost use Rattle.jc_play.specs.Actors.{CanCome};
 ghost use Rattle.jc_audit.specs.Clocks.{FitsClock, IsClock};
 ghost use Rattle.jc_audit.specs.Walks.{last_line, with_command};
 
 use jc_lines::put_event;
-use jc_play::{Actor, Machine, available};
+use jc_play::{Actor, Machine, available, fits};
 use jc_types::{Command, Event, Sys, Want};
 use std::alloc::{AllocError, Global};
-
-// Who can make the event of the system.
-fn actor_of(system: &Sys) -> Actor
-    ensures { IsOfActor result (event.System system.now) }
-{
-    match system {
-        Sys::List { controller, kind } | Sys::Deliver { controller, kind } => Actor::Cache {
-            controller: *controller,
-            kind: *kind,
-        },
-        Sys::Begin { controller, worker } | Sys::Step { controller, worker } => Actor::Worker {
-            controller: *controller,
-            worker: *worker,
-        },
-        Sys::Node => Actor::Node,
-        Sys::Clock { .. } => Actor::Clock,
-    }
-}
-
-// Whether the event of the system may come next, and is available.
-fn is_offered(machine: &Machine, system: &Sys) -> bool
-    ensures { IsTrue result ↔ CanCome machine.now (event.System system.now) }
-{
-    match available(machine, actor_of(system)) {
-        Some(Event::System(found)) => found == *system,
-        _ => false,
-    }
-}
 
 // The seconds by which the clock can pass of itself, where it can.
 fn clock_seconds(machine: &Machine) -> Option<u64>
@@ -96,7 +68,7 @@ pub fn is_available(machine: &Machine, system: &Sys) -> bool
     match system {
         Sys::Clock { add } => can_pass(machine, *add),
         Sys::List { .. } | Sys::Deliver { .. } | Sys::Begin { .. } | Sys::Step { .. } | Sys::Node =>
-            is_offered(machine, system),
+            fits(machine, &Event::System(*system)),
     }
 }
 
