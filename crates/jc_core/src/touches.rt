@@ -2,12 +2,11 @@
 
 ghost use Rattle.std.specs.Prelude.{◌≡◌, false, map};
 ghost use Rattle.jc_log.specs.Deeds.{act_of_action, act_of_event, act_of_system};
-ghost use Rattle.jc_play.specs.Turns.{is_begun_reply};
 ghost use Rattle.jc_core.specs.RegisterChanges.{touch_of, touched_slots};
 ghost use Rattle.jc_core.specs.Shared.{all_registers, has_holders, numbers_of};
 
 use crate::changes::{Change, change_all};
-use jc_play::Slot;
+use jc_play::{Slot, tells_begin};
 use jc_types::{Action1, Event, Reply, Script, Shape, Sys};
 
 // How an event touches the registers.
@@ -69,13 +68,6 @@ pub(crate) fn touch_of_event(script: &Script, event: Event) -> Touch
     }
 }
 
-// Whether the reply says that a sync began.
-fn is_begun_reply(reply: &Reply) -> bool
-    ensures { result ≡ is_begun_reply reply.now }
-{
-    matches!(reply, Reply::Begun { .. })
-}
-
 // Changes the registers as an event asks that touches them so, once it was answered. It takes no
 // memory.
 pub(crate) fn touch_all(slots: &mut Vec<Slot>, shape: &Shape, touch: Touch, reply: &Reply)
@@ -86,7 +78,7 @@ pub(crate) fn touch_all(slots: &mut Vec<Slot>, shape: &Shape, touch: Touch, repl
 {
     match touch {
         Touch::Begin { controller, worker } => {
-            if is_begun_reply(reply) {
+            if tells_begin(reply) {
                 let change = Change::Want {
                     wants: true,
                     controller,

@@ -143,7 +143,7 @@ impl Machine {
     // `Want` where there is no memory for it; the machine is then as before.
     fn act(&mut self, event: Event, action: Action1) -> Result<Reply, Want>
         requires may { MayCome self.old event (act_of_action action) }
-        requires valid_actions { IsValidAction action }
+        requires valid_action { IsValidAction action }
         ensures { HappensOrKeeps self.old self.new event result }
     {
         match action {

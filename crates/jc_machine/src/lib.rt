@@ -15,3 +15,4 @@ pub use apply::ApplyFault;
 pub use jc_store::Store;
 pub use jc_team::{Basis, Moment};
 pub use machine::Machine;
+pub use sync::tells_begin;

@@ -223,7 +223,7 @@ impl Machine {
     /// # Errors
     /// `Want` where there is no memory; the machine is then as before.
     pub fn extend(&mut self, command: Command) -> Result<(), Want>
-        requires valid_actions { IsValidAction command.action }
+        requires valid_action { IsValidAction command.action }
         requires fits { length self.old.script.commands + 1 < 2 ^ 32 }
         ensures ok { OnOk result (self.new ≡ extended self.old command) }
         ensures kept { OnErr result (self.new ≡ self.old) }

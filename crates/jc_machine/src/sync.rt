@@ -19,8 +19,8 @@ use crate::machine::Machine;
 use jc_runs::{quiet_syncs_reach_the_next_status, valid_scripts_ask_valid};
 use jc_types::{Event, Reply, Sys};
 
-// Whether a sync began.
-fn tells_begin(reply: &Reply) -> bool
+/// Whether the reply says that a sync began.
+pub fn tells_begin(reply: &Reply) -> bool
     ensures { result ≡ tells_begin reply.now }
 {
     matches!(reply, Reply::Begun { .. })

@@ -18,7 +18,8 @@ use Rattle.jc_history.specs.Play.{Playing, after_begin, brought_up, event_played
 use Rattle.jc_runs.specs.Seen.{Admits, IsDoable, Seen, act_seen, deeds_seen, happened, log_seen, past_seen, reply_seen}
 use Rattle.jc_machine.specs.declared.apply.ApplyFault.{ApplyFault}
 use Rattle.jc_machine.specs.declared.apply.ApplyFault.TheVariants.{HistoryFull}
-use Rattle.jc_play.specs.Turns.{HasCome, HasGrown, IsOwn, NeedsNoRest, Reaches, is_quiescent_seen, is_begun_reply, next_to_bring, playing_of}
+use Rattle.jc_machine.specs.SyncsSeen.{tells_begin}
+use Rattle.jc_play.specs.Turns.{HasCome, HasGrown, IsOwn, NeedsNoRest, Reaches, is_quiescent_seen, next_to_bring, playing_of}
 use Rattle.jc_play.proofs.GoFacts.{done-reaches, grown-on, none-grown, ok-err, room-left, stop, stop-reaches}
 use Rattle.jc_play.proofs.OnFacts.{fills, happens, stays-full}
 
@@ -116,13 +117,13 @@ plain-came old new event (Err e) ok = tt
 
 -- ---- begins
 
-begin-is : (event : Event) (r : Reply) (end : Version) (pasts : List Past) → has_just_begun (record { event = event; reply = r; length = end } ∷ pasts) ≡ is_begun_reply r
+begin-is : (event : Event) (r : Reply) (end : Version) (pasts : List Past) → has_just_begun (record { event = event; reply = r; length = end } ∷ pasts) ≡ tells_begin r
 begin-is event (reply.Begun key jobs_at pods_at) end pasts = refl
 begin-is event other end pasts = refl
 
 -- Whether a sync began by the event.
-pub just-begun : (seen : Seen) (event : Event) (r : Reply) (b : Bool) → r ≡ reply_seen seen event → b ≡ is_begun_reply r → b ≡ has_just_begun (happened seen event).pasts
-just-begun seen event r b e g = g ∙ ap is_begun_reply e ∙ sym (begin-is event (reply_seen seen event) (past_seen seen event).length seen.pasts)
+pub just-begun : (seen : Seen) (event : Event) (r : Reply) (b : Bool) → r ≡ reply_seen seen event → b ≡ tells_begin r → b ≡ has_just_begun (happened seen event).pasts
+just-begun seen event r b e g = g ∙ ap tells_begin e ∙ sym (begin-is event (reply_seen seen event) (past_seen seen event).length seen.pasts)
 
 module _ (old : Seen) (event : Event) (c w : ℕ) where
   -- The play of the event, and of what follows it.

@@ -10,7 +10,6 @@
 --     IsOwn seen event            a command, its lane's next one
 --     HasCome event seen          the command has come
 --     NeedsNoRest seen event      it may come whether or not there is something to do
---     is_begun_reply reply        a sync began
 --     is_quiescent_seen seen      nothing is available
 use Rattle.std.specs.Prelude.{◌≡◌, ℕ, ◌+◌, ◌≤◌, ◌++◌, Bool, true, false, List, length, Result, Err, OnOk, Option, Some, None, is_some}
 use Rattle.std.specs.List.{list_any}
@@ -19,8 +18,6 @@ use Rattle.jc_types.specs.declared.actions.Script.{Script}
 use Rattle.jc_types.specs.declared.objects.Kind.{Kind}
 use Rattle.jc_types.specs.declared.runs.Event.{Event}
 use Rattle.jc_types.specs.declared.runs.Event.TheVariants.{Command, System}
-use Rattle.jc_types.specs.declared.replies.Reply.{Reply}
-use Rattle.jc_types.specs.declared.replies.Reply.TheVariants as reply
 use Rattle.jc_types.specs.declared.runs.Past.{Past}
 use Rattle.jc_types.specs.declared.runs.Shape.{Shape}
 use Rattle.jc_types.specs.declared.runs.Sys.{Sys}
@@ -108,11 +105,6 @@ HasCome event seen = (lane number : ℕ) → event ≡ Command lane number
 -- What the event does may come whether or not there is something to do.
 abbrev pub NeedsNoRest : Seen → Event → Type 0
 NeedsNoRest seen event = (rests : Bool) → MaySettle (act_seen seen event) rests
-
--- The reply says that a sync began.
-abbrev pub is_begun_reply : Reply → Bool
-is_begun_reply (reply.Begun key jobs_at pods_at) = true
-is_begun_reply other = false
 
 -- Nothing is available.
 abbrev pub is_quiescent_seen : Seen → Bool

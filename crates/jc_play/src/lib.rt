@@ -17,7 +17,7 @@ mod whole;
 
 pub use actors::Actor;
 pub use fitting::fits;
-pub use jc_machine::{ApplyFault, Basis, Machine, Moment, Store};
+pub use jc_machine::{ApplyFault, Basis, Machine, Moment, Store, tells_begin};
 pub use laws::{available_events_keep_the_order, new_machines_play_the_whole_script};
 pub use next::{is_quiescent, next_event};
 pub use offers::available;

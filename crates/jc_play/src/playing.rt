@@ -6,21 +6,14 @@ ghost use Rattle.jc_history.specs.Play.{after_begin, brought_up, event_played, h
 ghost use Rattle.jc_types.specs.declared.objects.Kind.TheVariants.{Jobs, Pods};
 ghost use Rattle.jc_types.specs.declared.runs.Event.{Event};
 ghost use Rattle.jc_runs.specs.Seen.{Admits, happened};
-ghost use Rattle.jc_play.specs.Turns.{HasCome, HasGrown, IsOwn, NeedsNoRest, Reaches, is_begun_reply, playing_of};
+ghost use Rattle.jc_play.specs.Turns.{HasCome, HasGrown, IsOwn, NeedsNoRest, Reaches, playing_of};
 ghost use Rattle.jc_play.specs.Ways.{FitsWay, by_way};
 
 use crate::bringing::{bring_up, step_through};
 use crate::settling::{happen, settle};
 use crate::ways::Way;
-use jc_machine::{ApplyFault, Machine};
-use jc_types::{Event, Kind, Reply};
-
-// Whether the reply says that a sync began.
-fn is_begun_reply(reply: Reply) -> bool
-    ensures { result ≡ is_begun_reply reply }
-{
-    matches!(reply, Reply::Begun { .. })
-}
+use jc_machine::{ApplyFault, Machine, tells_begin};
+use jc_types::{Event, Kind};
 
 // Does the event, and says whether a sync began by it.
 //
@@ -36,7 +29,7 @@ fn begin_own(machine: &mut Machine, event: Event) -> Result<bool, ApplyFault>
         → machine.old.shape.events ≤ length machine.old.pasts }
 {
     let reply = machine.apply(event)?;
-    Ok(is_begun_reply(reply))
+    Ok(tells_begin(&reply))
 }
 
 // Does the own event of a sync, and the steps after it where the sync began.
