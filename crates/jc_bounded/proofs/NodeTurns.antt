@@ -1,5 +1,6 @@
 -- A deed of the node in a calm state, and one of the clock: what is told of it behind, and how many pods are allowed then.
 use Rattle.std.proofs.Common.{◌≡◌, ℕ, suc, ◌<◌, ◌≤◌, Bool, true, false, cond, ◌&&◌, List, [], ◌∷◌, ◌++◌, find, Option, Some, None, refl, sym, ap, ◌∙◌, subst, arith}
+use Rattle.std.specs.List.{AllByRecursion as Each}
 use Rattle.std.specs.Option.{unwrap_or}
 use Rattle.jc_types.specs.Equality.{same_phase}
 use Rattle.jc_types.specs.declared.actions.ContainerChange.{ContainerChange}
@@ -26,7 +27,7 @@ use Rattle.jc_runs.specs.Machines.{AllAskValid}
 use Rattle.jc_runs.specs.Pods.{goes, is_final}
 use Rattle.jc_runs.specs.Registers.{pending, register}
 use Rattle.jc_runs.specs.Replies.{diary, gives, log_given, node_gives}
-use Rattle.jc_settle.specs.Settles.{CatchesUp, IsCalm, next_of_settle, settled_on}
+use Rattle.jc_settle.specs.Settles.{CatchesUp, IsCalm, is_telling, next_of_settle, settled_on}
 use Rattle.jc_settle.proofs.CatchFacts.{catches-up}
 use Rattle.jc_settle.proofs.OnFacts.{next-legal, on-legal, on-some}
 use Rattle.jc_calm.specs.SettleTurns.{MovesTheClock, faults_pending}
@@ -109,6 +110,7 @@ module _ (stay : Stay) (shape : Shape) (past : List Deed) (f : IsBetweenTurns sh
       pub events : ℕ
       pub run : List Deed
       pub are : settled_on shape events past ≡ run ++ d ∷ past
+      pub telling : Each (λ (x : Deed). is_telling x.act ≡ true) run
       pub some : 0 < events
       pub log_is : log_given shape (run ++ d ∷ past) ≡ log_given shape (d ∷ past)
       pub between : IsBetweenTurns shape (run ++ d ∷ past)
@@ -122,6 +124,7 @@ module _ (stay : Stay) (shape : Shape) (past : List Deed) (f : IsBetweenTurns sh
           events = suc u.events;
           run = u.run;
           are = are;
+          telling = u.telling;
           some = omega arith;
           log_is = u.log_is;
           between =

@@ -1,5 +1,5 @@
 -- The turns of a settle.
-use Rattle.std.proofs.Common.{◌≡◌, ℕ, ◌+◌, ◌<◌, ◌≤◌, ◌==◌, Bool, true, false, ◌&&◌, not, cond, List, [], ◌∷◌, ◌++◌, length, map, drop, Option, Some, None, is_some, refl, sym, ap, ◌∙◌, subst, arith, eq-eqb, ◌⊎◌, inl, inr}
+use Rattle.std.proofs.Common.{◌≡◌, ℕ, ◌+◌, ◌<◌, ◌≤◌, ◌==◌, Bool, true, false, ◌&&◌, not, cond, List, [], ◌∷◌, ◌++◌, length, map, drop, Option, Some, None, is_some, refl, sym, ap, ◌∙◌, subst, arith, eq-eqb, append_assoc, ◌⊎◌, inl, inr}
 use Rattle.std.specs.Option.{option_or, unwrap_or}
 use Rattle.jc_types.specs.declared.actions.Fault.{Fault}
 use Rattle.jc_types.specs.declared.actions.Fault.TheVariants.{Drop, Lose}
@@ -18,6 +18,7 @@ use Rattle.jc_types.specs.declared.runs.Shape.{Shape}
 use Rattle.jc_types.specs.declared.statuses.JobStatus.{JobStatus}
 use Rattle.jc_types.specs.Equality.{same_status}
 use Rattle.jc_types.proofs.KeyFacts.{same_uid-itself}
+use Rattle.jc_types.proofs.ListFacts.{Each-append}
 use Rattle.jc_states.specs.declared.bases.Basis.{Basis}
 use Rattle.jc_control.specs.declared.ends.SyncEnd.TheVariants as end
 use Rattle.jc_log.specs.Acts as does
@@ -44,8 +45,8 @@ use Rattle.jc_history.specs.Notes.{Note, Asked, Began, Ended, newest}
 use Rattle.jc_history.specs.Registers.{asks_status, fault_told, made, pending, register}
 use Rattle.jc_history.specs.Replies.{diary, log_given}
 use Rattle.jc_settle.specs.Serial.{IsAlone}
-use Rattle.jc_settle.specs.Settles.{CatchesUp, IsCalm, next_of_settle, settled_on}
-use Rattle.jc_settle.proofs.CalmFacts.{caught-legal}
+use Rattle.jc_settle.specs.Settles.{CatchesUp, IsCalm, is_on_the_way, next_of_settle, settled_on}
+use Rattle.jc_settle.proofs.CalmFacts.{all-on, caught-legal}
 use Rattle.jc_settle.proofs.CatchFacts.{catches-up}
 use Rattle.jc_settle.proofs.OnFacts.{next-legal, on-adds, on-some}
 use Rattle.jc_calm.specs.SettleTurns.{AsksForAPod, BeginsAlone, EndsAtOnce, MeetsFault, Turn, WritesStatus, WritesNoMore, Asks, Fails, Finds, Writes, WritesAndAsks, asks_for_a_pod, faults_pending}
@@ -377,6 +378,11 @@ module _ (shape : Shape) (some : 0 < shape.workers) (past : List Deed) (legal : 
       no-more : (planned basis).releases ≡ [] → WritesNoMore shape past basis job status
       no-more r = record {
         events = 2 + u.events + 1;
+        begin = d;
+        next = e;
+        run = more ∷ (u.run ++ step ∷ []);
+        are = final ∙ ap (λ l. more ∷ l) (sym (append_assoc u.run (step ∷ []) begun));
+        way = (ap is_on_the_way last-steps.act, Each-append (λ (x : Deed). is_on_the_way x.act ≡ true) u.run (step ∷ []) (all-on shape u.run u.telling) (ap is_on_the_way steps.act, tt));
         releases = r;
         second = s;
         log_is = ap (log_given shape) final ∙ grew-none ∙ told-log;

@@ -15,6 +15,7 @@
 --     MeetsFault ..                one begins, and its first request is not answered
 --     Turn shape past              what a settle does from a calm state up to the next one
 use Rattle.std.specs.Prelude.{◌≡◌, ℕ, ◌+◌, ◌-◌, ◌<◌, ◌≤◌, ◌==◌, Bool, true, false, not, ◌||◌, List, [], ◌∷◌, ◌++◌, length, if◌then◌else◌, Some, None, is_some}
+use Rattle.std.specs.List.{AllByRecursion as Each}
 use Rattle.jc_types.specs.declared.actions.Fault.{Fault}
 use Rattle.jc_types.specs.declared.objects.Job.{Job}
 use Rattle.jc_types.specs.declared.objects.Entry.{Entry}
@@ -46,7 +47,7 @@ use Rattle.jc_history.specs.Notes.{Note, Began, Ended, Ticked}
 use Rattle.jc_history.specs.Registers.{asks_status, pending}
 use Rattle.jc_history.specs.Replies.{diary, log_given}
 use Rattle.jc_settle.specs.Comes.{HaveNoKeys}
-use Rattle.jc_settle.specs.Settles.{IsCalm, next_of_settle, settled_on}
+use Rattle.jc_settle.specs.Settles.{IsCalm, is_on_the_way, next_of_settle, settled_on}
 use Rattle.jc_settle.specs.Totals.{total}
 
 -- ---- faults
@@ -149,10 +150,16 @@ pub record WritesStatus (shape : Shape) (past : List Deed) (c w : ℕ) (basis : 
   pub log_is : log_given shape (write ∷ begin ∷ past)
       ≡ JobPut (with_status (log_given shape past) job status) ∷ log_given shape past
 
--- It asks for nothing more: after so many events it is calm again, and that status is all that was written.
+-- It asks for nothing more: after so many events, behind its begin lists, deliveries and steps, it is calm again, and that
+-- status is all that was written.
 pub record WritesNoMore (shape : Shape) (past : List Deed) (basis : Basis) (job : Job) (status : JobStatus)
     : Type 0 where
   pub events : ℕ
+  pub begin : Deed
+  pub next : next_of_settle shape past ≡ Some begin
+  pub run : List Deed
+  pub are : settled_on shape events past ≡ run ++ begin ∷ past
+  pub way : Each (λ (d : Deed). is_on_the_way d.act ≡ true) run
   pub releases : (planned basis).releases ≡ []
   pub second : (planned basis).second ≡ None
   pub log_is : log_given shape (settled_on shape events past)

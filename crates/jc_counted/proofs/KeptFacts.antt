@@ -71,18 +71,18 @@ module _ (JobP : Job → Type 0) (PodP : Pod → Type 0) (MayCreate : Key → Jo
 
   -- ---- what is found in a log
 
-  abbrev PutsBy : Entry → Type 0
+  abbrev pub PutsBy : Entry → Type 0
   PutsBy (JobPut job) = JobP job
   PutsBy (PodPut pod) = PodP pod
   PutsBy other = Unit {0}
 
-  abbrev AllBy : List Entry → Type 0
+  abbrev pub AllBy : List Entry → Type 0
   AllBy log = Each PutsBy log
 
-  abbrev JobBy : Option Job → Type 0
+  abbrev pub JobBy : Option Job → Type 0
   JobBy o = IfSome o JobP
 
-  found-by : (log : List Entry) → AllBy log → (k : Key) → JobBy (job_in k log)
+  pub found-by : (log : List Entry) → AllBy log → (k : Key) → JobBy (job_in k log)
   found-by [] all k = tt
   found-by (JobPut job ∷ older) all k = by (found-by older all.1 k) (same_key job.key k)
     where
@@ -97,11 +97,11 @@ module _ (JobP : Job → Type 0) (PodP : Pod → Type 0) (MayCreate : Key → Jo
   found-by (PodPut pod ∷ older) all k = found-by older all.1 k
   found-by (PodGone pod ∷ older) all k = found-by older all.1 k
 
-  abbrev LifeBy : Life → Type 0
+  abbrev pub LifeBy : Life → Type 0
   LifeBy (Live pod) = PodP pod
   LifeBy other = Unit {0}
 
-  life-by : (log : List Entry) → AllBy log → (u : Uid) → LifeBy (life u log)
+  pub life-by : (log : List Entry) → AllBy log → (u : Uid) → LifeBy (life u log)
   life-by [] all u = tt
   life-by (JobPut job ∷ older) all u = life-by older all.1 u
   life-by (JobGone job ∷ older) all u = life-by older all.1 u
@@ -137,7 +137,7 @@ module _ (JobP : Job → Type 0) (PodP : Pod → Type 0) (MayCreate : Key → Jo
 
   -- ---- what an answer appends
 
-  abbrev GivesBy : Answered → Type 0
+  abbrev pub GivesBy : Answered → Type 0
   GivesBy answered = IfSome answered.entry PutsBy
 
   unless-by : (b : Bool) (r : Reply) (other : Answered) → GivesBy other → GivesBy (cond b (refused r) other)
@@ -407,7 +407,7 @@ module _ (JobP : Job → Type 0) (PodP : Pod → Type 0) (MayCreate : Key → Jo
     sync-by made fault None h = tt
     sync-by made fault (Some b) h = stepped-by log all (moment shape past) (so_far b made).flight h fault (so_far b made).left
 
-    act-by : (act : Act) → MayAct act → GivesBy (gives shape past log act)
+    pub act-by : (act : Act) → MayAct act → GivesBy (gives shape past log act)
     unfolding gives
     act-by (does.Create key spec) may = create-by log all key spec (moment shape past) may
     act-by (does.Update key version change) may = update-by log all key version change

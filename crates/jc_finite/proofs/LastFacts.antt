@@ -1,5 +1,5 @@
 -- Where no Job is created that ignores the last end of its fate, none does that is there in a settle.
-use Rattle.std.proofs.Common.{◌≡◌, ℕ, zero, suc, List, [], ◌∷◌, Option, Some, None, IfSome, refl, subst}
+use Rattle.std.proofs.Common.{◌≡◌, ℕ, List, [], ◌∷◌, Option, Some, IfSome, subst}
 use Rattle.std.specs.List.{AllByRecursion as Each}
 use Rattle.jc_types.proofs.ListFacts.{Each-weaker}
 use Rattle.jc_types.specs.declared.actions.End.{End}
@@ -14,15 +14,15 @@ use Rattle.jc_log.specs.Acts as does
 use Rattle.jc_log.specs.Acts.{Act}
 use Rattle.jc_log.specs.Deeds.{Deed, act_of_system}
 use Rattle.jc_log.proofs.WriteFacts.{job_in-key}
-use Rattle.jc_runs.specs.Replies.{log_given, next_deed}
-use Rattle.jc_settle.specs.Settles.{next_of_settle, settled_on, with_next}
-use Rattle.jc_settle.proofs.OnFacts.{next-is}
+use Rattle.jc_runs.specs.Replies.{log_given}
+use Rattle.jc_settle.specs.Settles.{settled_on}
 use Rattle.jc_counted.proofs.KeptFacts.{AreKept, MayAct, job-kept}
 use Rattle.jc_remaining.specs.Nodes.{fate}
 use Rattle.jc_remaining.specs.Remaining.{LastEndsCount, ends_of}
 use Rattle.jc_remaining.specs.Retries.{CountsAtLast}
 use Rattle.jc_remaining.proofs.SuccessCounts.{success-counts}
 use Rattle.jc_finite.specs.Finite.{EndInTheEnd, LastEndCounts, SucceedInTheEnd}
+use Rattle.jc_finite.proofs.SuccessFacts.{each-on}
 
 module _ (shape : Shape) (fates : Key → Option (List End)) where
   abbrev Counts : Deed → Type 0
@@ -50,21 +50,13 @@ module _ (shape : Shape) (fates : Key → Option (List End)) where
   }
 
   -- A settle creates no Job.
-  event-counts : (past : List Deed) (x : Sys) → Counts (next_deed shape past None (act_of_system x))
-  event-counts past (sys.List c kind) = tt
-  event-counts past (sys.Deliver c kind) = tt
-  event-counts past (sys.Begin c w) = tt
-  event-counts past (sys.Step c w) = tt
-  event-counts past sys.Node = tt
-  event-counts past (sys.Clock add) = tt
-
-  on-counts : (n : ℕ) (past : List Deed) → Each Counts past → Each Counts (settled_on shape n past)
-  on-counts zero past h = h
-  on-counts (suc n) past h = on-counts n (with_next (next_of_settle shape past) past) (by (next_of_settle shape past) refl)
-    where
-      by : (o : Option Deed) → next_of_settle shape past ≡ o → Each Counts (with_next o past)
-      by None e = h
-      by (Some d) e = let x = next-is shape past d e in (subst Counts x.is (event-counts past x.comes), h)
+  system-counts : (x : Sys) → LastEndCounts fates (act_of_system x)
+  system-counts (sys.List c kind) = tt
+  system-counts (sys.Deliver c kind) = tt
+  system-counts (sys.Begin c w) = tt
+  system-counts (sys.Step c w) = tt
+  system-counts sys.Node = tt
+  system-counts (sys.Clock add) = tt
 
   may : (act : Act) → LastEndCounts fates act → MayAct HasCounting AnyPod CountsOf kept act
   may (does.Create key spec) h = h
@@ -75,7 +67,7 @@ module _ (shape : Shape) (fates : Key → Option (List End)) where
       subst (λ k. CountsAtLast (ends_of fates k) job.spec) (job_in-key key (log_given shape (settled_on shape events past)) job there)
       (subst (λ o. IfSome o HasCounting) there
       (job-kept HasCounting AnyPod CountsOf kept shape (settled_on shape events past)
-      (Each-weaker Counts (λ (d : Deed). MayAct HasCounting AnyPod CountsOf kept d.act) (λ d. may d.act) (settled_on shape events past) (on-counts events past h)) key))
+      (Each-weaker Counts (λ (d : Deed). MayAct HasCounting AnyPod CountsOf kept d.act) (λ d. may d.act) (settled_on shape events past) (each-on shape (LastEndCounts fates) system-counts events past h)) key))
 
 -- ---- where the last end of each fate is a success
 

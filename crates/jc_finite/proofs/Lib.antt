@@ -1,7 +1,9 @@
 pub mod Strong
-pub mod LastFacts
+pub mod SyncWithin
+pub mod NodeWithin
 pub mod TurnKinds
 pub mod SuccessFacts
+pub mod LastFacts
 pub mod EndFacts
 -- The lemma on successes, handed on to the crate above.
 pub use Rattle.jc_remaining.proofs.SuccessCounts

@@ -1,106 +1,239 @@
--- Where no Job is created whose containers restart for ever, each pod of a settle comes to its end.
-use Rattle.std.proofs.Common.{◌≡◌, ℕ, zero, suc, ◌-◌, ◌^◌, ◌≤◌, Bool, true, false, not, pos, List, [], ◌∷◌, Option, Some, None, IfSome, slice_get, refl, subst, true≢false}
+-- Where no Job is created whose containers restart for ever, or those that are there stop them, each pod of a settle comes to
+-- its end, or has its Job.
+use Rattle.std.proofs.Common.{◌≡◌, ◌⊎◌, inl, inr, ℕ, zero, suc, ◌+◌, ◌-◌, ◌^◌, ◌<◌, ◌≤◌, true, false, List, [], ◌∷◌, ◌++◌, map, length, Option, Some, None, is_some, IfSome, slice_get, refl, sym, ◌∙◌, subst, arith, true≢false}
 use Rattle.std.specs.List.{AllByRecursion as Each}
 use Rattle.std.specs.Option.{option_map_or, option_or, unwrap_or}
 use Rattle.std.proofs.lemmas.Option.{none-some as none_some}
-use Rattle.std.specs.Ordering.{int_eq}
 use Rattle.jc_types.specs.declared.actions.End.{End}
+use Rattle.jc_types.specs.declared.objects.Container.{Container}
+use Rattle.jc_types.specs.declared.objects.Entry.{Entry}
+use Rattle.jc_types.specs.declared.objects.Job.{Job}
 use Rattle.jc_types.specs.declared.objects.Key.{Key}
 use Rattle.jc_types.specs.declared.objects.Pod.{Pod}
 use Rattle.jc_types.specs.declared.runs.Shape.{Shape}
+use Rattle.jc_types.specs.declared.specifications.JobSpec.{JobSpec}
 use Rattle.jc_log.specs.Deeds.{Deed, act_of_system}
-use Rattle.jc_log.specs.Log.{pods_in}
-use Rattle.jc_runs.specs.Replies.{log_given, next_deed}
-use Rattle.jc_settle.specs.Left.{ComesTo}
+use Rattle.jc_log.specs.Log.{Live, life, pod_in, pods_in}
+use Rattle.jc_log.specs.Requests.{new_container}
+use Rattle.jc_log.proofs.PodFacts.{pods_in-among, pods_in-live}
+use Rattle.jc_runs.specs.Machines.{AllAskValid, AsksValid}
+use Rattle.jc_runs.specs.Replies.{log_given}
 use Rattle.jc_settle.specs.Settles.{next_of_settle, settled_on, with_next}
 use Rattle.jc_remaining.specs.Making.{fails}
-use Rattle.jc_remaining.specs.Nodes.{fate, end_at, last_end}
+use Rattle.jc_remaining.specs.Nodes.{fate, end_at, first_container, last_end, pod_end}
 use Rattle.jc_remaining.specs.Remaining.{ends_of}
-use Rattle.jc_types.proofs.ListFacts.{Each-weaker}
+use Rattle.jc_remaining.proofs.OnwardFacts.{on-says}
+use Rattle.jc_types.proofs.ListFacts.{Each-both, Each-weaker, find_each}
+use Rattle.jc_types.specs.Keys.{same_uid}
 use Rattle.jc_types.specs.declared.runs.Sys.{Sys}
 use Rattle.jc_types.specs.declared.runs.Sys.TheVariants as sys
 use Rattle.jc_types.specs.declared.specifications.Restart.{Restart}
 use Rattle.jc_log.specs.Acts as does
 use Rattle.jc_log.specs.Acts.{Act}
+use Rattle.jc_counted.proofs.KeptFacts.{AreKept, MayAct, pods-kept}
 use Rattle.jc_counted.proofs.PolicyFacts.{CreatesSuch, pods-have}
 use Rattle.jc_settle.proofs.OnFacts.{next-is}
 use Rattle.jc_remaining.specs.Decisions.{restarts_on_failure}
-use Rattle.jc_finite.specs.Finite.{RestartsEnd, SucceedAll, SucceedAlways, SucceedInTheEnd}
+use Rattle.jc_restarts.specs.Restarts.{HasItsJob, NeverDeleted, most_restarts, deletes}
+use Rattle.jc_restarts.proofs.CountFacts.{pod-restarted, settle-few}
+use Rattle.jc_restarts.proofs.StandFacts.{has-its-job}
+use Rattle.jc_finite.specs.Finite.{CountSuccesses, EndInTheEnd, FillsACount, RestartsEnd, RestartsStop, StopInTheEnd, SucceedAll, SucceedAlways, SucceedInTheEnd}
 
-abbrev Succeeds : End → Type 0
+-- ---- what each end has, that of a pod has
+
+module _ (P : End → Type 0) where
+  last-has : (ends : List End) → Each P ends → IfSome (last_end ends) P
+  last-has [] h = tt
+  last-has (end ∷ ends) h = by (last_end ends) (last-has ends h.1)
+    where
+      by : (o : Option End) → IfSome o P → IfSome (option_or o (Some end)) P
+      by None rest = h.0
+      by (Some last) rest = rest
+
+  nth-has : (ends : List End) (n : ℕ) → Each P ends → IfSome (slice_get ends n) P
+  nth-has [] zero h = tt
+  nth-has [] (suc n) h = tt
+  nth-has (end ∷ ends) zero h = h.0
+  nth-has (end ∷ ends) (suc n) h = nth-has ends n h.1
+
+  at-has : (ends : List End) (n : ℕ) → Each P ends → IfSome (end_at n ends) P
+  at-has ends n h = by (slice_get ends n) (nth-has ends n h) (last_end ends) (last-has ends h)
+    where
+      by : (o : Option End) → IfSome o P → (p : Option End) → IfSome p P → IfSome (option_or o p) P
+      by None here p rest = rest
+      by (Some end) here p rest = here
+
+  pub pod-has : (fates : Key → Option (List End)) (pod : Pod) → Each P (ends_of fates pod.owner) → (end : End) → pod_end fates pod ≡ Some end → P end
+  pod-has fates pod = by (fates pod.owner)
+    where
+      by : (o : Option (List End)) → Each P (unwrap_or o []) → (end : End) → option_map_or (end_at pod.serial) o None ≡ Some end → P end
+      by None all end is = absurd (none_some end is)
+      by (Some ends) all end is = subst (λ o. IfSome o P) is (at-has ends pod.serial all)
+
+abbrev pub Succeeds : End → Type 0
 Succeeds end = (fails end ≡ false) × (end.restarts ≤ 2 ^ 32 - 1)
 
-last-succeeds : (ends : List End) → Each Succeeds ends → IfSome (last_end ends) Succeeds
-last-succeeds [] h = tt
-last-succeeds (end ∷ ends) h = by (last_end ends) (last-succeeds ends h.1)
-  where
-    by : (o : Option End) → IfSome o Succeeds → IfSome (option_or o (Some end)) Succeeds
-    by None rest = h.0
-    by (Some last) rest = rest
+abbrev pub CountsIfNone : End → Type 0
+CountsIfNone end = fails end ≡ false → end.restarts ≤ 2 ^ 32 - 1
 
-nth-succeeds : (ends : List End) (n : ℕ) → Each Succeeds ends → IfSome (slice_get ends n) Succeeds
-nth-succeeds [] zero h = tt
-nth-succeeds [] (suc n) h = tt
-nth-succeeds (end ∷ ends) zero h = h.0
-nth-succeeds (end ∷ ends) (suc n) h = nth-succeeds ends n h.1
+-- What each of the pods of a log has, one that is found has.
+pub pod-found-has : (Q : Pod → Type 0) (log : List Entry) (pod : Pod) → Each Q (pods_in log) → pod_in pod.uid log ≡ Some pod → Q pod
+pod-found-has Q log pod all there = find_each Q (λ (p : Pod). same_uid p.uid pod.uid) (pods_in log) pod all (pods_in-among pod.uid log ∙ there)
 
-at-succeeds : (ends : List End) (n : ℕ) → Each Succeeds ends → IfSome (end_at n ends) Succeeds
-at-succeeds ends n h = by (slice_get ends n) (nth-succeeds ends n h) (last_end ends) (last-succeeds ends h)
+-- ---- the deeds of a settle
+
+-- What is so of all that the system does of itself is so of the deeds of a settle, if it was before.
+module _ (shape : Shape) (Q : Act → Type 0) (system : (x : Sys) → Q (act_of_system x)) where
+  pub each-on : (n : ℕ) (past : List Deed) → Each (λ (d : Deed). Q d.act) past → Each (λ (d : Deed). Q d.act) (settled_on shape n past)
+  each-on zero past h = h
+  each-on (suc n) past h = each-on n (with_next (next_of_settle shape past) past) (by (next_of_settle shape past) refl)
+    where
+      by : (o : Option Deed) → next_of_settle shape past ≡ o → Each (λ (d : Deed). Q d.act) (with_next o past)
+      by None e = h
+      by (Some d) e = let x = next-is shape past d e in (subst (λ (y : Deed). Q y.act) x.is (system x.comes), h)
+
+-- None deletes a Job.
+none-deletes : (key : Key) (x : Sys) → deletes key (act_of_system x) ≡ false
+none-deletes key (sys.List c kind) = refl
+none-deletes key (sys.Deliver c kind) = refl
+none-deletes key (sys.Begin c w) = refl
+none-deletes key (sys.Step c w) = refl
+none-deletes key sys.Node = refl
+none-deletes key (sys.Clock add) = refl
+
+-- ---- the containers of a pod
+
+abbrev HasContainers : Job → Type 0
+HasContainers job = 0 < length job.spec.template.containers
+
+abbrev HasOne : Pod → Type 0
+HasOne pod = is_some (first_container pod.containers) ≡ true
+
+abbrev MakesSome : Key → JobSpec → Type 0
+MakesSome key spec = 0 < length spec.template.containers
+
+new-some : (names : List (List ℕ)) (more : List Container) → 0 < length names → is_some (first_container (map (new_container false) names ++ more)) ≡ true
+new-some [] more some = absurd (omega (arith, some))
+new-some (name ∷ names) more some = refl
+
+still-some : (change : Container → Container) (cs : List Container) → is_some (first_container cs) ≡ true → is_some (first_container (map change cs)) ≡ true
+still-some change [] h = h
+still-some change (c ∷ cs) h = refl
+
+containers-kept : AreKept HasContainers HasOne MakesSome
+containers-kept = record {
+  created = λ log key spec now may. may;
+  updated = λ log job change h. h;
+  stated = λ log basis job current status saw h there is. there;
+  made = λ log job index now h. new-some job.spec.template.containers _ h;
+  marked = λ log pod now h. h;
+  freed = λ log pod h. h;
+  reported = λ log pod change h. still-some _ pod.containers h;
+}
+
+pods-some : (shape : Shape) (deeds : List Deed) → AllAskValid deeds → Each HasOne (pods_in (log_given shape deeds))
+pods-some shape deeds valid =
+    pods-kept HasContainers HasOne MakesSome containers-kept shape deeds
+    (Each-weaker (λ (d : Deed). AsksValid d.act) (λ (d : Deed). MayAct HasContainers HasOne MakesSome containers-kept d.act) (λ d. may d.act) deeds valid)
   where
-    by : (o : Option End) → IfSome o Succeeds → (p : Option End) → IfSome p Succeeds → IfSome (option_or o p) Succeeds
-    by None here p rest = rest
-    by (Some end) here p rest = here
+    may : (act : Act) → AsksValid act → MayAct HasContainers HasOne MakesSome containers-kept act
+    may (does.Create key spec) h = h.some
+    may other h = tt
 
 -- ---- the pods of a settle
 
-module _ (shape : Shape) (fates : Key → Option (List End)) where
-  abbrev Restarts : Deed → Type 0
-  Restarts d = RestartsEnd fates d.act
+-- The pod has a container. Where it restarts after a failure, each end of its key is a success, or the Job that it was
+-- made for is there.
+pub record ComesOrHas (fates : Key → Option (List End)) (log : List Entry) (pod : Pod) : Type 0 where
+  pub some : is_some (first_container pod.containers) ≡ true
+  pub ends : restarts_on_failure pod.restart ≡ true → SucceedAll (ends_of fates pod.owner) ⊎ (CountSuccesses (ends_of fates pod.owner) × HasItsJob log pod)
 
+module _ (shape : Shape) (past : List Deed) (stops : StopInTheEnd past) (valid : AllAskValid past) where
   -- What is so of the key and the policy of each Job.
+  abbrev EndsOrStands : Key → Restart → Type 0
+  EndsOrStands key restart = restarts_on_failure restart ≡ true → SucceedAll (ends_of (fate past) key) ⊎ (CountSuccesses (ends_of (fate past) key) × NeverDeleted key past)
+
+  system-stops : (x : Sys) → RestartsStop past (act_of_system x)
+  system-stops (sys.List c kind) = tt
+  system-stops (sys.Deliver c kind) = tt
+  system-stops (sys.Begin c w) = tt
+  system-stops (sys.Step c w) = tt
+  system-stops sys.Node = tt
+  system-stops (sys.Clock add) = tt
+
+  stop-such : (act : Act) → RestartsStop past act → CreatesSuch EndsOrStands act
+  stop-such (does.Create key spec) h = h
+  stop-such other h = tt
+
+  module _ (events : ℕ) where
+    abbrev now : List Deed
+    now = settled_on shape events past
+
+    have : Each (λ (pod : Pod). EndsOrStands pod.owner pod.restart) (pods_in (log_given shape (settled_on shape events past)))
+    have =
+        pods-have EndsOrStands shape now
+        (Each-weaker (λ (d : Deed). RestartsStop past d.act) (λ (d : Deed). CreatesSuch EndsOrStands d.act) (λ d. stop-such d.act) now (each-on shape (RestartsStop past) system-stops events past stops.restarts))
+
+    of-pod : (pod : Pod) → (life pod.uid (log_given shape (settled_on shape events past)) ≡ Live pod) × ((is_some (first_container pod.containers) ≡ true) × EndsOrStands pod.owner pod.restart)
+        → ComesOrHas (fate past) (log_given shape (settled_on shape events past)) pod
+    of-pod pod h = record { some = h.1.0; ends = λ policy. by (h.1.1 policy) }
+      where
+        by : SucceedAll (ends_of (fate past) pod.owner) ⊎ (CountSuccesses (ends_of (fate past) pod.owner) × NeverDeleted pod.owner past)
+            → SucceedAll (ends_of (fate past) pod.owner) ⊎ (CountSuccesses (ends_of (fate past) pod.owner) × HasItsJob (log_given shape (settled_on shape events past)) pod)
+        by (inl all) = inl all
+        by (inr both) = inr (both.0, has-its-job shape now pod h.0 (each-on shape (λ act. deletes pod.owner act ≡ false) (none-deletes pod.owner) events past both.1))
+
+    pub pods-come : Each (ComesOrHas (fate past) (log_given shape (settled_on shape events past))) (pods_in (log_given shape (settled_on shape events past)))
+    pods-come =
+        Each-weaker (λ (pod : Pod). (life pod.uid (log_given shape now) ≡ Live pod) × (HasOne pod × EndsOrStands pod.owner pod.restart)) (ComesOrHas (fate past) (log_given shape now)) of-pod (pods_in (log_given shape now))
+        (Each-both (λ (pod : Pod). life pod.uid (log_given shape now) ≡ Live pod) (λ (pod : Pod). HasOne pod × EndsOrStands pod.owner pod.restart) (pods_in (log_given shape now)) (pods_in-live (log_given shape now))
+        (Each-both HasOne (λ (pod : Pod). EndsOrStands pod.owner pod.restart) (pods_in (log_given shape now)) (pods-some shape now ((on-says shape events past).valid valid)) have))
+
+-- A container that has restarted as often as is counted has come to that by so many reports and deeds.
+pub late-out : (shape : Shape) (past : List Deed) (out : FillsACount shape past) → 2 ^ 32 - 1 ≤ most_restarts past + out.events
+late-out shape past out =
+    let full = out.full in
+    let few = pod-restarted shape (settled_on shape out.events past) out.pod out.there in
+    let more = settle-few shape out.events past in
+    omega (arith, full, few, more)
+
+-- ---- where no container restarts for ever
+
+pub ends-stop : (past : List Deed) → EndInTheEnd past → StopInTheEnd past
+ends-stop past ends = record { lasts = ends.lasts; restarts = Each-weaker (λ (d : Deed). RestartsEnd (fate past) d.act) (λ (d : Deed). RestartsStop past d.act) (λ d. of d.act) past ends.restarts }
+  where
+    of : (act : Act) → RestartsEnd (fate past) act → RestartsStop past act
+    of (does.Create key spec) h = λ policy. inl (h policy)
+    of other h = tt
+
+module _ (shape : Shape) (past : List Deed) (ends : EndInTheEnd past) where
   abbrev EndsWell : Key → Restart → Type 0
-  EndsWell key restart = restarts_on_failure restart ≡ true → SucceedAll (ends_of fates key)
+  EndsWell key restart = restarts_on_failure restart ≡ true → SucceedAll (ends_of (fate past) key)
 
-  comes-to : (pod : Pod) → EndsWell pod.owner pod.restart → ComesTo fates pod
-  comes-to pod h = record {
-    succeeds = λ end is policy. of (int_eq end.exit (pos 0)) (pod-succeeds (fates pod.owner) (h policy) end is).0;
-    few = λ end is policy. (pod-succeeds (fates pod.owner) (h policy) end is).1;
-  }
+  system-ends : (x : Sys) → RestartsEnd (fate past) (act_of_system x)
+  system-ends (sys.List c kind) = tt
+  system-ends (sys.Deliver c kind) = tt
+  system-ends (sys.Begin c w) = tt
+  system-ends (sys.Step c w) = tt
+  system-ends sys.Node = tt
+  system-ends (sys.Clock add) = tt
+
+  end-such : (act : Act) → RestartsEnd (fate past) act → CreatesSuch EndsWell act
+  end-such (does.Create key spec) h = h
+  end-such other h = tt
+
+  -- So none restarts as often as is counted.
+  pub never-out : FillsACount shape past → ⊥
+  never-out out = true≢false (sym out.failing ∙ (pod-has Succeeds (fate past) out.pod (well out.policy) out.end out.fated).0)
     where
-      of : (b : Bool) → not b ≡ false → b ≡ true
-      of true e = refl
-      of false e = absurd (true≢false e)
+      have : Each (λ (pod : Pod). EndsWell pod.owner pod.restart) (pods_in (log_given shape (settled_on shape out.events past)))
+      have =
+          pods-have EndsWell shape (settled_on shape out.events past)
+          (Each-weaker (λ (d : Deed). RestartsEnd (fate past) d.act) (λ (d : Deed). CreatesSuch EndsWell d.act) (λ d. end-such d.act) (settled_on shape out.events past)
+          (each-on shape (RestartsEnd (fate past)) system-ends out.events past ends.restarts))
 
-      pod-succeeds : (o : Option (List End)) → Each Succeeds (unwrap_or o []) → (end : End) → option_map_or (end_at pod.serial) o None ≡ Some end → Succeeds end
-      pod-succeeds None all end is = absurd (none_some end is)
-      pod-succeeds (Some ends) all end is = subst (λ o. IfSome o Succeeds) is (at-succeeds ends pod.serial all)
-
-  -- A settle creates no Job.
-  event-restarts : (past : List Deed) (x : Sys) → Restarts (next_deed shape past None (act_of_system x))
-  event-restarts past (sys.List c kind) = tt
-  event-restarts past (sys.Deliver c kind) = tt
-  event-restarts past (sys.Begin c w) = tt
-  event-restarts past (sys.Step c w) = tt
-  event-restarts past sys.Node = tt
-  event-restarts past (sys.Clock add) = tt
-
-  on-restarts : (n : ℕ) (past : List Deed) → Each Restarts past → Each Restarts (settled_on shape n past)
-  on-restarts zero past h = h
-  on-restarts (suc n) past h = on-restarts n (with_next (next_of_settle shape past) past) (by (next_of_settle shape past) refl)
-    where
-      by : (o : Option Deed) → next_of_settle shape past ≡ o → Each Restarts (with_next o past)
-      by None e = h
-      by (Some d) e = let x = next-is shape past d e in (subst Restarts x.is (event-restarts past x.comes), h)
-
-  such : (act : Act) → RestartsEnd fates act → CreatesSuch EndsWell act
-  such (does.Create key spec) h = h
-  such other h = tt
-
-  pub pods-come : (past : List Deed) → Each Restarts past → (events : ℕ) → Each (ComesTo fates) (pods_in (log_given shape (settled_on shape events past)))
-  pods-come past h events =
-      Each-weaker (λ (pod : Pod). EndsWell pod.owner pod.restart) (ComesTo fates) comes-to (pods_in (log_given shape (settled_on shape events past)))
-      (pods-have EndsWell shape (settled_on shape events past)
-      (Each-weaker Restarts (λ (d : Deed). CreatesSuch EndsWell d.act) (λ d. such d.act) (settled_on shape events past) (on-restarts events past h)))
+      well : EndsWell out.pod.owner out.pod.restart
+      well = pod-found-has (λ (pod : Pod). EndsWell pod.owner pod.restart) (log_given shape (settled_on shape out.events past)) out.pod have out.there
 
 -- ---- where each end is a success
 
@@ -122,7 +255,7 @@ module _ (past : List Deed) (always : SucceedAlways past) where
 
   pub always-enough : SucceedInTheEnd past
   always-enough = record {
-    lasts = λ key. by (last_end (ends_of (fate past) key)) (last-succeeds (ends_of (fate past) key) (all-ends key));
+    lasts = λ key. by (last_end (ends_of (fate past) key)) (last-has Succeeds (ends_of (fate past) key) (all-ends key));
     restarts = each-restarts past;
   }
     where

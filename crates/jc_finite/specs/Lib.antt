@@ -5,3 +5,4 @@ pub use Rattle.jc_remaining.specs.Decisions
 pub use Rattle.jc_remaining.specs.Making
 pub use Rattle.jc_remaining.specs.Remaining
 pub use Rattle.jc_remaining.specs.Retries
+pub use Rattle.jc_restarts.specs.Restarts

@@ -1,14 +1,15 @@
 //! The law on the end of every settle. The function does nothing: what it ensures holds of every history, and its callers may
 //! cite it.
 
-ghost use Rattle.std.specs.Prelude.{◌<◌, List};
+ghost use Rattle.std.specs.Prelude.{◌⊎◌, ◌+◌, ◌-◌, ◌^◌, ◌<◌, ◌≤◌, List};
 ghost use Rattle.jc_types.specs.declared.runs.Shape.{Shape};
 ghost use Rattle.jc_log.specs.Deeds.{Deed};
 ghost use Rattle.jc_log.specs.Range.{IsMoment};
 ghost use Rattle.jc_runs.specs.Legal.{IsLegal};
 ghost use Rattle.jc_runs.specs.Machines.{AllAskValid};
 ghost use Rattle.jc_settle.specs.Settles.{ComesToRest};
-ghost use Rattle.jc_finite.specs.Finite.{EndInTheEnd, SucceedAlways, SucceedInTheEnd};
+ghost use Rattle.jc_restarts.specs.Restarts.{most_restarts};
+ghost use Rattle.jc_finite.specs.Finite.{EndInTheEnd, FillsACount, StopInTheEnd, SucceedAlways, SucceedInTheEnd};
 
 use jc_runs::allowed_updates_stay_valid;
 
@@ -18,13 +19,23 @@ use jc_runs::allowed_updates_stay_valid;
 /// has a failure policy that ignores the last one: each failure that counts is one of those that the backoff limit allows.
 /// With each turn the first of these numbers that changes falls: the faults that are pending, the pods that may still be
 /// made, what is left to write of those that are there, and the statuses, the moments and the keys that are still to come.
-/// So it is where the last end of each fate is a success; and where each end is one, whatever Jobs were created.
+/// So it is where the last end of each fate is a success; and where each end is one, whatever Jobs were created. Where
+/// containers restart after failures that come again and again, and the Jobs of their keys are never deleted, those Jobs stop
+/// them once they have restarted too often; so it ends too, unless a container has restarted as often as is counted,
+/// 2 ^ 32 - 1 times: that takes reports that say so, or as many deeds of the node and events of the settle together with what
+/// reports say.
 pub fn settles_end()
     ensures rests { (shape : Shape) (past : List Deed) → IsLegal shape past → AllAskValid past
         → 0 < shape.workers → IsMoment shape.start → EndInTheEnd past
         → ComesToRest shape past }
+    ensures stops { (shape : Shape) (past : List Deed) → IsLegal shape past → AllAskValid past
+        → 0 < shape.workers → IsMoment shape.start → StopInTheEnd past
+        → ComesToRest shape past ⊎ FillsACount shape past }
+    ensures late { (shape : Shape) (past : List Deed) → (out : FillsACount shape past)
+        → 2 ^ 32 - 1 ≤ most_restarts past + out.events }
     ensures succeeding { (past : List Deed) → SucceedInTheEnd past → EndInTheEnd past }
     ensures always { (past : List Deed) → SucceedAlways past → SucceedInTheEnd past }
+    ensures weaker { (past : List Deed) → EndInTheEnd past → StopInTheEnd past }
 {
     allowed_updates_stay_valid();
 }

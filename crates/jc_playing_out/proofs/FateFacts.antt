@@ -1,5 +1,5 @@
 -- What is so of each fate that a script puts is so of the fates in each play of it.
-use Rattle.std.proofs.Common.{◌≡◌, ℕ, zero, suc, Bool, true, false, cond, List, [], ◌∷◌, map, slice_get, Option, Some, None, refl, sym, ap, ◌∙◌, subst}
+use Rattle.std.proofs.Common.{◌≡◌, ◌⊎◌, inl, inr, ℕ, zero, suc, Bool, true, false, cond, List, [], ◌∷◌, map, slice_get, Option, Some, None, refl, sym, ap, ◌∙◌, subst}
 use Rattle.std.proofs.lemmas.Option.{none-some as none_some, same_Some}
 use Rattle.std.specs.List.{AllByRecursion as Each}
 use Rattle.std.specs.Option.{option_or, unwrap_or}
@@ -21,10 +21,12 @@ use Rattle.jc_log.specs.Acts as does
 use Rattle.jc_log.specs.Acts.{Act}
 use Rattle.jc_log.specs.Deeds.{Deed, act_of_action, act_of_command, act_of_event, act_of_system, deed}
 use Rattle.jc_history.specs.Nodes.{fate, fate_told}
-use Rattle.jc_finite.specs.Finite.{EndInTheEnd, LastEndCounts, RestartsEnd, SucceedAll, SucceedAlways}
+use Rattle.jc_finite.specs.Remaining.{ends_of}
+use Rattle.jc_finite.specs.Finite.{CountSuccesses, EndInTheEnd, LastEndCounts, RestartsEnd, RestartsStop, StopInTheEnd, SucceedAll, SucceedAlways}
+use Rattle.jc_finite.specs.Restarts.{NeverDeleted, deletes}
 use Rattle.jc_finite.specs.Retries.{CountsAtLast}
 use Rattle.jc_finite.proofs.SuccessCounts.{success-counts}
-use Rattle.jc_playing_out.specs.PlayingOut.{LastEndCountsFor, CountsInTheEnd, EndsSucceed, EndsSucceedFor, FatesEndWell, FatesSucceed, LastEndSucceeds, RestartsWell}
+use Rattle.jc_playing_out.specs.PlayingOut.{CountsFor, CountsInTheEnd, EndsSucceed, EndsSucceedFor, FatesEndWell, FatesStopWell, FatesSucceed, KeepsJob, LastEndCountsFor, LastEndSucceeds, RestartsUntilStopped, RestartsWell}
 
 module _ (Q : List End → Type 0) (k : Key) where
   -- It is so of a fate of the key that the act puts.
@@ -107,7 +109,7 @@ module _ (P : Act → Type 0) (unknown : P does.Unknown) (system : (x : Sys) →
   so-all [] = tt
   so-all (past ∷ pasts) = (so-by past.event, so-all pasts)
 
-module _ (script : Script) (h : FatesEndWell script) (pasts : List Past) where
+module _ (script : Script) (lasts : Each (λ (command : Command). CountsInTheEnd script.commands command.action) script.commands) (pasts : List Past) where
   abbrev Counts : Act → Type 0
   Counts act = LastEndCounts (fate (map (deed script) pasts)) act
 
@@ -137,9 +139,10 @@ module _ (script : Script) (h : FatesEndWell script) (pasts : List Past) where
   lasts-all : Each (λ (d : Deed). Counts d.act) (map (deed script) pasts)
   lasts-all =
       so-all Counts tt system-counts script
-      (Each-weaker (λ (command : Command). CountsInTheEnd script.commands command.action) (λ (command : Command). Counts (act_of_action command.action)) (λ command. lasts-of command.action) script.commands h.lasts)
+      (Each-weaker (λ (command : Command). CountsInTheEnd script.commands command.action) (λ (command : Command). Counts (act_of_action command.action)) (λ command. lasts-of command.action) script.commands lasts)
       pasts
 
+module _ (script : Script) (h : FatesEndWell script) (pasts : List Past) where
   restarts-of : (a : Action1) → RestartsWell script.commands a → RestartsEnd (fate (map (deed script) pasts)) (act_of_action a)
   restarts-of (action.Create key spec) well = λ policy. by (well policy) (fate (map (deed script) pasts) key) refl
     where
@@ -155,28 +158,25 @@ module _ (script : Script) (h : FatesEndWell script) (pasts : List Past) where
           pasts ends is
   restarts-of other well = tt
 
-  restarts-at : (commands : List Command) (n : ℕ) → Each (λ (command : Command). RestartsWell script.commands command.action) commands
-      → RestartsEnd (fate (map (deed script) pasts)) (act_of_command (slice_get commands n))
-  restarts-at [] zero all = tt
-  restarts-at [] (suc n) all = tt
-  restarts-at (command ∷ commands) zero all = restarts-of command.action all.0
-  restarts-at (command ∷ commands) (suc n) all = restarts-at commands n all.1
+  abbrev Restarts : Act → Type 0
+  Restarts act = RestartsEnd (fate (map (deed script) pasts)) act
 
-  restarts-by : (e : Event) → RestartsEnd (fate (map (deed script) pasts)) (act_of_event script.commands e)
-  restarts-by (event.Command lane number) = restarts-at script.commands number h.restarts
-  restarts-by (event.System (sys.List controller kind)) = tt
-  restarts-by (event.System (sys.Deliver controller kind)) = tt
-  restarts-by (event.System (sys.Begin controller worker)) = tt
-  restarts-by (event.System (sys.Step controller worker)) = tt
-  restarts-by (event.System sys.Node) = tt
-  restarts-by (event.System (sys.Clock add)) = tt
+  system-restarts : (x : Sys) → Restarts (act_of_system x)
+  system-restarts (sys.List controller kind) = tt
+  system-restarts (sys.Deliver controller kind) = tt
+  system-restarts (sys.Begin controller worker) = tt
+  system-restarts (sys.Step controller worker) = tt
+  system-restarts sys.Node = tt
+  system-restarts (sys.Clock add) = tt
 
-  restarts-all : (some : List Past) → Each (λ (d : Deed). RestartsEnd (fate (map (deed script) pasts)) d.act) (map (deed script) some)
-  restarts-all [] = tt
-  restarts-all (past ∷ some) = (restarts-by past.event, restarts-all some)
+  restarts-all : Each (λ (d : Deed). Restarts d.act) (map (deed script) pasts)
+  restarts-all =
+      so-all Restarts tt system-restarts script
+      (Each-weaker (λ (command : Command). RestartsWell script.commands command.action) (λ (command : Command). Restarts (act_of_action command.action)) (λ command. restarts-of command.action) script.commands h.restarts)
+      pasts
 
   pub fates-end-well : EndInTheEnd (map (deed script) pasts)
-  fates-end-well = record { lasts = lasts-all; restarts = restarts-all pasts }
+  fates-end-well = record { lasts = lasts-all script h.lasts pasts; restarts = restarts-all }
 
 -- ---- where the last one is a success
 
@@ -194,3 +194,87 @@ successes-count commands h = each commands
     each : (some : List Command) → Each (λ (command : Command). CountsInTheEnd commands command.action) some
     each [] = tt
     each (command ∷ some) = (by command.action, each some)
+
+-- ---- where Jobs that are there stop containers
+
+module _ (script : Script) (key : Key) (kept : Each (λ (command : Command). KeepsJob key command.action) script.commands) where
+  action-keeps : (a : Action1) → KeepsJob key a → deletes key (act_of_action a) ≡ false
+  action-keeps (action.Delete other) h = h
+  action-keeps other h = refl
+
+  system-keeps : (x : Sys) → deletes key (act_of_system x) ≡ false
+  system-keeps (sys.List controller kind) = refl
+  system-keeps (sys.Deliver controller kind) = refl
+  system-keeps (sys.Begin controller worker) = refl
+  system-keeps (sys.Step controller worker) = refl
+  system-keeps sys.Node = refl
+  system-keeps (sys.Clock add) = refl
+
+  never-deleted : (pasts : List Past) → NeverDeleted key (map (deed script) pasts)
+  never-deleted =
+      so-all (λ act. deletes key act ≡ false) refl system-keeps script
+      (Each-weaker (λ (command : Command). KeepsJob key command.action) (λ (command : Command). deletes key (act_of_action command.action) ≡ false) (λ command. action-keeps command.action) script.commands kept)
+
+module _ (script : Script) (h : FatesStopWell script) (pasts : List Past) where
+  stops-of : (a : Action1) → RestartsUntilStopped script.commands a → RestartsStop (map (deed script) pasts) (act_of_action a)
+  stops-of (action.Create key spec) well = λ policy. by (well policy)
+    where
+      all-succeed : (a : Action1) → EndsSucceedFor key a → PutsBy SucceedAll key a
+      all-succeed (action.Fate other ends) g = g
+      all-succeed other g = tt
+
+      all-count : (a : Action1) → CountsFor key a → PutsBy CountSuccesses key a
+      all-count (action.Fate other ends) g = g
+      all-count other g = tt
+
+      of-ends : (Q : List End → Type 0) → Q [] → Each (λ (command : Command). PutsBy Q key command.action) script.commands → Q (unwrap_or (fate (map (deed script) pasts) key) [])
+      of-ends Q none all = at (fate (map (deed script) pasts) key) refl
+        where
+          at : (o : Option (List End)) → fate (map (deed script) pasts) key ≡ o → Q (unwrap_or o [])
+          at None is = none
+          at (Some ends) is = fates-are Q key script all pasts ends is
+
+      by : Each (λ (command : Command). EndsSucceedFor key command.action) script.commands
+          ⊎ (Each (λ (command : Command). CountsFor key command.action) script.commands × Each (λ (command : Command). KeepsJob key command.action) script.commands)
+          → SucceedAll (ends_of (fate (map (deed script) pasts)) key) ⊎ (CountSuccesses (ends_of (fate (map (deed script) pasts)) key) × NeverDeleted key (map (deed script) pasts))
+      by (inl all) =
+          inl (of-ends SucceedAll tt
+          (Each-weaker (λ (command : Command). EndsSucceedFor key command.action) (λ (command : Command). PutsBy SucceedAll key command.action) (λ command. all-succeed command.action) script.commands all))
+      by (inr both) = inr (
+        of-ends CountSuccesses tt
+            (Each-weaker (λ (command : Command). CountsFor key command.action) (λ (command : Command). PutsBy CountSuccesses key command.action) (λ command. all-count command.action) script.commands both.0),
+        never-deleted script key both.1 pasts,
+      )
+  stops-of other well = tt
+
+  abbrev Stops : Act → Type 0
+  Stops act = RestartsStop (map (deed script) pasts) act
+
+  system-stops : (x : Sys) → Stops (act_of_system x)
+  system-stops (sys.List controller kind) = tt
+  system-stops (sys.Deliver controller kind) = tt
+  system-stops (sys.Begin controller worker) = tt
+  system-stops (sys.Step controller worker) = tt
+  system-stops sys.Node = tt
+  system-stops (sys.Clock add) = tt
+
+  stops-all : Each (λ (d : Deed). Stops d.act) (map (deed script) pasts)
+  stops-all =
+      so-all Stops tt system-stops script
+      (Each-weaker (λ (command : Command). RestartsUntilStopped script.commands command.action) (λ (command : Command). Stops (act_of_action command.action)) (λ command. stops-of command.action) script.commands h.restarts)
+      pasts
+
+  pub fates-stop-well : StopInTheEnd (map (deed script) pasts)
+  fates-stop-well = record { lasts = lasts-all script h.lasts pasts; restarts = stops-all }
+
+-- What restarts well does so until it is stopped.
+pub well-stops : (script : Script) → FatesEndWell script → FatesStopWell script
+well-stops script h = record {
+  lasts = h.lasts;
+  restarts =
+      Each-weaker (λ (command : Command). RestartsWell script.commands command.action) (λ (command : Command). RestartsUntilStopped script.commands command.action) (λ command. of command.action) script.commands h.restarts;
+}
+  where
+    of : (a : Action1) → RestartsWell script.commands a → RestartsUntilStopped script.commands a
+    of (action.Create key spec) well = λ policy. inl (well policy)
+    of other well = tt

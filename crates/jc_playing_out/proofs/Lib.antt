@@ -3,3 +3,4 @@ pub mod DoneFacts
 pub mod BringFacts
 pub mod FateFacts
 pub mod WholeFacts
+pub mod LateFacts

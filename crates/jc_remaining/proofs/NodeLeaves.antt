@@ -1,5 +1,5 @@
 -- A deed of the node leaves less of all pods, and allows no more.
-use Rattle.std.proofs.Common.{◌≡◌, ◌<◌, ◌≤◌, List, ◌∷◌, Option, Some, None, refl, sym, ap, ◌∙◌, subst, arith}
+use Rattle.std.proofs.Common.{◌≡◌, ℕ, ◌<◌, ◌≤◌, List, ◌∷◌, Option, Some, None, refl, sym, ap, ◌∙◌, subst, arith}
 use Rattle.std.specs.List.{AllByRecursion as Each}
 use Rattle.std.specs.Option.{option_map_or}
 use Rattle.jc_types.proofs.ListFacts.{find_each}
@@ -31,14 +31,14 @@ use Rattle.jc_remaining.proofs.Sums.{creations-most}
 found-has : (P : Pod → Type 0) (pods : List Pod) (pod : Pod) → Each P pods → pod_among pod.uid pods ≡ Some pod → P pod
 found-has P pods pod all is = find_each P (λ (p : Pod). same_uid p.uid pod.uid) pods pod all is
 
-pub node-left : (shape : Shape) (past : List Deed) (d : Deed) → IsLegal shape past → 0 < shape.workers → next_of_settle shape past ≡ Some d → d.act ≡ does.Node
-    → Each (ComesTo (fate past)) (pods_in (log_given shape past))
-    → all_left (fate past) (pods_in (log_given shape (d ∷ past))) < all_left (fate past) (pods_in (log_given shape past))
-node-left shape past d legal some e a comes =
+pub node-left : (shape : Shape) (past : List Deed) (d : Deed) (most : ℕ) → IsLegal shape past → 0 < shape.workers → next_of_settle shape past ≡ Some d → d.act ≡ does.Node
+    → Each (ComesTo most (fate past)) (pods_in (log_given shape past))
+    → all_left most (fate past) (pods_in (log_given shape (d ∷ past))) < all_left most (fate past) (pods_in (log_given shape past))
+node-left shape past d most legal some e a comes =
     let w = node-writes shape past legal some d e a in
-    let its = found-has (ComesTo (fate past)) (pods_in (log_given shape past)) w.pod comes (pods_in-among w.pod.uid (log_given shape past) ∙ w.befalls.there) in
-    subst (λ log. all_left (fate past) (pods_in log) < all_left (fate past) (pods_in (log_given shape past))) (sym (w.log_is its))
-    (pods-less (fate past) (log_given shape past) w.pod w.act w.befalls its)
+    let its = found-has (ComesTo most (fate past)) (pods_in (log_given shape past)) w.pod comes (pods_in-among w.pod.uid (log_given shape past) ∙ w.befalls.there) in
+    subst (λ log. all_left most (fate past) (pods_in log) < all_left most (fate past) (pods_in (log_given shape past))) (sym (w.log_is most its))
+    (pods-less most (fate past) (log_given shape past) w.pod w.act w.befalls its)
 
 pub node-creations : (shape : Shape) (past : List Deed) (d : Deed) (keys : List Key) → d.act ≡ does.Node → FitsAll (log_given shape past)
     → all_creations (fate past) (log_given shape (d ∷ past)) keys ≤ all_creations (fate past) (log_given shape past) keys

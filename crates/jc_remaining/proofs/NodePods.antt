@@ -136,12 +136,12 @@ same-phase-eq Succeeded other h = absurd (true≢false (sym h))
 same-phase-eq Failed Failed h = refl
 same-phase-eq Failed other h = absurd (true≢false (sym h))
 
-module _ (fates : Key → Option (List End)) (log : List Entry) (pod : Pod) (act : NodeAct) (befalls : Befalls log fates pod act) (comes : ComesTo fates pod) where
+module _ (most : ℕ) (fates : Key → Option (List End)) (log : List Entry) (pod : Pod) (act : NodeAct) (befalls : Befalls log fates pod act) (comes : ComesTo most fates pod) where
   abbrev new : Pod
   new = with_report log pod (change_by pod act)
 
-  pub less-left : pod_left fates new < pod_left fates pod
-  less-left = node-lowers fates log pod comes act befalls.acts
+  pub less-left : pod_left most fates new < pod_left most fates pod
+  less-left = node-lowers most fates log pod comes act befalls.acts
 
   -- What is left of it is not the same, so it is not the same course.
   not-same : same_course_of pod (with_report log pod (change_by pod act)) ≡ false
@@ -151,7 +151,7 @@ module _ (fates : Key → Option (List End)) (log : List Entry) (pod : Pod) (act
       let parts = and_parts (same_phase pod.phase new.phase) (pointwise same_container pod.containers new.containers && pointwise same_pattern pod.conditions new.conditions) same in
       let phase = same-phase-eq pod.phase new.phase parts.0 in
       let containers = (containers-exact pod.containers new.containers).0 (and_parts (pointwise same_container pod.containers new.containers) (pointwise same_pattern pod.conditions new.conditions) parts.1).0 in
-      let left : pod_left fates pod ≡ pod_left fates new = (λ i. pod_left fates (record pod { phase = phase i; containers = containers i })) in
+      let left : pod_left most fates pod ≡ pod_left most fates new = (λ i. pod_left most fates (record pod { phase = phase i; containers = containers i })) in
       let less = less-left in omega (arith, left, less))
 
   opened : is_final pod.phase ≡ false
@@ -181,19 +181,19 @@ module _ (fates : Key → Option (List End)) (log : List Entry) (pod : Pod) (act
   at : Among (with_report log pod (change_by pod act)) pod (pods_in log)
   at = splits (with_report log pod (change_by pod act)) pod 0 (pods_in log) (pods_in-rises log) all-only found
 
-  pub pods-less : all_left fates (pods_in (pod_entry (with_report log pod (change_by pod act)) ∷ log)) < all_left fates (pods_in log)
+  pub pods-less : all_left most fates (pods_in (pod_entry (with_report log pod (change_by pod act)) ∷ log)) < all_left most fates (pods_in log)
   pods-less = by (goes new)
     where
-      was : all_left fates (pods_in log) ≡ all_left fates at.front + pod_left fates pod + all_left fates at.back
-      was = ap (all_left fates) at.are ∙ left-among fates at.front at.back pod
+      was : all_left most fates (pods_in log) ≡ all_left most fates at.front + pod_left most fates pod + all_left most fates at.back
+      was = ap (all_left most fates) at.are ∙ left-among most fates at.front at.back pod
 
-      by : (b : Bool) → all_left fates (pods_in (cond b (PodGone new) (PodPut new) ∷ log)) < all_left fates (pods_in log)
+      by : (b : Bool) → all_left most fates (pods_in (cond b (PodGone new) (PodPut new) ∷ log)) < all_left most fates (pods_in log)
       by true =
-          let now : all_left fates (drop_pod pod.uid (pods_in log)) ≡ all_left fates at.front + all_left fates at.back = ap (all_left fates) at.drop ∙ left-append fates at.front at.back in
+          let now : all_left most fates (drop_pod pod.uid (pods_in log)) ≡ all_left most fates at.front + all_left most fates at.back = ap (all_left most fates) at.drop ∙ left-append most fates at.front at.back in
           let old = was in let less = less-left in omega (arith, now, old, less)
       by false =
-          let now : all_left fates (pods_in (PodPut new ∷ log)) ≡ all_left fates at.front + pod_left fates new + all_left fates at.back =
-          ap (all_left fates) (put-replaced 0 new (pods_in log) (pods_in-rises log) found ∙ at.put) ∙ left-among fates at.front at.back new in
+          let now : all_left most fates (pods_in (PodPut new ∷ log)) ≡ all_left most fates at.front + pod_left most fates new + all_left most fates at.back =
+          ap (all_left most fates) (put-replaced 0 new (pods_in log) (pods_in-rises log) found ∙ at.put) ∙ left-among most fates at.front at.back new in
           let old = was in let less = less-left in omega (arith, now, old, less)
 
 -- ---- a deed of the node
@@ -203,7 +203,7 @@ pub record NodeWrites (shape : Shape) (past : List Deed) (d : Deed) : Type 0 whe
   pub pod : Pod
   pub act : NodeAct
   pub befalls : Befalls (log_given shape past) (fate past) pod act
-  pub log_is : ComesTo (fate past) pod → log_given shape (d ∷ past) ≡ pod_entry (with_report (log_given shape past) pod (change_by pod act)) ∷ log_given shape past
+  pub log_is : (most : ℕ) → ComesTo most (fate past) pod → log_given shape (d ∷ past) ≡ pod_entry (with_report (log_given shape past) pod (change_by pod act)) ∷ log_given shape past
 
 module _ (shape : Shape) (past : List Deed) (legal : IsLegal shape past) (some : 0 < shape.workers) (d : Deed) (e : next_of_settle shape past ≡ Some d) (a : d.act ≡ does.Node) where
   abbrev log : List Entry
@@ -234,8 +234,8 @@ module _ (shape : Shape) (past : List Deed) (legal : IsLegal shape past) (some :
         pod = step.0;
         act = step.1;
         befalls = node-step-befalls log (fate past) step is;
-        log_is = λ comes.
+        log_is = λ most comes.
             grew
             ∙ ap (λ o. grown log (node_gives log o).entry) is
-            ∙ ap (grown log) (written (fate past) log step.0 step.1 (node-step-befalls log (fate past) step is) comes);
+            ∙ ap (grown log) (written most (fate past) log step.0 step.1 (node-step-befalls log (fate past) step is) comes);
       }

@@ -15,15 +15,16 @@ use Rattle.jc_log.proofs.ObjectFacts.{jobs_in-at}
 use Rattle.jc_settle.specs.Left.{pod_left}
 use Rattle.jc_remaining.specs.Remaining.{HasEach, all_creations, all_left, creations_under}
 
-module _ (fates : Key → Option (List End)) where
-  pub left-append : (xs ys : List Pod) → all_left fates (xs ++ ys) ≡ all_left fates xs + all_left fates ys
+module _ (bound : ℕ) (fates : Key → Option (List End)) where
+  pub left-append : (xs ys : List Pod) → all_left bound fates (xs ++ ys) ≡ all_left bound fates xs + all_left bound fates ys
   left-append [] ys = omega arith
   left-append (pod ∷ xs) ys = let rest = left-append xs ys in omega (arith, rest)
 
   -- One of them is another one, or none.
-  pub left-among : (front back : List Pod) (pod : Pod) → all_left fates (front ++ pod ∷ back) ≡ all_left fates front + pod_left fates pod + all_left fates back
+  pub left-among : (front back : List Pod) (pod : Pod) → all_left bound fates (front ++ pod ∷ back) ≡ all_left bound fates front + pod_left bound fates pod + all_left bound fates back
   left-among front back pod = let all = left-append front (pod ∷ back) in omega (arith, all)
 
+module _ (fates : Key → Option (List End)) where
   module _ (log new : List Entry) (most : (k : Key) → creations_under fates new k ≤ creations_under fates log k) where
     pub creations-most : (keys : List Key) → all_creations fates new keys ≤ all_creations fates log keys
     creations-most [] = omega arith

@@ -197,7 +197,7 @@ module _ (log : List Entry) (basis : Basis) (saw : SawLog log basis) where
           let c = ap length none in let x = ap length m in let y = ap length g in let z = ap length r in
           absurd (omega (arith, some, c, x, y, z))
 
-  module _ (fates : Key → Option (List End)) (new : List Entry) (all : DoesAll log basis new) (none : (planned basis).creates ≡ []) where
+  module _ (most : ℕ) (fates : Key → Option (List End)) (new : List Entry) (all : DoesAll log basis new) (none : (planned basis).creates ≡ []) where
     no-fresh : pods_in new ≡ all.all.after
     no-fresh = all.all.parts ∙ by all.all.fresh (all.all.count ∙ ap length none)
       where
@@ -205,10 +205,10 @@ module _ (log : List Entry) (basis : Basis) (saw : SawLog log basis) where
         by [] is = append-nil all.all.after
         by (pod ∷ fresh) is = absurd (omega (arith, is))
 
-    pub sync-left-most : all_left fates (pods_in new) ≤ all_left fates (pods_in log)
-    sync-left-most = subst (λ pods. all_left fates pods ≤ all_left fates (pods_in log)) (sym no-fresh) (all-most fates (planned basis) (pods_in log) all.all.after all.all.served)
+    pub sync-left-most : all_left most fates (pods_in new) ≤ all_left most fates (pods_in log)
+    sync-left-most = subst (λ pods. all_left most fates pods ≤ all_left most fates (pods_in log)) (sym no-fresh) (all-most most fates (planned basis) (pods_in log) all.all.after all.all.served)
 
-    pub sync-left-less : 0 < pods_asked (planned basis) → all_left fates (pods_in new) < all_left fates (pods_in log)
+    pub sync-left-less : 0 < pods_asked (planned basis) → all_left most fates (pods_in new) < all_left most fates (pods_in log)
     sync-left-less some =
         let h = has-wanted none some in
-        subst (λ pods. all_left fates pods < all_left fates (pods_in log)) (sym no-fresh) (all-less fates (planned basis) h.pod h.wanted (pods_in log) all.all.after h.among all.all.served)
+        subst (λ pods. all_left most fates pods < all_left most fates (pods_in log)) (sym no-fresh) (all-less most fates (planned basis) h.pod h.wanted (pods_in log) all.all.after h.among all.all.served)

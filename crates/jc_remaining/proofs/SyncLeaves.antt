@@ -15,17 +15,17 @@ use Rattle.jc_bearing.specs.Whole.{DoesAll, SawLog}
 use Rattle.jc_remaining.specs.Remaining.{FitsAll, HasEach, LastEndsCount, all_creations, all_left}
 use Rattle.jc_remaining.proofs.SyncFacts.{sync-creations-fewer, sync-creations-most, sync-left-less}
 
--- Fewer pods may be made; or no more, and less is left of those that are there.
-pub data LeavesLess (fates : Key → Option (List End)) (keys : List Key) (log new : List Entry) : Type 0 where
-  Fewer : all_creations fates new keys < all_creations fates log keys → LeavesLess fates keys log new
-  Less : all_creations fates new keys ≤ all_creations fates log keys → all_left fates (pods_in new) < all_left fates (pods_in log) → LeavesLess fates keys log new
+-- Fewer pods may be made; or none is made, no more may be, and less is left of those that are there.
+pub data LeavesLess (most : ℕ) (fates : Key → Option (List End)) (keys : List Key) (log new : List Entry) (basis : Basis) : Type 0 where
+  Fewer : all_creations fates new keys < all_creations fates log keys → LeavesLess most fates keys log new basis
+  Less : (planned basis).creates ≡ [] → all_creations fates new keys ≤ all_creations fates log keys → all_left most fates (pods_in new) < all_left most fates (pods_in log) → LeavesLess most fates keys log new basis
 
 module _ (keys : List Key) (log new : List Entry) (basis : Basis) (saw : SawLog log basis) (all : DoesAll log basis new) (each : HasEach keys log) where
-  pub sync-leaves : (fates : Key → Option (List End)) → LastEndsCount fates log → FitsAll log → 0 < pods_asked (planned basis) → LeavesLess fates keys log new
-  sync-leaves fates lasts fits some = by (planned basis).creates refl
+  pub sync-leaves : (most : ℕ) (fates : Key → Option (List End)) → LastEndsCount fates log → FitsAll log → 0 < pods_asked (planned basis) → LeavesLess most fates keys log new basis
+  sync-leaves most fates lasts fits some = by (planned basis).creates refl
     where
-      by : (creates : List (Option ℕ)) → (planned basis).creates ≡ creates → LeavesLess fates keys log new
-      by [] is = Less (sync-creations-most fates log lasts new basis saw all fits keys) (sync-left-less log basis saw fates new all is some)
+      by : (creates : List (Option ℕ)) → (planned basis).creates ≡ creates → LeavesLess most fates keys log new basis
+      by [] is = Less is (sync-creations-most fates log lasts new basis saw all fits keys) (sync-left-less log basis saw most fates new all is some)
       by (index ∷ more) is = Fewer (sync-creations-fewer fates log lasts new basis saw all fits keys each (let n = ap length is in omega (arith, n)))
 
   -- No Job is new.

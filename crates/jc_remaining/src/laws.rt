@@ -1,11 +1,10 @@
 //! Laws on how a settle ends. Each function is empty: what it ensures holds of every history, and its callers may cite it.
 
-ghost use Rattle.std.specs.Prelude.{◌≡◌, ◌<◌, ◌≤◌, ◌∷◌, List, Option, Some, [], length};
+ghost use Rattle.std.specs.Prelude.{◌≡◌, ◌<◌, ◌≤◌, ◌∷◌, List, Option, Some, [], length, ℕ};
 ghost use Rattle.jc_types.specs.declared.actions.End.{End};
 ghost use Rattle.jc_types.specs.declared.objects.Entry.{Entry};
 ghost use Rattle.jc_types.specs.declared.objects.Key.{Key};
 ghost use Rattle.jc_types.specs.declared.runs.Shape.{Shape};
-ghost use Rattle.std.specs.List.{AllByRecursion as Each};
 ghost use Rattle.jc_log.specs.Acts as does;
 ghost use Rattle.jc_log.specs.Deeds.{Deed};
 ghost use Rattle.jc_log.specs.Log.{pods_in};
@@ -13,12 +12,11 @@ ghost use Rattle.jc_plan.specs.Plans.{planned};
 ghost use Rattle.jc_runs.specs.Legal.{IsLegal};
 ghost use Rattle.jc_runs.specs.Replies.{log_given};
 ghost use Rattle.jc_states.specs.declared.bases.Basis.{Basis};
-ghost use Rattle.jc_settle.specs.Left.{ComesTo};
 ghost use Rattle.jc_settle.specs.Settles.{next_of_settle};
 ghost use Rattle.jc_calm.specs.SettleTurns.{pods_asked};
 ghost use Rattle.jc_retries.specs.Nodes.{fate};
 ghost use Rattle.jc_bearing.specs.Whole.{DoesAll, SawLog};
-ghost use Rattle.jc_remaining.specs.Remaining.{FitsAll, HasEach, LastEndsCount, all_creations, all_left};
+ghost use Rattle.jc_remaining.specs.Remaining.{AllCome, FitsAll, HasEach, LastEndsCount, all_creations, all_left, still_left};
 
 /// **A whole sync leaves less to be written of pods**: where it makes pods, fewer may still be made for all Jobs, if no Job
 /// ignores the last end of its fate. Where it makes none no more may be made, and less is left of the pods that are there if
@@ -31,22 +29,22 @@ pub fn whole_syncs_leave_less()
         → LastEndsCount fates log → FitsAll log → SawLog log basis → DoesAll log basis new
         → HasEach keys log → 0 < length (planned basis).creates
         → all_creations fates new keys < all_creations fates log keys }
-    ensures same { (fates : Key → Option (List End)) (log new : List Entry) (basis : Basis)
+    ensures same { (most : ℕ) (fates : Key → Option (List End)) (log new : List Entry) (basis : Basis)
         → SawLog log basis → DoesAll log basis new → (planned basis).creates ≡ []
-        → all_left fates (pods_in new) ≤ all_left fates (pods_in log) }
-    ensures less { (fates : Key → Option (List End)) (log new : List Entry) (basis : Basis)
+        → all_left most fates (pods_in new) ≤ all_left most fates (pods_in log) }
+    ensures less { (most : ℕ) (fates : Key → Option (List End)) (log new : List Entry) (basis : Basis)
         → SawLog log basis → DoesAll log basis new → (planned basis).creates ≡ []
-        → 0 < pods_asked (planned basis) → all_left fates (pods_in new) < all_left fates (pods_in log) }
+        → 0 < pods_asked (planned basis)
+        → all_left most fates (pods_in new) < all_left most fates (pods_in log) }
 {}
 
 /// **And so does the node**: each of its deeds in a settle is written, leaves less of the pods that are there, and allows no
-/// more of them, where no pod restarts after a failure that comes again and again.
+/// more of them, where each pod whose container restarts after failures has restarted less often than a bound.
 pub fn the_node_leaves_less()
-    ensures left { (shape : Shape) (past : List Deed) (d : Deed) → IsLegal shape past → 0 < shape.workers
-        → next_of_settle shape past ≡ Some d → d.act ≡ does.Node
-        → Each (ComesTo (fate past)) (pods_in (log_given shape past))
-        → all_left (fate past) (pods_in (log_given shape (d ∷ past)))
-        < all_left (fate past) (pods_in (log_given shape past)) }
+    ensures left { (shape : Shape) (past : List Deed) (d : Deed) (most : ℕ) → IsLegal shape past
+        → 0 < shape.workers → next_of_settle shape past ≡ Some d → d.act ≡ does.Node
+        → AllCome most shape past
+        → still_left most (fate past) shape (d ∷ past) < still_left most (fate past) shape past }
     ensures creations { (shape : Shape) (past : List Deed) (d : Deed) (keys : List Key)
         → d.act ≡ does.Node → FitsAll (log_given shape past)
         → all_creations (fate past) (log_given shape (d ∷ past)) keys

@@ -96,11 +96,11 @@ module _ (shape : Shape) where
       same : (h.run ++ d ∷ []) ++ past ≡ h.run ++ d ∷ past
       same = append_assoc h.run (d ∷ []) past
 
-  telling-on : (act : Act) → is_telling act ≡ true → is_on_the_way act ≡ true
+  pub telling-on : (act : Act) → is_telling act ≡ true → is_on_the_way act ≡ true
   telling-on (does.Step c w) h = refl
   telling-on other h = h
 
-  all-on : (run : List Deed) → Each (λ (d : Deed). is_telling d.act ≡ true) run → Each (λ (d : Deed). is_on_the_way d.act ≡ true) run
+  pub all-on : (run : List Deed) → Each (λ (d : Deed). is_telling d.act ≡ true) run → Each (λ (d : Deed). is_on_the_way d.act ≡ true) run
   all-on [] h = tt
   all-on (d ∷ run) h = (telling-on d.act h.0, all-on run h.1)
 

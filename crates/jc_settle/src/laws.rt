@@ -103,14 +103,15 @@ pub fn settles_calm_down()
 {}
 
 /// Each write of a pod leaves less to write of it: what the node does to it, its mark, and the loss of its
-/// finalizer. Where its containers restart after a failure its end has to be none.
+/// finalizer. Where its containers restart after a failure, and its end is one, it has restarted less often
+/// than the bound.
 pub fn writes_leave_less_of_a_pod()
-    ensures node { (fates : Key → Option (List End)) (log : List Entry) (pod : Pod) (act : NodeAct)
-        → ComesTo fates pod → act_on fates pod ≡ Some act
-        → pod_left fates (with_report log pod (change_by pod act)) < pod_left fates pod }
-    ensures mark { (fates : Key → Option (List End)) (log : List Entry) (now : Moment) (pod : Pod)
+    ensures node { (most : ℕ) (fates : Key → Option (List End)) (log : List Entry) (pod : Pod) (act : NodeAct)
+        → ComesTo most fates pod → act_on fates pod ≡ Some act
+        → pod_left most fates (with_report log pod (change_by pod act)) < pod_left most fates pod }
+    ensures mark { (most : ℕ) (fates : Key → Option (List End)) (log : List Entry) (now : Moment) (pod : Pod)
         → is_open pod ≡ true → is_marked pod ≡ false
-        → pod_left fates (with_mark log pod now) < pod_left fates pod }
-    ensures release { (fates : Key → Option (List End)) (log : List Entry) (pod : Pod)
-        → pod.tracked ≡ true → pod_left fates (without_finalizer log pod) < pod_left fates pod }
+        → pod_left most fates (with_mark log pod now) < pod_left most fates pod }
+    ensures release { (most : ℕ) (fates : Key → Option (List End)) (log : List Entry) (pod : Pod)
+        → pod.tracked ≡ true → pod_left most fates (without_finalizer log pod) < pod_left most fates pod }
 {}

@@ -6,6 +6,6 @@ pub returns : goal.returns
 returns c = record {
   none_more = λ fates keys log new basis lasts fits saw all. sync-creations-most fates log lasts new basis saw all fits keys;
   fewer = λ fates keys log new basis lasts fits saw all each some. sync-creations-fewer fates log lasts new basis saw all fits keys each some;
-  same = λ fates log new basis saw all none. sync-left-most log basis saw fates new all none;
-  less = λ fates log new basis saw all none some. sync-left-less log basis saw fates new all none some;
+  same = λ most fates log new basis saw all none. sync-left-most log basis saw most fates new all none;
+  less = λ most fates log new basis saw all none some. sync-left-less log basis saw most fates new all none some;
 }

@@ -1,0 +1,7 @@
+pub mod EntryFacts
+pub mod StandFacts
+pub mod QueueFacts
+pub mod LimitFacts
+pub mod CountFacts
+-- The lemmas on what a deed is noted as, handed on to the crate above.
+pub use Rattle.jc_history.proofs.LegalFacts

@@ -1,0 +1,7 @@
+//! That containers restart within a limit in a settle: those of a Job that is there are stopped once they have restarted too
+//! often.
+#![tactic(auto)]
+
+mod laws;
+
+pub use laws::containers_restart_within_a_limit;
