@@ -1,5 +1,5 @@
 -- Where no Job is created that ignores the last end of its fate, none does that is there in a settle.
-use Rattle.std.proofs.Common.{◌≡◌, ℕ, List, [], ◌∷◌, Option, Some, IfSome, subst}
+use Rattle.std.proofs.Common.{ℕ, List, [], ◌∷◌, Option, IfSome, subst}
 use Rattle.std.specs.List.{AllByRecursion as Each}
 use Rattle.jc_types.proofs.ListFacts.{Each-weaker}
 use Rattle.jc_types.specs.declared.actions.End.{End}

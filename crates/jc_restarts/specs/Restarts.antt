@@ -2,13 +2,13 @@
 --     deletes key act                    the act deletes the Job of the key
 --     NeverDeleted key deeds             none of the deeds does
 --     too_many job                       so many restarts are too many for the Job
---     HasItsJob log pod                  the Job that the pod was made for is there, and has the pod's policy
---     IsInQueue shape past key           a controller has the key in its queue
---     RestartsWithin shape past most pod the pod has restarted less often than the bound, or its key is in a queue
 --     given_restarts changes             the greatest number of restarts that the changes give
 --     restarts_after act n               what the act makes of a number of restarts, at most
 --     most_restarts deeds                how often a container has restarted, at most
---     AllWithin shape past most          so it is of each pod, and too many restarts for a Job are at most the bound
+--     HasItsJob log pod                  the Job that the pod was made for is there, and has the pod's policy
+--     IsInQueue shape past key           a controller has the key in its queue
+--     RestartsWithin shape past n pod    the pod has restarted less often than n, or its key is in a queue
+--     AllWithin shape past n             so it is of each pod, and too many restarts for a Job are at most n
 use Rattle.std.specs.Prelude.{◌≡◌, ◌⊎◌, ℕ, ◌+◌, ◌<◌, ◌≤◌, Bool, true, false, List, [], ◌∷◌, max, Some, unwrap_or}
 use Rattle.std.specs.List.{AllByRecursion as Each}
 use Rattle.jc_types.specs.Keys.{same_key}
