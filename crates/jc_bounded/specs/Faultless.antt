@@ -8,7 +8,7 @@
 --     AllowsNoMore ends log new job       the Job is there still, and no more pods are made for it at most
 --     TurnsOver shape past                after so many events it is as calm, and each Job is allowed no more
 --     UsesUpAFault shape past             after so many events it is as calm, and fewer faults are pending
-use Rattle.std.specs.Prelude.{◌≡◌, ℕ, ◌<◌, ◌≤◌, Bool, true, false, List, Some, IfSome}
+use Rattle.std.specs.Prelude.{◌≡◌, ℕ, ◌<◌, ◌≤◌, Bool, true, false, List, Some}
 use Rattle.std.specs.List.{AllByRecursion as Each}
 use Rattle.jc_types.specs.declared.actions.End.{End}
 use Rattle.jc_types.specs.declared.objects.Entry.{Entry}
@@ -25,8 +25,8 @@ use Rattle.jc_runs.specs.Machines.{AllAskValid}
 use Rattle.jc_runs.specs.Replies.{log_given}
 use Rattle.jc_settle.specs.Settles.{IsCalm, settled_on}
 use Rattle.jc_calm.specs.SettleTurns.{faults_pending}
-use Rattle.jc_making.specs.Making.{fails}
-use Rattle.jc_making.specs.Nodes.{fate, last_end}
+use Rattle.jc_making.specs.Making.{LastIsSuccess}
+use Rattle.jc_making.specs.Nodes.{fate}
 use Rattle.jc_bearing.specs.AtMost.{pods_at_most}
 
 -- The history is legal, and each Job was created with a valid specification; and it is calm.
@@ -60,7 +60,7 @@ pub record ComesFaultless (shape : Shape) (past : List Deed) : Type 0 where
 pub record SucceedsAtLast (shape : Shape) (past : List Deed) (ends : List End) (job : Job) : Type 0 where
   pub there : job_in job.key (log_given shape past) ≡ Some job
   pub fated : fate past job.key ≡ Some ends
-  pub last : IfSome (last_end ends) (λ end. fails end ≡ false)
+  pub last : LastIsSuccess ends
 
 -- How many pods were made for the Job after so many events of the settle.
 abbrev pub made_on : Shape → ℕ → List Deed → Job → ℕ

@@ -16,7 +16,6 @@ use Rattle.jc_types.specs.declared.specifications.JobSpec.{JobSpec}
 use Rattle.jc_types.specs.ValidSpecs.{IsValidSpec}
 use Rattle.jc_states.specs.declared.bases.Basis.{Basis}
 use Rattle.jc_log.specs.Acts as does
-use Rattle.jc_log.specs.Acts.{Act}
 use Rattle.jc_log.specs.Deeds.{Deed, act_of_system}
 use Rattle.jc_log.specs.Requests.{changed_spec, update_refusal}
 use Rattle.jc_log.specs.Writes.{Stored}

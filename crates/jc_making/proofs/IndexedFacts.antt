@@ -35,7 +35,7 @@ use Rattle.jc_perindex.specs.Failures.{failing_by, failing_in, failures_by, fail
 use Rattle.jc_perindex.proofs.Raised.{raised-ascends}
 use Rattle.jc_perindex.proofs.Sets.{increasing-filter, increasing-join, up-kept}
 use Rattle.jc_manage.specs.Backoffs.{backoff_after, is_delayed_until, opening}
-use Rattle.jc_manage.specs.Creations.{creatable, creates, free, holds, is_free, job_lacks, keepers, keeps, new_pods, wanted}
+use Rattle.jc_manage.specs.Creations.{creates, free, holds, is_free, job_lacks, keepers, keeps, new_pods, wanted}
 use Rattle.jc_manage.specs.LetGoes.{is_earlier, is_needless, is_one_of, is_spare, remaining}
 use Rattle.jc_manage.proofs.Bounds.{free-new, free-unkept}
 use Rattle.jc_plan.specs.Plans.{planned}

@@ -1,7 +1,6 @@
 -- What the node does to a pod never raises how many pods may still be made.
 use Rattle.std.proofs.Common.{◌≡◌, ℕ, ◌+◌, ◌≤◌, Bool, true, false, cond, not, ◌&&◌, ◌||◌, List, [], ◌∷◌, ◌++◌, Option, Some, None, is_some, pos, refl, sym, ap, ◌∙◌, subst, arith, true≢false}
 use Rattle.std.proofs.lemmas.Bool.{and_right}
-use Rattle.std.specs.List.{AllByRecursion as Each}
 use Rattle.std.specs.Option.{option_map_or, unwrap_or}
 use Rattle.std.specs.Ordering.{int_eq}
 use Rattle.jc_types.specs.declared.actions.End.{End}
@@ -21,6 +20,7 @@ use Rattle.jc_account.specs.Judged.{is_candidate}
 use Rattle.jc_history.specs.Nodes.{NodeAct, Stop, Start, Again, Finish, act_on, act_with, change_by, end_at, is_again, pod_end}
 use Rattle.jc_making.specs.Making.{IsCounted, creations_left, may_be_made, misses, will_fail}
 use Rattle.jc_making.proofs.Lists.{one_if, passing-mid}
+use Rattle.jc_making.proofs.Values.{each-mid}
 use Rattle.jc_making.proofs.PodFacts.{fails-now, goes-on, is_new, nothing, succeeds-now, unmet}
 use Rattle.jc_making.proofs.PlanFacts.{active-not, open-not, success-is}
 
@@ -38,11 +38,6 @@ unsucceeded job p e = ap (λ b. is_candidate job p && b) (success-is job.spec p 
 
 untracked : (job : Job) (p : Pod) → is_tracked p ≡ false → is_new job p ≡ false
 untracked job p e = ap (λ b. (b && (is_verdict (outcome_of job.spec p) && not (is_listed job.status p.uid))) && same_outcome (outcome_of job.spec p) outcome.Succeeded) e
-
--- What is known of each pod is known of one in the middle.
-each-mid : (P : Pod → Type 0) (xs ys : List Pod) (x : Pod) → Each P (xs ++ x ∷ ys) → P x
-each-mid P [] ys x h = h.0
-each-mid P (z ∷ xs) ys x h = each-mid P xs ys x h.1
 
 -- A tracked pod that has just succeeded is a new success, if it is not listed.
 anew : (job : Job) (p : Pod) → is_tracked p ≡ true → is_succeeded p.phase ≡ true → is_listed job.status p.uid ≡ false → is_new job p ≡ true

@@ -45,9 +45,6 @@ module _ (job : Job) where
       value job.spec.completions job.spec.parallelism job.spec.per_index job.status.completed job.status.index_failures
       (job.status.succeeded + length job.status.uncounted_succeeded) job.spec.mode news tracked
 
-  pub is-valued : (own : List Pod) → unmet own ≡ valued (new_successes job own) (tracked_active_pods own)
-  is-valued own = refl
-
   -- Two lists of own pods, of which the same ones are new successes and the same ones are active.
   pub same-unmet : (own others : List Pod) → new_successes job own ≡ new_successes job others → tracked_active_pods own ≡ tracked_active_pods others → unmet own ≡ unmet others
   same-unmet own others news tracked = λ i. valued (news i) (tracked i)

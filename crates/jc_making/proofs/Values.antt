@@ -42,7 +42,8 @@ pub length-one : (xs ys : List Pod) (x : Pod) → length (xs ++ x ∷ ys) ≡ su
 length-one [] ys x = refl
 length-one (z ∷ xs) ys x = ap suc (length-one xs ys x)
 
-each-mid : (P : Pod → Type 0) (xs ys : List Pod) (x : Pod) → Each P (xs ++ x ∷ ys) → P x
+-- What is known of each pod is known of one in the middle.
+pub each-mid : (P : Pod → Type 0) (xs ys : List Pod) (x : Pod) → Each P (xs ++ x ∷ ys) → P x
 each-mid P [] ys x h = h.0
 each-mid P (z ∷ xs) ys x h = each-mid P xs ys x h.1
 

@@ -8,7 +8,6 @@ use Rattle.jc_types.specs.declared.runs.Sys.TheVariants as sys
 use Rattle.jc_types.proofs.ListFacts.{Each-append as each-append}
 use Rattle.jc_control.specs.Schedules.{log_end}
 use Rattle.jc_log.specs.Acts as does
-use Rattle.jc_log.specs.Acts.{Act}
 use Rattle.jc_log.specs.Deeds.{Deed, act_of_system}
 use Rattle.jc_history.specs.Legal.{IsLegal, IsLegalNext}
 use Rattle.jc_history.specs.Notes.{Note}

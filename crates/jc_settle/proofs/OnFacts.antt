@@ -114,6 +114,3 @@ module _ (shape : Shape) where
 
   pub rest-before : (past : List Deed) (d : Deed) → next_of_settle shape past ≡ Some d → ComesToRest shape (d ∷ past) → ComesToRest shape past
   rest-before past d e h = rest-earlier 1 past (subst (ComesToRest shape) (sym (on-some 0 past d e)) h)
-
-  pub rest-none : (past : List Deed) → next_of_settle shape past ≡ None → ComesToRest shape past
-  rest-none past e = record { events = 0; rests = none-next shape past e }

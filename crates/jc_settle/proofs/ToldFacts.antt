@@ -13,7 +13,6 @@ use Rattle.jc_states.specs.declared.bases.Basis.{Basis}
 use Rattle.jc_control.specs.ControllerCalls.{told}
 use Rattle.jc_control.specs.Schedules.{log_end}
 use Rattle.jc_log.specs.Acts as does
-use Rattle.jc_log.specs.Acts.{Act}
 use Rattle.jc_log.specs.Deeds.{Deed}
 use Rattle.jc_log.specs.Log.{entry_at, upto}
 use Rattle.jc_log.specs.Requests.{Answered, refused}
