@@ -17,13 +17,14 @@ use jc_runs::allowed_updates_stay_valid;
 /// nothing is available, for any number of controllers and workers, with lagging caches, faults that are pending, and syncs
 /// that are under way when it begins. The last end of a fate may be a failure, and so may all of them, if no Job of the key
 /// has a failure policy that ignores the last one: each failure that counts is one of those that the backoff limit allows.
+/// Where a Job of the policy OnFailure is created, each end of its key is a success, so that no container restarts for ever.
 /// With each turn the first of these numbers that changes falls: the faults that are pending, the pods that may still be
 /// made, what is left to write of those that are there, and the statuses, the moments and the keys that are still to come.
-/// So it is where the last end of each fate is a success; and where each end is one, whatever Jobs were created. Where
-/// containers restart after failures that come again and again, and the Jobs of their keys are never deleted, those Jobs stop
-/// them once they have restarted too often; so it ends too, unless a container has restarted as often as is counted,
-/// 2 ^ 32 - 1 times: that takes reports that say so, or as many deeds of the node and events of the settle together with what
-/// reports say.
+/// A success is never ignored, so the last end of a fate may always be one; and it is enough that each end of each fate is,
+/// whatever Jobs were created. Where ends of a key fail for which a Job of OnFailure is created, but no Job of the key is ever
+/// deleted, the one that is there stops containers that have restarted too often: so it ends too, unless a container has
+/// restarted as often as is counted, 2 ^ 32 - 1 times. That takes a report of many restarts, or as many deeds of the node and
+/// events of the settle as are still lacking then.
 pub fn settles_end()
     ensures rests { (shape : Shape) (past : List Deed) → IsLegal shape past → AllAskValid past
         → 0 < shape.workers → IsMoment shape.start → EndInTheEnd past

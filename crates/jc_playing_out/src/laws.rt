@@ -26,9 +26,10 @@ use jc_runs::valid_scripts_ask_valid;
 /// the last end of a fate of its key, and each end of a key for which a Job of the policy OnFailure
 /// is created is a success. A success is never ignored, so it is enough that the last end of each
 /// fate is one. And where ends of such a key fail, but no command deletes its Job, the Job stops
-/// containers that have restarted too often: so the play ends, unless a container restarts as often
-/// as is counted, 2 ^ 32 - 1 times. With reports as they can be read of a script, that takes 2 ^ 31
-/// events. Where the last command is a settle, nothing is left to do at the end.
+/// containers that have restarted too often: so the play ends, unless in one of its settles a
+/// container restarts as often as is counted, 2 ^ 32 - 1 times. With reports as they can be read of
+/// a script, that takes 2 ^ 31 events. Where the last command is a settle, nothing is left to do at
+/// the end of a play that ends.
 pub fn plays_end()
     ensures ends { (script : Script) (shape : Shape)
         → AreValidCommands script.commands
