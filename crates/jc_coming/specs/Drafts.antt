@@ -9,7 +9,7 @@
 --     statuses_to_come now log     2 for each of the former, and 1 for each of the latter
 --     AsksForNoPod plan            no pod is made, marked, let go or released
 --     WritesOnly log basis job status   a sync asks for no pod, and writes the status first
---     showing active any           a small Job whose status has so many active pods
+--     showing active any           a small Job that has begun, whose status has so many active pods
 use Rattle.std.specs.Prelude.{◌≡◌, ℕ, ◌+◌, ◌*◌, nat_lt, Bool, false, not, List, [], length, filter, Option, Some, None}
 use Rattle.jc_types.specs.declared.objects.Entry.{Entry}
 use Rattle.jc_types.specs.declared.objects.Job.{Job}
@@ -88,9 +88,9 @@ pub record WritesOnly (log : List Entry) (basis : Basis) (job : Job) (status : J
   pub asks : AsksForNoPod (planned basis)
   pub first : (planned basis).first ≡ Some status
 
--- A small Job whose status has so many active pods.
+-- A small Job that has begun, whose status has so many active pods.
 abbrev pub showing : ℕ → Job → Job
 showing active any = record any {
   spec = sample_spec;
-  status = record empty_status { active = active };
+  status = record empty_status { active = active; start = Some 0 };
 }

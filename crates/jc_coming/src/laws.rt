@@ -87,10 +87,11 @@ pub fn empty_syncs_take_a_key()
         < keys_to_come basis.now log notes }
 {}
 
-/// What wrong machines do lowers nothing of what is to come. One that writes another status at each sync leaves a draft
-/// each time: here the number of active pods of a Job that has none, 1 and then 2. And a moment that has passed is none to
-/// come, so a clock that rings for it brings nothing nearer.
-pub fn wrong_machines_lower_nothing()
+/// **Wrong statuses are drafts**, worked out. A machine that writes another status at each sync leaves a draft each time:
+/// here the number of active pods of a Job that has none, 1 and then 2, where 0 is no draft. And a moment that has passed
+/// is none to come, so a clock that rings for it brings nothing nearer.
+pub fn wrong_statuses_are_drafts()
+    ensures right { (job : Job) → is_draft 0 (showing 0 job) [] ≡ false }
     ensures first { (job : Job) → is_draft 0 (showing 1 job) [] ≡ true }
     ensures second { (job : Job) → is_draft 0 (showing 2 job) [] ≡ true }
     ensures passed { (now m : ℕ) (log : List Entry) (notes : List Note) (key : Key) → m ≤ now

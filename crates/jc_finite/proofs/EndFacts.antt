@@ -23,7 +23,7 @@ use Rattle.jc_ends.proofs.TurnCounts.{coming_at}
 use Rattle.jc_remaining.specs.Nodes.{fate}
 use Rattle.jc_remaining.specs.Remaining.{HasEach, LastEndsCount}
 use Rattle.jc_remaining.proofs.Sums.{has-each, keys_there}
-use Rattle.jc_restarts.specs.Restarts.{AllWithin}
+use Rattle.jc_finite.proofs.Within.{AllWithin}
 use Rattle.jc_finite.specs.Finite.{EndInTheEnd, StopInTheEnd}
 use Rattle.jc_finite.proofs.LastFacts.{jobs-count}
 use Rattle.jc_finite.proofs.NodeWithin.{begins-within, enough_restarts}

@@ -1,4 +1,5 @@
 pub mod Strong
+pub mod Within
 pub mod SyncWithin
 pub mod NodeWithin
 pub mod TurnKinds

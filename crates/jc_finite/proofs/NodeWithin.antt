@@ -38,7 +38,8 @@ use Rattle.jc_remaining.specs.Faultless.{IsBetweenTurns}
 use Rattle.jc_remaining.proofs.NodePods.{NodeWrites}
 use Rattle.jc_remaining.proofs.NodeTurns.{IsToldOf, node-jobs}
 use Rattle.jc_remaining.proofs.Sums.{has-each, keys_there}
-use Rattle.jc_restarts.specs.Restarts.{AllWithin, HasItsJob, IsInQueue, RestartsWithin, too_many}
+use Rattle.jc_restarts.specs.Restarts.{HasItsJob, too_many}
+use Rattle.jc_finite.proofs.Within.{AllWithin, IsInQueue, RestartsWithin}
 use Rattle.jc_restarts.proofs.CountFacts.{each-put}
 use Rattle.jc_restarts.proofs.QueueFacts.{IsAtMost, comes-in, none-in-queue, put-listed}
 use Rattle.jc_restarts.proofs.StandFacts.{has-controller}

@@ -34,7 +34,8 @@ use Rattle.jc_remaining.specs.Served.{AllServed, IsGone, IsRewritten, NonePod, S
 use Rattle.jc_remaining.specs.Whole.{DoesAll, SawLog}
 use Rattle.jc_remaining.proofs.TrackFacts.{rewritten-itself}
 use Rattle.jc_remaining.proofs.ServedFacts.{IsOneOf}
-use Rattle.jc_restarts.specs.Restarts.{AllWithin, HasItsJob, IsInQueue, RestartsWithin, too_many}
+use Rattle.jc_restarts.specs.Restarts.{HasItsJob, too_many}
+use Rattle.jc_finite.proofs.Within.{AllWithin, IsInQueue, RestartsWithin}
 use Rattle.jc_restarts.proofs.LimitFacts.{few-restarts}
 use Rattle.jc_restarts.proofs.QueueFacts.{GetsNone, all-stay, run-stays}
 

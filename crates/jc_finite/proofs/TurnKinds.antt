@@ -1,7 +1,7 @@
 -- What a turn of a settle lowers: the faults that are pending, the pods that may be made, what is left of those that are
 -- there, or what is still to come.
 use Rattle.std.proofs.Common.{◌≡◌, ◌⊎◌, inl, inr, ℕ, ◌+◌, ◌-◌, ◌^◌, ◌<◌, ◌≤◌, ◌==◌, nat_le, Bool, true, false, cond, not, ◌&&◌, pos, List, [], ◌∷◌, ◌++◌, length}
-use Rattle.std.proofs.Common.{map, Option, Some, None, refl, sym, ap, ◌∙◌, subst, arith, true≢false, leb-false, leb-true}
+use Rattle.std.proofs.Common.{map, Option, Some, None, is_some, refl, sym, ap, ◌∙◌, subst, arith, true≢false, leb-false, leb-true}
 use Rattle.std.specs.List.{AllByRecursion as Each}
 use Rattle.std.specs.Option.{option_map_or}
 use Rattle.std.specs.Ordering.{int_eq}
@@ -48,7 +48,7 @@ use Rattle.jc_ends.proofs.Descent.{Falls}
 use Rattle.jc_ends.proofs.TurnCounts.{clock-lessens, coming_at, finds-lessens, writes-lessens}
 use Rattle.jc_remaining.specs.Decisions.{restarts_on_failure}
 use Rattle.jc_remaining.specs.Making.{fails}
-use Rattle.jc_remaining.specs.Nodes.{end_at, fate, pod_end}
+use Rattle.jc_remaining.specs.Nodes.{end_at, fate, first_container, pod_end}
 use Rattle.jc_remaining.specs.Plans.{planned}
 use Rattle.jc_remaining.specs.Remaining.{FitsAll, HasEach, LastEndsCount, all_creations, all_left, ends_of}
 use Rattle.jc_remaining.proofs.NodeLeaves.{node-creations, node-left}
@@ -56,7 +56,8 @@ use Rattle.jc_remaining.proofs.NodePods.{NodeWrites, node-writes}
 use Rattle.jc_remaining.proofs.StatusAlone.{status-alone}
 use Rattle.jc_remaining.proofs.SyncFacts.{sync-creations-most}
 use Rattle.jc_remaining.proofs.SyncLeaves.{Fewer, LeavesLess, Less, each-kept, sync-leaves}
-use Rattle.jc_restarts.specs.Restarts.{AllWithin, HasItsJob, IsInQueue, RestartsWithin}
+use Rattle.jc_restarts.specs.Restarts.{HasItsJob}
+use Rattle.jc_finite.proofs.Within.{AllWithin, IsInQueue, RestartsWithin}
 use Rattle.jc_finite.proofs.NodeWithin.{clock-within, node-alone, node-within, none-waits}
 use Rattle.jc_restarts.proofs.QueueFacts.{GetsNone, all-stay}
 use Rattle.jc_finite.proofs.SyncWithin.{find-within, queue-stays, same-stay, sync-within, whole-stay}
@@ -93,10 +94,11 @@ module _ (fates : Key → Option (List End)) where
 
   -- Of one that has not, less is left once the node does something to it.
   pod-comes : (shape : Shape) (past : List Deed) (most : ℕ) (pod : Pod) → ComesOrHas fates (log_given shape past) pod → RestartsWithin shape past most pod → (IsInQueue shape past pod.owner → ⊥) → is_full pod ≡ false → ComesTo most fates pod
-  pod-comes shape past most pod h within alone unfull = record { some = h.some; fails = failing; few = few }
+  pod-comes shape past most pod h within alone unfull = record { fails = failing; few = few }
     where
-      failing : (end : End) → is_active pod ≡ true → pod_end fates pod ≡ Some end → restarts_on_failure pod.restart ≡ true → int_eq end.exit (pos 0) ≡ false → (first_restarts pod < most) × (first_restarts pod < 2 ^ 32 - 1)
-      failing end active fated policy exit = (by (h.ends policy), leb-false (2 ^ 32 - 1) (first_restarts pod) less)
+      failing : (end : End) → is_active pod ≡ true → pod_end fates pod ≡ Some end → restarts_on_failure pod.restart ≡ true → int_eq end.exit (pos 0) ≡ false
+          → (is_some (first_container pod.containers) ≡ true) × (first_restarts pod < most) × (first_restarts pod < 2 ^ 32 - 1)
+      failing end active fated policy exit = (h.some, by (h.ends policy), leb-false (2 ^ 32 - 1) (first_restarts pod) less)
         where
           by : SucceedAll (ends_of fates pod.owner) ⊎ (CountSuccesses (ends_of fates pod.owner) × HasItsJob (log_given shape past) pod) → first_restarts pod < most
           by (inl all) = absurd (true≢false (sym (not-false (int_eq end.exit (pos 0)) (pod-has Succeeds fates pod all end fated).0) ∙ exit))

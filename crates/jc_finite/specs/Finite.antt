@@ -46,8 +46,8 @@ RestartsEnd fates (does.Create key spec) =
     restarts_on_failure spec.template.restart ≡ true → SucceedAll (ends_of fates key)
 RestartsEnd fates other = Unit {0}
 
--- So it is; or no Job of the key is ever deleted, and the one that is there stops a container that has restarted as often
--- as its backoff limit allows.
+-- So it is; or no success of the key comes after more restarts than are counted, and no Job of the key is ever deleted: the
+-- one that is there stops a container that has restarted as often as its backoff limit allows.
 abbrev pub RestartsStop : List Deed → Act → Type 0
 RestartsStop past (does.Create key spec) =
     restarts_on_failure spec.template.restart ≡ true

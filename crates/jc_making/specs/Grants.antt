@@ -64,7 +64,7 @@ AreNew made [] (pod ∷ pods) = ⊥
 AreNew made (index ∷ indexes) [] = ⊥
 AreNew made (index ∷ indexes) (pod ∷ pods) = IsNew made index pod × AreNew (suc made) indexes pods
 
--- The pod as it is made: pending, with the containers of the template and no condition.
+-- The pod as it is made: pending and not marked, with the containers of the template and no condition.
 abbrev pub as_new : Template → Pod → Pod
 as_new template pod = record pod {
   phase = Pending;

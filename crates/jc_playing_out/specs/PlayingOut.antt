@@ -88,8 +88,9 @@ abbrev pub KeepsJob : Key → Action1 → Type 0
 KeepsJob key (act.Delete other) = same_key other key ≡ false
 KeepsJob key other = Unit {0}
 
--- Where a Job is created whose containers restart after a failure, each end of each fate of its key is a success; or no
--- command deletes a Job of the key, so that the Job stops them once they have restarted too often.
+-- Where a Job is created whose containers restart after a failure, each end of each fate of its key is a success; or each
+-- success has no more restarts than are counted, and no command deletes a Job of the key, so that the Job stops them once
+-- they have restarted too often.
 abbrev pub RestartsUntilStopped : List Command → Action1 → Type 0
 RestartsUntilStopped commands (act.Create key spec) =
     restarts_on_failure spec.template.restart ≡ true

@@ -18,9 +18,9 @@ ghost use Rattle.jc_retries.specs.Nodes.{fate};
 ghost use Rattle.jc_bearing.specs.Whole.{DoesAll, SawLog};
 ghost use Rattle.jc_remaining.specs.Remaining.{AllCome, FitsAll, HasEach, LastEndsCount, all_creations, all_left, still_left};
 
-/// **A whole sync leaves less to be written of pods**: where it makes pods, fewer may still be made for all Jobs, if no Job
-/// ignores the last end of its fate. Where it makes none no more may be made, and less is left of the pods that are there if
-/// it marks one, lets one go or releases one.
+/// **A whole sync leaves less to be written of pods.** If no Job ignores the last end of its fate, no more pods may be made
+/// for all Jobs after it, and fewer where it makes some. Where it makes none, less is left of the pods that are there if it
+/// marks one, lets one go or releases one.
 pub fn whole_syncs_leave_less()
     ensures none_more { (fates : Key → Option (List End)) (keys : List Key) (log new : List Entry) (basis : Basis)
         → LastEndsCount fates log → FitsAll log → SawLog log basis → DoesAll log basis new

@@ -1,4 +1,4 @@
--- How often containers restart in a settle: a pod whose Job is there is marked once they have done so too often.
+-- How often containers restart at most, and how often is too often.
 --     deletes key act                    the act deletes the Job of the key
 --     NeverDeleted key deeds             none of the deeds does
 --     too_many job                       so many restarts are too many for the Job
@@ -6,10 +6,7 @@
 --     restarts_after act n               what the act makes of a number of restarts, at most
 --     most_restarts deeds                how often a container has restarted, at most
 --     HasItsJob log pod                  the Job that the pod was made for is there, and has the pod's policy
---     IsInQueue shape past key           a controller has the key in its queue
---     RestartsWithin shape past n pod    the pod has restarted less often than n, or its key is in a queue
---     AllWithin shape past n             so it is of each pod, and too many restarts for a Job are at most n
-use Rattle.std.specs.Prelude.{◌≡◌, ◌⊎◌, ℕ, ◌+◌, ◌<◌, ◌≤◌, Bool, true, false, List, [], ◌∷◌, max, Some, unwrap_or}
+use Rattle.std.specs.Prelude.{◌≡◌, ℕ, ◌+◌, Bool, true, false, List, [], ◌∷◌, max, Some, unwrap_or}
 use Rattle.std.specs.List.{AllByRecursion as Each}
 use Rattle.jc_types.specs.Keys.{same_key}
 use Rattle.jc_types.specs.declared.actions.ContainerChange.{ContainerChange}
@@ -17,17 +14,11 @@ use Rattle.jc_types.specs.declared.objects.Entry.{Entry}
 use Rattle.jc_types.specs.declared.objects.Job.{Job}
 use Rattle.jc_types.specs.declared.objects.Key.{Key}
 use Rattle.jc_types.specs.declared.objects.Pod.{Pod}
-use Rattle.jc_types.specs.declared.runs.Shape.{Shape}
 use Rattle.jc_states.specs.Bases.{is_own}
-use Rattle.jc_states.specs.Pods.{is_active}
 use Rattle.jc_log.specs.Acts as does
 use Rattle.jc_log.specs.Acts.{Act}
 use Rattle.jc_log.specs.Deeds.{Deed}
-use Rattle.jc_log.specs.Log.{job_in, pods_in}
-use Rattle.jc_plan.specs.Decisions.{restarts_on_failure}
-use Rattle.jc_history.specs.Lines.{is_dirty}
-use Rattle.jc_history.specs.Replies.{diary, log_given}
-use Rattle.jc_settle.specs.Left.{first_restarts}
+use Rattle.jc_log.specs.Log.{job_in}
 
 -- The act deletes the Job of the key.
 abbrev pub deletes : Key → Act → Bool
@@ -65,21 +56,3 @@ pub record HasItsJob (log : List Entry) (pod : Pod) : Type 0 where
   pub there : job_in pod.owner log ≡ Some job
   pub own : is_own job pod ≡ true
   pub policy : job.spec.template.restart ≡ pod.restart
-
--- A controller has the key in its queue: the key was added since it was last taken.
-pub record IsInQueue (shape : Shape) (past : List Deed) (key : Key) : Type 0 where
-  pub controller : ℕ
-  pub within : controller < shape.controllers
-  pub dirty : is_dirty key (diary shape controller past) ≡ true
-
--- Where the pod is active, its containers restart after a failure and its Job is there, its first container has restarted
--- less often than the bound; or its key is in a queue, so that a sync comes before the node does anything.
-abbrev pub RestartsWithin : Shape → List Deed → ℕ → Pod → Type 0
-RestartsWithin shape past most pod =
-    is_active pod ≡ true → restarts_on_failure pod.restart ≡ true → HasItsJob (log_given shape past) pod
-    → (first_restarts pod < most) ⊎ IsInQueue shape past pod.owner
-
--- So it is of each pod, and restarts that are too many for a Job that is there are at most the bound.
-pub record AllWithin (shape : Shape) (past : List Deed) (most : ℕ) : Type 0 where
-  pub limits : (key : Key) (job : Job) → job_in key (log_given shape past) ≡ Some job → too_many job ≤ most
-  pub pods : Each (RestartsWithin shape past most) (pods_in (log_given shape past))

@@ -18,11 +18,12 @@ ghost use Rattle.jc_history.specs.Replies.{log_given};
 ghost use Rattle.jc_settle.specs.Left.{first_restarts};
 ghost use Rattle.jc_restarts.specs.Restarts.{HasItsJob, NeverDeleted, most_restarts, too_many};
 
-/// **Containers restart within a limit**: the Job of a key that is never deleted stays there, and each pod of the key was
-/// made for it and restarts its containers as the Job says. And a plan marks each active pod of its Job, tracked or not, whose
-/// container has restarted too often: as often as the backoff limit, or once where that is 0. No container has restarted more
-/// often than the greatest number that a report gave, and once for each deed of the node.
-pub fn containers_restart_within_a_limit()
+/// **Plans stop what restarts too often**: the Job of a key that is never deleted stays there, and each pod of the key was
+/// made for it and restarts its containers as the Job says. And where the Job is one of `OnFailure`, a plan marks each active
+/// pod of it, tracked or not, whose first container has restarted too often: as often as the backoff limit, or once where that
+/// is 0. No first container has restarted more often than the greatest number that a report gave, and once for each deed of
+/// the node.
+pub fn plans_stop_what_restarts_too_often()
     ensures stands { (shape : Shape) (past : List Deed) (pod : Pod)
         → pod_in pod.uid (log_given shape past) ≡ Some pod → NeverDeleted pod.owner past
         → HasItsJob (log_given shape past) pod }

@@ -4,4 +4,4 @@
 
 mod laws;
 
-pub use laws::containers_restart_within_a_limit;
+pub use laws::plans_stop_what_restarts_too_often;

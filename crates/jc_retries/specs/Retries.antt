@@ -44,7 +44,7 @@ abbrev pub pods_failed : Job → List Pod → ℕ
 pods_failed job own =
     job.status.failed + length job.status.uncounted_failed + length (new_failures job own)
 
--- More have failed than the backoff limit allows, so that the Job fails.
+-- More have failed than the backoff limit allows: no pod is made for the Job, which fails unless its end is decided already.
 abbrev pub is_spent : Job → List Pod → Bool
 is_spent job own = nat_lt job.spec.backoff_limit (pods_failed job own)
 

@@ -106,12 +106,20 @@ module _ (most : ℕ) (fates : Key → Option (List End)) (log : List Entry) (po
       where
         by : (b : Bool) → restarts_on_failure pod.restart ≡ b → (b && (option_map_or (λ (container : Container). nat_lt container.restarts end.restarts) (first_container pod.containers) false || not (int_eq end.exit (pos 0)))) ≡ true → Lowers Again
         by false s h = absurd (true≢false (sym h))
-        by true s h = of-list pod.containers refl h comes.some
+        by true s h = of-list pod.containers refl h
           where
+            fails : int_eq end.exit (pos 0) ≡ false → (is_some (first_container pod.containers) ≡ true) × (first_restarts pod < most) × (first_restarts pod < 2 ^ 32 - 1)
+            fails z = comes.fails end (and_from (is_open pod) (not (is_marked pod)) opened (ap not unmarked)) fated s z
+
             of-list : (cs : List Container) → pod.containers ≡ cs → (option_map_or (λ (container : Container). nat_lt container.restarts end.restarts) (first_container cs) false || not (int_eq end.exit (pos 0))) ≡ true
-                → is_some (first_container pod.containers) ≡ true → Lowers Again
-            of-list [] is h some = absurd (true≢false (sym some ∙ ap (λ l. is_some (first_container l)) is))
-            of-list (c ∷ cs) is h some = on (nat_lt c.restarts end.restarts) refl (int_eq end.exit (pos 0)) refl h
+                → Lowers Again
+            of-list [] is h = none (int_eq end.exit (pos 0)) refl h
+              where
+                -- Only a pod whose end is a failure is left, and such a pod has a container.
+                none : (zero : Bool) → int_eq end.exit (pos 0) ≡ zero → (false || not zero) ≡ true → Lowers Again
+                none true z h = absurd (true≢false (sym h))
+                none false z h = absurd (true≢false (sym (fails z).0 ∙ ap (λ l. is_some (first_container l)) is))
+            of-list (c ∷ cs) is h = on (nat_lt c.restarts end.restarts) refl (int_eq end.exit (pos 0)) refl h
               where
                 restarts-is : first_restarts pod ≡ c.restarts
                 restarts-is = ap (λ l. restarts_in (first_container l)) is
@@ -132,9 +140,10 @@ module _ (most : ℕ) (fates : Key → Option (List End)) (log : List Entry) (po
 
                 on : (less : Bool) → nat_lt c.restarts end.restarts ≡ less → (zero : Bool) → int_eq end.exit (pos 0) ≡ zero → (less || not zero) ≡ true → Lowers Again
                 on less l false z h =
-                    let few = comes.fails end (and_from (is_open pod) (not (is_marked pod)) opened (ap not unmarked)) fated s z in
+                    let fewer : first_restarts pod < most = (fails z).1.0 in
+                    let few : first_restarts pod < 2 ^ 32 - 1 = (fails z).1.1 in
                     let same = restarts-is in
-                    lowers (omega (arith, few, same)) (omega (arith, few, same))
+                    lowers (omega (arith, fewer, same)) (omega (arith, few, same))
                 on true l true z h = let lt = ltb-true c.restarts end.restarts l in let few = comes.few end fated s z in lowers (omega (arith, lt)) (omega (arith, lt, few))
                 on false l true z h = absurd (true≢false (sym h))
 

@@ -41,12 +41,11 @@ pod_left most fates pod =
     (if pod.tracked then 1 else 0)
     + (if is_open pod then left_while_open most pod (pod_end fates pod) else 0)
 
--- The pod has a container. Where its containers restart after a failure: if its end is one, and the pod is active, its
--- first container has restarted less often than the bound, and one restart more can be counted; if it is none, its
--- restarts can be.
+-- Where the containers of the pod restart after a failure: if its end is one, and the pod is active, it has a container, the
+-- first has restarted less often than the bound, and one restart more can be counted; if it is none, its restarts can be.
 pub record ComesTo (most : ℕ) (fates : Key → Option (List End)) (pod : Pod) : Type 0 where
-  pub some : is_some (first_container pod.containers) ≡ true
   pub fails : (end : End) → is_active pod ≡ true → pod_end fates pod ≡ Some end → restarts_on_failure pod.restart ≡ true
-      → int_eq end.exit (pos 0) ≡ false → (first_restarts pod < most) × (first_restarts pod < 2 ^ 32 - 1)
+      → int_eq end.exit (pos 0) ≡ false
+      → (is_some (first_container pod.containers) ≡ true) × (first_restarts pod < most) × (first_restarts pod < 2 ^ 32 - 1)
   pub few : (end : End) → pod_end fates pod ≡ Some end → restarts_on_failure pod.restart ≡ true
       → int_eq end.exit (pos 0) ≡ true → end.restarts ≤ 2 ^ 32 - 1

@@ -1,6 +1,6 @@
 -- Runs that are allowed events enough.
-use Rattle.std.proofs.Common.{◌≡◌, List, ℕ, Result, Ok, Err, ap, false, sym, tt, true≢false, ◌∙◌}
-use Rattle.std.specs.Prelude.{IfOk, IfSome}
+use Rattle.std.proofs.Common.{◌≡◌, List, ℕ, Result, Ok, Err, ap, false, sym, true≢false, ◌∙◌}
+use Rattle.std.specs.Prelude.{IfOk, IfSome, if◌then◌else◌}
 use Rattle.jc_types.specs.declared.actions.Command.{Command}
 use Rattle.jc_types.specs.declared.runs.Shape.{Shape}
 use Rattle.jc_script.specs.Scripts.{BadLine, script_of}

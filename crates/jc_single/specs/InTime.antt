@@ -2,7 +2,7 @@
 --     EndsInTime shape ended script          where the play of the script ends in time, the run does not end as full
 --     IsDoneInTime lock shape left ended     so it is of the script that a run without threads has read
 --     IsSettledPlay script shape history     the history is the play of such a script, and ends in a settle
-use Rattle.std.specs.Prelude.{◌≡◌, ℕ, ◌≤◌, ¬, true, List, Option, IfOk, IfSome}
+use Rattle.std.specs.Prelude.{◌≡◌, ◌≢◌, ℕ, ◌≤◌, true, List, Option, IfOk, IfSome}
 use Rattle.jc_types.specs.declared.actions.Script.{Script}
 use Rattle.jc_types.specs.declared.runs.History.{History}
 use Rattle.jc_types.specs.declared.runs.Shape.{Shape}
@@ -18,7 +18,7 @@ use Rattle.jc_single.specs.declared.status.Status.TheVariants as status
 -- Where the play of the script ends, and the shape allows the events of it, the run does not end as full.
 abbrev pub EndsInTime : Shape → Status → Script → Type 0
 EndsInTime shape ended script =
-    (play : PlayEnds script shape) → play.events ≤ shape.events → ¬ (ended ≡ status.HistoryFull)
+    (play : PlayEnds script shape) → play.events ≤ shape.events → ended ≢ status.HistoryFull
 
 -- So it is of the script that a run without threads has read, where its source tells what it has left.
 abbrev pub IsDoneInTime : LockKind → Shape → Option (List ℕ) → Status → Type 0

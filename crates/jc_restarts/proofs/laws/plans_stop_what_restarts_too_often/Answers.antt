@@ -5,7 +5,7 @@ use Rattle.jc_restarts.proofs.CountFacts.{pod-restarted}
 use Rattle.jc_restarts.proofs.LimitFacts.{few-restarts}
 use Rattle.jc_restarts.proofs.StandFacts.{has-its-job}
 use Rattle.jc_history.specs.Replies.{log_given}
-use Rattle.jc_restarts.proofs.laws.containers_restart_within_a_limit.Goals as goal
+use Rattle.jc_restarts.proofs.laws.plans_stop_what_restarts_too_often.Goals as goal
 
 pub returns : goal.returns
 returns c = record {

@@ -1,4 +1,4 @@
--- What wrong machines do, worked out.
+-- Right and wrong statuses, worked out.
 use Rattle.std.proofs.Common.{◌≡◌, ◌≤◌, ℕ, nat_lt, ◌&&◌, Bool, true, false, List, ap, arith, ltb-true, refl}
 use Rattle.jc_types.specs.declared.objects.Entry.{Entry}
 use Rattle.jc_types.specs.declared.objects.Key.{Key}
@@ -7,7 +7,7 @@ use Rattle.jc_history.specs.Notes.{Note}
 use Rattle.jc_history.specs.Registers.{backoff}
 use Rattle.jc_coming.specs.Drafts.{next_quiet}
 use Rattle.jc_coming.specs.Moments.{is_moment_of, is_moment_to_come}
-use Rattle.jc_coming.proofs.laws.wrong_machines_lower_nothing.Goals as goal
+use Rattle.jc_coming.proofs.laws.wrong_statuses_are_drafts.Goals as goal
 
 none-passed : (now m : ℕ) (log : List Entry) (notes : List Note) (key : Key) → m ≤ now → is_moment_to_come now log notes key m ≡ false
 none-passed now m log notes key late = by (nat_lt now m) refl
@@ -18,4 +18,4 @@ none-passed now m log notes key late = by (nat_lt now m) refl
 
 pub returns : goal.returns
 unfolding next_quiet
-returns c = record { first = λ job. refl; second = λ job. refl; passed = none-passed }
+returns c = record { right = λ job. refl; first = λ job. refl; second = λ job. refl; passed = none-passed }
