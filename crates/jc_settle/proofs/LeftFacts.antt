@@ -140,8 +140,8 @@ module _ (most : ℕ) (fates : Key → Option (List End)) (log : List Entry) (po
 
                 on : (less : Bool) → nat_lt c.restarts end.restarts ≡ less → (zero : Bool) → int_eq end.exit (pos 0) ≡ zero → (less || not zero) ≡ true → Lowers Again
                 on less l false z h =
-                    let fewer : first_restarts pod < most = (fails z).1.0 in
-                    let few : first_restarts pod < 2 ^ 32 - 1 = (fails z).1.1 in
+                    let fewer : first_restarts pod < most = (fails z).1 in
+                    let few : first_restarts pod < 2 ^ 32 - 1 = (fails z).2 in
                     let same = restarts-is in
                     lowers (omega (arith, fewer, same)) (omega (arith, few, same))
                 on true l true z h = let lt = ltb-true c.restarts end.restarts l in let few = comes.few end fated s z in lowers (omega (arith, lt)) (omega (arith, lt, few))

@@ -3,6 +3,7 @@ use Rattle.std.proofs.Common.{◌≡◌, ◌≤◌, ℕ, nat_lt, ◌&&◌, Bool,
 use Rattle.jc_types.specs.declared.objects.Entry.{Entry}
 use Rattle.jc_types.specs.declared.objects.Key.{Key}
 use Rattle.jc_log.specs.Log.{job_in}
+use Rattle.jc_plan.specs.Failures.{failing_in, failures_in}
 use Rattle.jc_history.specs.Notes.{Note}
 use Rattle.jc_history.specs.Registers.{backoff}
 use Rattle.jc_coming.specs.Drafts.{next_quiet}
@@ -17,5 +18,5 @@ none-passed now m log notes key late = by (nat_lt now m) refl
     by false e = ap (λ b. b && is_moment_of (backoff key notes) m (job_in key log)) e
 
 pub returns : goal.returns
-unfolding next_quiet
+unfolding next_quiet failing_in failures_in
 returns c = record { right = λ job. refl; first = λ job. refl; second = λ job. refl; passed = none-passed }
