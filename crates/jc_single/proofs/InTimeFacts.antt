@@ -23,7 +23,7 @@ full-in (Err bad) other = other
 whole-in-time : (shape : Shape) (ended : Status) (said : Result (List Command) BadLine) (printed : Printed)
     → reported shape (as_script said) ≡ Ok printed → ended ≡ (if printed.full then status.HistoryFull else status.Ok)
     → IfOk (as_script said) (EndsInTime shape ended)
-unfolding report_printed
+unfolding report_printed full-in
 whole-in-time shape ended (Err bad) printed is done = tt
 whole-in-time shape ended (Ok commands) printed is done = λ play few full.
     true≢false (sym (ap ends_full full) ∙ full_is printed.full ended done ∙ sym (ap (λ r. (full-in r printed).full) is)
