@@ -9,7 +9,7 @@
 --     new_pods mode n free                the indexes of n new pods; none for pods without one
 --     IsIndexFor job index                a new pod of the Job may have the index
 --     creatable target job own counted    what the Job would make at once
---     front one made                      the first of it alone, where it matters only whether there is one
+--     foremost one made                      the first of it alone, where it matters only whether there is one
 --     creates ..                          what it makes, as no pod is made before the opening
 --     next ..                             the moment of that, where it was what held pods back
 use Rattle.std.specs.Prelude.{◌≡◌, ◌<◌, ℕ, ◌-◌, ◌==◌, min, Bool, true, false, not, nat_lt, ◌&&◌, ◌||◌, if◌then◌else◌, List, [], ◌∷◌, map, filter, length, take, replicate, Option, Some, None, IfSome, is_some, unwrap_or}
@@ -106,8 +106,8 @@ abbrev pub looked_for : Bool → ℕ → ℕ
 looked_for one lacking = if one && nat_lt 0 lacking then 1 else lacking
 
 -- The first of what would be made alone, where it matters only whether there is one.
-abbrev pub front : Bool → List (Option ℕ) → List (Option ℕ)
-front one made = if one then take 1 made else made
+abbrev pub foremost : Bool → List (Option ℕ) → List (Option ℕ)
+foremost one made = if one then take 1 made else made
 
 -- Of what would be made at once, nothing before the opening.
 abbrev pub creates : Option ℕ → ℕ → List (Option ℕ) → List (Option ℕ)

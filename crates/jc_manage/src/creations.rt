@@ -5,7 +5,7 @@ ghost use Rattle.std.specs.List.{range_with_len};
 ghost use Rattle.jc_states.specs.Indexes.{has_index};
 ghost use Rattle.jc_states.specs.Bases.{is_own, own_pods};
 ghost use Rattle.jc_types.specs.Counts.{counts as counts_of};
-ghost use Rattle.jc_manage.specs.Creations.{creatable, free, front, holds, is_done_index, job_lacks, job_wants, keepers, keeps, keeps_own, lacking, looked_for, wanted};
+ghost use Rattle.jc_manage.specs.Creations.{creatable, free, foremost, holds, is_done_index, job_lacks, job_wants, keepers, keeps, keeps_own, lacking, looked_for, wanted};
 
 use crate::unheld::{are_kept_as_held, unheld_indexes};
 use jc_states::{Pods, count_tracked_active, is_active, is_ending, is_own};
@@ -269,7 +269,7 @@ pub(crate) fn creatable(
     requires failed { (counts_of counted.now).0 < 2 ^ 64 }
     requires succeeded { (counts_of counted.now).1 < 2 ^ 64 }
     ensures { IfOk result (λ indexes.
-        indexes ≡ front one (creatable target job.now (own_pods job.now pods.now) counted.now)) }
+        indexes ≡ foremost one (creatable target job.now (own_pods job.now pods.now) counted.now)) }
 {
     if target || job.spec.suspend {
         return Ok(Indexes::new(alloc));

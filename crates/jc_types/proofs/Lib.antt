@@ -4,3 +4,4 @@ pub mod EqualityFacts
 pub mod ObjectEqualityFacts
 pub mod FirstPlaceFacts
 pub mod PieceFacts
+pub mod LetterFacts

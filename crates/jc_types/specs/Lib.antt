@@ -5,3 +5,4 @@ pub mod Counts
 pub mod PastLists
 pub mod ValidSpecs
 pub mod Pieces
+pub mod Letters

@@ -8,6 +8,7 @@
 mod actions;
 mod copies;
 mod laws;
+mod letters;
 mod limits;
 mod lists;
 mod numbers;

@@ -6,28 +6,29 @@ ghost use Rattle.std.specs.Hash as fed;
 ghost use Rattle.std.specs.Cmp.{partial_equiv_from_equiv};
 ghost use Rattle.std.specs.Cmp.Lexicographic.{bytes_decides, nat_list_cmp_total, nat_list_eq_equiv, pointwise, slice_cmp, texts_po, texts_ties};
 ghost use Rattle.std.proofs.Common.{ap};
+ghost use Rattle.jc_types.specs.Letters.{code_of};
 
 use crate::copies::{Copied, Same, Want};
+use crate::letters::Letters;
 use crate::lists::ListOf;
+use crate::shared::Arc;
 use std::alloc::Global;
 use std::cmp::Ordering;
 use std::hash::{Hash, Hasher};
 use std::marker::Model;
-use std::sync::ArcStr;
 
 /// A text in UTF-8. Its copies share its memory.
 #[derive(Drop)]
 pub struct Text {
-    string: ArcStr,
+    letters: Arc<Letters>,
 }
 
 impl Model for Text {
     ghost use Rattle.std.specs.Prelude.{List, ℕ};
-    ghost use Rattle.std.specs.Arc.{arc_str_bytes};
 
     ghost Value = { List ℕ };
 
-    ghost view = { λ t. arc_str_bytes t.string };
+    ghost view = { λ t. t.letters };
 }
 
 impl Text {
@@ -38,9 +39,7 @@ impl Text {
     pub fn from_str(alloc: Global, text: &str) -> Result<Self, Want>
         ensures { IfOk result (λ t. t ≡ text.now) }
     {
-        Ok(Text {
-            string: ArcStr::from_str(alloc, text)?,
-        })
+        Text::from_string(String::from_str(alloc, text)?)
     }
 
     /// The text of a string.
@@ -50,8 +49,9 @@ impl Text {
     pub fn from_string(string: String) -> Result<Self, Want>
         ensures { IfOk result (λ t. t ≡ string_bytes string) }
     {
+        let alloc = *string.allocator();
         Ok(Text {
-            string: ArcStr::from_string(string)?,
+            letters: Arc::new(alloc, Letters::new(string))?,
         })
     }
 
@@ -59,39 +59,38 @@ impl Text {
     pub fn as_str(&self) -> &str
         ensures { result.now ≡ self.now }
     {
-        self.string.as_str()
+        self.letters.as_str()
     }
 }
 
 impl Copied for Text {
     fn copy(&self) -> Result<Self, Want> {
         Ok(Text {
-            string: self.string.clone()?,
+            letters: self.letters.copy()?,
         })
     }
 }
 
 impl Same for Text {
     fn is_same(&self, other: &Self) -> bool {
-        self.string.as_str() == other.string.as_str()
+        self.letters.is_equal(&other.letters)
     }
 }
 
 /// A name of 1 to 63 bytes, as Kubernetes bounds a DNS label. Its copies share its memory.
 #[derive(Drop)]
 pub struct Name {
-    string: ArcStr,
+    letters: Arc<Letters>,
 }
 
 impl Model for Name {
     ghost use Rattle.std.specs.Prelude.{List, ℕ, ◌<◌, ◌≤◌, length};
-    ghost use Rattle.std.specs.Arc.{arc_str_bytes};
 
     ghost Value = { List ℕ };
 
-    ghost view = { λ n. arc_str_bytes n.string };
+    ghost view = { λ n. n.letters };
 
-    ghost invariant = { λ n. (0 < length (arc_str_bytes n.string)) × (length (arc_str_bytes n.string) ≤ 63) };
+    ghost invariant = { λ n. (0 < length n.letters) × (length n.letters ≤ 63) };
 }
 
 /// Names in an order of their own.
@@ -107,9 +106,7 @@ impl Name {
         requires short { length text.now ≤ 63 }
         ensures { IfOk result (λ n. n ≡ text.now) }
     {
-        Ok(Name {
-            string: ArcStr::from_str(alloc, text)?,
-        })
+        Name::from_string(String::from_str(alloc, text)?)
     }
 
     /// The name that a string of 1 to 63 bytes spells.
@@ -121,8 +118,9 @@ impl Name {
         requires short { length (string_bytes string) ≤ 63 }
         ensures { IfOk result (λ n. n ≡ string_bytes string) }
     {
+        let alloc = *string.allocator();
         Ok(Name {
-            string: ArcStr::from_string(string)?,
+            letters: Arc::new(alloc, Letters::new(string))?,
         })
     }
 
@@ -132,21 +130,21 @@ impl Name {
         ensures not_empty { 0 < length self.now }
         ensures short { length self.now ≤ 63 }
     {
-        self.string.as_str()
+        self.letters.as_str()
     }
 }
 
 impl Copied for Name {
     fn copy(&self) -> Result<Self, Want> {
         Ok(Name {
-            string: self.string.clone()?,
+            letters: self.letters.copy()?,
         })
     }
 }
 
 impl Same for Name {
     fn is_same(&self, other: &Self) -> bool {
-        self.string.as_str() == other.string.as_str()
+        self.letters.is_equal(&other.letters)
     }
 }
 
@@ -156,7 +154,7 @@ impl PartialEq for Name {
     ghost laws = { partial_equiv_from_equiv nat_list_eq_equiv };
 
     fn eq(&self, other: &Self) -> bool {
-        self.string.as_str() == other.string.as_str()
+        self.letters.is_equal(&other.letters)
     }
 }
 
@@ -184,16 +182,16 @@ impl Ord for Name {
     ghost matches_eq = { texts_ties };
 
     fn cmp(&self, other: &Self) -> Ordering {
-        self.string.as_str().cmp(other.string.as_str())
+        self.as_str().cmp(other.as_str())
     }
 }
 
 impl Hash for Name {
-    ghost hash_input = { fed.str };
+    ghost hash_input = { λ n. fed.u64 (code_of n) };
 
-    ghost respects_eq = { λ x y h. ap fed.str ((bytes_decides x y).0 h) };
+    ghost respects_eq = { λ x y h. ap (λ n. fed.u64 (code_of n)) ((bytes_decides x y).0 h) };
 
     fn hash<H: Hasher>(&self, state: &mut H) {
-        self.string.hash(state);
+        self.letters.code().hash(state);
     }
 }

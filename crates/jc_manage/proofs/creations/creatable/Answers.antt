@@ -4,7 +4,7 @@ use Rattle.jc_states.specs.Bases.{own_pods}
 use Rattle.jc_types.specs.declared.specifications.JobSpec.{JobSpec}
 use Rattle.jc_types.specs.declared.specifications.Mode.{Mode}
 use Rattle.jc_types.specs.declared.specifications.Mode.TheVariants.{NonIndexed, Indexed}
-use Rattle.jc_manage.specs.Creations.{creatable, free, front, job_lacks, keepers, looked_for, new_pods}
+use Rattle.jc_manage.specs.Creations.{creatable, free, foremost, job_lacks, keepers, looked_for, new_pods}
 use Rattle.jc_manage.proofs.Fronts.{front_pods}
 use Rattle.jc_manage.proofs.creations.creatable.Goals as goal
 
@@ -21,7 +21,7 @@ returns-in-NonIndexed c =
     ∙ ap (λ (b : Bool). if b then [] else new_pods job.spec.mode (job_lacks job own counted) offered) (sym (ap (λ (spec : JobSpec). spec.suspend) c.deref.ensures) ∙ c.if-deref.false) in
     subst (λ (xs : List (Option ℕ)). IfOk c.without_index.result (λ indexes. indexes ≡ xs))
     (ap (λ n. new_pods NonIndexed n offered) looked ∙ front_pods c.args.one NonIndexed (job_lacks job own counted) offered
-    ∙ ap (λ (m : Mode). front c.args.one (new_pods m (job_lacks job own counted) offered)) mode ∙ ap (front c.args.one) (sym going))
+    ∙ ap (λ (m : Mode). foremost c.args.one (new_pods m (job_lacks job own counted) offered)) mode ∙ ap (foremost c.args.one) (sym going))
     c.without_index.ensures
 
 pub returns-in-Indexed : goal.returns-in-Indexed
@@ -37,5 +37,5 @@ returns-in-Indexed c =
     ∙ ap (λ (b : Bool). if b then [] else new_pods job.spec.mode (job_lacks job own counted) offered) (sym (ap (λ (spec : JobSpec). spec.suspend) c.deref.ensures) ∙ c.if-deref.false) in
     subst (λ (xs : List (Option ℕ)). IfOk c.first_free.result (λ indexes. indexes ≡ xs))
     (ap (λ n. new_pods Indexed n offered) looked ∙ front_pods c.args.one Indexed (job_lacks job own counted) offered
-    ∙ ap (λ (m : Mode). front c.args.one (new_pods m (job_lacks job own counted) offered)) mode ∙ ap (front c.args.one) (sym going))
+    ∙ ap (λ (m : Mode). foremost c.args.one (new_pods m (job_lacks job own counted) offered)) mode ∙ ap (foremost c.args.one) (sym going))
     c.first_free.ensures
