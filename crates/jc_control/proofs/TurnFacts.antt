@@ -1,11 +1,11 @@
 -- What the calls of a controller make of its parts is what the words on them say.
 use Rattle.std.proofs.Common.{◌≡◌, ℕ, ◌+◌, ◌≤◌, Bool, true, false, cond, ◌||◌, List, [], ◌∷◌, ◌++◌, length, take, map, Option, Some, None, is_some, slice_get, refl, sym, ap, ◌∙◌, subst, arith, true≢false}
 use Rattle.std.specs.List.{IsDistinct}
-use Rattle.std.specs.Map.{keys_of}
+use Rattle.std.specs.Map.{keys_of, set_value}
 use Rattle.std.specs.Prelude.{IfSome}
 use Rattle.std.specs.Option.{option_map_or, unwrap_or}
-use Rattle.jc_control.specs.Schedules.{AreKnown, ControllerView, Schedule, backoff_of, known_of, unknown}
-use Rattle.jc_control.specs.ControllerCalls.{Beginning, TakesFirst, TakesKey, all_added, basis_of, begun, begun_at, begun_first, begun_unless, behind, first_lag, followed, kept_backoff, lag, noted, noted_at, pods_need, unchanged}
+use Rattle.jc_control.specs.Schedules.{AreKnown, ControllerView, known_of, unknown}
+use Rattle.jc_control.specs.ControllerCalls.{Beginning, TakesFirst, TakesKey, all_added, basis_of, begun, begun_at, begun_first, begun_unless, behind, first_lag, followed, lag, noted, noted_at, pods_need, unchanged}
 use Rattle.jc_control.specs.declared.begins.Begin.TheVariants.{NotSynced, NoKey, Begun}
 use Rattle.jc_control.specs.declared.begins.Lag.{Lag}
 use Rattle.jc_control.specs.declared.controller.Known.{Known}
@@ -18,7 +18,6 @@ use Rattle.jc_queue.specs.Delayed.{Delayed, due_key, due_keys, left_after, left_
 use Rattle.jc_queue.specs.Queued.{IsQueue, Queued, added, finished, got, got_first, has_key, plus_key, retracted, sent_back, sent_back_first, without}
 use Rattle.std.proofs.lemmas.Bool.{cond-true, or_right}
 use Rattle.jc_types.specs.declared.numbers.Version.{Version}
-use Rattle.jc_types.specs.declared.syncs.Backoff.{Backoff}
 use Rattle.jc_types.specs.declared.objects.Job.{Job}
 use Rattle.jc_types.specs.declared.objects.Key.{Key}
 use Rattle.jc_types.specs.declared.objects.Kind.TheVariants.{Jobs, Pods}
@@ -26,7 +25,7 @@ use Rattle.jc_states.specs.declared.bases.Basis.{Basis}
 use Rattle.jc_types.specs.Keys.{same_key}
 use Rattle.jc_log.specs.Tables.{Sets, at, puts}
 use Rattle.jc_types.proofs.KeyFacts.{same_key-eq, same_key-itself}
-use Rattle.jc_log.proofs.TableFacts.{Sets-puts}
+use Rattle.jc_log.proofs.TableFacts.{Sets-puts, set_value-puts}
 
 -- ---- keys are added
 
@@ -131,6 +130,17 @@ known_set keys rows new k known h sets j busy = ap is_some (sets j) ∙ by (same
     by : (b : Bool) → is_some (cond b (Some known) (at same_key rows j)) ≡ true
     by true = refl
     by false = h j busy
+
+-- So does a row that is put.
+pub known_put : (keys : List Key) (rows new : List (Key × Known)) (k : Key) (known : Known) → AreKnown keys rows → new ≡ puts same_key rows k known → AreKnown keys new
+known_put keys rows new k known h e = known_set keys rows new k known h (λ j. ap (λ rows. at same_key rows j) e ∙ Sets-puts same_key same_key-eq same_key-itself k known rows j)
+
+-- What is made of the value of a key is put in its place.
+pub written : (rows : List (Key × Known)) (k : Key) (old new : Known) (make : Known → Known) → at same_key rows k ≡ Some old → new ≡ make old → set_value (same_key k) rows new
+    ≡ puts same_key rows k (make (unwrap_or (at same_key rows k) unknown))
+written rows k old new make there is =
+    set_value-puts same_key k new rows (ap is_some there)
+    ∙ ap (λ known. puts same_key rows k known) (is ∙ sym (ap (λ o. make (unwrap_or o unknown)) there))
 
 -- The key that is noted has a row, and so have all that had one.
 noted_keeps : (rows : List (Key × Known)) (k j : Key) → is_some (at same_key rows j) ≡ true → is_some (at same_key (noted rows k) j) ≡ true
@@ -256,23 +266,3 @@ begun-taken c now s =
     (λ j p k rest a b l e. (first_is_idle c.schedule.queue s k rest l, got_busy c.schedule.queue (got c.schedule.queue) k (ap (λ line. slice_get line 0) (sym l)) refl))
 
 -- ---- a backoff that is kept as it was
-
--- What is put where it is changes nothing.
-puts-same : (rows : List (Key × Known)) (k : Key) (known : Known) → at same_key rows k ≡ Some known → puts same_key rows k known ≡ rows
-puts-same [] k known e = absurd (true≢false (sym (ap is_some e)))
-puts-same (row ∷ rows) k known e = by (same_key k row.0) e (puts-same rows k known)
-  where
-    by : (b : Bool) → cond b (Some row.1) (at same_key rows k) ≡ Some known → (at same_key rows k ≡ Some known → puts same_key rows k known ≡ rows)
-        → cond b ((row.0, known) ∷ rows) (row ∷ puts same_key rows k known) ≡ row ∷ rows
-    by true e ih = ap (λ o. (row.0, unwrap_or o known) ∷ rows) (sym e)
-    by false e ih = ap (λ more. row ∷ more) (ih e)
-
--- A key that has a row, and this backoff, keeps it.
-pub kept-same : (schedule : Schedule) (k : Key) (backoff : Backoff) → is_some (at same_key schedule.known k) ≡ true → backoff_of k schedule ≡ backoff → schedule ≡ kept_backoff schedule k backoff
-kept-same schedule k backoff there same = by (at same_key schedule.known k) refl there same
-  where
-    by : (o : Option Known) → at same_key schedule.known k ≡ o → is_some o ≡ true → (unwrap_or o unknown).backoff ≡ backoff
-        → schedule ≡ record schedule { known = puts same_key schedule.known k (record { floor = (unwrap_or o unknown).floor; backoff = backoff }) }
-    by None e t s = absurd (true≢false (sym t))
-    by (Some known) e t s =
-        sym (ap (λ rows. record schedule { known = rows }) (ap (λ b. puts same_key schedule.known k (record { floor = known.floor; backoff = b })) (sym s) ∙ puts-same schedule.known k known e))

@@ -1,26 +1,26 @@
 //! The controller.
 
-ghost use Rattle.std.specs.Prelude.{◌≡◌, ◌↔◌, [], IfOk, IsTrue, OnErr, OnOk, Some, slice_get, true, unwrap_or};
+ghost use Rattle.std.specs.Prelude.{◌≡◌, [], IfOk, OnErr, OnOk, Some, is_some, slice_get, true, unwrap_or};
 ghost use Rattle.std.specs.Option.{option_copied, option_map};
 ghost use Rattle.jc_cache.specs.Caches.{AreApart, HasFewPods, HoldsByOwner, IsNext, job_rows};
 ghost use Rattle.jc_control.specs.Schedules.{backoff_of, idle, number_of, unknown};
-ghost use Rattle.jc_control.specs.ControllerCalls.{DeliversPods, TakesFirst, TakesKey, answered, basis_of, begun, can_begin, clocked, delivered, ended, followed, forgot, jobs_delivered, jobs_kept, kept_backoff, lag, listed_jobs};
+ghost use Rattle.jc_control.specs.ControllerCalls.{DeliversPods, TakesFirst, TakesKey, answered, basis_of, begun, can_begin, clocked, delivered, ended, followed, forgot, jobs_delivered, jobs_kept, kept_backoff, lag, later, listed_jobs};
 ghost use Rattle.jc_control.specs.ControllerCalls.{listed_pods, noted, numbered, rows_after, rows_kept, taken};
 ghost use Rattle.jc_queue.specs.Delayed.{HasOneMoment, first_of};
 ghost use Rattle.jc_queue.specs.Queued.{IsQueue, has_key};
 ghost use Rattle.jc_types.specs.Keys.{same_key};
 ghost use Rattle.jc_states.specs.PodLists.{IsRising};
-ghost use Rattle.jc_log.specs.Tables.{at};
+ghost use Rattle.jc_log.specs.Tables.{at, puts};
 
 use crate::begins::{Begin, Lag, first_lag, later};
 use crate::ends::{Ending, SyncEnd, delay, forgets_caches, take_ending};
 use crate::queues::{move_due, told, with_jobs, with_owners};
+use indexmap::IndexMap;
 use jc_cache::{JobCache, PodCache};
 use jc_moment::Moment;
 use jc_queue::{Delays, Queue};
 use jc_states::{Basis, Pods};
-use jc_table::Table;
-use jc_types::{Arc, Backoff, Copied, Entry, Job, Jobs, Key, Kind, Same, Version, Want};
+use jc_types::{Arc, Backoff, Copied, Entry, Job, Jobs, Key, Kind, Version, Want};
 use std::alloc::Global;
 use std::marker::Model;
 
@@ -42,7 +42,7 @@ pub struct Controller {
     queue: Queue,
     delays: Delays,
     // A row for each key of which a sync has begun.
-    known: Table<Key, Known>,
+    known: IndexMap<Key, Known>,
     // The copies of each processing key that the end of its sync needs.
     supplies: Vec<Ending>,
 }
@@ -58,14 +58,14 @@ impl Model for Controller {
         pods_at = c.pods.number;
         queue = c.queue.queue;
         delays = c.delays.delays;
-        known = c.known;
+        known = c.known.entries;
       };
       jobs = c.jobs.jobs;
       rows = c.pods.rows;
     } };
 
     // What an answer brings is kept with no memory. So end the syncs, and so come the keys that are due.
-    ghost invariant = { λ c. IsProvided c.queue c.delays c.known c.supplies.items };
+    ghost invariant = { λ c. IsProvided c.queue c.delays c.known.entries c.supplies.items };
 }
 
 impl Controller {
@@ -81,7 +81,7 @@ impl Controller {
             pods: PodCache::empty(alloc),
             queue: Queue::new(alloc),
             delays: Delays::new(alloc),
-            known: Table::new(alloc),
+            known: IndexMap::new(alloc),
             supplies: Vec::new(alloc),
         }
     }
@@ -160,12 +160,13 @@ impl Controller {
         let Some(key) = told(kind, entry) else {
             return self.tell(kind, entry, version);
         };
-        let was_dirty = self.queue.is_dirty(key);
-        self.queue.add(key)?;
+        // Most keys that come are dirty.
+        if self.queue.is_dirty(key) {
+            return self.tell(kind, entry, version);
+        }
+        self.queue.add_clean(key)?;
         if let Err(want) = self.tell(kind, entry, version) {
-            if !was_dirty {
-                self.queue.retract(key);
-            }
+            self.queue.retract(key);
             return Err(want);
         }
         Ok(())
@@ -305,12 +306,7 @@ impl Controller {
         ensures jobs { self.new.jobs ≡ self.old.jobs }
         ensures rows { self.new.rows ≡ self.old.rows }
     {
-        let known = known_of(&self.known, key);
-        let known = Known {
-            floor: later(known.floor, version),
-            backoff: known.backoff,
-        };
-        self.known.replace(key, known);
+        raise_floor(&mut self.known, key, version);
     }
 
     /// Keeps the backoff of the key in place of its old one. It takes no memory.
@@ -321,16 +317,7 @@ impl Controller {
         ensures jobs { self.new.jobs ≡ self.old.jobs }
         ensures rows { self.new.rows ≡ self.old.rows }
     {
-        let known = known_of(&self.known, key);
-        // Most syncs leave it as it was.
-        if is_same_backoff(&known.backoff, &backoff) {
-            return;
-        }
-        let known = Known {
-            floor: known.floor,
-            backoff,
-        };
-        self.known.replace(key, known);
+        put_backoff(&mut self.known, key, backoff);
     }
 
     /// Ends the sync of the key. It is done. After `Retry` and `Unavailable` it has failed once more, and is
@@ -476,16 +463,9 @@ fn no_failures() -> Backoff
     }
 }
 
-// Whether both are the same backoff.
-fn is_same_backoff(one: &Backoff, other: &Backoff) -> bool
-    ensures { IsTrue result ↔ (one.now ≡ other.now) }
-{
-    one.failures == other.failures && one.last.is_same(&other.last)
-}
-
 // What is known of the key.
-fn known_of(rows: &Table<Key, Known>, key: &Key) -> Known
-    ensures { result ≡ unwrap_or (at same_key rows.now key.now) unknown }
+fn known_of(rows: &IndexMap<Key, Known>, key: &Key) -> Known
+    ensures { result ≡ unwrap_or (at same_key rows.now.entries key.now) unknown }
 {
     match rows.get(key) {
         None => Known {
@@ -502,16 +482,45 @@ fn known_of(rows: &Table<Key, Known>, key: &Key) -> Known
 // Puts a row for the key, where it has none.
 //
 // `Want` where there is no memory for it; the rows are then as before.
-fn add_known(rows: &mut Table<Key, Known>, key: &Key) -> Result<(), Want>
-    ensures noted { OnOk result (rows.new ≡ noted rows.old key.now) }
-    ensures kept { OnErr result (rows.new ≡ rows.old) }
+fn add_known(rows: &mut IndexMap<Key, Known>, key: &Key) -> Result<(), Want>
+    ensures noted { OnOk result (rows.new.entries ≡ noted rows.old.entries key.now) }
+    ensures kept { OnErr result (rows.new.entries ≡ rows.old.entries) }
 {
-    if rows.contains(key) {
+    if rows.contains_key(key) {
         return Ok(());
     }
     let unknown = Known {
         floor: Version(0),
         backoff: no_failures(),
     };
-    rows.put(key.copy()?, unknown)
+    rows.insert(key.copy()?, unknown)?;
+    Ok(())
+}
+
+// Makes the floor of the key, which has a row, the later of itself and the version.
+fn raise_floor(rows: &mut IndexMap<Key, Known>, key: &Key, version: Version)
+    requires { is_some (at same_key rows.old.entries key.now) ≡ true }
+    ensures { rows.new.entries ≡ puts same_key rows.old.entries key.now (record {
+      floor = later (unwrap_or (at same_key rows.old.entries key.now) unknown).floor version;
+      backoff = (unwrap_or (at same_key rows.old.entries key.now) unknown).backoff;
+    }) }
+{
+    let Some(known) = rows.get_mut(key) else {
+        unreachable!()
+    };
+    known.floor = later(known.floor, version);
+}
+
+// Puts the backoff of the key, which has a row, in place of its old one.
+fn put_backoff(rows: &mut IndexMap<Key, Known>, key: &Key, backoff: Backoff)
+    requires { is_some (at same_key rows.old.entries key.now) ≡ true }
+    ensures { rows.new.entries ≡ puts same_key rows.old.entries key.now (record {
+      floor = (unwrap_or (at same_key rows.old.entries key.now) unknown).floor;
+      backoff = backoff;
+    }) }
+{
+    let Some(known) = rows.get_mut(key) else {
+        unreachable!()
+    };
+    known.backoff = backoff;
 }

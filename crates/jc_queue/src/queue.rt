@@ -1,6 +1,6 @@
 //! The work queue: a line of keys without repeats, the dirty keys, and those that are processing.
 
-ghost use Rattle.std.specs.Prelude.{◌≡◌, ◌+◌, ◌++◌, ◌≤◌, ◌<◌, ◌^◌, [], IfOk, IfSome, OnErr, OnOk, false, is_some, length, max, position, slice_get, true};
+ghost use Rattle.std.specs.Prelude.{◌≡◌, ◌+◌, ◌++◌, ◌≤◌, ◌<◌, ◌^◌, [], IfOk, IfSome, OnErr, OnOk, false, is_some, length, max, not, position, slice_get, true};
 ghost use Rattle.std.specs.List.{IsDistinct};
 ghost use Rattle.std.specs.Option.{option_copied};
 ghost use Rattle.std.specs.Vec.{vec_capacity, vec_len};
@@ -98,6 +98,19 @@ impl Queue {
         if self.is_dirty(key) {
             return Ok(());
         }
+        self.add_clean(key)
+    }
+
+    /// Adds a key as `add` does, which is not dirty.
+    ///
+    /// # Errors
+    /// `Want` where there is no memory for it; the queue is then as before.
+    pub fn add_clean(&mut self, key: &Key) -> Result<(), Want>
+        requires clean { has_key key.now self.old.queue.dirty ≡ false }
+        ensures added { OnOk result (self.new.queue ≡ added self.old.queue key.now) }
+        ensures room { self.new.room ≡ self.old.room }
+        ensures kept { OnErr result (self.new ≡ self.old) }
+    {
         let twice = Twice::of(key)?;
         self.reserve(places(self.room, 1)?)?;
         self.add_reserved(twice);
@@ -112,10 +125,9 @@ impl Queue {
     {
         let (key, again) = key.into_keys();
         self.room -= 1;
-        if is_in(&self.dirty, &key) {
+        if !put_in(&mut self.dirty, again) {
             return;
         }
-        put_in(&mut self.dirty, again);
         if has_key(&self.processing, &key) {
             return;
         }
@@ -244,15 +256,18 @@ fn is_in(set: &IndexSet<Key>, key: &Key) -> bool
     set.contains(key)
 }
 
-// Puts the key into the set, in the room that there is.
-fn put_in(set: &mut IndexSet<Key>, key: Key)
+// Puts the key into the set, in the room that there is, and says whether it was not in it.
+fn put_in(set: &mut IndexSet<Key>, key: Key) -> bool
     requires room { 0 < spare set.old }
+    ensures new { result ≡ not (has_key key (key_set set.old.keys)) }
     ensures set { key_set set.new.keys ≡ plus_key key (key_set set.old.keys) }
+    ensures same { result ≡ false → set.new.keys ≡ set.old.keys }
     ensures room { spare set.old ≤ spare set.new + 1 }
 {
-    let Ok(_) = set.insert(key) else {
+    let Ok(is_new) = set.insert(key) else {
         unreachable!()
     };
+    is_new
 }
 
 // Takes the key out of the set, where it is in it. It does not move the other keys.

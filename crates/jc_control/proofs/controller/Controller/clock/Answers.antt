@@ -8,4 +8,4 @@ move_due-requires c = let room = c.self.invariant.for_queue in record { room = o
 
 pub invariant_of-self : goal.invariant_of-self
 invariant_of-self c =
-    provided_moved c.self.inside.queue c.move_due.new.queue c.self.inside.delays c.move_due.new.delays c.self.inside.known c.self.inside.supplies.items c.args.now c.move_due.ensures.queue c.move_due.ensures.room c.self.invariant
+    provided_moved c.self.inside.queue c.move_due.new.queue c.self.inside.delays c.move_due.new.delays c.self.inside.known.entries c.self.inside.supplies.items c.args.now c.move_due.ensures.queue c.move_due.ensures.room c.self.invariant
