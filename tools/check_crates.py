@@ -62,6 +62,7 @@ OTHER_NAMES = {
     "is_dirty has_key": "of one list of the queue",
     "is_processing has_key": "of another",
     "take_due due_key": "it takes what `due` tells",
+    "take_owner owner_in": "it takes out what the word tells",
     "store log_seen": "it hands out the store; the word is what its log says",
     "count_new gained": "the number without the list",
     "decide decision_of": "the call of a sync; the word is of what it counted",

@@ -78,7 +78,7 @@ pub fn put_event(
     print_deed(out, alloc, script, &past.event)?;
     out.push_str(" -> ")?;
     print_reply(out, alloc, &past.reply)?;
-    out.push_str("\n")?;
+    out.push('\n')?;
     Ok(())
 }
 

@@ -9,7 +9,7 @@ ghost use Rattle.jc_lines.specs.ReplyTexts.{TellsThree, answer_text, index_text,
 use crate::keys::{print_key, print_pod, print_version};
 use crate::words::{field_word, objects_word, phase_word};
 use jc_moment::Moment;
-use jc_print::put_decimal;
+use jc_print::{put_decimal, put_long};
 use jc_types::{Answer, Key, Kind, Name, Phase, Reply, Request, Uid, Version, Want};
 use std::alloc::Global;
 
@@ -68,8 +68,10 @@ fn print_begun(out: &mut String, key: &Key, jobs_at: Version, pods_at: Version) 
 {
     out.push_str("begun ")?;
     print_key(out, key)?;
-    print_version(out, " jobs v", jobs_at)?;
-    print_version(out, " pods v", pods_at)
+    out.push_str(" jobs v")?;
+    put_long(out, jobs_at.0)?;
+    out.push_str(" pods v")?;
+    put_long(out, pods_at.0)
 }
 
 fn print_behind(out: &mut String, kind: Kind, need: Version, have: Version) -> Result<(), Want>
@@ -88,7 +90,25 @@ fn print_node(out: &mut String, pod: Uid, phase: Phase, version: Version) -> Res
     print_pod(out, "pod ", pod)?;
     out.push_str(" ")?;
     out.push_str(phase_word(phase))?;
-    print_version(out, " written v", version)
+    out.push_str(" written v")?;
+    put_long(out, version.0)
+}
+
+// Of words that are known where they are put the bytes are written with no call: so it is with those that come often.
+fn print_delivered(out: &mut String, version: Version) -> Result<(), Want>
+    ensures { OnOk result (string_bytes out.new
+        ≡ string_bytes out.old ++ reply_text (reply.Delivered version)) }
+{
+    out.push_str("entry v")?;
+    put_long(out, version.0)
+}
+
+fn print_written(out: &mut String, version: Version) -> Result<(), Want>
+    ensures { OnOk result (string_bytes out.new
+        ≡ string_bytes out.old ++ answer_text (answer.Written version)) }
+{
+    out.push_str("written v")?;
+    put_long(out, version.0)
 }
 
 // A reply that tells of three things.
@@ -168,7 +188,7 @@ pub fn print_answer(out: &mut String, answer: &Answer) -> Result<(), Want>
 {
     match answer {
         Answer::Created { uid, version } => print_created(out, *uid, *version),
-        Answer::Written { version } => print_version(out, "written v", *version),
+        Answer::Written { version } => print_written(out, *version),
         Answer::Unchanged { version } => print_version(out, "unchanged v", *version),
         Answer::Released { version } => print_version(out, "released v", *version),
         Answer::Removed { version } => print_version(out, "removed v", *version),
@@ -223,7 +243,7 @@ pub fn print_reply(out: &mut String, alloc: Global, reply: &Reply) -> Result<(),
         Reply::Now { moment } => print_moment(out, alloc, *moment),
         Reply::ClockEnd => print_word(out, "clock-end"),
         Reply::Listed { at } => print_version(out, "listed v", *at),
-        Reply::Delivered { version } => print_version(out, "entry v", *version),
+        Reply::Delivered { version } => print_delivered(out, *version),
         Reply::UpToDate => print_word(out, "up-to-date"),
         Reply::Expired { floor } => print_version(out, "expired v", *floor),
         Reply::NotSynced => print_word(out, "not-synced"),

@@ -42,3 +42,28 @@ pub is_whole : (n : ℕ) → 10000 ≤ n → n < 2 ^ 64 → decimal (n / 10000) 
 is_whole n low high =
     ap (λ ds. decimal (n / 10000) ++ drop 1 ds) (behind_one (n % 10000) (omega arith))
     ∙ sym (ends_in_four n low high)
+
+-- From 1000 on they are the whole number.
+pub four_alone : (n : ℕ) → 1000 ≤ n → n < 10000 → drop 1 (decimal (10000 + n % 10000)) ≡ decimal n
+four_alone n low high =
+    let a : n / 10 / 10 / 10 ≡ n / 1000 = omega arith in
+    let b : n / 10 / 10 % 10 ≡ n / 100 % 10 = omega arith in
+    let small : n % 10000 ≡ n = omega (arith, high) in
+    ap (λ m. drop 1 (decimal (10000 + m))) small
+    ∙ ap (drop 1) (behind_one n high)
+    ∙ sym (rw (
+      decimal_step n (omega arith) (omega arith),
+      decimal_step (n / 10) (omega arith) (omega arith),
+      decimal_step (n / 10 / 10) (omega arith) (omega arith),
+      append_assoc,
+      append_assoc,
+      a,
+      b,
+      decimal_digit (n / 1000) (omega arith),
+    ))
+
+-- Two digits are the whole of a number that has two.
+pub two_digits : (n : ℕ) → 10 ≤ n → n < 100 → decimal (n / 10) ++ decimal (n % 10) ≡ decimal n
+two_digits n low high =
+    ap (λ ds. decimal (n / 10) ++ ds) (decimal_digit (n % 10) (omega arith))
+    ∙ sym (decimal_step n low (omega arith))

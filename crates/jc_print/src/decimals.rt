@@ -1,6 +1,6 @@
 //! Numbers in decimal digits.
 
-ghost use Rattle.std.specs.Prelude.{◌≡◌, ◌+◌, ◌<◌, ◌++◌, OnErr, OnOk, decimal, drop, string_bytes};
+ghost use Rattle.std.specs.Prelude.{◌≡◌, ◌+◌, ◌<◌, ◌≤◌, ◌++◌, OnErr, OnOk, decimal, drop, string_bytes};
 
 use itoa::{Buffer, Integer};
 use jc_types::Want;
@@ -36,19 +36,30 @@ fn put_digit(out: &mut String, digit: u8) -> Result<(), Want>
     out.push(char::from(b'0' + digit))
 }
 
-// The digits of a number: one or two are copied with no call.
+// Two digits, one by one: that takes fewer steps than a copy of two from a buffer.
+#[inline(always)]
+fn put_two(out: &mut String, number: u8) -> Result<(), Want>
+    requires low { 10 ≤ number }
+    requires high { number < 100 }
+    ensures { OnOk result (string_bytes out.new ≡ string_bytes out.old ++ decimal number) }
+{
+    put_digit(out, number / 10)?;
+    put_digit(out, number % 10)
+}
+
+// The digits of a number: one or two are put with no call.
 #[inline(always)]
 fn put_head(out: &mut String, number: u64) -> Result<(), Want>
     ensures { OnOk result (string_bytes out.new ≡ string_bytes out.old ++ decimal number) }
 {
     match number {
         0..=9 => put_digit(out, number as u8),
-        10..=99 => put_digits(out, number),
+        10..=99 => put_two(out, number as u8),
         _ => put_decimal(out, number),
     }
 }
 
-// The last four digits of a number from 10,000 on: those behind the 1.
+// Four digits, zeros in front too: those behind the 1 of a number from 10,000 on.
 fn put_four(out: &mut String, number: u64) -> Result<(), Want>
     requires { number < 10000 }
     ensures { OnOk result (string_bytes out.new
@@ -69,10 +80,13 @@ fn put_four(out: &mut String, number: u64) -> Result<(), Want>
 pub fn put_long(out: &mut String, number: u64) -> Result<(), Want>
     ensures { OnOk result (string_bytes out.new ≡ string_bytes out.old ++ decimal number) }
 {
-    if number < 10_000 {
+    if number < 1000 {
         return put_decimal(out, number);
     }
-    put_head(out, number / 10_000)?;
+    let head = number / 10_000;
+    if number >= 10_000 {
+        put_head(out, head)?;
+    }
     put_four(out, number % 10_000)
 }
 

@@ -9,3 +9,4 @@ pub mod PlaceLists
 pub mod TouchFacts
 pub mod PlaceSteps
 pub mod IndexSets
+pub mod ByUidFacts

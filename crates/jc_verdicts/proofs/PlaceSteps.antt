@@ -1,7 +1,6 @@
 -- The lists of places after one more entry.
-use Rattle.std.proofs.Common.{◌≡◌, ℕ, Bool, true, false, cond, not, ◌&&◌, ◌||◌, List, [], ◌∷◌, ◌++◌, length, Option, Some, None, Vec, option_map, refl, sym, ap, ◌∙◌, subst}
+use Rattle.std.proofs.Common.{◌≡◌, ℕ, Bool, true, false, cond, not, ◌&&◌, ◌||◌, List, [], ◌∷◌, ◌++◌, length, Option, Some, None, option_map, refl, sym, ap, ◌∙◌, subst}
 use Rattle.std.specs.Option.{option_map_or}
-use Rattle.std.specs.declared.alloc.Global.{Global}
 use Rattle.std.proofs.lemmas.Bool.{both_ways}
 use Rattle.jc_types.specs.declared.numbers.Uid.{Uid}
 use Rattle.jc_types.specs.declared.objects.Entry.{Entry}
@@ -13,9 +12,11 @@ use Rattle.jc_types.specs.Keys.{same_key, same_uid}
 use Rattle.jc_types.proofs.KeyFacts.{same_uid-eq}
 use Rattle.jc_log.specs.Log.{Live, Gone, life, living, pod_in}
 use Rattle.jc_log.specs.PlainReadings.{is_about_job}
-use Rattle.jc_log.specs.Tables.{at, Sets}
+use Rattle.jc_verdicts.specs.declared.by_uid.Lists.{Lists}
+use Rattle.jc_verdicts.specs.declared.by_uid.Owners.{Owners}
 use Rattle.jc_verdicts.specs.declared.places.Places.{Places}
-use Rattle.jc_verdicts.specs.LogPlaces.{Adds, ArePlaces, was_owned, owns, places_at, places_where, touches}
+use Rattle.jc_verdicts.specs.ByUid.{Adds, AddsTo, Sets, places_under, owner_in, places_at}
+use Rattle.jc_verdicts.specs.LogPlaces.{ArePlaces, was_owned, owns, places_where, touches}
 
 -- The owner of a pod.
 abbrev owner_of : Pod → Uid
@@ -38,18 +39,18 @@ owner_is : (j : Uid) (o : Option Pod) → option_map_or (λ u. same_uid u j) (op
 owner_is j None = refl
 owner_is j (Some p) = refl
 
-module _ (older : List Entry) (place : ℕ) (long : length older ≡ place) (old : List (Uid × Vec ℕ Global))
-    (are : (j : Uid) → places_at same_uid old j ≡ places_where (touches j) older) where
+module _ (older : List Entry) (place : ℕ) (long : length older ≡ place) (old : Lists)
+    (are : (j : Uid) → places_under old j ≡ places_where (touches j) older) where
   -- The place is added where the entry touches.
-  added : (j : Uid) (b : Bool) → cond b (places_at same_uid old j ++ place ∷ []) (places_at same_uid old j) ≡ cond b (places_where (touches j) older ++ length older ∷ []) (places_where (touches j) older)
+  added : (j : Uid) (b : Bool) → cond b (places_under old j ++ place ∷ []) (places_under old j) ≡ cond b (places_where (touches j) older ++ length older ∷ []) (places_where (touches j) older)
   added j b =
       ap (λ ps. cond b (ps ++ place ∷ []) ps) (are j)
       ∙ ap (λ n. cond b (places_where (touches j) older ++ n ∷ []) (places_where (touches j) older)) (sym long)
 
   -- A pod is put.
-  pub pods-put : (pod : Pod) (before : Option Uid) (mid new : List (Uid × Vec ℕ Global)) → before ≡ option_map owner_of (pod_in pod.uid older)
-      → Adds same_uid old mid (same_uid pod.owner_uid) place → Adds same_uid mid new (λ j. was_owned before pod.owner_uid j) place
-      → (j : Uid) → places_at same_uid new j ≡ places_where (touches j) (PodPut pod ∷ older)
+  pub pods-put : (pod : Pod) (before : Option Uid) (mid new : Lists) → before ≡ option_map owner_of (pod_in pod.uid older)
+      → AddsTo old mid (same_uid pod.owner_uid) place → AddsTo mid new (λ j. was_owned before pod.owner_uid j) place
+      → (j : Uid) → places_under new j ≡ places_where (touches j) (PodPut pod ∷ older)
   pods-put pod before mid new was own others j =
       others j
       ∙ ap (λ ps. cond (was_owned before pod.owner_uid j) (ps ++ place ∷ []) ps) (own j)
@@ -58,7 +59,7 @@ module _ (older : List Entry) (place : ℕ) (long : length older ≡ place) (old
       ∙ added j (same_uid pod.owner_uid j || owns j pod.uid older)
     where
       list : List ℕ
-      list = places_at same_uid old j
+      list = places_under old j
 
       told : List ℕ
       told = cond (same_uid pod.owner_uid j) (list ++ place ∷ []) list
@@ -72,41 +73,41 @@ module _ (older : List Entry) (place : ℕ) (long : length older ≡ place) (old
           (λ h k. ap (λ u. same_uid u j) (same_uid-eq p.owner_uid pod.owner_uid k) ∙ h) place refl
 
   -- A pod goes that has an owner.
-  pub pods-gone : (pod : Pod) (owner : Uid) (new : List (Uid × Vec ℕ Global)) → Some owner ≡ option_map owner_of (pod_in pod.uid older) → Adds same_uid old new (same_uid owner) place
-      → (j : Uid) → places_at same_uid new j ≡ places_where (touches j) (PodGone pod ∷ older)
+  pub pods-gone : (pod : Pod) (owner : Uid) (new : Lists) → Some owner ≡ option_map owner_of (pod_in pod.uid older) → AddsTo old new (same_uid owner) place
+      → (j : Uid) → places_under new j ≡ places_where (touches j) (PodGone pod ∷ older)
   pods-gone pod owner new was own j =
       own j
-      ∙ ap (λ b. cond b (places_at same_uid old j ++ place ∷ []) (places_at same_uid old j))
+      ∙ ap (λ b. cond b (places_under old j ++ place ∷ []) (places_under old j))
       (ap (λ (x : Option Uid). option_map_or (λ u. same_uid u j) x false) was ∙ owner_is j (pod_in pod.uid older))
       ∙ added j (owns j pod.uid older)
 
   -- A pod goes that never was.
-  pub pods-never : (pod : Pod) → None ≡ option_map owner_of (pod_in pod.uid older) → (j : Uid) → places_at same_uid old j ≡ places_where (touches j) (PodGone pod ∷ older)
+  pub pods-never : (pod : Pod) → None ≡ option_map owner_of (pod_in pod.uid older) → (j : Uid) → places_under old j ≡ places_where (touches j) (PodGone pod ∷ older)
   pods-never pod was j =
       are j
       ∙ ap (λ b. cond b (places_where (touches j) older ++ length older ∷ []) (places_where (touches j) older))
       (ap (λ (x : Option Uid). option_map_or (λ u. same_uid u j) x false) was ∙ owner_is j (pod_in pod.uid older))
 
-module _ (older : List Entry) (old new : List (Uid × Uid)) (pod : Pod) (before : (u : Uid) → at same_uid old u ≡ option_map owner_of (pod_in u older)) where
+module _ (older : List Entry) (old new : Owners) (pod : Pod) (before : (u : Uid) → owner_in old u ≡ option_map owner_of (pod_in u older)) where
   -- The owner of a pod that is put.
-  pub owners-put : Sets same_uid old new pod.uid (Some pod.owner_uid) → (u : Uid) → at same_uid new u ≡ option_map owner_of (pod_in u (PodPut pod ∷ older))
+  pub owners-put : Sets old new pod.uid (Some pod.owner_uid) → (u : Uid) → owner_in new u ≡ option_map owner_of (pod_in u (PodPut pod ∷ older))
   owners-put sets u = sets u ∙ by (same_uid pod.uid u)
     where
-      by : (b : Bool) → cond b (Some pod.owner_uid) (at same_uid old u) ≡ option_map owner_of (living (cond b (Live pod) (life u older)))
+      by : (b : Bool) → cond b (Some pod.owner_uid) (owner_in old u) ≡ option_map owner_of (living (cond b (Live pod) (life u older)))
       by true = refl
       by false = before u
 
   -- A pod that is gone has none.
-  pub owners-gone : Sets same_uid old new pod.uid None → (u : Uid) → at same_uid new u ≡ option_map owner_of (pod_in u (PodGone pod ∷ older))
+  pub owners-gone : Sets old new pod.uid None → (u : Uid) → owner_in new u ≡ option_map owner_of (pod_in u (PodGone pod ∷ older))
   owners-gone sets u = sets u ∙ by (same_uid pod.uid u)
     where
-      by : (b : Bool) → cond b None (at same_uid old u) ≡ option_map owner_of (living (cond b Gone (life u older)))
+      by : (b : Bool) → cond b None (owner_in old u) ≡ option_map owner_of (living (cond b Gone (life u older)))
       by true = refl
       by false = before u
 
 module _ (older : List Entry) (place : ℕ) (old new : Places) (entry : Entry) (job : Job) (key : Key) (again : key ≡ job.key) (long : length older ≡ place)
     (adds : Adds same_key old.jobs.entries new.jobs.entries (same_key key) place)
-    (pods : new.pods.entries ≡ old.pods.entries) (owners : new.owners.entries ≡ old.owners.entries) (are : ArePlaces older old) where
+    (pods : new.pods ≡ old.pods) (owners : new.owners ≡ old.owners) (are : ArePlaces older old) where
   -- The place is added to the list of the Job's key.
   job_added : (k : Key) → places_at same_key new.jobs.entries k
       ≡ cond (same_key job.key k) (places_where (λ e rest. is_about_job k e) older ++ length older ∷ []) (places_where (λ e rest. is_about_job k e) older)
@@ -122,9 +123,9 @@ module _ (older : List Entry) (place : ℕ) (old new : Places) (entry : Entry) (
       ≡ cond (same_key job.key k) (places_where (λ x rest. is_about_job k x) older ++ length older ∷ []) (places_where (λ x rest. is_about_job k x) older))
       → ((j : Uid) → places_where (touches j) (e ∷ older) ≡ places_where (touches j) older) → ((u : Uid) → pod_in u (e ∷ older) ≡ pod_in u older) → ArePlaces (e ∷ older) new
   job_step e about same lives = record {
-    pods = λ j. ap (λ es. places_at same_uid es j) pods ∙ are.pods j ∙ sym (same j);
+    pods = λ j. ap (λ lists. places_under lists j) pods ∙ are.pods j ∙ sym (same j);
     jobs = λ k. job_added k ∙ sym (about k);
-    owners = λ u. ap (λ es. at same_uid es u) owners ∙ are.owners u ∙ ap (option_map owner_of) (sym (lives u));
+    owners = λ u. ap (λ all. owner_in all u) owners ∙ are.owners u ∙ ap (option_map owner_of) (sym (lives u));
   }
 
   -- A Job is put.

@@ -4,13 +4,14 @@ use Rattle.std.specs.Prelude.{IfOk, Vec, option_and_then, option_map, slice_get}
 use Rattle.std.specs.declared.alloc.Global.{Global}
 use Rattle.std.specs.List.{cons_option, insert}
 use Rattle.std.specs.Option.{option_map_or, option_or}
+use Rattle.std.proofs.lemmas.Bool.{both_ways}
 use Rattle.std.proofs.lemmas.List.Elements.{filter-append, filter_agree, filter_map-append}
 use Rattle.std.proofs.lemmas.List.Folds.{find-append}
 use Rattle.std.proofs.lemmas.Option.{slice_get-map}
 use Rattle.std.specs.List.Sorted.{IsBinarySearchResult}
 use Rattle.std.specs.Ordering.{nat_cmp}
 use Rattle.std.specs.Result.{MatchResult}
-use Rattle.std.proofs.lemmas.List.{map-append, length-map, take_more}
+use Rattle.std.proofs.lemmas.List.{append-nil, map-append, length-map, take_more}
 use Rattle.std.proofs.lemmas.List.Sorted.{searched}
 use Rattle.std.proofs.lemmas.Result.{MatchResult-weaker}
 use Rattle.jc_ranges.specs.Sets.{IsIncreasing, with_member}
@@ -23,6 +24,7 @@ use Rattle.jc_types.specs.declared.objects.Phase.TheVariants as phase
 use Rattle.jc_types.specs.declared.objects.Pod.{Pod}
 use Rattle.jc_types.specs.declared.policies.FailurePolicy.{FailurePolicy}
 use Rattle.jc_types.specs.declared.specifications.JobSpec.{JobSpec}
+use Rattle.jc_types.specs.declared.specifications.Mode.{Mode}
 use Rattle.jc_types.specs.Keys.{same_uid}
 use Rattle.jc_states.specs.PodLists.{IsRising, RisesFrom}
 use Rattle.jc_states.proofs.PodListFacts.{rises_filter}
@@ -140,6 +142,16 @@ outcomes-append u rows more = ap (option_map (λ (row : Row). row.outcome)) (fin
     by None = refl
     by (Some row) = refl
 
+-- Where there are no rows more, the rows and the outcomes stay.
+pub none-entered : (rows new : List Row) → length new ≡ 0 → rows ≡ rows ++ new
+none-entered rows [] none = sym (append-nil rows)
+none-entered rows (row ∷ new) none = absurd (omega (arith, none))
+
+pub none-noted : (u : Uid) (old : Option Outcome) (new : List Row) → length new ≡ 0 → old ≡ option_or old (outcome_in new u)
+none-noted u None [] none = refl
+none-noted u (Some outcome) [] none = refl
+none-noted u old (row ∷ new) none = absurd (omega (arith, none))
+
 -- One row more is added.
 pub noted_more : (u : Uid) (old mid new : Option Outcome) (rows : List Row) (i : ℕ) (row : Row) → i < length rows → mid ≡ option_or old (outcome_in (take i rows) u) → new ≡ option_or mid (outcome_in (get_or rows i row ∷ []) u)
     → new ≡ option_or old (outcome_in (take (i + 1) rows) u)
@@ -161,6 +173,29 @@ fitting_result spec known pods space rows others first rises room are same found
     ∙ ap (λ f. rows_within spec.mode f (map (row_for spec) (waiting spec known pods))) (found ∙ ap (λ n. first_beyond spec.mode n rows) room ∙ ap (first_beyond spec.mode (space_by spec known pods)) are)
     ∙ fitting_rows spec (space_by spec known pods) (waiting spec known pods) (rises_filter 0 (is_fresh spec (λ u. is_some (known u))) pods rises)
 fitting_result spec known pods space rows others first rises room are same found (Err e) h = tt
+
+-- Where there is room for all, all are within.
+all_within : (mode : Mode) (rows : List Row) → rows ≡ rows_within mode None rows
+all_within mode [] = refl
+all_within mode (row ∷ rows) = by (joins_list mode row.outcome) (all_within mode rows)
+  where
+    by : (b : Bool) → rows ≡ rows_within mode None rows → row ∷ rows ≡ cond (not b || true) (row ∷ rows_within mode None rows) (rows_within mode None rows)
+    by true ih = ap (λ rest. row ∷ rest) ih
+    by false ih = ap (λ rest. row ∷ rest) ih
+
+-- What has no value.
+none_is : (first : Option Uid) → is_some first ≡ false → None ≡ first
+none_is None none = refl
+none_is (Some uid) none = absurd (both_ways true none refl)
+
+-- The rows of those that wait are all judged, where the search finds no UID without room.
+pub fitting_all : (spec : JobSpec) (known : Uid → Option Outcome) (pods : List Pod) (space : ℕ) (rows : List Row) (first : Option Uid) → IsRising pods → space ≡ space_by spec known pods
+    → rows ≡ map (row_for spec) (waiting spec known pods) → first ≡ first_beyond spec.mode space rows → is_some first ≡ false → rows ≡ rows_for spec known pods
+fitting_all spec known pods space rows first rises room are found none =
+    all_within spec.mode rows
+    ∙ ap (λ f. rows_within spec.mode f rows) (none_is first none ∙ found ∙ ap (λ n. first_beyond spec.mode n rows) room)
+    ∙ ap (λ rs. rows_within spec.mode (first_beyond spec.mode (space_by spec known pods) rs) rs) are
+    ∙ fitting_rows spec (space_by spec known pods) (waiting spec known pods) (rises_filter 0 (is_fresh spec (λ u. is_some (known u))) pods rises)
 
 -- The rows of new records.
 recorded_rows : (job : Job) (seen at : ℕ) (pods : List Pod) → map row_of (map (recorded job seen at) pods) ≡ map (row_for job.spec) pods

@@ -1,3 +1,4 @@
+pub mod ByUid
 pub mod LogPlaces
 pub mod Verdicts
 pub mod SyncStarts

@@ -4,14 +4,11 @@
 --     places_where test log   the places of the entries of which the test is true; newest first
 --     touching_places j log           those at which the pods of the Job change; the log oldest first
 --     job_places k log              those about the Job of the key; the log oldest first
---     places_at same lists k  the list of the key; none where it has no list
---     Adds same old new to n  the place comes to the lists of these keys, and to no other
 --     was_owned before now j   the Job that had the pod before is this one, and another than now
 --     ArePlaces log places    the lists are those of the log
 --     IsCut n ps count        so many places are below the number, and the others are not
-use Rattle.std.specs.Prelude.{◌≡◌, ℕ, ◌<◌, ◌≤◌, Bool, false, not, ◌&&◌, ◌||◌, List, [], ◌∷◌, ◌++◌, length, get_or, reverse, if◌then◌else◌, Vec, Option, option_map}
+use Rattle.std.specs.Prelude.{◌≡◌, ℕ, ◌<◌, ◌≤◌, Bool, false, not, ◌&&◌, ◌||◌, List, [], ◌∷◌, ◌++◌, length, get_or, reverse, if◌then◌else◌, Option, option_map}
 use Rattle.std.specs.Option.{option_map_or}
-use Rattle.std.specs.declared.alloc.Global.{Global}
 use Rattle.jc_types.specs.declared.numbers.Uid.{Uid}
 use Rattle.jc_types.specs.declared.objects.Entry.{Entry}
 use Rattle.jc_types.specs.declared.objects.Entry.TheVariants.{JobPut, JobGone, PodPut, PodGone}
@@ -21,6 +18,7 @@ use Rattle.jc_types.specs.Keys.{same_key, same_uid}
 use Rattle.jc_log.specs.Log.{pod_in}
 use Rattle.jc_log.specs.PlainReadings.{is_about_job}
 use Rattle.jc_log.specs.Tables.{at}
+use Rattle.jc_verdicts.specs.ByUid.{places_under, owner_in, places_at}
 use Rattle.jc_verdicts.specs.declared.places.Places.{Places}
 
 -- A pod of the UID lives, and was made for the Job.
@@ -48,18 +46,6 @@ touching_places j log = places_where (touches j) (reverse log)
 abbrev pub job_places : Key → List Entry → List ℕ
 job_places k log = places_where (λ e older. is_about_job k e) (reverse log)
 
-module _ {K : Type 0} (same : K → K → Bool) where
-  -- The list of the key.
-  abbrev pub places_at : List (K × Vec ℕ Global) → K → List ℕ
-  places_at lists k =
-      option_map_or (λ (places : Vec ℕ Global). places.items) (at same lists k) []
-
-  -- The place comes to the lists of these keys, and to no other.
-  abbrev pub Adds : List (K × Vec ℕ Global) → List (K × Vec ℕ Global) → (K → Bool) → ℕ → Type 0
-  Adds old new to place =
-      (k : K)
-      → places_at new k ≡ (if to k then places_at old k ++ place ∷ [] else places_at old k)
-
 -- The Job that a pod was made for before is this one, and not the one that it is made for now.
 abbrev pub was_owned : Option Uid → Uid → Uid → Bool
 was_owned before owner j =
@@ -67,10 +53,10 @@ was_owned before owner j =
 
 -- The lists are those of the log, newest first, and each pod that lives has its owner.
 pub record ArePlaces (log : List Entry) (places : Places) : Type 0 where
-  pub pods : (j : Uid) → places_at same_uid places.pods.entries j ≡ places_where (touches j) log
+  pub pods : (j : Uid) → places_under places.pods j ≡ places_where (touches j) log
   pub jobs : (k : Key) → places_at same_key places.jobs.entries k
       ≡ places_where (λ e older. is_about_job k e) log
-  pub owners : (u : Uid) → at same_uid places.owners.entries u
+  pub owners : (u : Uid) → owner_in places.owners u
       ≡ option_map (λ (pod : Pod). pod.owner_uid) (pod_in u log)
 
 -- So many places are below the number, and the others are not.

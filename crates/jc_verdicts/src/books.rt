@@ -1,13 +1,17 @@
 //! The books of the Jobs: what is kept of their ledgers after the first events of a history.
 
 ghost use Rattle.std.specs.Prelude.{◌≡◌, ◌++◌, ℕ, [], OnOk, Some, reverse};
+ghost use Rattle.std.specs.Option.{option_or};
 ghost use Rattle.jc_types.specs.declared.numbers.Uid.{Uid};
+ghost use Rattle.jc_types.specs.Keys.{same_uid};
+ghost use Rattle.jc_log.specs.Tables.{at};
 ghost use Rattle.jc_verdicts.specs.Books.{AreCounts, AreBooksOf, IsBookOf};
 ghost use Rattle.jc_ledger.specs.Ledger.{Ledger, judged_by};
 ghost use Rattle.jc_verdicts.specs.LogPlaces.{ArePlaces};
-ghost use Rattle.jc_verdicts.specs.Verdicts.{done_once_seen, fresh_rows};
+ghost use Rattle.jc_verdicts.specs.Verdicts.{done_once_seen, fresh_rows, outcome_in};
 
-use crate::places::{Places, places_at};
+use crate::by_uid::places_under;
+use crate::places::Places;
 use crate::rows::{add_outcomes, new_rows, success_indexes, take_indexes};
 use crate::seen::look;
 use indexmap::IndexMap;
@@ -47,6 +51,19 @@ fn empty(alloc: Global) -> Book
     }
 }
 
+/// Enters new rows, and what they say the pods were judged. Most writes judge none.
+fn enter(rows: &mut Vec<Row>, known: &mut IndexMap<Uid, Outcome>, new: &[Row]) -> Result<(), Want>
+    ensures rows { OnOk result (rows.new.items ≡ rows.old.items ++ new.now) }
+    ensures known { OnOk result ((u : Uid) → at same_uid known.new.entries u
+        ≡ option_or (at same_uid known.old.entries u) (outcome_in new.now u)) }
+{
+    if new.is_empty() {
+        return Ok(());
+    }
+    rows.extend_from_slice(new)?;
+    add_outcomes(known, new)
+}
+
 /// Judges the pods of a Job, as they stood among the first entries that the sync saw.
 fn judge(
     alloc: Global,
@@ -64,7 +81,7 @@ fn judge(
         ≡ done_once_seen job.now book.old.rows.items book.old.done.items log.now seen) }
     ensures sound { OnOk result (IsBookOf job.now.uid log.now book.new) }
 {
-    let own = places_at(&places.pods, &job.uid);
+    let own = places_under(&places.pods, job.uid);
     book.at = look(
         &mut book.pods,
         &book.known,
@@ -79,8 +96,7 @@ fn judge(
     let more = success_indexes(alloc, job, &book.known, pods)?;
     take_indexes(&mut book.done, job, more.as_slice())?;
     let fresh = new.as_slice();
-    book.rows.extend_from_slice(fresh)?;
-    add_outcomes(&mut book.known, fresh)?;
+    enter(&mut book.rows, &mut book.known, fresh)?;
     Ok(())
 }
 

@@ -30,13 +30,13 @@ use std::alloc::Global;
 /// The Job whose pods an event judges, and among how many entries it judges them.
 fn judging<'a>(
     script: &Script,
-    starts: &Table<Worker, Start>,
+    starts: &IndexMap<Worker, Start>,
     before: &[Past],
     past: &Past,
     log: &'a [Entry],
     places: &Places,
 ) -> Option<(&'a Job, u64)>
-    requires starts { HasStarts (deeds_of script.now before.now) starts.now }
+    requires starts { HasStarts (deeds_of script.now before.now) starts.now.entries }
     requires event { IsPlace script.now.commands past.now.event }
     requires places { ArePlaces (reverse log.now) places.now }
     ensures { option_map (λ found. judging_as past.now found.0.now found.1) result
@@ -56,13 +56,13 @@ fn take_in(
     alloc: Global,
     books: &mut IndexMap<Uid, Book>,
     script: &Script,
-    starts: &Table<Worker, Start>,
+    starts: &IndexMap<Worker, Start>,
     before: &[Past],
     past: &Past,
     log: &[Entry],
     places: &Places,
 ) -> Result<(), Want>
-    requires starts { HasStarts (deeds_of script.now before.now) starts.now }
+    requires starts { HasStarts (deeds_of script.now before.now) starts.now.entries }
     requires event { IsPlace script.now.commands past.now.event }
     requires places { ArePlaces (reverse log.now) places.now }
     requires sound { AreBooksOf log.now books.old.entries }
@@ -91,7 +91,7 @@ fn filled(
     ensures { IfOk result (λ books. AreCounts
         (λ j. ledger_of j (deeds_of script.now events.now) (reverse log.now)) books.entries) }
 {
-    let mut starts = Table::new(alloc);
+    let mut starts = IndexMap::new(alloc);
     let mut books = IndexMap::new(alloc);
     for place in 0..events.len() {
         let past = &events[place];

@@ -9,7 +9,7 @@ ghost use Rattle.jc_ledger.specs.Syncs.{reach, request_of, stepper};
 ghost use Rattle.jc_verdicts.specs.Verdicts.{IsPlace, deeds_of, sync_at};
 
 use crate::starts::{Start, Worker};
-use jc_table::Table;
+use indexmap::IndexMap;
 use jc_types::{Action1, Command, Event, Past, Reply, Request, Script, Sys};
 
 /// The controller and the worker of a command that steps; `None` exactly where it does something else.
@@ -60,11 +60,11 @@ fn reach(script: &Script, events: &[Past]) -> u64
 /// With what the sync began whose accepted write of a status this event is.
 pub fn written_sync<'a>(
     script: &Script,
-    starts: &'a Table<Worker, Start>,
+    starts: &'a IndexMap<Worker, Start>,
     before: &[Past],
     past: &Past,
 ) -> Option<&'a Start>
-    requires starts { HasStarts (deeds_of script.now before.now) starts.now }
+    requires starts { HasStarts (deeds_of script.now before.now) starts.now.entries }
     requires event { IsPlace script.now.commands past.now.event }
     ensures { option_map began_with (option_copied result)
         ≡ sync_at (deed script.now past.now) (deeds_of script.now before.now) }

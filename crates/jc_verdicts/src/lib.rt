@@ -3,6 +3,7 @@
 #![tactic(auto)]
 
 mod books;
+mod by_uid;
 mod counting;
 mod events;
 mod places;

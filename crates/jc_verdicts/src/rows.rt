@@ -93,7 +93,7 @@ fn waiting_rows(
 }
 
 /// The rows of the pods that a write judges: of those that are still to be judged, as many as there is
-/// room for.
+/// room for. Mostly there is room for all, and then none is copied.
 pub fn new_rows(
     alloc: Global,
     spec: &JobSpec,
@@ -111,6 +111,9 @@ pub fn new_rows(
     }
     let space = space(spec, known, pods);
     let first = first_beyond(spec.mode, rows, space);
+    if first.is_none() {
+        return Ok(waiting);
+    }
     rows_within(alloc, spec.mode, first, rows)
 }
 

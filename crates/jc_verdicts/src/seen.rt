@@ -12,7 +12,7 @@ ghost use Rattle.jc_failpol.specs.declared.outcomes.Outcome.{Outcome};
 ghost use Rattle.jc_verdicts.specs.LogPlaces.{ArePlaces, touching_places};
 ghost use Rattle.jc_verdicts.specs.Verdicts.{HasSeen, kept_pods, stays};
 
-use crate::places::{Places, count_below, places_at};
+use crate::places::{Places, count_below, count_on, places_at};
 use indexmap::IndexMap;
 use jc_failpol::Outcome;
 use jc_states::{is_active, is_there, place_from};
@@ -210,7 +210,7 @@ pub fn look(
         (pods.new.items ≡ kept_pods known.now.entries owner (reverse (take seen log.now))) }
     ensures seen { IfOk result (λ now. HasSeen owner log.now known.now.entries pods.new.items now) }
 {
-    let count = count_below(places, end_of(log, seen));
+    let count = count_on(places, at, end_of(log, seen));
     let from = begin_of(pods, at, count);
     go_on(pods, known, owner, log, places, from, count)?;
     retain_staying(pods, known);

@@ -6,7 +6,7 @@ ghost use Rattle.jc_ledger.specs.Syncs.{is_begin};
 ghost use Rattle.jc_verdicts.specs.SyncStarts.{HasStarts, is_of};
 ghost use Rattle.jc_verdicts.specs.Verdicts.{IsPlace};
 
-use jc_table::Table;
+use indexmap::IndexMap;
 use jc_types::{Action1, Command, Copied, Event, Key, Past, Reply, Script, Sys, Version, Want};
 
 /// A worker of a controller.
@@ -14,12 +14,6 @@ use jc_types::{Action1, Command, Copied, Event, Key, Past, Reply, Script, Sys, V
 pub struct Worker {
     pub controller: u32,
     pub worker: u32,
-}
-
-impl Copied for Worker {
-    fn copy(&self) -> Result<Self, Want> {
-        Ok(*self)
-    }
 }
 
 /// With what a sync began: its key, and the numbers of the two caches.
@@ -62,14 +56,14 @@ fn beginner(commands: &[Command], event: &Event) -> Option<Worker>
 
 /// Notes with what a sync began, where the event began one.
 pub fn add_begin(
-    starts: &mut Table<Worker, Start>,
+    starts: &mut IndexMap<Worker, Start>,
     script: &Script,
     past: &Past,
 ) -> Result<(), Want>
     requires { IsPlace script.now.commands past.now.event }
     ensures { OnOk result ((older : List Deed)
-        → HasStarts older starts.old
-        → HasStarts (deed script.now past.now ∷ older) starts.new) }
+        → HasStarts older starts.old.entries
+        → HasStarts (deed script.now past.now ∷ older) starts.new.entries) }
 {
     let Reply::Begun {
         key,
@@ -87,6 +81,6 @@ pub fn add_begin(
         jobs_at: *jobs_at,
         pods_at: *pods_at,
     };
-    starts.put(worker, start)?;
+    starts.insert(worker, start)?;
     Ok(())
 }

@@ -11,7 +11,7 @@ use Rattle.jc_verdicts.proofs.books.judge.Goals as goal
 
 -- The list is that of the Job.
 pub look-requires-clause-places : goal.look-requires-clause-places
-look-requires-clause-places c = c.places_at-own.ensures ∙ c.requires.places.pods c.args.job.now.uid
+look-requires-clause-places c = c.places_under-own.ensures ∙ c.requires.places.pods c.args.job.now.uid
 
 -- The pods rise.
 pub new_rows-requires : goal.new_rows-requires
@@ -22,18 +22,18 @@ new_rows-requires c =
 pub returns-clause-sound : goal.returns-clause-sound
 returns-clause-sound c = record {
   seen =
-      seen-judged c.args.book.now.known.entries c.add_outcomes.new.known.entries c.args.job.now.uid c.args.log.now c.look.new.pods.items c.in_ok-book.field-0 c.deref.result.now c.as_slice-fresh.result.now c.in_ok-book.ensures.seen
-      (c.as_slice-fresh.ensures.value ∙ c.in_ok-new.ensures ∙ ap (rows_for c.deref.result.now (at same_uid c.args.book.now.known.entries)) c.as_slice-pods.ensures.value) c.in_ok-add_outcomes.ensures;
+      seen-judged c.args.book.now.known.entries c.enter.new.known.entries c.args.job.now.uid c.args.log.now c.look.new.pods.items c.in_ok-book.field-0 c.deref.result.now c.as_slice-fresh.result.now c.in_ok-book.ensures.seen
+      (c.as_slice-fresh.ensures.value ∙ c.in_ok-new.ensures ∙ ap (rows_for c.deref.result.now (at same_uid c.args.book.now.known.entries)) c.as_slice-pods.ensures.value) c.in_ok-enter.ensures.known;
   order = c.in_ok-take_indexes.ensures.order;
   known =
-      knows-more c.args.book.now.known.entries c.add_outcomes.new.known.entries c.args.book.now.rows.items c.as_slice-fresh.result.now c.extend_from_slice.new.self.items c.requires.sound.known c.in_ok-add_outcomes.ensures
-      c.in_ok-extend_from_slice.ensures.items;
+      knows-more c.args.book.now.known.entries c.enter.new.known.entries c.args.book.now.rows.items c.as_slice-fresh.result.now c.enter.new.rows.items c.requires.sound.known c.in_ok-enter.ensures.known
+      c.in_ok-enter.ensures.rows;
 }
 
 -- The new rows are those that the write judges.
 pub returns-clause-rows : goal.returns-clause-rows
 returns-clause-rows c =
-    c.in_ok-extend_from_slice.ensures.items
+    c.in_ok-enter.ensures.rows
     ∙ ap (λ new. c.args.book.now.rows.items ++ new)
     (new-is c.args.job.now c.deref.result.now c.args.log.now c.args.seen c.args.book.now.known.entries
     c.args.book.now.rows.items c.as_slice-fresh.result.now

@@ -25,7 +25,7 @@ loop-place-preserved c =
           subst (λ ds. IsCount (rows_at j books) (done_at j books) (ledger_of j ds (reverse log))) (sym next)
           (c.in_ok-take_in.ensures.counts (λ i. ledger_of i (deeds_of script (take place events)) (reverse log)) c.loop-place.invariant.counts j);
       starts =
-          subst (λ ds. HasStarts ds c.add_begin.new.starts) (sym next)
+          subst (λ ds. HasStarts ds c.add_begin.new.starts.entries) (sym next)
           (c.in_ok-add_begin.ensures (deeds_of script (take place events)) c.loop-place.invariant.starts);
       sound = c.in_ok-take_in.ensures.sound;
     }
