@@ -55,7 +55,7 @@ use Rattle.jc_counted.proofs.TargetFacts.{ended-by}
 use Rattle.jc_counted.proofs.UnmadeFacts.{none-own}
 
 -- A pod that is active was so before.
-was-active : (old new : Pod) → PodStep old new → is_active new ≡ true → is_active old ≡ true
+pub was-active : (old new : Pod) → PodStep old new → is_active new ≡ true → is_active old ≡ true
 was-active old new step active = and_from (is_open old) (not (is_marked old)) (ap not still-open) (ap not unmarked)
   where
     parts : (is_open new ≡ true) × (not (is_marked new) ≡ true)

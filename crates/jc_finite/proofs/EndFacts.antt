@@ -28,7 +28,9 @@ use Rattle.jc_finite.specs.Finite.{EndInTheEnd, StopInTheEnd}
 use Rattle.jc_finite.proofs.LastFacts.{jobs-count}
 use Rattle.jc_finite.proofs.NodeWithin.{begins-within, enough_restarts}
 use Rattle.jc_finite.proofs.Strong.{by-descent}
-use Rattle.jc_finite.proofs.SuccessFacts.{ComesOrHas, ends-stop, never-out, pods-come}
+use Rattle.jc_finite.proofs.StartFacts.{ends-stop}
+use Rattle.jc_finite.proofs.StoppedFacts.{ComesOrHas, pods-come}
+use Rattle.jc_finite.proofs.SuccessFacts.{never-out}
 use Rattle.jc_finite.proofs.TurnKinds.{AtEnd, Ends, FewerFaults, FewerPods, IsFated, LessLeft, LessToCome, TurnKind, creations_at, ends-earlier, left_at, turn-kind}
 
 module _ (stay : Stay) (shape : Shape) (fates : Key → Option (List End)) where
@@ -113,7 +115,7 @@ module _ (stay : Stay) (shape : Shape) (fates : Key → Option (List End)) where
       (λ past h more. on-creations (faults_pending shape past) more (keys_there (log_given shape past)) past
       (record { fated = h; each = has-each (log_given shape past); faults = omega arith }))
 
-pub settle-stops : Stay → (shape : Shape) (past : List Deed) → IsLegal shape past → AllAskValid past → 0 < shape.workers → IsMoment shape.start → StopInTheEnd past → Ends shape past
+pub settle-stops : Stay → (shape : Shape) (past : List Deed) → IsLegal shape past → AllAskValid past → 0 < shape.workers → IsMoment shape.start → StopInTheEnd shape past → Ends shape past
 settle-stops stay shape past legal valid some start ends = by (calms-down shape some past legal)
   where
     by : CalmsDown shape past → Ends shape past
@@ -131,7 +133,7 @@ settle-stops stay shape past legal valid some start ends = by (calms-down shape 
           same = λ i key. fates-then shape past h.events (h.run ++ past) h.are key i;
           comes = λ events.
               subst (λ deeds. Each (ComesOrHas (fate past) (log_given shape deeds)) (pods_in (log_given shape deeds))) (on-adds shape h.events events past ∙ ap (settled_on shape events) h.are)
-              (pods-come shape past ends valid (h.events + events));
+              (pods-come stay shape some past legal valid ends (h.events + events));
           lasts = λ events.
               subst (λ deeds. LastEndsCount (fate past) (log_given shape deeds)) (on-adds shape h.events events past ∙ ap (settled_on shape events) h.are)
               (jobs-count shape (fate past) past ends.lasts (h.events + events));
@@ -139,7 +141,7 @@ settle-stops stay shape past legal valid some start ends = by (calms-down shape 
 
 -- Where no container restarts for ever, it comes to rest.
 pub settle-ends : Stay → (shape : Shape) (past : List Deed) → IsLegal shape past → AllAskValid past → 0 < shape.workers → IsMoment shape.start → EndInTheEnd past → ComesToRest shape past
-settle-ends stay shape past legal valid some start ends = by (settle-stops stay shape past legal valid some start (ends-stop past ends))
+settle-ends stay shape past legal valid some start ends = by (settle-stops stay shape past legal valid some start (ends-stop shape past ends))
   where
     by : Ends shape past → ComesToRest shape past
     by (inl rests) = rests

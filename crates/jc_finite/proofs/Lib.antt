@@ -3,6 +3,8 @@ pub mod Within
 pub mod SyncWithin
 pub mod NodeWithin
 pub mod TurnKinds
+pub mod StartFacts
+pub mod StoppedFacts
 pub mod SuccessFacts
 pub mod LastFacts
 pub mod EndFacts

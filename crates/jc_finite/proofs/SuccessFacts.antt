@@ -1,6 +1,5 @@
--- Where no Job is created whose containers restart for ever, or those that are there stop them, each pod of a settle comes to
--- its end, or has its Job.
-use Rattle.std.proofs.Common.{◌≡◌, ◌⊎◌, inl, inr, ℕ, zero, suc, ◌+◌, ◌-◌, ◌^◌, ◌<◌, ◌≤◌, true, false, List, [], ◌∷◌, ◌++◌, map, length, Option, Some, None, is_some, IfSome, slice_get, refl, sym, ◌∙◌, subst, arith, true≢false}
+-- What each end has, that of a pod has; and what is so of the deeds of a settle, of its pods and their containers.
+use Rattle.std.proofs.Common.{◌≡◌, ℕ, zero, suc, ◌+◌, ◌-◌, ◌^◌, ◌<◌, ◌≤◌, true, false, List, [], ◌∷◌, ◌++◌, map, length, Option, Some, None, is_some, IfSome, slice_get, refl, sym, ◌∙◌, subst, arith, true≢false}
 use Rattle.std.specs.List.{AllByRecursion as Each}
 use Rattle.std.specs.Option.{option_map_or, option_or, unwrap_or}
 use Rattle.std.proofs.lemmas.Option.{none-some as none_some}
@@ -13,17 +12,16 @@ use Rattle.jc_types.specs.declared.objects.Pod.{Pod}
 use Rattle.jc_types.specs.declared.runs.Shape.{Shape}
 use Rattle.jc_types.specs.declared.specifications.JobSpec.{JobSpec}
 use Rattle.jc_log.specs.Deeds.{Deed, act_of_system}
-use Rattle.jc_log.specs.Log.{Live, life, pod_in, pods_in}
+use Rattle.jc_log.specs.Log.{pod_in, pods_in}
 use Rattle.jc_log.specs.Requests.{new_container}
-use Rattle.jc_log.proofs.PodFacts.{pods_in-among, pods_in-live}
+use Rattle.jc_log.proofs.PodFacts.{pods_in-among}
 use Rattle.jc_runs.specs.Machines.{AllAskValid, AsksValid}
 use Rattle.jc_runs.specs.Replies.{log_given}
 use Rattle.jc_settle.specs.Settles.{next_of_settle, settled_on, with_next}
 use Rattle.jc_remaining.specs.Making.{fails}
 use Rattle.jc_remaining.specs.Nodes.{fate, end_at, first_container, last_end, pod_end}
 use Rattle.jc_remaining.specs.Remaining.{ends_of}
-use Rattle.jc_remaining.proofs.OnwardFacts.{on-says}
-use Rattle.jc_types.proofs.ListFacts.{Each-both, Each-weaker, find_each}
+use Rattle.jc_types.proofs.ListFacts.{Each-weaker, find_each}
 use Rattle.jc_types.specs.Keys.{same_uid}
 use Rattle.jc_types.specs.declared.runs.Sys.{Sys}
 use Rattle.jc_types.specs.declared.runs.Sys.TheVariants as sys
@@ -34,10 +32,9 @@ use Rattle.jc_counted.proofs.KeptFacts.{AreKept, MayAct, pods-kept}
 use Rattle.jc_counted.proofs.PolicyFacts.{CreatesSuch, pods-have}
 use Rattle.jc_settle.proofs.OnFacts.{next-is}
 use Rattle.jc_remaining.specs.Decisions.{restarts_on_failure}
-use Rattle.jc_restarts.specs.Restarts.{HasItsJob, NeverDeleted, most_restarts, deletes}
+use Rattle.jc_restarts.specs.Restarts.{most_restarts, deletes}
 use Rattle.jc_restarts.proofs.CountFacts.{pod-restarted, settle-few}
-use Rattle.jc_restarts.proofs.StandFacts.{has-its-job}
-use Rattle.jc_finite.specs.Finite.{CountSuccesses, EndInTheEnd, FillsACount, RestartsEnd, RestartsStop, StopInTheEnd, SucceedAll, SucceedAlways, SucceedInTheEnd}
+use Rattle.jc_finite.specs.Finite.{EndInTheEnd, FillsACount, RestartsEnd, SucceedAll, SucceedAlways, SucceedInTheEnd}
 
 -- ---- what each end has, that of a pod has
 
@@ -93,7 +90,7 @@ module _ (shape : Shape) (Q : Act → Type 0) (system : (x : Sys) → Q (act_of_
       by (Some d) e = let x = next-is shape past d e in (subst (λ (y : Deed). Q y.act) x.is (system x.comes), h)
 
 -- None deletes a Job.
-none-deletes : (key : Key) (x : Sys) → deletes key (act_of_system x) ≡ false
+pub none-deletes : (key : Key) (x : Sys) → deletes key (act_of_system x) ≡ false
 none-deletes key (sys.List c kind) = refl
 none-deletes key (sys.Deliver c kind) = refl
 none-deletes key (sys.Begin c w) = refl
@@ -106,7 +103,7 @@ none-deletes key (sys.Clock add) = refl
 abbrev HasContainers : Job → Type 0
 HasContainers job = 0 < length job.spec.template.containers
 
-abbrev HasOne : Pod → Type 0
+abbrev pub HasOne : Pod → Type 0
 HasOne pod = is_some (first_container pod.containers) ≡ true
 
 abbrev MakesSome : Key → JobSpec → Type 0
@@ -131,7 +128,7 @@ containers-kept = record {
   reported = λ log pod change h. still-some _ pod.containers h;
 }
 
-pods-some : (shape : Shape) (deeds : List Deed) → AllAskValid deeds → Each HasOne (pods_in (log_given shape deeds))
+pub pods-some : (shape : Shape) (deeds : List Deed) → AllAskValid deeds → Each HasOne (pods_in (log_given shape deeds))
 pods-some shape deeds valid =
     pods-kept HasContainers HasOne MakesSome containers-kept shape deeds
     (Each-weaker (λ (d : Deed). AsksValid d.act) (λ (d : Deed). MayAct HasContainers HasOne MakesSome containers-kept d.act) (λ d. may d.act) deeds valid)
@@ -139,55 +136,6 @@ pods-some shape deeds valid =
     may : (act : Act) → AsksValid act → MayAct HasContainers HasOne MakesSome containers-kept act
     may (does.Create key spec) h = h.some
     may other h = tt
-
--- ---- the pods of a settle
-
--- The pod has a container. Where it restarts after a failure, each end of its key is a success, or the Job that it was
--- made for is there.
-pub record ComesOrHas (fates : Key → Option (List End)) (log : List Entry) (pod : Pod) : Type 0 where
-  pub some : is_some (first_container pod.containers) ≡ true
-  pub ends : restarts_on_failure pod.restart ≡ true → SucceedAll (ends_of fates pod.owner) ⊎ (CountSuccesses (ends_of fates pod.owner) × HasItsJob log pod)
-
-module _ (shape : Shape) (past : List Deed) (stops : StopInTheEnd past) (valid : AllAskValid past) where
-  -- What is so of the key and the policy of each Job.
-  abbrev EndsOrStands : Key → Restart → Type 0
-  EndsOrStands key restart = restarts_on_failure restart ≡ true → SucceedAll (ends_of (fate past) key) ⊎ (CountSuccesses (ends_of (fate past) key) × NeverDeleted key past)
-
-  system-stops : (x : Sys) → RestartsStop past (act_of_system x)
-  system-stops (sys.List c kind) = tt
-  system-stops (sys.Deliver c kind) = tt
-  system-stops (sys.Begin c w) = tt
-  system-stops (sys.Step c w) = tt
-  system-stops sys.Node = tt
-  system-stops (sys.Clock add) = tt
-
-  stop-such : (act : Act) → RestartsStop past act → CreatesSuch EndsOrStands act
-  stop-such (does.Create key spec) h = h
-  stop-such other h = tt
-
-  module _ (events : ℕ) where
-    abbrev now : List Deed
-    now = settled_on shape events past
-
-    have : Each (λ (pod : Pod). EndsOrStands pod.owner pod.restart) (pods_in (log_given shape (settled_on shape events past)))
-    have =
-        pods-have EndsOrStands shape now
-        (Each-weaker (λ (d : Deed). RestartsStop past d.act) (λ (d : Deed). CreatesSuch EndsOrStands d.act) (λ d. stop-such d.act) now (each-on shape (RestartsStop past) system-stops events past stops.restarts))
-
-    of-pod : (pod : Pod) → (life pod.uid (log_given shape (settled_on shape events past)) ≡ Live pod) × ((is_some (first_container pod.containers) ≡ true) × EndsOrStands pod.owner pod.restart)
-        → ComesOrHas (fate past) (log_given shape (settled_on shape events past)) pod
-    of-pod pod h = record { some = h.1.0; ends = λ policy. by (h.1.1 policy) }
-      where
-        by : SucceedAll (ends_of (fate past) pod.owner) ⊎ (CountSuccesses (ends_of (fate past) pod.owner) × NeverDeleted pod.owner past)
-            → SucceedAll (ends_of (fate past) pod.owner) ⊎ (CountSuccesses (ends_of (fate past) pod.owner) × HasItsJob (log_given shape (settled_on shape events past)) pod)
-        by (inl all) = inl all
-        by (inr both) = inr (both.0, has-its-job shape now pod h.0 (each-on shape (λ act. deletes pod.owner act ≡ false) (none-deletes pod.owner) events past both.1))
-
-    pub pods-come : Each (ComesOrHas (fate past) (log_given shape (settled_on shape events past))) (pods_in (log_given shape (settled_on shape events past)))
-    pods-come =
-        Each-weaker (λ (pod : Pod). (life pod.uid (log_given shape now) ≡ Live pod) × (HasOne pod × EndsOrStands pod.owner pod.restart)) (ComesOrHas (fate past) (log_given shape now)) of-pod (pods_in (log_given shape now))
-        (Each-both (λ (pod : Pod). life pod.uid (log_given shape now) ≡ Live pod) (λ (pod : Pod). HasOne pod × EndsOrStands pod.owner pod.restart) (pods_in (log_given shape now)) (pods_in-live (log_given shape now))
-        (Each-both HasOne (λ (pod : Pod). EndsOrStands pod.owner pod.restart) (pods_in (log_given shape now)) (pods-some shape now ((on-says shape events past).valid valid)) have))
 
 -- A container that has restarted as often as is counted has come to that by so many reports and deeds.
 pub late-out : (shape : Shape) (past : List Deed) (out : FillsACount shape past) → 2 ^ 32 - 1 ≤ most_restarts past + out.events
@@ -198,13 +146,6 @@ late-out shape past out =
     omega (arith, full, few, more)
 
 -- ---- where no container restarts for ever
-
-pub ends-stop : (past : List Deed) → EndInTheEnd past → StopInTheEnd past
-ends-stop past ends = record { lasts = ends.lasts; restarts = Each-weaker (λ (d : Deed). RestartsEnd (fate past) d.act) (λ (d : Deed). RestartsStop past d.act) (λ d. of d.act) past ends.restarts }
-  where
-    of : (act : Act) → RestartsEnd (fate past) act → RestartsStop past act
-    of (does.Create key spec) h = λ policy. inl (h policy)
-    of other h = tt
 
 module _ (shape : Shape) (past : List Deed) (ends : EndInTheEnd past) where
   abbrev EndsWell : Key → Restart → Type 0

@@ -5,7 +5,7 @@ use Rattle.std.proofs.Common.{map, Option, Some, None, is_some, refl, sym, ap, �
 use Rattle.std.specs.List.{AllByRecursion as Each}
 use Rattle.std.specs.Option.{option_map_or}
 use Rattle.std.specs.Ordering.{int_eq}
-use Rattle.std.proofs.lemmas.Bool.{and_parts, not-false}
+use Rattle.std.proofs.lemmas.Bool.{and_parts}
 use Rattle.std.proofs.lemmas.Option.{same_Some as some_is}
 use Rattle.jc_types.proofs.ListFacts.{Each-both, Each-weaker}
 use Rattle.jc_types.specs.Keys.{same_key}
@@ -50,19 +50,19 @@ use Rattle.jc_remaining.specs.Decisions.{restarts_on_failure}
 use Rattle.jc_remaining.specs.Making.{fails}
 use Rattle.jc_remaining.specs.Nodes.{end_at, fate, first_container, pod_end}
 use Rattle.jc_remaining.specs.Plans.{planned}
-use Rattle.jc_remaining.specs.Remaining.{FitsAll, HasEach, LastEndsCount, all_creations, all_left, ends_of}
+use Rattle.jc_remaining.specs.Remaining.{FitsAll, HasEach, LastEndsCount, all_creations, all_left}
 use Rattle.jc_remaining.proofs.NodeLeaves.{node-creations, node-left}
 use Rattle.jc_remaining.proofs.NodePods.{NodeWrites, node-writes}
 use Rattle.jc_remaining.proofs.StatusAlone.{status-alone}
 use Rattle.jc_remaining.proofs.SyncFacts.{sync-creations-most}
 use Rattle.jc_remaining.proofs.SyncLeaves.{Fewer, LeavesLess, Less, each-kept, sync-leaves}
-use Rattle.jc_restarts.specs.Restarts.{HasItsJob}
 use Rattle.jc_finite.proofs.Within.{AllWithin, IsInQueue, RestartsWithin}
 use Rattle.jc_finite.proofs.NodeWithin.{clock-within, node-alone, node-within, none-waits}
 use Rattle.jc_restarts.proofs.QueueFacts.{GetsNone, all-stay}
 use Rattle.jc_finite.proofs.SyncWithin.{find-within, queue-stays, same-stay, sync-within, whole-stay}
-use Rattle.jc_finite.specs.Finite.{CountSuccesses, FillsACount, SucceedAll}
-use Rattle.jc_finite.proofs.SuccessFacts.{ComesOrHas, CountsIfNone, Succeeds, pod-found-has, pod-has}
+use Rattle.jc_finite.specs.Finite.{FillsACount}
+use Rattle.jc_finite.proofs.StoppedFacts.{ComesOrHas}
+use Rattle.jc_finite.proofs.SuccessFacts.{CountsIfNone, pod-found-has, pod-has}
 
 -- ---- where a settle may end
 
@@ -98,15 +98,11 @@ module _ (fates : Key → Option (List End)) where
     where
       failing : (end : End) → is_active pod ≡ true → pod_end fates pod ≡ Some end → restarts_on_failure pod.restart ≡ true → int_eq end.exit (pos 0) ≡ false
           → (is_some (first_container pod.containers) ≡ true) × (first_restarts pod < most) × (first_restarts pod < 2 ^ 32 - 1)
-      failing end active fated policy exit = (h.some, by (h.ends policy), leb-false (2 ^ 32 - 1) (first_restarts pod) less)
+      failing end active fated policy exit = (h.some, of (within active policy (h.has active policy end fated (ap not exit))), leb-false (2 ^ 32 - 1) (first_restarts pod) less)
         where
-          by : SucceedAll (ends_of fates pod.owner) ⊎ (CountSuccesses (ends_of fates pod.owner) × HasItsJob (log_given shape past) pod) → first_restarts pod < most
-          by (inl all) = absurd (true≢false (sym (not-false (int_eq end.exit (pos 0)) (pod-has Succeeds fates pod all end fated).0) ∙ exit))
-          by (inr both) = of (within active policy both.1)
-            where
-              of : (first_restarts pod < most) ⊎ IsInQueue shape past pod.owner → first_restarts pod < most
-              of (inl lt) = lt
-              of (inr q) = absurd (alone q)
+          of : (first_restarts pod < most) ⊎ IsInQueue shape past pod.owner → first_restarts pod < most
+          of (inl lt) = lt
+          of (inr q) = absurd (alone q)
 
           less : nat_le (2 ^ 32 - 1) (first_restarts pod) ≡ false
           less =
@@ -115,11 +111,7 @@ module _ (fates : Key → Option (List End)) where
               ∙ unfull
 
       few : (end : End) → pod_end fates pod ≡ Some end → restarts_on_failure pod.restart ≡ true → int_eq end.exit (pos 0) ≡ true → end.restarts ≤ 2 ^ 32 - 1
-      few end fated policy exit = by (h.ends policy)
-        where
-          by : SucceedAll (ends_of fates pod.owner) ⊎ (CountSuccesses (ends_of fates pod.owner) × HasItsJob (log_given shape past) pod) → end.restarts ≤ 2 ^ 32 - 1
-          by (inl all) = (pod-has Succeeds fates pod all end fated).1
-          by (inr both) = pod-has CountsIfNone fates pod both.0 end fated (ap not exit)
+      few end fated policy exit = pod-has CountsIfNone fates pod (h.counts policy) end fated (ap not exit)
 
 -- ---- the plan of a sync that asks for nothing
 

@@ -22,7 +22,7 @@ use Rattle.jc_log.specs.Acts.{Act}
 use Rattle.jc_log.specs.Deeds.{Deed, act_of_action, act_of_command, act_of_event, act_of_system, deed}
 use Rattle.jc_history.specs.Nodes.{fate, fate_told}
 use Rattle.jc_finite.specs.Remaining.{ends_of}
-use Rattle.jc_finite.specs.Finite.{CountSuccesses, EndInTheEnd, LastEndCounts, RestartsEnd, RestartsStop, StopInTheEnd, SucceedAll, SucceedAlways}
+use Rattle.jc_finite.specs.Finite.{CountSuccesses, EndInTheEnd, LastEndCounts, RestartsEnd, RestartsStop, StopWhereKept, SucceedAll, SucceedAlways}
 use Rattle.jc_finite.specs.Restarts.{NeverDeleted, deletes}
 use Rattle.jc_finite.specs.Retries.{CountsAtLast}
 use Rattle.jc_finite.proofs.SuccessCounts.{success-counts}
@@ -264,7 +264,7 @@ module _ (script : Script) (h : FatesStopWell script) (pasts : List Past) where
       (Each-weaker (λ (command : Command). RestartsUntilStopped script.commands command.action) (λ (command : Command). Stops (act_of_action command.action)) (λ command. stops-of command.action) script.commands h.restarts)
       pasts
 
-  pub fates-stop-well : StopInTheEnd (map (deed script) pasts)
+  pub fates-stop-well : StopWhereKept (map (deed script) pasts)
   fates-stop-well = record { lasts = lasts-all script h.lasts pasts; restarts = stops-all }
 
 -- What restarts well does so until it is stopped.

@@ -59,12 +59,12 @@ few-then n log (Some (PodGone pod)) h all = Each-filter (IsFew n) (λ (q : Pod).
 one-deed : (shape : Shape) (past : List Deed) (log : List Entry) (act : Act) (n : ℕ) → Each (IsFew n) (pods_in log) → Each (IsFew (restarts_after act n)) (pods_in (grown log (gives shape past log act).entry))
 one-deed shape past log act n all =
     few-then (restarts_after act n) log (gives shape past log act).entry
-    (act-appends (PutsFew (restarts_after act n)) log act (record {
+    (act-appends shape past (PutsFew (restarts_after act n)) log act (record {
       job = λ job. tt;
       gone = λ key job is keyed. tt;
-      pod = λ u pod new there few. entry new (let more = no-more act (first_restarts pod) n (found u pod there) in omega (arith, few, more));
-      made = λ c w pod is none. omega (arith, none);
-    }) shape past)
+      pod = λ u pod new there uid few. entry new (let more = no-more act (first_restarts pod) n (found u pod there) in omega (arith, few, more));
+      made = λ c w pod is none m. omega (arith, none);
+    }))
     (Each-weaker (IsFew n) (IsFew (restarts_after act n)) (λ pod few. let more = no-fewer act n in omega (arith, few, more)) (pods_in log) all)
   where
     found : (u : Uid) (pod : Pod) → pod_in u log ≡ Some pod → first_restarts pod ≤ n

@@ -1,9 +1,11 @@
 -- What is so of each entry that an act may append is so of the one that it does.
-use Rattle.std.proofs.Common.{◌≡◌, ℕ, ℤ, ◌+◌, ◌-◌, ◌^◌, ◌≤◌, ◌==◌, nat_lt, max, min, pos, Bool, true, false, cond, not, ◌&&◌, List, [], ◌∷◌, ◌++◌, map, length, find, Option, Some, None, is_none, IfSome, refl, sym, ap, ◌∙◌, subst, arith}
+use Rattle.std.proofs.Common.{◌≡◌, ℕ, ℤ, suc, zero, ◌+◌, ◌-◌, ◌^◌, ◌<◌, ◌≤◌, ◌==◌, nat_lt, max, min, pos, Bool, true, false, cond, not, ◌&&◌, List, [], ◌∷◌, ◌++◌}
+use Rattle.std.proofs.Common.{map, drop, length, find, Option, Some, None, is_none, IfSome, refl, sym, ap, ◌∙◌, subst, arith}
 use Rattle.std.specs.List.{AllByRecursion as Each, cons_option, filter_map}
 use Rattle.std.specs.Option.{option_map, option_map_or, option_or, option_to_list, unwrap_or}
 use Rattle.std.proofs.lemmas.Option.{none-some as none_some, same_Some as some_is}
 use Rattle.jc_types.specs.Equality.{same_limits, same_phase, same_status}
+use Rattle.jc_types.proofs.ListFacts.{Each-append}
 use Rattle.jc_types.specs.Keys.{same_uid}
 use Rattle.jc_types.specs.declared.actions.ContainerChange.{ContainerChange}
 use Rattle.jc_types.specs.declared.actions.Fault.{Fault}
@@ -20,16 +22,15 @@ use Rattle.jc_types.specs.declared.objects.Job.{Job}
 use Rattle.jc_types.specs.declared.objects.Key.{Key}
 use Rattle.jc_types.specs.declared.objects.Phase.TheVariants.{Pending, Running}
 use Rattle.jc_types.specs.declared.objects.Pod.{Pod}
-use Rattle.jc_types.specs.declared.replies.Answer.{Answer}
 use Rattle.jc_types.specs.declared.replies.Reply.{Reply}
 use Rattle.jc_types.specs.declared.replies.Reply.TheVariants as reply
-use Rattle.jc_types.specs.declared.replies.Request.{Request}
 use Rattle.jc_types.specs.declared.runs.Shape.{Shape}
 use Rattle.jc_types.specs.declared.specifications.JobSpec.{JobSpec}
 use Rattle.jc_types.specs.declared.specifications.Template.{Template}
 use Rattle.jc_types.specs.declared.statuses.JobStatus.{JobStatus}
 use Rattle.jc_states.specs.declared.bases.Basis.{Basis}
 use Rattle.jc_states.specs.Pods.{is_final, is_marked, is_pending}
+use Rattle.jc_states.specs.UidLists.{is_in}
 use Rattle.jc_log.specs.Acts as does
 use Rattle.jc_log.specs.Acts.{Act}
 use Rattle.jc_log.specs.Deeds.{Deed}
@@ -42,10 +43,11 @@ use Rattle.jc_log.specs.Requests.{release_at, release_gives, report_phase_at, re
 use Rattle.jc_log.specs.Requests.{released, write_status_at, write_status_gives, made_job, with_spec}
 use Rattle.jc_log.proofs.WriteFacts.{job_in-key}
 use Rattle.jc_plan.specs.Plans.{planned}
+use Rattle.jc_plan.specs.declared.plans.Planned.{Planned}
 use Rattle.jc_history.specs.Diaries.{moment, notes}
 use Rattle.jc_history.specs.Fresh.{begin as begin_of}
 use Rattle.jc_history.specs.Nodes.{Again, Finish, NodeAct, Start, Stop, act_on, change_by, exits, fate, finish_change, first_container, killed, node_step, once_more, with_exit}
-use Rattle.jc_history.specs.Notes.{newest}
+use Rattle.jc_history.specs.Notes.{Note, newest}
 use Rattle.jc_history.specs.Numbers.{number}
 use Rattle.jc_history.specs.Registers.{made, pending, register}
 use Rattle.jc_history.specs.Replies.{begin_gives, clock_gives, deliver_gives, finish_gives, gives, node_gives, step_done, step_gives}
@@ -53,7 +55,9 @@ use Rattle.jc_history.specs.SoFar.{so_far}
 use Rattle.jc_settle.specs.Left.{first_restarts}
 use Rattle.jc_sync.specs.Ask.{Ask}
 use Rattle.jc_sync.specs.Ask.TheVariants.{MakePod, MarkPod, LetPodGo, WriteFirst, ReleasePod, WriteSecond}
+use Rattle.jc_sync.specs.Asks.{first_asks, last_asks, late_asks, let_go_ask, second_asks}
 use Rattle.jc_sync.specs.Flight.{Flight}
+use Rattle.jc_sync.specs.Readings.{gone_in, requests, with_marks}
 use Rattle.jc_restarts.specs.Restarts.{given_restarts, restarts_after}
 use Rattle.jc_sync.specs.Steps.{answered_to, make_gives, status_gives, stepped_at, written_gives}
 
@@ -149,15 +153,87 @@ step-there log fates step h = among (pods_in log) (pods_in-live log) h
         by None is more = more is
         by (Some act) is more = subst (λ (s : Pod × NodeAct). pod_in s.0.uid log ≡ Some s.0) (some_is (pod, act) step is) (ap living all.0)
 
+-- ---- requests that make pods
+
+abbrev MakesNone : Ask → Type 0
+MakesNone (MakePod index) = ⊥
+MakesNone other = Unit {0}
+
+none-marks : (us : List Uid) → Each MakesNone (map MarkPod us)
+none-marks [] = tt
+none-marks (u ∷ us) = (tt, none-marks us)
+
+none-lets : (rows : List (Uid × Version)) → Each MakesNone (map let_go_ask rows)
+none-lets [] = tt
+none-lets (row ∷ rows) = (tt, none-lets rows)
+
+none-late : (plan : Planned) → Each MakesNone (late_asks plan)
+none-late plan = Each-append MakesNone (first_asks plan.first) (last_asks plan.releases plan.second) (first plan.first) (Each-append MakesNone (map ReleasePod plan.releases) (second_asks plan.second) (releases plan.releases) (second plan.second))
+  where
+    first : (o : Option JobStatus) → Each MakesNone (first_asks o)
+    first None = tt
+    first (Some status) = (tt, tt)
+
+    second : (o : Option JobStatus) → Each MakesNone (second_asks o)
+    second None = tt
+    second (Some status) = (tt, tt)
+
+    releases : (us : List Uid) → Each MakesNone (map ReleasePod us)
+    releases [] = tt
+    releases (u ∷ us) = (tt, releases us)
+
+none-marked : (gone : List Uid) (asks : List Ask) → Each MakesNone asks → Each MakesNone (with_marks gone asks)
+none-marked gone [] h = tt
+none-marked gone (MakePod index ∷ asks) h = absurd h.0
+none-marked gone (MarkPod u ∷ asks) h = (tt, none-marked gone asks h.1)
+none-marked gone (WriteFirst ∷ asks) h = (tt, none-marked gone asks h.1)
+none-marked gone (ReleasePod u ∷ asks) h = (tt, none-marked gone asks h.1)
+none-marked gone (WriteSecond ∷ asks) h = (tt, none-marked gone asks h.1)
+none-marked gone (LetPodGo u v ∷ asks) h = (tt, by (is_in u gone) (none-marked gone asks h.1))
+  where
+    by : (b : Bool) → Each MakesNone (with_marks gone asks) → Each MakesNone (cond b (MarkPod u ∷ with_marks gone asks) (with_marks gone asks))
+    by true rest = (tt, rest)
+    by false rest = rest
+
+none-dropped : (n : ℕ) (asks : List Ask) → Each MakesNone asks → Each MakesNone (drop n asks)
+none-dropped zero asks h = h
+none-dropped (suc n) [] h = tt
+none-dropped (suc n) (ask ∷ asks) h = none-dropped n asks h.1
+
+-- Where a request that makes a pod is next, fewer were made than the plan creates pods.
+still-creates : (plan : Planned) (gone : List Uid) (n : ℕ) (index : Option ℕ) (left : List Ask) → drop n (requests plan gone) ≡ MakePod index ∷ left → n < length plan.creates
+still-creates plan gone n index left is = of plan.creates n is
+  where
+    others : Each MakesNone ((map MarkPod plan.marks ++ map let_go_ask plan.let_goes) ++ late_asks plan)
+    others =
+        Each-append MakesNone (map MarkPod plan.marks ++ map let_go_ask plan.let_goes) (late_asks plan)
+        (Each-append MakesNone (map MarkPod plan.marks) (map let_go_ask plan.let_goes) (none-marks plan.marks) (none-lets plan.let_goes)) (none-late plan)
+
+    of : (creates : List (Option ℕ)) (n : ℕ) → drop n (with_marks gone ((map MakePod creates ++ (map MarkPod plan.marks ++ map let_go_ask plan.let_goes)) ++ late_asks plan)) ≡ MakePod index ∷ left → n < length creates
+    of [] n is = absurd (subst (Each MakesNone) is (none-dropped n _ (none-marked gone _ others))).0
+    of (one ∷ creates) zero is = omega arith
+    of (one ∷ creates) (suc n) is = let less = of creates n is in omega (arith, less)
+
+-- The pod was made for the Job that the worker's sync saw, which had a pod to make.
+pub record IsMade (notes : List Note) (w : ℕ) (pod : Pod) : Type 0 where
+  pub basis : Basis
+  pub busy : register w notes ≡ Some basis
+  pub left : length (made w notes) < length (planned basis).creates
+  pub job : Job
+  pub saw : basis.job ≡ Some job
+  pub owner : pod.owner ≡ job.key
+  pub owner_uid : pod.owner_uid ≡ job.uid
+  pub restart : pod.restart ≡ job.spec.template.restart
+
 -- ---- entries
 
-module _ (P : Entry → Type 0) (log : List Entry) (act : Act) where
+module _ (shape : Shape) (past : List Deed) (P : Entry → Type 0) (log : List Entry) (act : Act) where
   -- It is so of what the act may append.
   pub record MayAppend : Type 0 where
     pub job : (job : Job) → P (JobPut job)
     pub gone : (key : Key) (job : Job) → act ≡ does.Delete key → job.key ≡ key → P (JobGone job)
-    pub pod : (u : Uid) (pod new : Pod) → pod_in u log ≡ Some pod → first_restarts new ≤ restarts_after act (first_restarts pod) → P (pod_entry new)
-    pub made : (c w : ℕ) (pod : Pod) → act ≡ does.Step c w → first_restarts pod ≡ 0 → P (PodPut pod)
+    pub pod : (u : Uid) (pod new : Pod) → pod_in u log ≡ Some pod → new.uid ≡ pod.uid → first_restarts new ≤ restarts_after act (first_restarts pod) → P (pod_entry new)
+    pub made : (c w : ℕ) (pod : Pod) → act ≡ does.Step c w → first_restarts pod ≡ 0 → IsMade (notes shape c past log) w pod → P (PodPut pod)
 
   abbrev pub Gives : Answered → Type 0
   Gives answered = IfSome answered.entry P
@@ -213,14 +289,14 @@ module _ (P : Entry → Type 0) (log : List Entry) (act : Act) where
       where
         by : (o : Option Pod) → pod_in uid log ≡ o → Gives (mark_pod_at log now o)
         by None there = tt
-        by (Some pod) there = unless-gives (is_marked pod) (reply.Unchanged pod.version) _ (a.pod uid pod (with_mark log pod now) there (no-fewer act (first_restarts pod)))
+        by (Some pod) there = unless-gives (is_marked pod) (reply.Unchanged pod.version) _ (a.pod uid pod (with_mark log pod now) there refl (no-fewer act (first_restarts pod)))
 
     release-gives : (uid : Uid) → Gives (release_gives log uid)
     release-gives uid = by (pod_in uid log) refl
       where
         by : (o : Option Pod) → pod_in uid log ≡ o → Gives (release_at log o)
         by None there = tt
-        by (Some pod) there = where-gives pod.tracked (released log pod) reply.NotTracked (a.pod uid pod (without_finalizer log pod) there (no-fewer act (first_restarts pod)))
+        by (Some pod) there = where-gives pod.tracked (released log pod) reply.NotTracked (a.pod uid pod (without_finalizer log pod) there refl (no-fewer act (first_restarts pod)))
 
     let-go-gives : (uid : Uid) (version : Version) → Gives (let_go_gives log uid version)
     let-go-gives uid version = by (pod_in uid log) refl
@@ -229,14 +305,14 @@ module _ (P : Entry → Type 0) (log : List Entry) (act : Act) where
         by None there = tt
         by (Some pod) there =
             unless-gives (not (pod.version.0 == version.0)) (reply.Conflict pod.version) (cond pod.tracked (released log pod) (refused reply.NotTracked))
-            (where-gives pod.tracked (released log pod) reply.NotTracked (a.pod uid pod (without_finalizer log pod) there (no-fewer act (first_restarts pod))))
+            (where-gives pod.tracked (released log pod) reply.NotTracked (a.pod uid pod (without_finalizer log pod) there refl (no-fewer act (first_restarts pod))))
 
     report-gives : (uid : Uid) (change : PhaseChange) → ((pod : Pod) → pod_in uid log ≡ Some pod → first_restarts (with_report log pod change) ≤ restarts_after act (first_restarts pod)) → Gives (report_phase_gives log uid change)
     report-gives uid change few = by (pod_in uid log) refl
       where
         unless : (pod : Pod) → pod_in uid log ≡ Some pod → (o : Option ContainerChange) → Gives (report_unless log pod change o)
         unless pod there (Some unnamed) = tt
-        unless pod there None = unless-gives (same_course_of pod (with_report log pod change)) (reply.Unchanged pod.version) _ (a.pod uid pod (with_report log pod change) there (few pod there))
+        unless pod there None = unless-gives (same_course_of pod (with_report log pod change)) (reply.Unchanged pod.version) _ (a.pod uid pod (with_report log pod change) there refl (few pod there))
 
         by : (o : Option Pod) → pod_in uid log ≡ o → Gives (report_phase_at log change o)
         by None there = tt
@@ -268,36 +344,39 @@ module _ (P : Entry → Type 0) (log : List Entry) (act : Act) where
 
     -- ---- the steps of a sync
 
-    module _ (c w : ℕ) (is : act ≡ does.Step c w) (now : ℕ) (flight : Flight) where
+    module _ (c w : ℕ) (is : act ≡ does.Step c w) (now : ℕ) (b : Basis) (busy : register w (notes shape c past log) ≡ Some b) where
+      abbrev flight : Flight
+      flight = (so_far b (made w (notes shape c past log))).flight
+
       written : (o : Option JobStatus) → Gives (written_gives log flight o)
       written None = tt
-      written (Some status) = by flight.basis.job
+      written (Some status) = by b.job
         where
           by : (o : Option Job) → Gives (status_gives log flight status o)
           by None = tt
-          by (Some job) = status-gives flight.basis.key job.uid flight.sends status
+          by (Some job) = status-gives b.key job.uid flight.sends status
 
-      makes : (index : Option ℕ) (o : Option Job) → Gives (make_gives log index now o)
-      makes index None = tt
-      makes index (Some job) = a.made c w (made_pod log job index now) is (new-none job.spec.template)
+      makes : (index : Option ℕ) → length (made w (notes shape c past log)) < length (planned b).creates → (o : Option Job) → b.job ≡ o → Gives (make_gives log index now o)
+      makes index left None saw = tt
+      makes index left (Some job) saw = a.made c w (made_pod log job index now) is (new-none job.spec.template) (record { basis = b; busy = busy; left = left; job = job; saw = saw; owner = refl; owner_uid = refl; restart = refl })
 
-      answers : (ask : Ask) → Gives (answered_to log now flight ask)
-      answers (MakePod index) = makes index flight.basis.job
-      answers (MarkPod u) = mark-gives u now
-      answers (LetPodGo u v) = let-go-gives u v
-      answers WriteFirst = written (planned flight.basis).first
-      answers (ReleasePod u) = release-gives u
-      answers WriteSecond = written (planned flight.basis).second
+      answers : (ask : Ask) (left : List Ask) → (so_far b (made w (notes shape c past log))).left ≡ ask ∷ left → Gives (answered_to log now flight ask)
+      answers (MakePod index) left l = makes index (still-creates (planned b) (gone_in (made w (notes shape c past log))) (length (made w (notes shape c past log))) index left l) b.job refl
+      answers (MarkPod u) left l = mark-gives u now
+      answers (LetPodGo u v) left l = let-go-gives u v
+      answers WriteFirst left l = written (planned b).first
+      answers (ReleasePod u) left l = release-gives u
+      answers WriteSecond left l = written (planned b).second
 
-      steps : (fault : Option Fault) (left : List Ask) → Gives (step_done (stepped_at now fault log flight left))
-      steps fault [] = tt
-      steps None (ask ∷ left) = answers ask
-      steps (Some Drop) (ask ∷ left) = tt
-      steps (Some Lose) (ask ∷ left) = answers ask
+      steps : (fault : Option Fault) (left : List Ask) → (so_far b (made w (notes shape c past log))).left ≡ left → Gives (step_done (stepped_at now fault log flight left))
+      steps fault [] l = tt
+      steps None (ask ∷ left) l = answers ask left l
+      steps (Some Drop) (ask ∷ left) l = tt
+      steps (Some Lose) (ask ∷ left) l = answers ask left l
 
-    sync-gives : (c w now : ℕ) → act ≡ does.Step c w → (made : List (Request × Answer)) (fault : Option Fault) (o : Option Basis) → Gives (step_gives log now made fault o)
-    sync-gives c w now is made fault None = tt
-    sync-gives c w now is made fault (Some b) = steps c w is now (so_far b made).flight fault (so_far b made).left
+    sync-gives : (c w now : ℕ) → act ≡ does.Step c w → (fault : Option Fault) (o : Option Basis) → register w (notes shape c past log) ≡ o → Gives (step_gives log now (made w (notes shape c past log)) fault o)
+    sync-gives c w now is fault None busy = tt
+    sync-gives c w now is fault (Some b) busy = steps c w is now b busy fault (so_far b (made w (notes shape c past log))).left refl
 
     tick-gives : (at : ℕ) → Gives (clock_gives at)
     tick-gives at = by (nat_lt at end_of_moments)
@@ -317,37 +396,36 @@ module _ (P : Entry → Type 0) (log : List Entry) (act : Act) where
 
     -- ---- each act
 
-    module _ (shape : Shape) (past : List Deed) where
-      of-act : (x : Act) → act ≡ x → Gives (gives shape past log x)
-      unfolding gives
-      of-act (does.Create key spec) is = create-gives key spec (moment shape past)
-      of-act (does.Update key version change) is = update-gives key version change
-      of-act (does.Delete key) is = delete-gives key is
-      of-act (does.Mark pod) is = mark-gives pod (moment shape past)
-      of-act (does.Strip pod) is = release-gives pod
-      of-act (does.Finish uid exit) is = finish-gives uid exit
-      of-act (does.Report uid change) is =
-          report-gives uid change
-          (λ pod there.
-          let some = report-few log pod change in
-          let given : restarts_after act (first_restarts pod) ≡ max (first_restarts pod) (given_restarts change.containers) = ap (λ x. restarts_after x (first_restarts pod)) is in
-          omega (arith, some, given))
-      of-act (does.Fate key ends) is = tt
-      of-act (does.Clock add) is = tick-gives (moment shape past + add)
-      of-act (does.List controller kind) is = tt
-      of-act (does.Deliver controller kind) is = told-gives shape.window (number kind (notes shape controller past log))
-      of-act (does.Begin controller worker) is = by (register worker (notes shape controller past log))
-        where
-          by : (o : Option Basis) → Gives (begin_gives o (begin_of (notes shape controller past log) log (moment shape past)))
-          by None = tt
-          by (Some basis) = tt
-      of-act (does.Step controller worker) is =
-          sync-gives controller worker (moment shape past) is (made worker (notes shape controller past log)) (pending worker (notes shape controller past log)) (register worker (notes shape controller past log))
-      of-act does.Node is = node-does is (node_step log (fate past)) (step-there log (fate past))
-      of-act (does.Restart controller) is = tt
-      of-act (does.PutFault controller worker fault) is = tt
-      of-act does.Settle is = tt
-      of-act does.Unknown is = tt
+    of-act : (x : Act) → act ≡ x → Gives (gives shape past log x)
+    unfolding gives
+    of-act (does.Create key spec) is = create-gives key spec (moment shape past)
+    of-act (does.Update key version change) is = update-gives key version change
+    of-act (does.Delete key) is = delete-gives key is
+    of-act (does.Mark pod) is = mark-gives pod (moment shape past)
+    of-act (does.Strip pod) is = release-gives pod
+    of-act (does.Finish uid exit) is = finish-gives uid exit
+    of-act (does.Report uid change) is =
+        report-gives uid change
+        (λ pod there.
+        let some = report-few log pod change in
+        let given : restarts_after act (first_restarts pod) ≡ max (first_restarts pod) (given_restarts change.containers) = ap (λ x. restarts_after x (first_restarts pod)) is in
+        omega (arith, some, given))
+    of-act (does.Fate key ends) is = tt
+    of-act (does.Clock add) is = tick-gives (moment shape past + add)
+    of-act (does.List controller kind) is = tt
+    of-act (does.Deliver controller kind) is = told-gives shape.window (number kind (notes shape controller past log))
+    of-act (does.Begin controller worker) is = by (register worker (notes shape controller past log))
+      where
+        by : (o : Option Basis) → Gives (begin_gives o (begin_of (notes shape controller past log) log (moment shape past)))
+        by None = tt
+        by (Some basis) = tt
+    of-act (does.Step controller worker) is =
+        sync-gives controller worker (moment shape past) is (pending worker (notes shape controller past log)) (register worker (notes shape controller past log)) refl
+    of-act does.Node is = node-does is (node_step log (fate past)) (step-there log (fate past))
+    of-act (does.Restart controller) is = tt
+    of-act (does.PutFault controller worker fault) is = tt
+    of-act does.Settle is = tt
+    of-act does.Unknown is = tt
 
-      pub act-appends : Gives (gives shape past log act)
-      act-appends = of-act act refl
+    pub act-appends : Gives (gives shape past log act)
+    act-appends = of-act act refl

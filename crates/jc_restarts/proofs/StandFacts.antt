@@ -1,8 +1,9 @@
 -- The Job of a key that is never deleted stays there, and each pod of the key was made for it. Where there is a pod there is
 -- a controller.
-use Rattle.std.proofs.Common.{◌≡◌, ◌⊎◌, inl, inr, ℕ, zero, suc, ◌<◌, Bool, true, false, cond, List, [], ◌∷◌, Option, Some, None, IfSome, refl, sym, ap, ◌∙◌, subst, arith, true≢false}
+use Rattle.std.proofs.Common.{◌≡◌, ◌⊎◌, inl, inr, ℕ, zero, suc, ◌<◌, nat_lt, Bool, true, false, cond, List, [], ◌∷◌, length, Option, Some, None, IfSome, refl, sym, ap, ◌∙◌, subst, arith, true≢false}
 use Rattle.std.proofs.lemmas.Bool.{cond-false, cond-true}
 use Rattle.std.proofs.lemmas.Option.{none-some as none_some}
+use Rattle.std.specs.List.{AllByRecursion as Each}
 use Rattle.jc_types.proofs.KeyFacts.{same_key-eq, same_key-itself, same_uid-itself}
 use Rattle.jc_types.specs.Keys.{same_key, same_uid}
 use Rattle.jc_types.specs.declared.numbers.Uid.{Uid}
@@ -16,21 +17,33 @@ use Rattle.jc_types.specs.declared.specifications.JobSpec.{JobSpec}
 use Rattle.jc_types.specs.declared.specifications.Restart.{Restart}
 use Rattle.jc_types.specs.declared.specifications.Restart.TheVariants.{Never, OnFailure}
 use Rattle.jc_states.specs.Pods.{goes}
+use Rattle.jc_states.specs.declared.bases.Basis.{Basis}
 use Rattle.jc_states.specs.PodLists.{drop_pod}
 use Rattle.jc_states.proofs.PodListFacts.{pod_among}
 use Rattle.jc_log.specs.Acts as does
 use Rattle.jc_log.specs.Acts.{Act}
 use Rattle.jc_log.specs.Deeds.{Deed}
-use Rattle.jc_log.specs.Log.{Live, job_in, life, pod_in, pods_in}
+use Rattle.jc_log.specs.Log.{Live, job_in, life, pod_in, pods_in, upto}
 use Rattle.jc_log.specs.Requests.{create_job_at, create_job_gives, grown, made_job, pod_entry}
 use Rattle.jc_log.proofs.PodFacts.{pods_in-among}
+use Rattle.jc_log.proofs.WriteFacts.{job_in-key}
 use Rattle.jc_plan.specs.Decisions.{restarts_on_failure}
 use Rattle.jc_history.specs.Diaries.{moment}
 use Rattle.jc_history.specs.Legal.{IsLegal, IsOfShape}
 use Rattle.jc_history.specs.Replies.{gives, log_given}
-use Rattle.jc_counted.proofs.KeptFacts.{AllBy, AreKept, LifeBy, MayAct, PutsBy, act-by, life-by}
-use Rattle.jc_restarts.specs.Restarts.{HasItsJob, NeverDeleted, deletes}
+use Rattle.jc_counted.proofs.KeptFacts.{AllBy, AreKept, LifeBy, MayAct, PutsBy, act-by, found-by, life-by}
+use Rattle.jc_restarts.specs.Restarts.{HasItsJob, IsPresent, MayMakePods, NeverDeleted, deletes}
 use Rattle.jc_restarts.proofs.EntryFacts.{act-appends}
+use Rattle.jc_restarts.proofs.SawFacts.{sync-saw}
+
+-- What each entry has, each of the first ones has.
+pub each-upto : (P : Entry → Type 0) (v : ℕ) (log : List Entry) → Each P log → Each P (upto v log)
+each-upto P v [] all = tt
+each-upto P v (e ∷ older) all = by (nat_lt (length older) v) (each-upto P v older all.1)
+  where
+    by : (b : Bool) → Each P (upto v older) → Each P (cond b (e ∷ older) (upto v older))
+    by true rest = all
+    by false rest = rest
 
 never-other : Never ≡ OnFailure → ⊥
 never-other e = true≢false (sym (ap restarts_on_failure e))
@@ -38,7 +51,8 @@ never-other e = true≢false (sym (ap restarts_on_failure e))
 module _ (k : Key) where
   -- ---- no Job of the key is taken away
 
-  abbrev NotGone : Entry → Type 0
+  -- The entry takes no Job of the key away.
+  abbrev pub NotGone : Entry → Type 0
   NotGone (JobGone job) = same_key job.key k ≡ false
   NotGone other = Unit {0}
 
@@ -49,13 +63,13 @@ module _ (k : Key) where
       by true = tt
       by false = tt
 
-  none-gone : (shape : Shape) (past : List Deed) (log : List Entry) (act : Act) → deletes k act ≡ false → IfSome (gives shape past log act).entry NotGone
-  none-gone shape past log act kept = act-appends NotGone log act (record {
+  pub none-gone : (shape : Shape) (past : List Deed) (log : List Entry) (act : Act) → deletes k act ≡ false → IfSome (gives shape past log act).entry NotGone
+  none-gone shape past log act kept = act-appends shape past NotGone log act (record {
     job = λ job. tt;
     gone = λ key job is keyed. ap (λ q. same_key q k) keyed ∙ ap (deletes k) (sym is) ∙ kept;
-    pod = λ u pod new there few. entry-stays new;
-    made = λ c w pod is none. tt;
-  }) shape past
+    pod = λ u pod new there uid few. entry-stays new;
+    made = λ c w pod is none m. tt;
+  })
 
   -- ---- its UID and its policy
 
@@ -185,6 +199,33 @@ module _ (k : Key) where
           (life-by (JobIs job.uid job.spec.template.restart) (PodIs job.uid job.spec.template.restart) (Elsewhere job.uid job.spec.template.restart) (its-kept job.uid job.spec.template.restart) log all pod.uid)
           (ap (λ q. same_key q k) owner ∙ same_key-itself k)
 
+  -- ---- a Job of the key that was there
+
+  was-there : (log : List Entry) (v : ℕ) (job : Job) → job_in k (upto v log) ≡ Some job → Stands log → IsPresent log job
+  was-there log v job was (Unborn none all) = absurd (never-other (sym (is Never).1 ∙ (is OnFailure).1))
+    where
+      is : (r : Restart) → (job.uid ≡ job.uid) × (job.spec.template.restart ≡ r)
+      is r =
+          subst (λ o. IfSome o (JobIs job.uid r)) was (found-by (JobIs job.uid r) (PodIs job.uid r) (Elsewhere job.uid r) (its-kept job.uid r) (upto v log) (each-upto (Puts job.uid r) v log (all job.uid r)) k)
+          (ap (λ q. same_key q k) (job_in-key k (upto v log) job was) ∙ same_key-itself k)
+  was-there log v job was (Born now there all) = record { now = now; there = ap (λ q. job_in q log) (job_in-key k (upto v log) job was) ∙ there; uid = sym is.0 }
+    where
+      is : (job.uid ≡ now.uid) × (job.spec.template.restart ≡ now.spec.template.restart)
+      is =
+          subst (λ o. IfSome o (JobIs now.uid now.spec.template.restart)) was
+          (found-by (JobIs now.uid now.spec.template.restart) (PodIs now.uid now.spec.template.restart) (Elsewhere now.uid now.spec.template.restart) (its-kept now.uid now.spec.template.restart) (upto v log)
+          (each-upto (Puts now.uid now.spec.template.restart) v log all) k)
+          (ap (λ q. same_key q k) (job_in-key k (upto v log) job was) ∙ same_key-itself k)
+
+-- The Job that a sync under way saw is there, where none of its key was ever deleted.
+pub saw-there : (shape : Shape) (deeds : List Deed) (basis : Basis) (job : Job) → MayMakePods shape deeds basis → basis.job ≡ Some job → NeverDeleted job.key deeds → IsPresent (log_given shape deeds) job
+saw-there shape deeds basis job may saw kept =
+    was-there basis.key (log_given shape deeds) basis.jobs_at.0 job was
+    (stands basis.key shape deeds (subst (λ q. NeverDeleted q deeds) (job_in-key basis.key (upto basis.jobs_at.0 (log_given shape deeds)) job was) kept))
+  where
+    was : job_in basis.key (upto basis.jobs_at.0 (log_given shape deeds)) ≡ Some job
+    was = sym (sync-saw shape deeds basis may) ∙ saw
+
 -- Each pod of a key that is never deleted has its Job.
 pub has-its-job : (shape : Shape) (deeds : List Deed) (pod : Pod) → life pod.uid (log_given shape deeds) ≡ Live pod → NeverDeleted pod.owner deeds → HasItsJob (log_given shape deeds) pod
 has-its-job shape deeds pod live kept = pod-stands pod.owner (log_given shape deeds) pod live refl (stands pod.owner shape deeds kept)
@@ -209,12 +250,12 @@ no-pods : (shape : Shape) → shape.controllers ≡ 0 → (deeds : List Deed) �
 unfolding log_given
 no-pods shape none [] legal = refl
 no-pods shape none (d ∷ past) legal = none-more (log_given shape past) (gives shape past (log_given shape past) d.act).entry
-    (act-appends IsNoPod (log_given shape past) d.act (record {
+    (act-appends shape past IsNoPod (log_given shape past) d.act (record {
       job = λ job. tt;
       gone = λ key job is keyed. tt;
-      pod = λ u pod new there few. absurd (none_some pod (sym (ap (pod_among u) (no-pods shape none past legal.1)) ∙ pods_in-among u (log_given shape past) ∙ there));
-      made = λ c w pod is fresh. let within = (subst (IsOfShape shape) is legal.0.within).0 in absurd (omega (arith, none, within));
-    }) shape past) (no-pods shape none past legal.1)
+      pod = λ u pod new there uid few. absurd (none_some pod (sym (ap (pod_among u) (no-pods shape none past legal.1)) ∙ pods_in-among u (log_given shape past) ∙ there));
+      made = λ c w pod is fresh m. let within = (subst (IsOfShape shape) is legal.0.within).0 in absurd (omega (arith, none, within));
+    })) (no-pods shape none past legal.1)
 
 pub has-controller : (shape : Shape) (deeds : List Deed) → IsLegal shape deeds → (pod : Pod) → pod_in pod.uid (log_given shape deeds) ≡ Some pod → 0 < shape.controllers
 has-controller shape deeds legal pod there = by shape.controllers refl

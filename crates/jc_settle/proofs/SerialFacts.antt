@@ -42,7 +42,7 @@ use Rattle.jc_settle.proofs.ComesFacts.{first-comes}
 -- ---- registers
 
 -- Notes that begin no sync of the worker.
-abbrev NoneBegins : ℕ → List Note → Type 0
+abbrev pub NoneBegins : ℕ → List Note → Type 0
 NoneBegins w some = Each (λ note. begins_for w note ≡ false) some
 
 -- They leave its register, or free it.
@@ -63,7 +63,7 @@ kept-by w (Faulted worker fault ∷ new) older basis n e = kept-by w new older b
 kept-by w (Ticked now ∷ new) older basis n e = kept-by w new older basis n.1 e
 
 -- What an act is noted as that is no begin.
-none-noted : (w c : ℕ) (act : Act) (r : Reply) (now : ℕ) (log : List Entry) (older : List Note) → is_begin_of_any act ≡ false → NoneBegins w (notes_taken c act r now log older)
+pub none-noted : (w c : ℕ) (act : Act) (r : Reply) (now : ℕ) (log : List Entry) (older : List Note) → is_begin_of_any act ≡ false → NoneBegins w (notes_taken c act r now log older)
 none-noted w c (does.List controller kind) r now log older n = either (λ note. begins_for w note ≡ false) (controller == c) _ (by r)
   where
     by : (r : Reply) → NoneBegins w (on_list kind log r)

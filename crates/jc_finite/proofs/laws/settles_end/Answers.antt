@@ -1,7 +1,8 @@
 -- The lemmas on the end of a settle.
 use Rattle.jc_finite.proofs.EndFacts.{settle-ends, settle-stops}
 use Rattle.jc_finite.proofs.LastFacts.{success-enough}
-use Rattle.jc_finite.proofs.SuccessFacts.{always-enough, ends-stop, late-out}
+use Rattle.jc_finite.proofs.StartFacts.{ends-stop, kept-stop}
+use Rattle.jc_finite.proofs.SuccessFacts.{always-enough, late-out}
 use Rattle.jc_finite.proofs.laws.settles_end.Goals as goal
 
 pub returns : goal.returns
@@ -12,4 +13,5 @@ returns c = record {
   succeeding = success-enough;
   always = always-enough;
   weaker = ends-stop;
+  kept = kept-stop;
 }

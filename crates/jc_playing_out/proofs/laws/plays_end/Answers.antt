@@ -54,7 +54,7 @@ pub returns-clause-stops : goal.returns-clause-stops
 returns-clause-stops c =
     λ script shape valid proper some start fine. ends-or-out script shape proper
     (λ q good. c.settles_end.ensures.stops shape (deeds_played script q) good.legal (c.valid_scripts_ask_valid.ensures script q.pasts valid) some start
-    (fates-stop-well script fine q.pasts))
+    (c.settles_end.ensures.kept shape (deeds_played script q) (fates-stop-well script fine q.pasts)))
 
 pub returns-clause-late : goal.returns-clause-late
 returns-clause-late c =
