@@ -85,7 +85,7 @@ fn count_job(alloc: Global, job: &Job, pods: &[Arc<Pod>]) -> Result<CountIn, Wan
     ensures few_failed { IfOk result (λ r. r.new_failed ≤ length pods.now) }
 {
     let mode = job.spec.mode;
-    let status = &job.status;
+    let status = &*job.status;
     let stayed_succeeded = stayed(alloc, job, pods, status.uncounted_succeeded.as_slice())?;
     let stayed_failed = stayed(alloc, job, pods, status.uncounted_failed.as_slice())?;
     let room = room_beside(count_staying(job, pods));

@@ -59,7 +59,7 @@ fn judgement_of(job: &Job, pod: &Pod) -> Judgement
 fn judgement_if_new(job: &Job, pod: &Pod) -> Option<Judgement>
     ensures { result ≡ judgement_if_new job.now pod.now }
 {
-    if !pod.tracked || is_listed(&job.status, pod.uid) {
+    if !pod.tracked || is_listed(&*job.status, pod.uid) {
         return None;
     }
     let row = judgement_of(job, pod);

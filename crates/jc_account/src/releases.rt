@@ -31,7 +31,7 @@ fn has_place(first: Option<Uid>, spec: &JobSpec, pod: &Pod) -> bool
 fn is_to_go(first: Option<Uid>, job: &Job, pod: &Pod) -> bool
     ensures { result ≡ is_to_go first job.now pod.now }
 {
-    pod.tracked && (is_listed(&job.status, pod.uid) || has_place(first, &job.spec, pod))
+    pod.tracked && (is_listed(&*job.status, pod.uid) || has_place(first, &job.spec, pod))
 }
 
 // Whether the pod is the Job's own and its finalizer is to go.

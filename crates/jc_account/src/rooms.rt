@@ -43,7 +43,7 @@ pub(crate) fn is_fit(mode: Mode, first: Option<Uid>, outcome: Outcome, uid: Uid)
 fn is_own_staying(job: &Job, pod: &Pod) -> bool
     ensures { result ≡ is_own job.now pod.now && is_staying job.now pod.now }
 {
-    is_own(job, pod) && (pod.tracked && is_listed(&job.status, pod.uid))
+    is_own(job, pod) && (pod.tracked && is_listed(&*job.status, pod.uid))
 }
 
 // How many of the Job's own pods stay listed.

@@ -254,13 +254,20 @@ module _ (rows : List (Uid × Option Pod)) (pods now : List Pod) (n : ℕ) (kept
     pub waits-kept : (count : ℕ) → count ≡ length (with_change u change now) → KeepsChanges new pods count
     waits-kept count is = record { rising = kept.rising; named = waits-named; once = once; counted = is ∙ ap length (sym waits-made) }
 
--- Where nothing waits the change is made of the pods themselves.
-pub made-kept : (rows : List (Uid × Option Pod)) (pods now new : List Pod) (n count : ℕ) → KeepsChanges rows pods n → all_changed rows pods ≡ now → length rows ≡ 0 → (u : Uid) (change : Option Pod)
-    → new ≡ with_change u change pods → count ≡ length (with_change u change now) → KeepsChanges rows new count
-made-kept [] pods now new n count kept seen none u change made is = record {
+-- Where nothing waits the change is made of the pods themselves, and these are counted.
+pub made-kept : (rows : List (Uid × Option Pod)) (pods new : List Pod) (n count : ℕ) → KeepsChanges rows pods n → length rows ≡ 0 → (u : Uid) (change : Option Pod)
+    → new ≡ with_change u change pods → count ≡ length new → KeepsChanges rows new count
+made-kept [] pods new n count kept none u change made is = record {
   rising = subst IsRising (sym made) (rises_change u change pods kept.rising);
   named = tt;
   once = kept.once;
-  counted = is ∙ ap (λ (all : List Pod). length (with_change u change all)) (sym seen) ∙ ap length (sym made);
+  counted = is;
 }
-made-kept (row ∷ rows) pods now new n count kept seen none u change made is = absurd (omega (arith, none))
+made-kept (row ∷ rows) pods new n count kept none u change made is = absurd (omega (arith, none))
+
+-- Once all changes are made none waits, and the pods are as many as before.
+pub emptied-kept : (rows left : List (Uid × Option Pod)) (pods new : List Pod) (n : ℕ) → KeepsChanges rows pods n → new ≡ all_changed rows pods → IsRising new → left ≡ [] → KeepsChanges left new n
+unfolding IsDistinct
+emptied-kept rows left pods new n kept made rising none =
+    subst (λ (some : List (Uid × Option Pod)). KeepsChanges some new n) (sym none)
+    (record { rising = rising; named = tt; once = tt; counted = kept.counted ∙ ap length (sym made) })

@@ -1,6 +1,6 @@
 //! Changes of pods, which wait until they can be made in place.
 
-ghost use Rattle.std.specs.Prelude.{◌≡◌, IfOk, OnErr, OnOk};
+ghost use Rattle.std.specs.Prelude.{◌≡◌, [], IfOk, OnErr, OnOk};
 ghost use Rattle.std.specs.List.{IsDistinct};
 ghost use Rattle.std.specs.Map.{keys_of};
 ghost use Rattle.jc_types.specs.Keys.{same_uid};
@@ -11,6 +11,9 @@ use indexmap::IndexMap;
 use jc_states::Pods;
 use jc_types::{Arc, Copied, Pod, Uid, Want};
 use std::alloc::{AllocError, Global};
+
+/// The room, in changes, that is kept once they are made.
+const MOST_ROOM: usize = 16;
 
 /// What the pod of a UID becomes; `None` where it goes.
 pub(crate) type Change = Option<Arc<Pod>>;
@@ -62,6 +65,18 @@ pub(crate) fn make_all(pods: &mut Pods, changes: &IndexMap<Uid, Change>) -> Resu
         make_copy(pods, *uid, change)?;
     }
     Ok(())
+}
+
+// Drops the changes. Room for few is kept, so that the next ones wait with no memory; room for many is given
+// back, as it may not be needed again.
+pub(crate) fn empty(alloc: Global, changes: &mut IndexMap<Uid, Change>)
+    ensures { changes.new.entries ≡ [] }
+{
+    if changes.capacity() <= MOST_ROOM {
+        changes.clear();
+    } else {
+        *changes = IndexMap::new(alloc);
+    }
 }
 
 // Copies of the changes, in their order.

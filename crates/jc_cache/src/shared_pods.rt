@@ -5,7 +5,7 @@ ghost use Rattle.jc_types.specs.Keys.{same_uid};
 ghost use Rattle.jc_states.specs.PodLists.{IsRising, drop_pod, put_pod};
 ghost use Rattle.jc_cache.specs.Changes.{HasRoomFor, IsOf, with_change};
 
-use crate::changes::{Change, copied, make, make_all};
+use crate::changes::{Change, copied, empty, make, make_all};
 use indexmap::IndexMap;
 use jc_states::Pods;
 use jc_types::{Arc, Copied, Pod, Uid, Want};
@@ -113,10 +113,12 @@ impl SharedPods {
     pub fn apply_pending(&mut self)
         ensures { self.new ≡ self.old }
     {
+        if self.waiting.is_empty() {
+            return;
+        }
         if let Some(pods) = sync::Arc::get_mut(&mut self.shared) {
             if make_all(pods, &self.waiting).is_ok() {
-                // (so their memory is given back)
-                self.waiting = IndexMap::new(self.alloc);
+                empty(self.alloc, &mut self.waiting);
             }
         }
     }
@@ -135,12 +137,11 @@ impl SharedPods {
         if !self.waiting.is_empty() {
             return self.wait(uid, change);
         }
-        let count = self.count_with(uid, &change);
         let Some(pods) = sync::Arc::get_mut(&mut self.shared) else {
             return self.wait(uid, change);
         };
         make(pods, uid, change)?;
-        self.count = count;
+        self.count = pods.len() as u32;
         Ok(())
     }
 

@@ -147,7 +147,7 @@ fn first_reason(
         Some((CondKind::FailureTarget, Reason::PodFailurePolicy))
     } else if is_past_limit(job, pods, failed) {
         Some((CondKind::FailureTarget, Reason::BackoffLimitExceeded))
-    } else if is_overdue(now, &*job.spec, &job.status) {
+    } else if is_overdue(now, &*job.spec, &*job.status) {
         Some((CondKind::FailureTarget, Reason::DeadlineExceeded))
     } else if is_past_most(job.spec.max_failed, &counted.failed_indexes) {
         Some((CondKind::FailureTarget, Reason::MaxFailedIndexesExceeded))

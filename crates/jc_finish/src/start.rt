@@ -55,7 +55,7 @@ pub fn start_in_force(basis: &Basis) -> Option<Moment>
     ensures { result ≡ start_in_force basis.entry.now }
 {
     let job = basis.job.as_ref()?;
-    start_of(basis.now, &*job.spec, &job.status)
+    start_of(basis.now, &*job.spec, &*job.status)
 }
 
 /// The moment of the deadline of the basis's Job (batch/v1, `activeDeadlineSeconds`), at which its key is
@@ -66,5 +66,5 @@ pub fn next_deadline(basis: &Basis) -> Option<Moment>
     ensures { result ≡ next_deadline basis.entry.now }
 {
     let job = basis.job.as_ref()?;
-    deadline(basis.now, &*job.spec, &job.status)
+    deadline(basis.now, &*job.spec, &*job.status)
 }

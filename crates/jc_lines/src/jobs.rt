@@ -27,7 +27,7 @@ fn print_identity(out: &mut String, alloc: Global, job: &Job) -> Result<(), Want
 fn put_job(out: &mut String, alloc: Global, job: &Job) -> Result<(), Want>
     ensures { OnOk result (string_bytes out.new ≡ string_bytes out.old ++ job_line job.now) }
 {
-    let status = print_status(alloc, &job.status)?;
+    let status = print_status(alloc, &*job.status)?;
     out.push_str("job ")?;
     print_key(out, &job.key)?;
     print_identity(out, alloc, job)?;

@@ -34,14 +34,14 @@ fn same_status(old: &JobStatus, new: &JobStatus) -> bool
     old.is_same(new)
 }
 
-// The new status, where it differs from the old one.
-fn changed(old: &JobStatus, new: JobStatus) -> Option<JobStatus>
-    ensures { result ≡ changed old.now new }
+// The new status, to be shared, where it differs from the old one.
+fn changed(alloc: Global, old: &JobStatus, new: JobStatus) -> Result<Option<Arc<JobStatus>>, Want>
+    ensures { IfOk result (λ r. r ≡ changed old.now new) }
 {
     if same_status(old, &new) {
-        return None;
+        return Ok(None);
     }
-    Some(new)
+    Ok(Some(Arc::new(alloc, new)?))
 }
 
 // The earlier of two moments, where they are there.
@@ -138,7 +138,7 @@ fn second_for(
     counted: &CountIn,
     target: Option<(CondKind, Reason)>,
     first: &JobStatus,
-) -> Result<Option<JobStatus>, Want>
+) -> Result<Option<Arc<JobStatus>>, Want>
     requires its_job { basis.now.job ≡ Some job.now }
     requires counted { counted.now ≡ accounted job.now basis.now }
     requires target { target ≡ decided_in job.now basis.now }
@@ -154,7 +154,7 @@ fn second_for(
         return Ok(None);
     }
     let second = second_status(alloc, basis, job, counted, target, first)?;
-    Ok(changed(first, second))
+    changed(alloc, first, second)
 }
 
 // Both statuses, where they are to be written.
@@ -165,7 +165,7 @@ fn statuses_for(
     counted: &CountIn,
     target: Option<(CondKind, Reason)>,
     wants: &Wants,
-) -> Result<(Option<JobStatus>, Option<JobStatus>), Want>
+) -> Result<(Option<Arc<JobStatus>>, Option<Arc<JobStatus>>), Want>
     requires its_job { basis.now.job ≡ Some job.now }
     requires can { CanPlan basis.now }
     requires counted { counted.now ≡ accounted job.now basis.now }
@@ -182,7 +182,7 @@ fn statuses_for(
 {
     let first = first_status(alloc, basis, job, counted, target, wants)?;
     let second = second_for(alloc, basis, job, counted, target, &first)?;
-    Ok((changed(&job.status, first), second))
+    Ok((changed(alloc, &*job.status, first)?, second))
 }
 
 // The plan of a basis with a Job, of what the sync counts in.

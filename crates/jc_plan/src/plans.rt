@@ -19,11 +19,11 @@ pub struct Planned {
     /// The pods whose finalizer goes before they are marked.
     pub let_goes: PodVersions,
     /// The first status, where it is to be written.
-    pub first: Option<JobStatus>,
+    pub first: Option<Arc<JobStatus>>,
     /// The pods whose finalizer is to go.
     pub releases: Uids,
     /// The second status, where it is to be written.
-    pub second: Option<JobStatus>,
+    pub second: Option<Arc<JobStatus>>,
     /// The failures in a row after the sync.
     pub backoff: Backoff,
     /// When the key is to be synced again.
@@ -97,7 +97,7 @@ impl Plan {
     }
 
     /// The first status to write (KEP-2307): what is counted in. None where the Job has it already.
-    pub fn first(&self) -> Option<&JobStatus>
+    pub fn first(&self) -> Option<&Arc<JobStatus>>
         ensures { option_copied result ≡ (planned self.now.basis).first }
     {
         self.parts.first.as_ref()
@@ -113,7 +113,7 @@ impl Plan {
 
     /// The second status to write (KEP-2307): what is counted out, once all pods are released. None where
     /// the first is the same.
-    pub fn second(&self) -> Option<&JobStatus>
+    pub fn second(&self) -> Option<&Arc<JobStatus>>
         ensures { option_copied result ≡ (planned self.now.basis).second }
     {
         self.parts.second.as_ref()

@@ -178,7 +178,7 @@ pub fn first_status(
     let due = is_first_due(is_end_decided(job, target), job, pods, counted);
     let numbers = numbers_after(job, pods, wants);
     let conditions = conditions_at(alloc, basis, job, target, due)?;
-    let completion = completed_at(basis.now, &job.status, &conditions);
+    let completion = completed_at(basis.now, &*job.status, &conditions);
     filled(
         counted,
         numbers,
@@ -219,7 +219,7 @@ pub fn second_status(
         &second,
     );
     let conditions = conditions_at(alloc, basis, job, target, due)?;
-    second.completion = completed_at(basis.now, &job.status, &conditions);
+    second.completion = completed_at(basis.now, &*job.status, &conditions);
     second.conditions = conditions;
     Ok(second)
 }

@@ -92,7 +92,7 @@ impl Store {
         key: &Key,
         uid: Uid,
         version: Version,
-        status: &JobStatus,
+        status: &Arc<JobStatus>,
     ) -> Result<Reply, Want>
         ensures { GivesOrKeeps self.old self.new
             (write_status_gives self.old key.now uid version status.now) result }
@@ -108,7 +108,7 @@ impl Store {
                 current: job.version,
             });
         }
-        if same_status(&job.status, status) {
+        if same_status(&*job.status, &**status) {
             return Ok(Reply::Unchanged {
                 version: job.version,
             });
@@ -157,7 +157,7 @@ fn with_spec(job: &Job, version: Version, spec: Arc<JobSpec>) -> Result<Job, Wan
 }
 
 // The Job with another status.
-fn with_status(job: &Job, version: Version, status: &JobStatus) -> Result<Job, Want>
+fn with_status(job: &Job, version: Version, status: &Arc<JobStatus>) -> Result<Job, Want>
     ensures { IfOk result (λ r. r ≡ record job.now { version = version; status = status.now }) }
 {
     Ok(Job {

@@ -56,7 +56,7 @@ pub(super) fn new_job(
         version,
         created: now,
         spec,
-        status: empty_status(alloc),
+        status: Arc::new(alloc, empty_status(alloc))?,
     })
 }
 

@@ -16,7 +16,7 @@ use jc_moment::Moment;
 use jc_plan::Plan;
 use jc_states::Basis;
 use jc_store::Store;
-use jc_types::{Answer, Backoff, Fault, JobStatus, Reply, Request, Version, Want};
+use jc_types::{Answer, Arc, Backoff, Fault, JobStatus, Reply, Request, Version, Want};
 use std::alloc::Global;
 use std::marker::Model;
 
@@ -235,7 +235,7 @@ impl Syncing {
     }
 
     // Writes a status of the plan, where it has one.
-    fn write(&self, store: &mut Store, status: Option<&JobStatus>) -> Result<Reply, Want>
+    fn write(&self, store: &mut Store, status: Option<&Arc<JobStatus>>) -> Result<Reply, Want>
         ensures { GivesOrKeeps store.old store.new
             (written_gives store.old self.now.flight (option_copied status.entry)) result }
     {

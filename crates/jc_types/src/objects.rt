@@ -33,7 +33,7 @@ pub struct Job {
     /// The wanted state.
     pub spec: Arc<JobSpec>,
     /// The observed state.
-    pub status: JobStatus,
+    pub status: Arc<JobStatus>,
 }
 
 /// Jobs in an order of their own.

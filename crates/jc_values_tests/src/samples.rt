@@ -89,7 +89,7 @@ pub fn job(alloc: Global, created: Moment, status: JobStatus) -> Result<Job, Wan
         version: Version(1),
         created,
         spec: Arc::new(alloc, spec(alloc)?)?,
-        status,
+        status: Arc::new(alloc, status)?,
     })
 }
 

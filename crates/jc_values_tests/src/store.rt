@@ -86,7 +86,7 @@ fn parallelism(count: u32) -> SpecChange {
 }
 
 // What the request is answered.
-fn answer_of(store: &mut Store, pi: &Key, status: &JobStatus, ask: Ask) -> Answered {
+fn answer_of(store: &mut Store, pi: &Key, status: &Arc<JobStatus>, ask: Ask) -> Answered {
     match ask {
         Ask::Write(uid, version) => {
             told(store.write_status(pi, Uid(uid), Version(version), status))
@@ -97,7 +97,7 @@ fn answer_of(store: &mut Store, pi: &Key, status: &JobStatus, ask: Ask) -> Answe
 }
 
 // The requests are made one after the other, the statuses with one active pod.
-fn ask_all(rt: &impl Abort, store: &mut Store, pi: &Key, status: &JobStatus) {
+fn ask_all(rt: &impl Abort, store: &mut Store, pi: &Key, status: &Arc<JobStatus>) {
     for (ask, wanted) in ASKS {
         assert_eq!(rt; answer_of(store, pi, status, *ask), *wanted);
     }
@@ -110,6 +110,7 @@ fn answers_as_the_rules_say(rt: HostRuntime) -> Result<(), Fail> {
     let pi = key(alloc)?;
     let mut status = no_status(alloc);
     status.active = 1;
+    let status = Arc::new(alloc, status)?;
     let mut store = Store::new(alloc);
     let filled = fill(alloc, &mut store, &pi, now);
     ask_all(&rt, &mut store, &pi, &status);

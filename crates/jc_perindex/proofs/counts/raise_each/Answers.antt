@@ -40,7 +40,7 @@ loop-place-preserved-in-Continue-branch-2 c =
     ∙ ap (λ (pod : Pod). raise_for job.spec.failure pod c.loop-place.counts) c.deref-then-is_newly_failed-2.ensures
     ∙ ap (raise_for job.spec.failure pod) c.loop-place.invariant
     ∙ raised-next job.spec.failure job.status.index_failures test pods (c.loop-place.place - 1) c.loop-place.place pod _ (omega arith) (omega arith)
-    c.index-pods-place.is (ap test (sym c.deref.ensures) ∙ sym c.is_newly_failed.ensures ∙ c.if-is_newly_failed.true)
+    c.index-pods-place.is (ap test (sym c.deref-in-loop-place.ensures) ∙ sym c.is_newly_failed.ensures ∙ c.if-is_newly_failed.true)
 
 pub returns : goal.returns
 returns c =

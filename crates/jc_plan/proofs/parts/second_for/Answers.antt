@@ -1,5 +1,5 @@
 -- The second status is that of the plan of the basis's Job; where nothing is released it is the first.
-use Rattle.std.proofs.Common.{ap, sym, ◌∙◌}
+use Rattle.std.proofs.Common.{◌≡◌, Option, IfOk, ap, subst, sym, ◌∙◌}
 use Rattle.jc_types.specs.declared.statuses.JobStatus.{JobStatus}
 use Rattle.jc_types.specs.declared.syncs.CountIn.{CountIn}
 use Rattle.jc_plan.specs.Plans.{changed}
@@ -20,8 +20,9 @@ pub returns : goal.returns
 returns c =
     let job = c.args.job.now in
     let basis = c.args.basis.now in
-    c.changed.ensures
-    ∙ ap (λ (s : JobStatus). changed s c.in_ok-second.second) c.requires.first
+    subst (λ (o : Option JobStatus). IfOk c.changed.result (λ r. r ≡ o))
+    (ap (λ (s : JobStatus). changed s c.in_ok-second.second) c.requires.first
     ∙ ap (changed (first_value job basis))
     (second-is job basis c.args.counted.now c.args.target c.args.first.now c.in_ok-second.second
-    c.requires.counted c.requires.target c.requires.first c.in_ok-second.ensures)
+    c.requires.counted c.requires.target c.requires.first c.in_ok-second.ensures))
+    c.changed.ensures

@@ -8,5 +8,5 @@ pub invariant_of-self-2 : goal.invariant_of-self-2
 invariant_of-self-2 c =
     let none : length c.self.inside.waiting.entries ≡ 0 = search rules in
     let made : c.make.new.pods ≡ with_change c.args.uid c.args.change c.self.inside.shared.value = search rules in
-    made-kept c.self.inside.waiting.entries c.self.inside.shared.value c.apply_pending.new.self c.make.new.pods c.self.inside.count c.count_with-count.result
-    c.self.invariant c.self.view_is none c.args.uid c.args.change made c.count_with-count.ensures
+    made-kept c.self.inside.waiting.entries c.self.inside.shared.value c.make.new.pods c.self.inside.count c.len.result
+    c.self.invariant none c.args.uid c.args.change made c.len.ensures.count
