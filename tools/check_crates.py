@@ -34,7 +34,6 @@ SHARED_NAMES = {
     "Plan": ("jc_io jc_plan", "that of jc_io is private to it"),
     "Said": ("jc_script jc_words", "that of jc_words is private to it"),
     "Taken": ("jc_team jc_turn", "that of jc_team is private to it"),
-    "Twice": ("jc_queue jc_team", "a key and a reply, each in two copies; GLOSSARY.md has both"),
     "Verb": ("jc_reading jc_script", "each is private to its crate"),
     "Verdicts": ("jc_account jc_ledger", "that of jc_account is private to it"),
     "Want": ("jc_io jc_moment jc_ranges jc_types", "one alias of std's AllocError, in each crate that stands on no other"),

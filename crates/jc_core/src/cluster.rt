@@ -92,4 +92,29 @@ impl Cluster {
         touch_all(&mut self.slots, self.machine.shape(), touch, &reply);
         Ok(reply)
     }
+
+    /// Does the event as `apply` does; its reply is the newest in the history, and is not given.
+    ///
+    /// # Errors
+    /// As `apply`. Nothing has changed then.
+    pub fn happen(&mut self, event: Event) -> Result<(), ApplyFault>
+        requires { Admits self.old.seen event }
+        ensures ok { OnOk result (self.new.seen ≡ happened self.old.seen event) }
+        ensures slots { OnOk result (self.new.slots ≡ slots_after (act_seen self.old.seen event)
+            (reply_seen self.old.seen event) self.old.slots) }
+        ensures free { has_holders self.old.slots ≡ false → has_holders self.new.slots ≡ false }
+        ensures kept { OnErr result (self.new ≡ self.old) }
+        ensures full { self.old.seen.shape.events ≤ length self.old.seen.pasts
+            → result ≡ Err HistoryFull }
+        ensures history_full { result ≡ Err HistoryFull
+            → self.old.seen.shape.events ≤ length self.old.seen.pasts }
+    {
+        let touch = touch_of_event(self.machine.script(), event);
+        self.machine.happen(event)?;
+        let Some(reply) = self.machine.last_reply() else {
+            unreachable!()
+        };
+        touch_all(&mut self.slots, self.machine.shape(), touch, reply);
+        Ok(())
+    }
 }

@@ -1,5 +1,5 @@
 -- What is read of a controller is what its notes say.
-use Rattle.std.proofs.Common.{◌≡◌, ℕ, ◌<◌, ◌≤◌, Bool, List, [], ◌∷◌, length, reverse, get_or, set, slice_get, Option, Some, None, is_some, is_none, refl, sym, ap, ◌∙◌, subst, arith, true≢false}
+use Rattle.std.proofs.Common.{◌≡◌, ℕ, ◌<◌, ◌≤◌, Bool, true, List, [], ◌∷◌, length, reverse, get_or, set, slice_get, Option, Some, None, is_some, is_none, refl, sym, ap, ◌∙◌, subst, arith, true≢false}
 use Rattle.std.proofs.lemmas.Option.{slice_get-get_or}
 use Rattle.std.specs.List.{IsDistinct}
 use Rattle.std.specs.Map.{keys_of}
@@ -8,27 +8,33 @@ use Rattle.jc_types.specs.declared.actions.End.{End}
 use Rattle.jc_types.specs.declared.actions.Script.{Script}
 use Rattle.jc_types.specs.declared.objects.Entry.{Entry}
 use Rattle.jc_types.specs.declared.objects.Key.{Key}
+use Rattle.jc_types.specs.declared.numbers.Version.{Version}
 use Rattle.jc_types.specs.declared.objects.Kind.{Kind}
+use Rattle.jc_types.specs.declared.objects.Kind.TheVariants.{Jobs, Pods}
 use Rattle.jc_types.specs.declared.runs.Past.{Past}
 use Rattle.jc_types.specs.declared.runs.Shape.{Shape}
 use Rattle.jc_types.specs.Keys.{same_key}
 use Rattle.jc_runs.specs.Basis.{Basis}
+use Rattle.jc_log.specs.Deeds.{Deed}
 use Rattle.jc_log.specs.Tables.{at}
 use Rattle.jc_runs.specs.Steps.{Sync}
 use Rattle.jc_team.specs.Delayed.{first_of, in_turn}
 use Rattle.jc_team.proofs.DueFacts.{in_turn-first}
-use Rattle.jc_team.specs.Schedules.{MirrorsLog, number_of}
+use Rattle.jc_team.specs.Schedules.{MirrorsLog, log_end, number_of}
 use Rattle.jc_team.specs.ControllerCalls.{can_begin, is_begun}
 use Rattle.jc_team.proofs.LawFacts.{begun-ready}
 use Rattle.jc_history.specs.Agrees.{IsScheduleOf}
 use Rattle.jc_history.specs.Delays.{delays, least_delay}
 use Rattle.jc_history.specs.Diaries.{notes}
-use Rattle.jc_history.specs.Fresh.{may_begin}
+use Rattle.jc_history.specs.Fresh.{begin_at, begin_first, may_begin}
+use Rattle.jc_history.specs.Lines.{line}
 use Rattle.jc_history.specs.Notes.{Note}
 use Rattle.jc_history.specs.Numbers.{number}
 use Rattle.jc_history.specs.Registers.{register}
 use Rattle.jc_history.proofs.BeginSteps.{begun-answer_is}
 use Rattle.jc_history.proofs.DelayFacts.{apart-delays, at-delays}
+use Rattle.jc_order.specs.Ends.{IsUpToDate}
+use Rattle.jc_order.proofs.EndFacts.{end-begins}
 use Rattle.jc_runs.specs.Machines.{IsTeam}
 use Rattle.jc_runs.specs.Seen.{Seen, deeds_in, log_seen}
 use Rattle.jc_runs.specs.Teams.{Team}
@@ -102,6 +108,33 @@ module _ (script : Script) (shape : Shape) (items : List Past) (places : List (O
 
   pub begin_read : can_begin team.con ≡ may_begin (diary_seen seen c) (log_seen seen)
   begin_read = begins_is noted team of.schedule log of.holds ∙ ap (λ n. may_begin n log) same_notes ∙ ap (may_begin (diary_seen seen c)) same_log
+
+  -- Where both caches have seen the whole log, it may begin just where a key waits.
+  pub begin_read_at_end : (has : Bool) (end : Version) → end.0 ≡ length log → number_of Jobs team.con.schedule ≡ Some end → number_of Pods team.con.schedule ≡ Some end
+      → has ≡ is_some (slice_get team.con.schedule.queue.line 0) → has ≡ may_begin (diary_seen seen c) (log_seen seen)
+  begin_read_at_end has end placed jobs pods is =
+      is ∙ ap (λ keys. is_some (slice_get keys 0)) of.schedule.queued.line_is ∙ waits (line noted) refl
+      ∙ ap (λ n. may_begin n log) same_notes ∙ ap (may_begin (diary_seen seen c)) same_log
+    where
+      at_end : Some end ≡ Some (log_end log)
+      at_end = λ i. Some (record { 0 = placed i })
+
+      up : IsUpToDate noted log
+      up Jobs = sym (of.schedule.number_is Jobs) ∙ jobs ∙ at_end
+      up Pods = sym (of.schedule.number_is Pods) ∙ pods ∙ at_end
+
+      deeds : List Deed
+      deeds = deeds_in script (reverse items)
+
+      begins : (k : Key) (rest : List Key) → line noted ≡ k ∷ rest → may_begin noted log ≡ true
+      begins =
+          subst (λ l. IsUpToDate (notes shape c deeds l) l → (k : Key) (rest : List Key) → line (notes shape c deeds l) ≡ k ∷ rest → may_begin (notes shape c deeds l) l ≡ true) (sym kept.machine.run.log_is)
+          (λ up k rest first. ap is_begun (end-begins shape c deeds kept.machine.run.legal up 0 k rest first)) up
+
+      waits : (keys : List Key) → line noted ≡ keys → is_some (slice_get keys 0) ≡ may_begin noted log
+      waits [] first =
+          sym ((λ i. is_begun (begin_at noted log 0 (up Jobs i) (up Pods i))) ∙ ap (λ keys. is_begun (begin_first noted log 0 (log_end log) (log_end log) keys)) first)
+      waits (k ∷ rest) first = sym (begins k rest first)
 
   pub delay_read : option_map (λ (row : Key × ℕ). row.1) (first_of team.con.schedule.delays.moments) ≡ least_delay (diary_seen seen c)
   delay_read = least_is noted team of.schedule ∙ ap least_delay same_notes

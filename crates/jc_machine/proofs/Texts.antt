@@ -1,4 +1,4 @@
--- When a report is answered without a text.
+-- When a report is answered without a text, and what text a reply has.
 use Rattle.std.proofs.Common.{◌≡◌, ℕ, List, Bool, true, false, cond, ◌&&◌, find, Option, Some, None, refl, sym, ap, ◌∙◌, subst, ◌⊎◌, inl, inr}
 use Rattle.jc_types.specs.declared.actions.ContainerChange.{ContainerChange}
 use Rattle.jc_types.specs.declared.actions.PhaseChange.{PhaseChange}
@@ -13,6 +13,8 @@ use Rattle.jc_runs.specs.Pods.{is_final}
 use Rattle.jc_log.specs.Log.{next_version, pod_in}
 use Rattle.jc_log.specs.Requests.{Answered, accepted, grown, is_unnamed, pod_entry, refused, report_phase_at, report_phase_gives, report_unless, same_course_of, with_report}
 use Rattle.jc_runs.specs.TextlessReplies.{HasNoText}
+use Rattle.jc_team.specs.RepliesAgain.{IsReplyText}
+use Rattle.jc_team.specs.declared.told.ReplyText.{ReplyText}
 
 -- The answer tells of a container that the pod does not have, and appends nothing.
 pub record IsNamed (a : Answered) : Type 0 where
@@ -66,3 +68,7 @@ module _ (log next : List Entry) (uid : Uid) (change : PhaseChange) (given : Rep
       by : HasNoText (report_phase_gives log uid change).reply ⊎ IsNamed (report_phase_gives log uid change) → HasNoText given
       by (inl plain) = subst HasNoText (sym is) plain
       by (inr n) = absurd (other n.name (is ∙ n.told))
+
+-- The text of a reply is that of the reply that was told.
+pub text_of : {given told : Reply} (text : ReplyText) → given ≡ told → IsReplyText given text → IsReplyText told text
+text_of text same is = subst (λ r. IsReplyText r text) same is

@@ -1,5 +1,6 @@
 pub mod MachineKept
 pub mod Calls
+pub mod SystemCommands
 pub mod FinishedPods
 pub mod ShapeFits
 pub mod DiariesSeen

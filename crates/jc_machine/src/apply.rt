@@ -1,6 +1,7 @@
 //! One event: which ones may come next, and what is admitted is done.
 
-ghost use Rattle.std.specs.Prelude.{◌≡◌, ◌↔◌, ◌<◌, ◌≤◌, Err, IfOk, IsTrue, OnErr, OnOk, length, slice_get};
+ghost use Rattle.std.specs.Prelude.{◌≡◌, ◌↔◌, ◌<◌, ◌≤◌, Err, IfOk, IsTrue, None, OnErr, OnOk, length, map, slice_get};
+ghost use Rattle.std.specs.Option.{option_copied};
 ghost use Rattle.jc_runs.specs.ValidActions.{IsValidAction};
 ghost use Rattle.jc_log.specs.Deeds.{act_of_action, act_of_command, act_of_event, act_of_system};
 ghost use Rattle.jc_history.specs.Available.{is_quiescent};
@@ -11,8 +12,11 @@ ghost use Rattle.jc_machine.specs.ShapeFits.{FitsShape, HasController, HasWorker
 ghost use Rattle.jc_machine.specs.Idle.{is_settle};
 ghost use Rattle.jc_machine.specs.declared.apply.ApplyFault.TheVariants.{HistoryFull};
 ghost use Rattle.jc_machine.specs.Calls.{HappensOrKeeps, MayCome};
+ghost use Rattle.jc_machine.specs.SystemCommands.{as_system};
+ghost use Rattle.jc_team.specs.RepliesAgain.{IsReplyText};
 
 use crate::machine::Machine;
+use jc_team::{ReplyText, again};
 use jc_types::{Action1, Copied, Event, Reply, Same, Script, Shape, Sys, Want};
 
 // Whether the controller is one of the shape.
@@ -95,6 +99,35 @@ fn is_settle(script: &Script, event: &Event) -> bool
     }
 }
 
+// The event of the system that does the same as the command, where there is one.
+fn as_system(action: &Action1) -> Option<Sys>
+    ensures { result ≡ as_system action.now }
+{
+    match action {
+        Action1::Clock { add } => Some(Sys::Clock { add: *add }),
+        Action1::List { controller, kind } => Some(Sys::List {
+            controller: *controller,
+            kind: *kind,
+        }),
+        Action1::Deliver { controller, kind } => Some(Sys::Deliver {
+            controller: *controller,
+            kind: *kind,
+        }),
+        Action1::Begin { controller, worker } | Action1::Sync { controller, worker } => {
+            Some(Sys::Begin {
+                controller: *controller,
+                worker: *worker,
+            })
+        }
+        Action1::Step { controller, worker } => Some(Sys::Step {
+            controller: *controller,
+            worker: *worker,
+        }),
+        Action1::Node => Some(Sys::Node),
+        _ => None,
+    }
+}
+
 /// Why an event was not done.
 #[derive(Drop)]
 pub enum ApplyFault {
@@ -138,12 +171,13 @@ impl Machine {
         self.lanes.are_used()
     }
 
-    // What a command does.
+    // What a command does that the system does not.
     //
     // `Want` where there is no memory for it; the machine is then as before.
-    fn act(&mut self, event: Event, action: Action1) -> Result<Reply, Want>
+    fn act(&mut self, event: Event, action: Action1) -> Result<ReplyText, Want>
         requires may { MayCome self.old event (act_of_action action) }
         requires valid_action { IsValidAction action }
+        requires own { as_system action ≡ None }
         ensures { HappensOrKeeps self.old self.new event result }
     {
         match action {
@@ -159,33 +193,36 @@ impl Machine {
             Action1::Finish { pod, exit } => self.finish(event, pod, exit),
             Action1::Report { pod, change } => self.report(event, pod, &change),
             Action1::Fate { key, ends } => self.fate(event, &key, &ends),
-            Action1::Clock { add } => self.clock(event, add),
-            Action1::List { controller, kind } => self.list(event, controller, kind),
-            Action1::Deliver { controller, kind } => self.deliver(event, controller, kind),
-            Action1::Begin { controller, worker } => self.begin(event, controller, worker),
-            Action1::Sync { controller, worker } => self.begin(event, controller, worker),
-            Action1::Step { controller, worker } => self.step(event, controller, worker),
             Action1::Restart { controller } => self.restart(event, controller),
             Action1::PutFault {
                 controller,
                 worker,
                 fault,
             } => self.put_fault(event, controller, worker, fault),
-            Action1::Node => self.node(event),
             Action1::Settle => self.settled(event),
+            Action1::Clock { .. }
+            | Action1::List { .. }
+            | Action1::Deliver { .. }
+            | Action1::Begin { .. }
+            | Action1::Sync { .. }
+            | Action1::Step { .. }
+            | Action1::Node => unreachable!(),
         }
     }
 
-    // The command at the place of the script.
+    // The command at the place of the script. One that does what the system does is not copied.
     //
     // `Want` where there is no memory for it; the machine is then as before.
-    fn command(&mut self, event: Event, number: u32) -> Result<Reply, Want>
+    fn command(&mut self, event: Event, number: u32) -> Result<ReplyText, Want>
         requires { MayCome self.old event (act_of_command (slice_get self.old.script.commands number)) }
         ensures { HappensOrKeeps self.old self.new event result }
     {
         let Some(command) = self.script.commands.as_slice().get(number as usize) else {
             unreachable!()
         };
+        if let Some(system) = as_system(&command.action) {
+            return self.system(event, system);
+        }
         let action = command.action.copy()?;
         self.act(event, action)
     }
@@ -193,7 +230,7 @@ impl Machine {
     // An event of the system.
     //
     // `Want` where there is no memory for it; the machine is then as before.
-    fn system(&mut self, event: Event, system: Sys) -> Result<Reply, Want>
+    fn system(&mut self, event: Event, system: Sys) -> Result<ReplyText, Want>
         requires { MayCome self.old event (act_of_system system) }
         ensures { HappensOrKeeps self.old self.new event result }
     {
@@ -210,7 +247,7 @@ impl Machine {
     // An event, where there is room for it.
     //
     // `Want` where there is no memory for it; the machine is then as before.
-    fn happen(&mut self, event: Event) -> Result<Reply, Want>
+    fn occur(&mut self, event: Event) -> Result<ReplyText, Want>
         requires { MayCome self.old event (act_seen self.old event) }
         ensures { HappensOrKeeps self.old self.new event result }
     {
@@ -218,6 +255,47 @@ impl Machine {
             Event::System(system) => self.system(event, system),
             Event::Command { number, .. } => self.command(event, number),
         }
+    }
+
+    // Does the event as `apply` does, and gives the text of its reply.
+    fn happen_told(&mut self, event: Event) -> Result<ReplyText, ApplyFault>
+        requires { Admits self.old event }
+        ensures ok { OnOk result (self.new ≡ happened self.old event) }
+        ensures text { IfOk result (λ text. IsReplyText (reply_seen self.old event) text) }
+        ensures kept { OnErr result (self.new ≡ self.old) }
+        ensures full { self.old.shape.events ≤ length self.old.pasts → result ≡ Err HistoryFull }
+        ensures history_full { result ≡ Err HistoryFull → self.old.shape.events ≤ length self.old.pasts }
+    {
+        if self.history.events.len() >= self.shape.events as usize {
+            return Err(ApplyFault::HistoryFull);
+        }
+        match self.occur(event) {
+            Ok(text) => Ok(text),
+            Err(_) => Err(ApplyFault::Want),
+        }
+    }
+
+    /// The reply to the newest event; `None` exactly where nothing has happened.
+    pub fn last_reply(&self) -> Option<&Reply>
+        ensures { option_copied result ≡ slice_get (map (λ past. past.reply) self.now.pasts) 0 }
+    {
+        let past = self.history.events.as_slice().last()?;
+        Some(&past.reply)
+    }
+
+    /// Does the event as `apply` does; its reply is the newest in the history, and is not given.
+    ///
+    /// # Errors
+    /// As `apply`. Nothing has changed then.
+    pub fn happen(&mut self, event: Event) -> Result<(), ApplyFault>
+        requires { Admits self.old event }
+        ensures ok { OnOk result (self.new ≡ happened self.old event) }
+        ensures kept { OnErr result (self.new ≡ self.old) }
+        ensures full { self.old.shape.events ≤ length self.old.pasts → result ≡ Err HistoryFull }
+        ensures history_full { result ≡ Err HistoryFull → self.old.shape.events ≤ length self.old.pasts }
+    {
+        self.happen_told(event)?;
+        Ok(())
     }
 
     /// Does the event, and answers it. It is kept with its reply and the length of the log; the
@@ -234,12 +312,10 @@ impl Machine {
         ensures full { self.old.shape.events ≤ length self.old.pasts → result ≡ Err HistoryFull }
         ensures history_full { result ≡ Err HistoryFull → self.old.shape.events ≤ length self.old.pasts }
     {
-        if self.history.events.len() >= self.shape.events as usize {
-            return Err(ApplyFault::HistoryFull);
-        }
-        match self.happen(event) {
-            Ok(reply) => Ok(reply),
-            Err(_) => Err(ApplyFault::Want),
-        }
+        let text = self.happen_told(event)?;
+        let Some(reply) = self.last_reply() else {
+            unreachable!()
+        };
+        Ok(again(reply, text))
     }
 }

@@ -6,14 +6,19 @@ ghost use Rattle.jc_machine.specs.Calls.{HappensOrKeeps, MayCome};
 
 use crate::keeping::record;
 use crate::machine::Machine;
-use jc_team::Member;
+use jc_team::{Member, ReplyText};
 use jc_types::{Event, Kind, Reply, Want};
 
 impl Machine {
     // A controller lists the objects of the kind into its cache.
     //
     // `Want` where there is no memory for it; the machine is then as before.
-    pub(crate) fn list(&mut self, event: Event, controller: u32, kind: Kind) -> Result<Reply, Want>
+    pub(crate) fn list(
+        &mut self,
+        event: Event,
+        controller: u32,
+        kind: Kind,
+    ) -> Result<ReplyText, Want>
         requires { MayCome self.old event (does.List controller kind) }
         ensures { HappensOrKeeps self.old self.new event result }
     {
@@ -22,8 +27,8 @@ impl Machine {
         let reply = member.list(self.alloc, &self.store, kind)?;
         let length = self.store.log_len();
         let events = &mut self.history.events;
-        let reply = record(events, &mut self.lanes, &self.script, event, reply, length);
-        Ok(reply)
+        let text = record(events, &mut self.lanes, &self.script, event, reply, length);
+        Ok(text)
     }
 
     // A controller's cache of the kind is told of the next entry of the log.
@@ -34,7 +39,7 @@ impl Machine {
         event: Event,
         controller: u32,
         kind: Kind,
-    ) -> Result<Reply, Want>
+    ) -> Result<ReplyText, Want>
         requires { MayCome self.old event (does.Deliver controller kind) }
         ensures { HappensOrKeeps self.old self.new event result }
     {
@@ -43,14 +48,14 @@ impl Machine {
         let reply = member.deliver(&self.store, self.shape.window, kind)?;
         let length = self.store.log_len();
         let events = &mut self.history.events;
-        let reply = record(events, &mut self.lanes, &self.script, event, reply, length);
-        Ok(reply)
+        let text = record(events, &mut self.lanes, &self.script, event, reply, length);
+        Ok(text)
     }
 
     // A controller forgets all that it has.
     //
     // `Want` where there is no memory for it; the machine is then as before.
-    pub(crate) fn restart(&mut self, event: Event, controller: u32) -> Result<Reply, Want>
+    pub(crate) fn restart(&mut self, event: Event, controller: u32) -> Result<ReplyText, Want>
         requires { MayCome self.old event (does.Restart controller) }
         ensures { HappensOrKeeps self.old self.new event result }
     {
@@ -61,7 +66,7 @@ impl Machine {
         let reply = Reply::Done;
         let length = self.store.log_len();
         let events = &mut self.history.events;
-        let reply = record(events, &mut self.lanes, &self.script, event, reply, length);
-        Ok(reply)
+        let text = record(events, &mut self.lanes, &self.script, event, reply, length);
+        Ok(text)
     }
 }

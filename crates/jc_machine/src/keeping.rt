@@ -3,39 +3,40 @@
 ghost use Rattle.std.specs.Prelude.{◌≡◌, ◌<◌, ◌^◌, ◌∷◌, ◌++◌, [], length};
 ghost use Rattle.jc_runs.specs.TextlessReplies.{HasNoText};
 ghost use Rattle.jc_lanes.specs.Places.{MovesOn};
+ghost use Rattle.jc_team.specs.RepliesAgain.{IsReplyText};
 
 use jc_lanes::Lanes;
-use jc_team::Twice;
+use jc_team::{ReplyText, Told};
 use jc_types::{Event, Past, Pasts, Reply, Script, Version};
 
-// Keeps the event with one of its replies, in the room that there is, goes on in its lane, and gives the other. It
+// Keeps the event with its reply, in the room that there is, goes on in its lane, and gives the reply's text. It
 // takes no memory.
-pub(crate) fn record_twice(
+pub(crate) fn record_told(
     history: &mut Pasts,
     lanes: &mut Lanes,
     script: &Script,
     event: Event,
-    replies: Twice,
+    told: Told,
     end: Version,
-) -> Reply
+) -> ReplyText
     requires room { 0 < history.old.room }
     requires fits { length script.now.commands < 2 ^ 32 }
     ensures kept { history.new.items
-        ≡ history.old.items ++ record { event = event; reply = replies; length = end } ∷ [] }
+        ≡ history.old.items ++ record { event = event; reply = told; length = end } ∷ [] }
     ensures lanes { MovesOn script.now.commands event lanes.old lanes.new }
-    ensures reply { result ≡ replies }
+    ensures text { IsReplyText told result }
 {
-    let (reply, again) = replies.into_replies();
+    let (reply, text) = told.into_parts();
     lanes.advance(script.commands.as_slice(), &event);
     history.push_reserved(Past {
         event,
-        reply: again,
+        reply,
         length: end,
     });
-    reply
+    text
 }
 
-// Keeps the event with its reply, and gives the reply. It takes no memory.
+// Keeps the event with its reply, which has no text. It takes no memory.
 pub(crate) fn record(
     history: &mut Pasts,
     lanes: &mut Lanes,
@@ -43,15 +44,14 @@ pub(crate) fn record(
     event: Event,
     reply: Reply,
     end: Version,
-) -> Reply
+) -> ReplyText
     requires room { 0 < history.old.room }
     requires fits { length script.now.commands < 2 ^ 32 }
     requires no_text { HasNoText reply }
     ensures kept { history.new.items
         ≡ history.old.items ++ record { event = event; reply = reply; length = end } ∷ [] }
     ensures lanes { MovesOn script.now.commands event lanes.old lanes.new }
-    ensures reply { result ≡ reply }
+    ensures text { IsReplyText reply result }
 {
-    let replies = Twice::of(reply);
-    record_twice(history, lanes, script, event, replies, end)
+    record_told(history, lanes, script, event, Told::of(reply), end)
 }

@@ -186,12 +186,18 @@ impl Machine {
         self.members[controller as usize].is_free(worker as usize)
     }
 
-    /// Whether the controller's next begin by a free worker starts a sync.
+    /// Whether the controller's next begin by a free worker starts a sync. Where both caches have seen the
+    /// whole log, each key that waits may begin, and is not looked up.
     pub fn may_begin(&self, controller: u32) -> bool
         requires { controller < self.now.shape.controllers }
         ensures { result ≡ may_begin (diary_seen self.now controller) (log_seen self.now) }
     {
-        self.members[controller as usize].may_begin()
+        let member = &self.members[controller as usize];
+        if member.is_at(self.store.log_len()) {
+            member.has_key()
+        } else {
+            member.may_begin()
+        }
     }
 
     /// The earliest moment at which a key of the controller is due; `None` exactly where none is

@@ -15,7 +15,7 @@ use crate::keeping::record;
 use crate::machine::Machine;
 use jc_node::{Fates, NodeStep, change, node_step};
 use jc_store::Store;
-use jc_team::{Member, Moment};
+use jc_team::{Member, Moment, ReplyText};
 use jc_types::{Copied, Ends, Event, Key, Reply, Version, Want};
 use std::alloc::Global;
 
@@ -92,7 +92,7 @@ impl Machine {
     // The node takes its next step.
     //
     // `Want` where there is no memory for it; the machine is then as before.
-    pub(crate) fn node(&mut self, event: Event) -> Result<Reply, Want>
+    pub(crate) fn node(&mut self, event: Event) -> Result<ReplyText, Want>
         requires { MayCome self.old event does.Node }
         ensures { HappensOrKeeps self.old self.new event result }
     {
@@ -101,14 +101,14 @@ impl Machine {
         let length = self.store.log_len();
         let _log = self.store.log();
         let events = &mut self.history.events;
-        let reply = record(events, &mut self.lanes, &self.script, event, reply, length);
-        Ok(reply)
+        let text = record(events, &mut self.lanes, &self.script, event, reply, length);
+        Ok(text)
     }
 
     // Seconds pass.
     //
     // `Want` where there is no memory for it; the machine is then as before.
-    pub(crate) fn clock(&mut self, event: Event, add: u64) -> Result<Reply, Want>
+    pub(crate) fn clock(&mut self, event: Event, add: u64) -> Result<ReplyText, Want>
         requires { MayCome self.old event (does.Clock add) }
         ensures { HappensOrKeeps self.old self.new event result }
     {
@@ -118,15 +118,15 @@ impl Machine {
         match self.clock.plus(add) {
             None => {
                 let reply = Reply::ClockEnd;
-                let reply = record(events, &mut self.lanes, &self.script, event, reply, length);
-                Ok(reply)
+                let text = record(events, &mut self.lanes, &self.script, event, reply, length);
+                Ok(text)
             }
             Some(moment) => {
                 clock_all(&mut self.members, moment);
                 self.clock = moment;
                 let reply = Reply::Now { moment };
-                let reply = record(events, &mut self.lanes, &self.script, event, reply, length);
-                Ok(reply)
+                let text = record(events, &mut self.lanes, &self.script, event, reply, length);
+                Ok(text)
             }
         }
     }
@@ -134,7 +134,7 @@ impl Machine {
     // It is decided how the pods of the key are to end.
     //
     // `Want` where there is no memory for it; the machine is then as before.
-    pub(crate) fn fate(&mut self, event: Event, key: &Key, ends: &Ends) -> Result<Reply, Want>
+    pub(crate) fn fate(&mut self, event: Event, key: &Key, ends: &Ends) -> Result<ReplyText, Want>
         requires may { MayCome self.old event (does.Fate key.now ends.now) }
         requires some_ends { ends.now ≢ [] }
         ensures { HappensOrKeeps self.old self.new event result }
@@ -145,7 +145,7 @@ impl Machine {
         let reply = Reply::Done;
         let length = self.store.log_len();
         let events = &mut self.history.events;
-        let reply = record(events, &mut self.lanes, &self.script, event, reply, length);
-        Ok(reply)
+        let text = record(events, &mut self.lanes, &self.script, event, reply, length);
+        Ok(text)
     }
 }

@@ -12,6 +12,7 @@ ghost use Rattle.jc_machine.specs.Calls.{HappensOrKeeps, MayCome};
 
 use crate::keeping::record;
 use crate::machine::Machine;
+use jc_team::ReplyText;
 use jc_types::{Event, Kind, Reply, Want};
 
 impl Machine {
@@ -103,7 +104,7 @@ impl Machine {
     // Nothing of the system was left to do.
     //
     // `Want` where there is no memory for it; the machine is then as before.
-    pub(crate) fn settled(&mut self, event: Event) -> Result<Reply, Want>
+    pub(crate) fn settled(&mut self, event: Event) -> Result<ReplyText, Want>
         requires { MayCome self.old event does.Settle }
         ensures { HappensOrKeeps self.old self.new event result }
     {
@@ -111,7 +112,7 @@ impl Machine {
         let reply = Reply::Done;
         let length = self.store.log_len();
         let events = &mut self.history.events;
-        let reply = record(events, &mut self.lanes, &self.script, event, reply, length);
-        Ok(reply)
+        let text = record(events, &mut self.lanes, &self.script, event, reply, length);
+        Ok(text)
     }
 }

@@ -8,9 +8,9 @@ ghost use Rattle.jc_history.specs.Registers.{register};
 ghost use Rattle.jc_machine.specs.DiariesSeen.{diary_seen};
 ghost use Rattle.jc_machine.specs.Calls.{HappensOrKeeps, MayCome};
 
-use crate::keeping::{record, record_twice};
+use crate::keeping::{record, record_told};
 use crate::machine::Machine;
-use jc_team::{Basis, Plan};
+use jc_team::{Basis, Plan, ReplyText};
 use jc_types::{Arc, Event, Fault, Reply, Want};
 
 impl Machine {
@@ -22,23 +22,28 @@ impl Machine {
         event: Event,
         controller: u32,
         worker: u32,
-    ) -> Result<Reply, Want>
+    ) -> Result<ReplyText, Want>
         requires { MayCome self.old event (does.Begin controller worker) }
         ensures { HappensOrKeeps self.old self.new event result }
     {
         self.history.events.reserve(1)?;
         let member = &mut self.members[controller as usize];
-        let begins = member.begin(worker as usize, self.clock)?;
+        let told = member.begin(worker as usize, self.clock)?;
         let length = self.store.log_len();
         let events = &mut self.history.events;
-        let reply = record_twice(events, &mut self.lanes, &self.script, event, begins, length);
-        Ok(reply)
+        let text = record_told(events, &mut self.lanes, &self.script, event, told, length);
+        Ok(text)
     }
 
     // A worker makes the next request of its sync.
     //
     // `Want` where there is no memory for it; the machine is then as before.
-    pub(crate) fn step(&mut self, event: Event, controller: u32, worker: u32) -> Result<Reply, Want>
+    pub(crate) fn step(
+        &mut self,
+        event: Event,
+        controller: u32,
+        worker: u32,
+    ) -> Result<ReplyText, Want>
         requires { MayCome self.old event (does.Step controller worker) }
         ensures { HappensOrKeeps self.old self.new event result }
     {
@@ -48,8 +53,8 @@ impl Machine {
         let length = self.store.log_len();
         let _log = self.store.log();
         let events = &mut self.history.events;
-        let reply = record(events, &mut self.lanes, &self.script, event, reply, length);
-        Ok(reply)
+        let text = record(events, &mut self.lanes, &self.script, event, reply, length);
+        Ok(text)
     }
 
     // A fault befalls the next request of a worker.
@@ -61,7 +66,7 @@ impl Machine {
         controller: u32,
         worker: u32,
         fault: Fault,
-    ) -> Result<Reply, Want>
+    ) -> Result<ReplyText, Want>
         requires { MayCome self.old event (does.PutFault controller worker fault) }
         ensures { HappensOrKeeps self.old self.new event result }
     {
@@ -71,8 +76,8 @@ impl Machine {
         let reply = Reply::Done;
         let length = self.store.log_len();
         let events = &mut self.history.events;
-        let reply = record(events, &mut self.lanes, &self.script, event, reply, length);
-        Ok(reply)
+        let text = record(events, &mut self.lanes, &self.script, event, reply, length);
+        Ok(text)
     }
 
     /// What the worker's sync began with, as its register shares it; `None` exactly where the

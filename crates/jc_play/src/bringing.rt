@@ -9,7 +9,6 @@ ghost use Rattle.jc_history.specs.Registers.{register};
 ghost use Rattle.jc_runs.specs.Seen.{log_seen};
 ghost use Rattle.jc_play.specs.Turns.{HasGoneOn, HasGrown, IsComing, Reaches, next_to_bring, next_to_step, playing_of};
 
-use crate::settling::happen;
 use jc_machine::{ApplyFault, Machine};
 use jc_types::{Event, Kind, Sys};
 
@@ -79,7 +78,7 @@ pub(crate) fn bring_up(machine: &mut Machine, controller: u32, kind: Kind) -> Re
     ensures grown { HasGrown machine.old machine.new }
 {
     'bringing: while let Some(event) = bring_event(machine, controller, kind) {
-        happen(machine, event)?;
+        machine.happen(event)?;
     }
     Ok(())
 }
@@ -103,7 +102,7 @@ pub(crate) fn step_through(
     ensures grown { HasGrown machine.old machine.new }
 {
     'stepping: while let Some(event) = step_event(machine, controller, worker) {
-        happen(machine, event)?;
+        machine.happen(event)?;
     }
     Ok(())
 }

@@ -10,10 +10,20 @@ ghost use Rattle.jc_play.specs.Turns.{HasCome, HasGrown, IsOwn, NeedsNoRest, Rea
 ghost use Rattle.jc_play.specs.Ways.{FitsWay, by_way};
 
 use crate::bringing::{bring_up, step_through};
-use crate::settling::{happen, settle};
+use crate::settling::settle;
 use crate::ways::Way;
 use jc_machine::{ApplyFault, Machine, tells_begin};
 use jc_types::{Event, Kind};
+
+// Whether a sync began by the newest event.
+fn has_just_begun(machine: &Machine) -> bool
+    ensures { result ≡ has_just_begun machine.now.pasts }
+{
+    match machine.last_reply() {
+        None => false,
+        Some(reply) => tells_begin(reply),
+    }
+}
 
 // Does the event, and says whether a sync began by it.
 //
@@ -28,8 +38,8 @@ fn begin_own(machine: &mut Machine, event: Event) -> Result<bool, ApplyFault>
     ensures history_full { result ≡ Err HistoryFull
         → machine.old.shape.events ≤ length machine.old.pasts }
 {
-    let reply = machine.apply(event)?;
-    Ok(tells_begin(&reply))
+    machine.happen(event)?;
+    Ok(has_just_begun(machine))
 }
 
 // Does the own event of a sync, and the steps after it where the sync began.
@@ -103,7 +113,7 @@ fn play_plain(machine: &mut Machine, event: Event) -> Result<(), ApplyFault>
     ensures grown { HasGrown machine.old machine.new }
     ensures came { OnOk result (HasCome event machine.new) }
 {
-    happen(machine, event)
+    machine.happen(event)
 }
 
 // Plays the command Settle.

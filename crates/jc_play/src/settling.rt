@@ -1,30 +1,11 @@
 //! Doing what is available until nothing is.
 
-ghost use Rattle.std.specs.Prelude.{◌≡◌, ◌≤◌, Err, OnErr, OnOk, false, length, true};
-ghost use Rattle.jc_machine.specs.declared.apply.ApplyFault.TheVariants.{HistoryFull};
+ghost use Rattle.std.specs.Prelude.{◌≡◌, OnOk, false, true};
 ghost use Rattle.jc_history.specs.Play.{settled_down};
-ghost use Rattle.jc_runs.specs.Seen.{Admits, happened};
 ghost use Rattle.jc_play.specs.Turns.{HasGoneOn, HasGrown, Reaches, is_quiescent_seen, next_to_settle, playing_of};
 
 use crate::next::next_event;
 use jc_machine::{ApplyFault, Machine};
-use jc_types::Event;
-
-// Does the event, whose reply is kept in the history.
-//
-// As `apply` where it is not done; the machine is then as before.
-pub(crate) fn happen(machine: &mut Machine, event: Event) -> Result<(), ApplyFault>
-    requires { Admits machine.old event }
-    ensures ok { OnOk result (machine.new ≡ happened machine.old event) }
-    ensures kept { OnErr result (machine.new ≡ machine.old) }
-    ensures full { machine.old.shape.events ≤ length machine.old.pasts
-        → result ≡ Err HistoryFull }
-    ensures history_full { result ≡ Err HistoryFull
-        → machine.old.shape.events ≤ length machine.old.pasts }
-{
-    machine.apply(event)?;
-    Ok(())
-}
 
 /// Does what is available, one event after the other in first order, until nothing is. An orderly
 /// history stays orderly.
@@ -42,7 +23,7 @@ pub fn settle(machine: &mut Machine) -> Result<(), ApplyFault>
     ensures grown { HasGrown machine.old machine.new }
 {
     'settling: while let Some(event) = next_event(machine) {
-        happen(machine, event)?;
+        machine.happen(event)?;
     }
     Ok(())
 }

@@ -116,6 +116,24 @@ impl<J: Naming> Kept<J> {
         Ok(reply)
     }
 
+    // Does the event as `apply` does, and gives no reply.
+    pub(crate) fn happen(&mut self, event: Event) -> Result<(), ApplyFault>
+        requires { CanCome self.old.seen event }
+        ensures ok { OnOk result (self.new.seen ≡ happened self.old.seen event) }
+        ensures slots { OnOk result (self.new.slots ≡ slots_after (act_seen self.old.seen event)
+            (reply_seen self.old.seen event) self.old.slots) }
+        ensures kept { OnErr result (self.new ≡ self.old) }
+        ensures full { self.old.seen.shape.events ≤ length self.old.seen.pasts
+            → result ≡ Err HistoryFull }
+        ensures history_full { result ≡ Err HistoryFull
+            → self.old.seen.shape.events ≤ length self.old.seen.pasts }
+    {
+        available_events_keep_the_order();
+        self.cluster.happen(event)?;
+        self.lanes = lanes_left(&self.cluster, self.lanes);
+        Ok(())
+    }
+
     // Hands in a plan, as `Cluster::submit_since`, and answers whether it was kept.
     pub(crate) fn submit(
         &mut self,

@@ -82,8 +82,7 @@ impl<J: Naming> Kept<J> {
         ensures threads { player.new.threads ≡ player.old.threads }
     {
         player.tries_lanes = matches!(event, Event::System(_));
-        self.apply(event)?;
-        Ok(())
+        self.happen(event)
     }
 
     /// Does the first of these that the player can: it takes a plan to make; it does one event, a

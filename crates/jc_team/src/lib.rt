@@ -6,10 +6,10 @@ mod places;
 mod registers;
 mod started;
 mod strides;
-mod twice;
+mod told;
 
 pub use jc_moment::Moment;
 pub use jc_states::Basis;
 pub use jc_sync::Plan;
 pub use member::Member;
-pub use twice::Twice;
+pub use told::{ReplyText, Told, again};

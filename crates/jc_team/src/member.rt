@@ -1,6 +1,6 @@
 //! A controller with its workers, and what each event of theirs does.
 
-ghost use Rattle.std.specs.Prelude.{◌≡◌, ◌<◌, ◌-◌, ◌^◌, IfOk, IfSome, IsSome, OnErr, OnOk, None, Option, Some, is_none, map, set, slice_get, length, true};
+ghost use Rattle.std.specs.Prelude.{◌≡◌, ◌<◌, ◌-◌, ◌^◌, ◌↔◌, IfOk, IfSome, IsSome, IsTrue, OnErr, OnOk, None, Option, Some, is_none, is_some, map, set, slice_get, length, true};
 ghost use Rattle.std.specs.Option.{option_copied, option_map};
 ghost use Rattle.jc_states.specs.declared.bases.Basis.{Basis};
 ghost use Rattle.jc_states.specs.Bases.{CanPlan};
@@ -14,6 +14,7 @@ ghost use Rattle.jc_control.specs.Schedules.{MirrorsLog, log_end, number_of};
 ghost use Rattle.jc_control.specs.ControllerCalls.{begun, can_begin};
 ghost use Rattle.jc_control.specs.declared.begins.Begin.TheVariants.{Begun};
 ghost use Rattle.jc_sync.specs.Steps.{Sync};
+ghost use Rattle.jc_types.specs.declared.objects.Kind.TheVariants as kinds;
 ghost use Rattle.jc_types.specs.declared.replies.Reply.TheVariants as reply;
 ghost use Rattle.jc_runs.specs.Replies.{deliver_gives};
 ghost use Rattle.jc_runs.specs.Teams.{KnowsNothing, begin_held, begin_registers, begin_reply, clocked_team, delivered_at, listed, stride_of};
@@ -22,7 +23,7 @@ ghost use Rattle.jc_runs.specs.TextlessReplies.{HasNoText};
 use crate::places::put;
 use crate::registers::{begin, close, start};
 use crate::started::Started;
-use crate::twice::Twice;
+use crate::told::Told;
 use jc_cache::listed_jobs_fill_the_table;
 use jc_control::{Controller, caches_follow_the_log};
 use jc_moment::Moment;
@@ -150,6 +151,21 @@ impl Member {
         self.controller.ready()
     }
 
+    /// Whether both caches have seen the log up to this version, and no further.
+    pub fn is_at(&self, end: Version) -> bool
+        ensures { IsTrue result ↔ ((number_of kinds.Jobs self.now.con.schedule ≡ Some end)
+            × (number_of kinds.Pods self.now.con.schedule ≡ Some end)) }
+    {
+        self.controller.at(Kind::Jobs) == Some(end) && self.controller.at(Kind::Pods) == Some(end)
+    }
+
+    /// Whether a key waits in the line.
+    pub fn has_key(&self) -> bool
+        ensures { result ≡ is_some (slice_get self.now.con.schedule.queue.line 0) }
+    {
+        self.controller.first().is_some()
+    }
+
     /// The earliest moment at which a key is due; `None` exactly where none is delayed.
     pub fn next_delay(&self) -> Option<Moment>
         ensures { result
@@ -253,11 +269,11 @@ impl Member {
     }
 
     /// Begins the sync of the first key of the line by the worker. Its plan is not made yet. The reply
-    /// is given twice.
+    /// is given with its text.
     ///
     /// # Errors
     /// `Want` where there is no memory for it; all is then as before.
-    pub fn begin(&mut self, worker: usize, now: Moment) -> Result<Twice, Want>
+    pub fn begin(&mut self, worker: usize, now: Moment) -> Result<Told, Want>
         requires worker { worker < length self.old.registers }
         requires plans { (basis : Basis) → (begun now self.old.con).answer ≡ Begun basis
             → IsSome basis.job → CanPlan basis }
@@ -275,11 +291,11 @@ impl Member {
         ensures kept { OnErr result (self.new ≡ self.old) }
     {
         if self.registers[worker].is_some() {
-            return Ok(Twice::of(Reply::WorkerBusy));
+            return Ok(Told::of(Reply::WorkerBusy));
         }
-        let (replies, sync) = begin(&mut self.controller, now)?;
+        let (told, sync) = begin(&mut self.controller, now)?;
         start(&mut self.registers, worker, sync);
-        Ok(replies)
+        Ok(told)
     }
 
     /// Makes the next request of the worker's sync, and before it the plan, where it has none yet.

@@ -10,9 +10,10 @@ ghost use Rattle.jc_runs.specs.Teams.{begun_sync, with_sync};
 
 use crate::places::{put_at, put_given_at};
 use crate::started::Started;
-use crate::twice::Twice;
+use crate::told::{ReplyText, Told};
 use jc_control::{Begin, Controller};
 use jc_moment::Moment;
+use jc_states::Basis;
 use jc_types::{Copied, Reply, Want};
 
 // Begins a sync of the controller: the reply, and the sync where one begins. Changes of pods that waited for
@@ -22,7 +23,7 @@ use jc_types::{Copied, Reply, Want};
 pub(crate) fn begin(
     controller: &mut Controller,
     now: Moment,
-) -> Result<(Twice, Option<Started>), Want>
+) -> Result<(Told, Option<Started>), Want>
     requires { (basis : Basis) → (begun now controller.old).answer ≡ Begun basis
         → IsSome basis.job → CanPlan basis }
     ensures schedule { OnOk result (controller.new.schedule ≡ (begun now controller.old).schedule) }
@@ -42,14 +43,14 @@ pub(crate) fn begin(
 // What a begin of that answer leaves: the reply, and the sync where one begins.
 //
 // `Want` where there is no memory for it.
-fn prepared(answer: &Begin) -> Result<(Twice, Option<Started>), Want>
+fn prepared(answer: &Begin) -> Result<(Told, Option<Started>), Want>
     requires { (basis : Basis) → answer.now ≡ Begun basis → IsSome basis.job → CanPlan basis }
     ensures reply { IfOk result (λ r. r.0 ≡ reply_of_begin answer.now) }
     ensures sync { IfOk result (λ r. r.1 ≡ begun_sync answer.now) }
 {
-    let replies = replies_to(answer)?;
+    let told = told_to(answer)?;
     let sync = sync_of(answer)?;
-    Ok((replies, sync))
+    Ok((told, sync))
 }
 
 // The sync that begins, where one does.
@@ -65,37 +66,37 @@ fn sync_of(answer: &Begin) -> Result<Option<Started>, Want>
     }
 }
 
-// The reply to a begin, twice.
+// The reply to a begin, with its text.
 //
 // `Want` where there is no memory for it.
-fn replies_to(answer: &Begin) -> Result<Twice, Want>
-    ensures { IfOk result (λ r. r ≡ reply_of_begin answer.now) }
-{
-    let reply = reply_to(answer)?;
-    let again = reply.copy()?;
-    Ok(Twice::join(reply, again))
-}
-
-// The reply to a begin.
-//
-// `Want` where there is no memory for it.
-fn reply_to(answer: &Begin) -> Result<Reply, Want>
+fn told_to(answer: &Begin) -> Result<Told, Want>
     ensures { IfOk result (λ r. r ≡ reply_of_begin answer.now) }
 {
     match answer {
-        Begin::NotSynced => Ok(Reply::NotSynced),
-        Begin::NoKey => Ok(Reply::NoKey),
-        Begin::Behind { kind, need, have } => Ok(Reply::Behind {
+        Begin::NotSynced => Ok(Told::of(Reply::NotSynced)),
+        Begin::NoKey => Ok(Told::of(Reply::NoKey)),
+        Begin::Behind { kind, need, have } => Ok(Told::of(Reply::Behind {
             kind: *kind,
             need: *need,
             have: *have,
-        }),
-        Begin::Begun(basis) => Ok(Reply::Begun {
-            key: basis.key.copy()?,
-            jobs_at: basis.jobs_at,
-            pods_at: basis.pods_at,
-        }),
+        })),
+        Begin::Begun(basis) => told_begun(basis),
     }
+}
+
+// The reply to the begin of a sync, with its text.
+//
+// `Want` where there is no memory for it.
+fn told_begun(basis: &Basis) -> Result<Told, Want>
+    ensures { IfOk result (λ r. r ≡ reply_of_begin (Begun basis.entry.now)) }
+{
+    let reply = Reply::Begun {
+        key: basis.key.copy()?,
+        jobs_at: basis.jobs_at,
+        pods_at: basis.pods_at,
+    };
+    let text = ReplyText::Key(basis.key.copy()?);
+    Ok(Told::with(reply, text))
 }
 
 // Puts the sync into the worker's register, where one begins.

@@ -12,7 +12,7 @@ ghost use Rattle.jc_runs.specs.Teams.{end_of_next, fault_left, is_first_written,
 use jc_control::{Controller, SyncEnd};
 use jc_moment::Moment;
 use jc_sync::{Ask, Progress, Syncing};
-use jc_types::{Answer, Backoff, Copied, Fault, Key, Reply, Version, Want};
+use jc_types::{Answer, Backoff, Fault, Key, Reply, Version, Want};
 use jc_watch::Store;
 
 // What a step of a sync gives.
@@ -54,11 +54,11 @@ pub(crate) fn step_sync(
     ensures sync_kept { OnErr result (sync.new ≡ sync.old) }
     ensures log_kept { OnErr result (store.new ≡ store.old) }
 {
-    let key = sync.basis().key.copy()?;
     let ask = sync.first();
     let backoff = sync.backoff();
     let Progress { reply, end: how } = sync.step(store, now, pending)?;
-    note(controller, &key, ask, &reply, backoff);
+    let key = &sync.basis().key;
+    note(controller, key, ask, &reply, backoff);
     match how {
         None => Ok(Taken {
             reply,
@@ -67,7 +67,7 @@ pub(crate) fn step_sync(
         }),
         Some(how) => {
             let fault = fault_left(&how, pending);
-            controller.end(&key, how, now);
+            controller.end(key, how, now);
             Ok(Taken {
                 reply,
                 is_over: true,

@@ -23,11 +23,11 @@ happen-requires c = coming-admits c.bringing.machine c.in-Some.event c.in-Some.e
 
 pub bringing-preserved : goal.bringing-preserved
 bringing-preserved c = goes-on (next_to_bring c.args.controller c.args.kind) c.args.machine.now c.bringing.machine
-    c.bringing.invariant c.happen.new.machine c.in-Some.event (sym c.bring_event.ensures.first ∙ c.in-Some.is)
+    c.bringing.invariant c.happen.new.self c.in-Some.event (sym c.bring_event.ensures.first ∙ c.in-Some.is)
     (c.in-Some.ensures.coming) (had-room c) c.in_ok-happen.ensures.ok
 
 pub bringing-smaller : goal.bringing-smaller
-bringing-smaller c = less-room c.bringing.machine c.happen.new.machine c.in-Some.event c.in_ok-happen.ensures.ok (had-room c)
+bringing-smaller c = less-room c.bringing.machine c.happen.new.self c.in-Some.event c.in_ok-happen.ensures.ok (had-room c)
 
 pub returns-in_err-happen-clause-reaches : goal.returns-in_err-happen-clause-reaches
 unfolding brought_up

@@ -26,11 +26,11 @@ happen-requires c = coming-admits c.stepping.machine c.in-Some.event c.in-Some.e
 
 pub stepping-preserved : goal.stepping-preserved
 stepping-preserved c = goes-on (next_to_step c.args.controller c.args.worker) c.args.machine.now c.stepping.machine
-    c.stepping.invariant c.happen.new.machine c.in-Some.event (sym c.step_event.ensures.first ∙ c.in-Some.is)
+    c.stepping.invariant c.happen.new.self c.in-Some.event (sym c.step_event.ensures.first ∙ c.in-Some.is)
     (c.in-Some.ensures.coming) (had-room c) c.in_ok-happen.ensures.ok
 
 pub stepping-smaller : goal.stepping-smaller
-stepping-smaller c = less-room c.stepping.machine c.happen.new.machine c.in-Some.event c.in_ok-happen.ensures.ok (had-room c)
+stepping-smaller c = less-room c.stepping.machine c.happen.new.self c.in-Some.event c.in_ok-happen.ensures.ok (had-room c)
 
 pub returns-in_err-happen-clause-reaches : goal.returns-in_err-happen-clause-reaches
 unfolding stepped_through

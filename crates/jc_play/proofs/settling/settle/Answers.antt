@@ -16,12 +16,12 @@ settling-init c = started next_to_settle c.args.machine.now
 
 pub settling-preserved : goal.settling-preserved
 settling-preserved c = goes-on next_to_settle c.args.machine.now c.settling.machine c.settling.invariant
-    c.happen.new.machine c.in-Some.event (sym c.next_event.ensures.first ∙ c.in-Some.is)
+    c.happen.new.self c.in-Some.event (sym c.next_event.ensures.first ∙ c.in-Some.is)
     (first-coming c.settling.machine c.in-Some.event (sym c.next_event.ensures.first ∙ c.in-Some.is)) (had-room c)
     c.in_ok-happen.ensures.ok
 
 pub settling-smaller : goal.settling-smaller
-settling-smaller c = less-room c.settling.machine c.happen.new.machine c.in-Some.event c.in_ok-happen.ensures.ok (had-room c)
+settling-smaller c = less-room c.settling.machine c.happen.new.self c.in-Some.event c.in_ok-happen.ensures.ok (had-room c)
 
 pub returns-in_err-happen-clause-reaches : goal.returns-in_err-happen-clause-reaches
 unfolding settled_down

@@ -3,11 +3,12 @@ use Rattle.jc_log.specs.Acts as does
 use Rattle.jc_runs.proofs.CacheFacts.{list_run}
 use Rattle.jc_machine.specs.MachineKept.{fates_in}
 use Rattle.jc_machine.proofs.Closing.{After, Before, acts, before, closes, member, past, within}
+use Rattle.jc_machine.proofs.Texts.{text_of}
 use Rattle.jc_machine.proofs.machine.Machine.list.Goals as goal
-use Rattle.jc_machine.proofs.machine.Machine.list.Goals.{After-record-reply}
+use Rattle.jc_machine.proofs.machine.Machine.list.Goals.{After-record-text}
 
 -- How it is before.
-old : (c : After-record-reply) → Before c.self.inside.script c.self.inside.shape c.self.inside.history.events.items
+old : (c : After-record-text) → Before c.self.inside.script c.self.inside.shape c.self.inside.history.events.items
     c.self.inside.lanes c.self.inside.store c.self.inside.members.items c.self.inside.fates c.self.inside.clock
     c.args.self.now c.args.event (does.List c.args.controller c.args.kind)
 old c = before c.self.inside.script c.self.inside.shape c.self.inside.history.events.items c.self.inside.lanes
@@ -16,11 +17,11 @@ old c = before c.self.inside.script c.self.inside.shape c.self.inside.history.ev
     c.requires.unfull
 
 -- How it is afterwards.
-after : (c : After-record-reply) → After c.self.inside.script c.self.inside.shape c.record-reply.new.history.items
-    c.record-reply.new.lanes c.self.inside.store (set c.self.inside.members.items c.args.controller c.list.new.self)
+after : (c : After-record-text) → After c.self.inside.script c.self.inside.shape c.record-text.new.history.items
+    c.record-text.new.lanes c.self.inside.store (set c.self.inside.members.items c.args.controller c.list.new.self)
     c.self.inside.fates c.self.inside.clock c.args.self.now c.args.event c.in_ok-reply.reply
 after c =
-    closes (old c) _ _ _ _ _ _ _ _ _ c.record-reply.ensures.kept c.in_ok-reserve.ensures.kept c.record-reply.ensures.lanes
+    closes (old c) _ _ _ _ _ _ _ _ _ c.record-text.ensures.kept c.in_ok-reserve.ensures.kept c.record-text.ensures.lanes
     (list_run c.self.inside.shape (past (old c)) c.self.inside.store c.self.inside.members.items
     (fates_in c.self.inside.fates) c.self.inside.clock c.self.invariant.machine.run _ c.args.controller
     c.index_mut-member.result.now c.list.new.self
@@ -33,4 +34,4 @@ pub invariant_of-self-2 : goal.invariant_of-self-2
 invariant_of-self-2 c = (after c).kept
 
 pub returns : goal.returns
-returns c = ((after c).view, c.record-reply.ensures.reply ∙ (after c).told)
+returns c = ((after c).view, text_of c.record-text.result (after c).told c.record-text.ensures.text)

@@ -4,11 +4,12 @@ use Rattle.jc_runs.proofs.PodEvents.{marked}
 use Rattle.jc_runs.proofs.TextFacts.{mark_texts}
 use Rattle.jc_machine.specs.MachineKept.{fates_in}
 use Rattle.jc_machine.proofs.Closing.{After, Before, acts, before, closes, past}
+use Rattle.jc_machine.proofs.Texts.{text_of}
 use Rattle.jc_machine.proofs.machine.Machine.mark.Goals as goal
-use Rattle.jc_machine.proofs.machine.Machine.mark.Goals.{After-record-reply}
+use Rattle.jc_machine.proofs.machine.Machine.mark.Goals.{After-record-text}
 
 -- How it is before.
-old : (c : After-record-reply) → Before c.self.inside.script c.self.inside.shape c.self.inside.history.events.items
+old : (c : After-record-text) → Before c.self.inside.script c.self.inside.shape c.self.inside.history.events.items
     c.self.inside.lanes c.self.inside.store c.self.inside.members.items c.self.inside.fates c.self.inside.clock
     c.args.self.now c.args.event (does.Mark c.args.pod)
 old c = before c.self.inside.script c.self.inside.shape c.self.inside.history.events.items c.self.inside.lanes
@@ -16,20 +17,20 @@ old c = before c.self.inside.script c.self.inside.shape c.self.inside.history.ev
     (does.Mark c.args.pod) c.self.invariant c.self.view_is c.requires.admits c.requires.acts c.requires.unfull
 
 -- How it is afterwards.
-after : (c : After-record-reply) → After c.self.inside.script c.self.inside.shape c.record-reply.new.history.items
-    c.record-reply.new.lanes c.mark_pod.new.self c.self.inside.members.items c.self.inside.fates c.self.inside.clock
+after : (c : After-record-text) → After c.self.inside.script c.self.inside.shape c.record-text.new.history.items
+    c.record-text.new.lanes c.mark_pod.new.self c.self.inside.members.items c.self.inside.fates c.self.inside.clock
     c.args.self.now c.args.event c.in_ok-reply.reply
 after c =
-    closes (old c) _ _ _ _ _ _ _ _ _ c.record-reply.ensures.kept c.in_ok-reserve.ensures.kept c.record-reply.ensures.lanes
+    closes (old c) _ _ _ _ _ _ _ _ _ c.record-text.ensures.kept c.in_ok-reserve.ensures.kept c.record-text.ensures.lanes
     (marked c.self.inside.shape (past (old c)) c.self.inside.store c.self.inside.members.items
     (fates_in c.self.inside.fates) c.self.inside.clock c.self.invariant.machine.run c.mark_pod.new.self _ c.args.pod
     (acts (old c)) c.in_ok-reply.ensures.0 c.in_ok-reply.ensures.1 c.log_len-length.ensures c.log-log.ensures.stored)
 
-pub record-reply-requires-clause-no_text : goal.record-reply-requires-clause-no_text
-record-reply-requires-clause-no_text c = mark_texts _ c.self.inside.store c.args.pod c.self.inside.clock c.in_ok-reply.ensures.0
+pub record-text-requires-clause-no_text : goal.record-text-requires-clause-no_text
+record-text-requires-clause-no_text c = mark_texts _ c.self.inside.store c.args.pod c.self.inside.clock c.in_ok-reply.ensures.0
 
 pub invariant_of-self-2 : goal.invariant_of-self-2
 invariant_of-self-2 c = (after c).kept
 
 pub returns : goal.returns
-returns c = ((after c).view, c.record-reply.ensures.reply ∙ (after c).told)
+returns c = ((after c).view, text_of c.record-text.result (after c).told c.record-text.ensures.text)

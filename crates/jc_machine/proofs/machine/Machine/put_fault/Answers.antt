@@ -4,8 +4,9 @@ use Rattle.jc_runs.proofs.EventFacts.{fault_run}
 use Rattle.jc_types.specs.declared.replies.Reply.TheVariants as reply
 use Rattle.jc_machine.specs.MachineKept.{fates_in}
 use Rattle.jc_machine.proofs.Closing.{After, Before, acts, before, closes, faulty, member, past, within}
+use Rattle.jc_machine.proofs.Texts.{text_of}
 use Rattle.jc_machine.proofs.machine.Machine.put_fault.Goals as goal
-use Rattle.jc_machine.proofs.machine.Machine.put_fault.Goals.{After-record-reply}
+use Rattle.jc_machine.proofs.machine.Machine.put_fault.Goals.{After-record-text}
 
 pub put_fault-requires : goal.put_fault-requires
 put_fault-requires c = let b = before c.self.inside.script c.self.inside.shape c.self.inside.history.events.items
@@ -16,7 +17,7 @@ put_fault-requires c = let b = before c.self.inside.script c.self.inside.shape c
     c.args.worker c.index_mut-member.result.now there (within b).1
 
 -- How it is before.
-old : (c : After-record-reply) → Before c.self.inside.script c.self.inside.shape c.self.inside.history.events.items
+old : (c : After-record-text) → Before c.self.inside.script c.self.inside.shape c.self.inside.history.events.items
     c.self.inside.lanes c.self.inside.store c.self.inside.members.items c.self.inside.fates c.self.inside.clock
     c.args.self.now c.args.event (does.PutFault c.args.controller c.args.worker c.args.fault)
 old c = before c.self.inside.script c.self.inside.shape c.self.inside.history.events.items c.self.inside.lanes
@@ -25,11 +26,11 @@ old c = before c.self.inside.script c.self.inside.shape c.self.inside.history.ev
     c.requires.acts c.requires.unfull
 
 -- How it is afterwards.
-after : (c : After-record-reply) → After c.self.inside.script c.self.inside.shape c.record-reply.new.history.items
-    c.record-reply.new.lanes c.self.inside.store (set c.self.inside.members.items c.args.controller c.put_fault.new.self)
+after : (c : After-record-text) → After c.self.inside.script c.self.inside.shape c.record-text.new.history.items
+    c.record-text.new.lanes c.self.inside.store (set c.self.inside.members.items c.args.controller c.put_fault.new.self)
     c.self.inside.fates c.self.inside.clock c.args.self.now c.args.event reply.Done
 after c =
-    closes (old c) _ _ _ _ _ _ _ _ _ c.record-reply.ensures.kept c.in_ok-reserve.ensures.kept c.record-reply.ensures.lanes
+    closes (old c) _ _ _ _ _ _ _ _ _ c.record-text.ensures.kept c.in_ok-reserve.ensures.kept c.record-text.ensures.lanes
     (fault_run c.self.inside.shape (past (old c)) c.self.inside.store c.self.inside.members.items
     (fates_in c.self.inside.fates) c.self.inside.clock c.self.invariant.machine.run _ c.args.controller
     c.index_mut-member.result.now c.put_fault.new.self
@@ -41,4 +42,4 @@ pub invariant_of-self-2 : goal.invariant_of-self-2
 invariant_of-self-2 c = (after c).kept
 
 pub returns : goal.returns
-returns c = ((after c).view, c.record-reply.ensures.reply ∙ (after c).told)
+returns c = ((after c).view, text_of c.record-text.result (after c).told c.record-text.ensures.text)

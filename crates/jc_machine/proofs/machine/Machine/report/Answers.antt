@@ -3,11 +3,12 @@ use Rattle.jc_log.specs.Acts as does
 use Rattle.jc_runs.proofs.PodEvents.{reported}
 use Rattle.jc_machine.specs.MachineKept.{fates_in}
 use Rattle.jc_machine.proofs.Closing.{After, Before, acts, before, closes, past}
+use Rattle.jc_machine.proofs.Texts.{text_of}
 use Rattle.jc_machine.proofs.machine.Machine.report.Goals as goal
-use Rattle.jc_machine.proofs.machine.Machine.report.Goals.{After-record_twice-reply}
+use Rattle.jc_machine.proofs.machine.Machine.report.Goals.{After-record_told-text}
 
 -- How it is before.
-old : (c : After-record_twice-reply) → Before c.self.inside.script c.self.inside.shape c.self.inside.history.events.items
+old : (c : After-record_told-text) → Before c.self.inside.script c.self.inside.shape c.self.inside.history.events.items
     c.self.inside.lanes c.self.inside.store c.self.inside.members.items c.self.inside.fates c.self.inside.clock
     c.args.self.now c.args.event (does.Report c.args.pod c.args.change.now)
 old c = before c.self.inside.script c.self.inside.shape c.self.inside.history.events.items c.self.inside.lanes
@@ -16,19 +17,19 @@ old c = before c.self.inside.script c.self.inside.shape c.self.inside.history.ev
     c.requires.unfull
 
 -- How it is afterwards.
-after : (c : After-record_twice-reply) → After c.self.inside.script c.self.inside.shape
-    c.record_twice-reply.new.history.items c.record_twice-reply.new.lanes c.report_twice.new.store
+after : (c : After-record_told-text) → After c.self.inside.script c.self.inside.shape
+    c.record_told-text.new.history.items c.record_told-text.new.lanes c.report_told.new.store
     c.self.inside.members.items c.self.inside.fates c.self.inside.clock c.args.self.now c.args.event
-    c.in_ok-replies.replies
+    c.in_ok-told.told
 after c =
-    closes (old c) _ _ _ _ _ _ _ _ _ c.record_twice-reply.ensures.kept c.in_ok-reserve.ensures.kept c.record_twice-reply.ensures.lanes
+    closes (old c) _ _ _ _ _ _ _ _ _ c.record_told-text.ensures.kept c.in_ok-reserve.ensures.kept c.record_told-text.ensures.lanes
     (reported c.self.inside.shape (past (old c)) c.self.inside.store c.self.inside.members.items
-    (fates_in c.self.inside.fates) c.self.inside.clock c.self.invariant.machine.run c.report_twice.new.store _
-    c.args.pod c.args.change.now (acts (old c)) c.in_ok-replies.ensures.reply c.in_ok-replies.ensures.log
+    (fates_in c.self.inside.fates) c.self.inside.clock c.self.invariant.machine.run c.report_told.new.store _
+    c.args.pod c.args.change.now (acts (old c)) c.in_ok-told.ensures.reply c.in_ok-told.ensures.log
     c.log_len-length.ensures c.log-log.ensures.stored)
 
 pub invariant_of-self-2 : goal.invariant_of-self-2
 invariant_of-self-2 c = (after c).kept
 
 pub returns : goal.returns
-returns c = ((after c).view, c.record_twice-reply.ensures.reply ∙ (after c).told)
+returns c = ((after c).view, text_of c.record_told-text.result (after c).told c.record_told-text.ensures.text)

@@ -3,8 +3,9 @@ use Rattle.jc_log.specs.Acts as does
 use Rattle.jc_runs.proofs.StepRuns.{busy_at, step_seen}
 use Rattle.jc_machine.specs.MachineKept.{fates_in}
 use Rattle.jc_machine.proofs.Closing.{After, Before, acts, before, closes, faulty, member, past, room_left, within, worker}
+use Rattle.jc_machine.proofs.Texts.{text_of}
 use Rattle.jc_machine.proofs.machine.Machine.step.Goals as goal
-use Rattle.jc_machine.proofs.machine.Machine.step.Goals.{After-record-reply}
+use Rattle.jc_machine.proofs.machine.Machine.step.Goals.{After-record-text}
 
 pub step-requires-clause-worker : goal.step-requires-clause-worker
 step-requires-clause-worker c = let b = before c.self.inside.script c.self.inside.shape
@@ -40,7 +41,7 @@ step-requires-clause-room c = room_left
     c.requires.unfull)
 
 -- How it is before.
-old : (c : After-record-reply) → Before c.self.inside.script c.self.inside.shape c.self.inside.history.events.items
+old : (c : After-record-text) → Before c.self.inside.script c.self.inside.shape c.self.inside.history.events.items
     c.self.inside.lanes c.self.inside.store c.self.inside.members.items c.self.inside.fates c.self.inside.clock
     c.args.self.now c.args.event (does.Step c.args.controller c.args.worker)
 old c = before c.self.inside.script c.self.inside.shape c.self.inside.history.events.items c.self.inside.lanes
@@ -49,11 +50,11 @@ old c = before c.self.inside.script c.self.inside.shape c.self.inside.history.ev
     c.requires.unfull
 
 -- How it is afterwards.
-after : (c : After-record-reply) → After c.self.inside.script c.self.inside.shape c.record-reply.new.history.items
-    c.record-reply.new.lanes c.step.new.store (set c.self.inside.members.items c.args.controller c.step.new.self)
+after : (c : After-record-text) → After c.self.inside.script c.self.inside.shape c.record-text.new.history.items
+    c.record-text.new.lanes c.step.new.store (set c.self.inside.members.items c.args.controller c.step.new.self)
     c.self.inside.fates c.self.inside.clock c.args.self.now c.args.event c.in_ok-reply.reply
 after c =
-    closes (old c) _ _ _ _ _ _ _ _ _ c.record-reply.ensures.kept c.in_ok-reserve.ensures.kept c.record-reply.ensures.lanes
+    closes (old c) _ _ _ _ _ _ _ _ _ c.record-text.ensures.kept c.in_ok-reserve.ensures.kept c.record-text.ensures.lanes
     (step_seen c.self.inside.shape (past (old c)) c.self.inside.store c.self.inside.members.items
     (fates_in c.self.inside.fates) c.self.inside.clock c.self.invariant.machine.run c.step.new.store _ c.args.controller
     c.index_mut-member.result.now c.step.new.self
@@ -67,4 +68,4 @@ pub invariant_of-self-2 : goal.invariant_of-self-2
 invariant_of-self-2 c = (after c).kept
 
 pub returns : goal.returns
-returns c = ((after c).view, c.record-reply.ensures.reply ∙ (after c).told)
+returns c = ((after c).view, text_of c.record-text.result (after c).told c.record-text.ensures.text)

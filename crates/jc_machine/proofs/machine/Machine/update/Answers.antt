@@ -4,11 +4,12 @@ use Rattle.jc_runs.proofs.StoreFacts.{updated}
 use Rattle.jc_runs.proofs.TextFacts.{update_texts}
 use Rattle.jc_machine.specs.MachineKept.{fates_in}
 use Rattle.jc_machine.proofs.Closing.{After, Before, acts, before, closes, past}
+use Rattle.jc_machine.proofs.Texts.{text_of}
 use Rattle.jc_machine.proofs.machine.Machine.update.Goals as goal
-use Rattle.jc_machine.proofs.machine.Machine.update.Goals.{After-record-reply}
+use Rattle.jc_machine.proofs.machine.Machine.update.Goals.{After-record-text}
 
 -- How it is before.
-old : (c : After-record-reply) → Before c.self.inside.script c.self.inside.shape c.self.inside.history.events.items
+old : (c : After-record-text) → Before c.self.inside.script c.self.inside.shape c.self.inside.history.events.items
     c.self.inside.lanes c.self.inside.store c.self.inside.members.items c.self.inside.fates c.self.inside.clock
     c.args.self.now c.args.event (does.Update c.args.key.now c.args.version c.args.change.now)
 old c = before c.self.inside.script c.self.inside.shape c.self.inside.history.events.items c.self.inside.lanes
@@ -17,21 +18,21 @@ old c = before c.self.inside.script c.self.inside.shape c.self.inside.history.ev
     c.requires.acts c.requires.unfull
 
 -- How it is afterwards.
-after : (c : After-record-reply) → After c.self.inside.script c.self.inside.shape c.record-reply.new.history.items
-    c.record-reply.new.lanes c.update_spec.new.self c.self.inside.members.items c.self.inside.fates c.self.inside.clock
+after : (c : After-record-text) → After c.self.inside.script c.self.inside.shape c.record-text.new.history.items
+    c.record-text.new.lanes c.update_spec.new.self c.self.inside.members.items c.self.inside.fates c.self.inside.clock
     c.args.self.now c.args.event c.in_ok-reply.reply
 after c =
-    closes (old c) _ _ _ _ _ _ _ _ _ c.record-reply.ensures.kept c.in_ok-reserve.ensures.kept c.record-reply.ensures.lanes
+    closes (old c) _ _ _ _ _ _ _ _ _ c.record-text.ensures.kept c.in_ok-reserve.ensures.kept c.record-text.ensures.lanes
     (updated c.self.inside.shape (past (old c)) c.self.inside.store c.self.inside.members.items
     (fates_in c.self.inside.fates) c.self.inside.clock c.self.invariant.machine.run c.update_spec.new.self _
     c.args.key.now c.args.version c.args.change.now (acts (old c)) c.in_ok-reply.ensures.0 c.in_ok-reply.ensures.1
     c.log_len-length.ensures c.log-log.ensures.stored c.allowed_updates_stay_valid.ensures)
 
-pub record-reply-requires-clause-no_text : goal.record-reply-requires-clause-no_text
-record-reply-requires-clause-no_text c = update_texts _ c.self.inside.store c.args.key.now c.args.version c.args.change.now c.in_ok-reply.ensures.0
+pub record-text-requires-clause-no_text : goal.record-text-requires-clause-no_text
+record-text-requires-clause-no_text c = update_texts _ c.self.inside.store c.args.key.now c.args.version c.args.change.now c.in_ok-reply.ensures.0
 
 pub invariant_of-self-2 : goal.invariant_of-self-2
 invariant_of-self-2 c = (after c).kept
 
 pub returns : goal.returns
-returns c = ((after c).view, c.record-reply.ensures.reply ∙ (after c).told)
+returns c = ((after c).view, text_of c.record-text.result (after c).told c.record-text.ensures.text)

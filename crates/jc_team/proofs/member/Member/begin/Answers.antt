@@ -12,7 +12,7 @@ returns-clause-reply c = begin_told (record
     (read_at c.self.inside.registers.items c.args.worker c.index.result.now (length c.args.self.now.registers)
     c.requires.worker (ap (λ (t : Team). length t.registers) (sym c.self.view_is)) c.index.ensures
     ∙ ap (λ o. Some o) (none_of c.index.result.now (sym c.is_some.ensures ∙ c.if-is_some.false)))
-    c.in_ok-replies.replies c.in_ok-replies.ensures.reply
+    c.in_ok-told.told c.in_ok-told.ensures.reply
 
 pub returns-clause-schedule : goal.returns-clause-schedule
 returns-clause-schedule c = begin_left (record
@@ -21,7 +21,7 @@ returns-clause-schedule c = begin_left (record
     (read_at c.self.inside.registers.items c.args.worker c.index.result.now (length c.args.self.now.registers)
     c.requires.worker (ap (λ (t : Team). length t.registers) (sym c.self.view_is)) c.index.ensures
     ∙ ap (λ o. Some o) (none_of c.index.result.now (sym c.is_some.ensures ∙ c.if-is_some.false)))
-    c.begin.new.controller.schedule c.in_ok-replies.ensures.schedule
+    c.begin.new.controller.schedule c.in_ok-told.ensures.schedule
 
 pub returns-clause-registers : goal.returns-clause-registers
 returns-clause-registers c = begin_put (record
@@ -29,5 +29,5 @@ returns-clause-registers c = begin_put (record
     c.args.self.now c.self.view_is c.args.worker c.args.now
     (read_at c.self.inside.registers.items c.args.worker c.index.result.now (length c.args.self.now.registers)
     c.requires.worker (ap (λ (t : Team). length t.registers) (sym c.self.view_is)) c.index.ensures
-    ∙ ap (λ o. Some o) (none_of c.index.result.now (sym c.is_some.ensures ∙ c.if-is_some.false))) c.in_ok-replies.sync
-    c.start.new.registers.items c.in_ok-replies.ensures.sync c.start.ensures
+    ∙ ap (λ o. Some o) (none_of c.index.result.now (sym c.is_some.ensures ∙ c.if-is_some.false))) c.in_ok-told.sync
+    c.start.new.registers.items c.in_ok-told.ensures.sync c.start.ensures
