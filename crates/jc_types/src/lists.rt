@@ -24,11 +24,16 @@ impl<T> Model for ListOf<T> {
     ghost view = { λ l. option_map_or (λ a. a.value.items) l.shared [] };
 }
 
-// The items of a slice in a list of their own.
-pub(crate) fn copied_slice<T: Copied>(alloc: Global, items: &[T]) -> Result<Vec<T>, Want>
+// The items of a slice in a list of their own, with room for them and for so many more: most lists get one item
+// and stay so, and a room that grows would be that of four.
+pub(crate) fn copied_slice<T: Copied>(
+    alloc: Global,
+    items: &[T],
+    more: usize,
+) -> Result<Vec<T>, Want>
     ensures { IfOk result (λ v. v.items ≡ items.now) }
 {
-    let mut copied = Vec::with_capacity(alloc, items.len())?;
+    let mut copied = Vec::with_capacity(alloc, items.len().saturating_add(more))?;
     for item in items {
         copied.push(item.copy()?)?;
     }
@@ -113,7 +118,7 @@ impl<T: Copied> ListOf<T> {
                 return Ok(());
             }
         }
-        let mut items = copied_slice(self.alloc, self.as_slice())?;
+        let mut items = copied_slice(self.alloc, self.as_slice(), 1)?;
         items.push(item)?;
         self.shared = Some(sync::Arc::new(self.alloc, items)?);
         Ok(())

@@ -92,7 +92,7 @@ impl Pasts {
     {
         let alloc = *self.events.allocator();
         Ok(Pasts {
-            events: copied_slice(alloc, self.events.as_slice())?,
+            events: copied_slice(alloc, self.events.as_slice(), 0)?,
         })
     }
 }

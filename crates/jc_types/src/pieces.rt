@@ -93,7 +93,7 @@ fn with_other<T: Copied>(alloc: Global, items: &[T], place: usize, item: T) -> R
     requires { place < length items.now }
     ensures { IfOk result (λ v. v.items ≡ set items.now place item) }
 {
-    let mut copied = copied_slice(alloc, items)?;
+    let mut copied = copied_slice(alloc, items, 0)?;
     copied[place] = item;
     Ok(copied)
 }
@@ -123,7 +123,7 @@ fn with_two<T: Copied>(
     requires { number < length pieces.now }
     ensures { IfOk result (λ r. r ≡ insert (set pieces.now number first) (number + 1) second) }
 {
-    let mut list = copied_slice(alloc, pieces)?;
+    let mut list = copied_slice(alloc, pieces, 1)?;
     list[number] = first;
     list.insert(number + 1, second)?;
     ListOf::of_vec(alloc, list)
@@ -142,7 +142,7 @@ fn with_halves<T: Copied>(
         ≡ insert (set pieces.now number (take HALF items.items)) (number + 1) (drop HALF items.items)) }
 {
     let mut items = items;
-    let second = ListOf::of_vec(alloc, copied_slice(alloc, &items.as_slice()[HALF..])?)?;
+    let second = ListOf::of_vec(alloc, copied_slice(alloc, &items.as_slice()[HALF..], 0)?)?;
     items.truncate(HALF);
     let first = ListOf::of_vec(alloc, items)?;
     with_two(alloc, pieces, number, first, second)
@@ -179,7 +179,7 @@ fn with_more<T: Copied>(
     ensures { IfOk result (λ r. items_in r
         ≡ insert (items_in pieces.now) (place_in pieces.now spot.piece spot.place) item) }
 {
-    let mut items = copied_slice(alloc, pieces[spot.piece].as_slice())?;
+    let mut items = copied_slice(alloc, pieces[spot.piece].as_slice(), 1)?;
     items.insert(spot.place, item)?;
     if items.len() <= MOST {
         with_one(alloc, pieces, spot.piece, items)
