@@ -103,10 +103,6 @@ provided_got q roomy new d more rows after supplies others k first same room del
 
 -- ---- a sync ends
 
--- The key at the first place of a key is that key.
-pub found-key : (k d : Key) (keys : List Key) (i : ℕ) → Some i ≡ position (same_key k) keys → d ≡ get_or keys i d → d ≡ k
-found-key k d keys i at is = is ∙ sym (same_key-eq k (get_or keys i d) (position-Some (same_key k) keys i d (sym at)).1)
-
 -- Another key stays.
 stays-without : (j k : Key) (keys : List Key) → same_key k j ≡ false → has_key j keys ≡ true → has_key j (without k keys) ≡ true
 stays-without j k [] apart h = absurd (true≢false (sym h))

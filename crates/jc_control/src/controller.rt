@@ -13,12 +13,12 @@ ghost use Rattle.jc_states.specs.PodLists.{IsRising};
 ghost use Rattle.jc_log.specs.Tables.{at, puts};
 
 use crate::begins::{Begin, Lag, first_lag, later};
-use crate::ends::{Ending, SyncEnd, delay, forgets_caches, take_ending};
+use crate::ends::{SyncEnd, delay, forgets_caches, take_supply};
 use crate::queues::{move_due, told, with_jobs, with_owners};
 use indexmap::IndexMap;
 use jc_cache::{JobCache, PodCache};
 use jc_moment::Moment;
-use jc_queue::{Delays, Queue};
+use jc_queue::{Delays, Queue, Supply, Twice};
 use jc_states::{Basis, Pods};
 use jc_types::{Arc, Backoff, Copied, Entry, Job, Jobs, Key, Kind, Version, Want};
 use std::alloc::Global;
@@ -43,8 +43,8 @@ pub struct Controller {
     delays: Delays,
     // A row for each key of which a sync has begun.
     known: IndexMap<Key, Known>,
-    // The copies of each processing key that the end of its sync needs.
-    supplies: Vec<Ending>,
+    // The copies of each processing key that the end of its sync may need.
+    supplies: Vec<Supply>,
 }
 
 impl Model for Controller {
@@ -330,9 +330,9 @@ impl Controller {
         ensures rows { self.new.rows ≡ rows_after end self.old.rows }
     {
         let _waiting = self.queue.len();
-        let (done, supply) = take_ending(&mut self.supplies, key);
+        let supply = take_supply(&mut self.supplies, key);
         delay(&mut self.delays, key, supply, &end, now);
-        self.queue.done(done);
+        self.queue.done(key);
         if forgets_caches(&end) {
             self.jobs.forget();
             self.pods.forget();
@@ -388,11 +388,13 @@ impl Controller {
         let syncs = self.queue.processing() + 1;
         self.queue.reserve(self.delays.len() + syncs)?;
         self.delays.reserve(syncs)?;
-        let ending = Ending::of(key)?;
+        let twice = Twice::of(key)?;
         self.supplies.reserve(1)?;
         add_known(&mut self.known, key)?;
-        self.supplies.push_reserved(ending);
-        self.queue.get();
+        let Some(got) = self.queue.get() else {
+            unreachable!()
+        };
+        self.supplies.push_reserved(Supply::with(got, twice));
         Ok(())
     }
 

@@ -1,6 +1,7 @@
 -- What the code writes into its lists is what the words on a queue say.
-use Rattle.std.proofs.Common.{◌≡◌, ℕ, suc, Bool, true, false, cond, not, ◌||◌, ◌+◌, ◌<◌, length, List, [], ◌∷◌, ◌++◌, Some, None, is_some, refl, sym, ap, ◌∙◌, true≢false, arith, nat_lt}
+use Rattle.std.proofs.Common.{◌≡◌, ℕ, suc, Bool, true, false, cond, not, ◌||◌, ◌+◌, ◌<◌, length, List, [], ◌∷◌, ◌++◌, Some, None, is_some, refl, sym, ap, ◌∙◌, true≢false, arith, nat_lt, get_or}
 use Rattle.std.proofs.lemmas.Bool.Decides.{nat_tests}
+use Rattle.std.proofs.lemmas.List.Quantifiers.{position-Some}
 use Rattle.std.specs.List.{find, list_any, position, position_or_len, remove}
 use Rattle.std.specs.Option.{unwrap_or}
 use Rattle.std.specs.Set.{remove_key}
@@ -45,6 +46,10 @@ no_place test xs h e =
     let within = place_within test xs h in
     let passes : nat_lt (position_or_len test xs) (length xs) ≡ true = grind (arith, nat_tests, within) in
     true≢false (ap is_some (sym (e ∙ ap (λ b. cond b (Some (position_or_len test xs)) None) passes)))
+
+-- The key at the first place of a key is that key.
+pub found-key : (k d : Key) (keys : List Key) (i : ℕ) → Some i ≡ position (same_key k) keys → d ≡ get_or keys i d → d ≡ k
+found-key k d keys i at is = is ∙ sym (same_key-eq k (get_or keys i d) (position-Some (same_key k) keys i d (sym at)).1)
 
 -- A queue with these lists is what `added` says.
 pub added-parts : (q : Queued) (k : Key) (line dirty processing : List Key) → has_key k q.dirty ≡ false → line ≡ cond (has_key k q.processing) q.line (q.line ++ k ∷ []) → dirty ≡ plus_key k q.dirty →

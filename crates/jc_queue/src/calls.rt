@@ -57,7 +57,7 @@ fn make(queue: &mut Queue, call: &Call) -> Result<Option<Key>, Want>
         Call::Add(key) => queue.add(key)?,
         Call::Get => return Ok(queue.get()),
         Call::Done => finish_oldest(queue)?,
-        Call::Finish(key) => finish(queue, key)?,
+        Call::Finish(key) => finish(queue, key),
         Call::SendBack => queue.send_back(),
         Call::Retract(key) => queue.retract(key),
     }
@@ -65,15 +65,12 @@ fn make(queue: &mut Queue, call: &Call) -> Result<Option<Key>, Want>
 }
 
 // Finishes the key, where it is processing.
-fn finish(queue: &mut Queue, key: &Key) -> Result<(), Want>
-    ensures state { OnOk result
-        (queue.new.queue ≡ finished_if_processing queue.old.queue key.now) }
-    ensures kept { OnErr result (queue.new.queue ≡ queue.old.queue) }
+fn finish(queue: &mut Queue, key: &Key)
+    ensures { queue.new.queue ≡ finished_if_processing queue.old.queue key.now }
 {
     if queue.is_processing(key) {
-        queue.done(key.copy()?);
+        queue.done(key);
     }
-    Ok(())
 }
 
 // Finishes the key that has been processing for longest, where there is one.
@@ -85,7 +82,7 @@ fn finish_oldest(queue: &mut Queue) -> Result<(), Want>
         return Ok(());
     };
     let key = oldest.copy()?;
-    queue.done(key);
+    queue.done(&key);
     Ok(())
 }
 

@@ -1,6 +1,7 @@
 //! Copies of a key that are made ahead, and counts of places: so a queue and delays take keys with no memory.
 
 ghost use Rattle.std.specs.Prelude.{◌≡◌, ◌+◌, IfOk};
+ghost use Rattle.jc_types.specs.Keys.{same_key};
 
 use jc_types::{Copied, Key, Want};
 use std::alloc::AllocError;
@@ -95,6 +96,21 @@ impl Supply {
             failed: key.copy()?,
             delayed: Twice::of(key)?,
         })
+    }
+
+    /// The supply of these copies of one key.
+    pub fn with(failed: Key, delayed: Twice) -> Supply
+        requires same { failed ≡ delayed }
+        ensures { result ≡ delayed }
+    {
+        Supply { failed, delayed }
+    }
+
+    /// Whether it is that of the key.
+    pub fn is_of(&self, key: &Key) -> bool
+        ensures { result ≡ same_key key.now self.now }
+    {
+        *key == self.failed
     }
 
     /// What the delay alone needs.

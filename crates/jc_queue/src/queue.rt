@@ -151,14 +151,14 @@ impl Queue {
     }
 
     /// Ends the processing of a key; where it is dirty it goes to the line's end. It takes no memory.
-    pub fn done(&mut self, key: Key)
-        requires processing { has_key key self.old.queue.processing ≡ true }
-        ensures finished { self.new.queue ≡ finished self.old.queue key }
+    pub fn done(&mut self, key: &Key)
+        requires processing { has_key key.now self.old.queue.processing ≡ true }
+        ensures finished { self.new.queue ≡ finished self.old.queue key.now }
         ensures room { self.new.room ≡ self.old.room }
     {
-        take_out(&mut self.processing, &key);
-        if is_in(&self.dirty, &key) {
-            self.line.push_back_reserved(key);
+        let held = take_out(&mut self.processing, key);
+        if is_in(&self.dirty, key) {
+            self.line.push_back_reserved(held);
         }
     }
 
@@ -308,8 +308,9 @@ fn place_of(keys: &[Key], key: &Key) -> Option<usize>
 }
 
 // Takes the key out of the keys.
-fn take_out(keys: &mut Vec<Key>, key: &Key)
+fn take_out(keys: &mut Vec<Key>, key: &Key) -> Key
     requires there { has_key key.now keys.old.items ≡ true }
+    ensures taken { result ≡ key.now }
     ensures items { keys.new.items ≡ without key.now keys.old.items }
     ensures count { vec_len keys.new + 1 ≡ vec_len keys.old }
     ensures capacity { vec_capacity keys.new ≡ vec_capacity keys.old }
@@ -317,5 +318,5 @@ fn take_out(keys: &mut Vec<Key>, key: &Key)
     let Some(place) = place_of(keys, key) else {
         unreachable!()
     };
-    keys.remove(place);
+    keys.remove(place)
 }

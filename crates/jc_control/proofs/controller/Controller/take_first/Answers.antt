@@ -11,6 +11,6 @@ invariant_of-self-2 c =
     c.reserve.ensures.queue (omega (arith, c.in_ok-reserve.ensures.room, c.len.ensures.count, c.processing-syncs.ensures.count))
     c.reserve-2.ensures.delays (omega (arith, c.in_ok-reserve-2.ensures.room, c.processing-syncs.ensures.count))
     (c.push_reserved.ensures.items
-    ∙ ap (λ keys. keys ++ c.in_ok-ending.ending ∷ []) c.reserve-3.ensures.items
-    ∙ ap (λ k. c.self.inside.supplies.items ++ k ∷ []) c.in_ok-ending.ensures)
+    ∙ ap (λ keys. keys ++ c.with.result ∷ []) c.reserve-3.ensures.items
+    ∙ ap (λ k. c.self.inside.supplies.items ++ k ∷ []) (c.with.ensures ∙ c.in_ok-twice.ensures))
     c.in_ok-add_known.ensures.noted c.get.ensures.got c.get.ensures.room c.self.invariant
