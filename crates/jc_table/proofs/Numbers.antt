@@ -1,5 +1,7 @@
 -- Numbers as a tree compares them.
-use Rattle.std.proofs.Common.{◌≡◌, ℕ, ◌==◌, nat_lt, nat_le, nat_cmp, is_eq, is_le, Less, Equal, Greater, Bool, true, false, cond, ◌&&◌, refl, ◌∙◌, arith, ltb-true, ltb-false, eqb-true, leb-true, leb-false}
+use Rattle.std.proofs.Common.{◌≡◌, ℕ, ◌==◌, nat_lt, nat_le, nat_cmp, is_le, Less, Equal, Greater, Bool, true, false, cond, ◌&&◌, List, [], ◌∷◌, filter, find, slice_get, option_copied, Option, Some, None, refl, sym, ap, ◌∙◌, arith, ltb-true, ltb-false, eqb-true, leb-true, leb-false}
+use denote.Ref.{Bor}
+use Rattle.std.specs.Map.Iter.{TakesFirst, deref}
 use Rattle.std.specs.BTreeMap.{is_at}
 use Rattle.std.specs.BTreeMap.Range.{range_contains}
 use Rattle.std.specs.declared.ops.Bound.TheVariants.{Included, Unbounded}
@@ -32,3 +34,24 @@ in_range u k = kept (is_le (nat_cmp u k)) ∙ lies_from u k
     kept : (b : Bool) → (b && true) ≡ b
     kept true = refl
     kept false = refl
+
+-- The first number that lies from one on is the first of all that do.
+found-filtered : (u : ℕ) (keys : List ℕ) → slice_get (filter (nat_le u) keys) 0 ≡ find (nat_le u) keys
+found-filtered u [] = refl
+found-filtered u (k ∷ keys) = by (nat_le u k) (found-filtered u keys)
+  where
+    by : (b : Bool) → slice_get (filter (nat_le u) keys) 0 ≡ find (nat_le u) keys
+        → slice_get (cond b (k ∷ filter (nat_le u) keys) (filter (nat_le u) keys)) 0 ≡ cond b (Some k) (find (nat_le u) keys)
+    by true ih = refl
+    by false ih = ih
+
+-- It is the first of the range from it on.
+pub found-in_range : (u : ℕ) (keys part : List ℕ) → part ≡ filter (range_contains nat_cmp (Included u) Unbounded) keys → slice_get part 0 ≡ find (nat_le u) keys
+found-in_range u keys part at =
+    ap (λ part. slice_get part 0) (at ∙ ap (λ (test : ℕ → Bool). filter test keys) (λ i k. in_range u k i))
+    ∙ found-filtered u keys
+
+-- What is taken of a list is its first.
+pub taken-first : (part rest : List ℕ) (taken : Option (Bor ℕ)) → TakesFirst deref part taken rest → option_copied taken ≡ slice_get part 0
+taken-first part rest None h = sym (ap (λ p. slice_get p 0) h.0)
+taken-first part rest (Some k) h = sym (ap (λ p. slice_get p 0) h)

@@ -1,13 +1,11 @@
 -- What a write and a removal among pods in ascending UID leave of the open ones among them.
-use Rattle.std.proofs.Common.{◌≡◌, ℕ, ◌+◌, ◌<◌, ◌==◌, nat_lt, nat_le, nat_cmp, Less, Equal, Greater, Bool, true, false, cond, not, ◌&&◌, List, [], ◌∷◌, filter, find, map, slice_get, Option, Some, None, is_some, refl, sym, ap, subst, ◌∙◌}
+use Rattle.std.proofs.Common.{◌≡◌, ℕ, ◌+◌, ◌<◌, ◌==◌, nat_lt, nat_le, nat_cmp, Less, Equal, Greater, Bool, true, false, cond, not, ◌&&◌, List, [], ◌∷◌, filter, find, map, Option, Some, None, is_some, refl, sym, ap, subst, ◌∙◌}
 use Rattle.std.proofs.Common.{arith, true≢false, ltb-true, eqb-true, option_map}
 use Rattle.std.specs.Ordering.{match_ordering}
 use Rattle.std.specs.Option.{option_map_or}
 use Rattle.std.specs.Set.{remove_key}
 use Rattle.std.specs.BTreeMap.{is_at}
-use Rattle.std.specs.BTreeMap.Range.{range_contains}
 use Rattle.std.specs.BTreeSet.{insert_key}
-use Rattle.std.specs.declared.ops.Bound.TheVariants.{Included, Unbounded}
 use Rattle.std.proofs.lemmas.Bool.{cond-true, cond-false, eqb-false}
 use Rattle.jc_types.specs.declared.numbers.Uid.{Uid}
 use Rattle.jc_types.specs.declared.objects.Pod.{Pod}
@@ -17,7 +15,7 @@ use Rattle.jc_states.specs.Pods.{is_open}
 use Rattle.jc_states.proofs.PodListFacts.{among_none, drop-put, pod_among, put_pod-above, put_pod-below, put_pod-there, rises_filter, rises_put}
 use Rattle.jc_types.proofs.KeyFacts.{same_uid-either_way, same_uid-itself}
 use Rattle.jc_table.specs.Open.{CanReplace, KnowsOpen, open_numbers}
-use Rattle.jc_table.proofs.Numbers.{asks, in_range}
+use Rattle.jc_table.proofs.Numbers.{asks}
 use Rattle.jc_table.proofs.PodRows.{drop_pod-below}
 
 -- The numbers of the UIDs of pods.
@@ -256,37 +254,33 @@ found-itself test low (q ∷ pods) pod r h =
     by ih false h false s = ih h
 
 -- The first number from one on is that of the first open pod from that UID on.
-first-number : (u : ℕ) (pods : List Pod) → slice_get (filter (λ k. nat_le u k) (open_numbers pods)) 0 ≡ option_map (λ pod. pod.uid.0) (find (λ pod. nat_le u pod.uid.0 && is_open pod) pods)
+first-number : (u : ℕ) (pods : List Pod) → find (nat_le u) (open_numbers pods) ≡ option_map (λ pod. pod.uid.0) (find (λ pod. nat_le u pod.uid.0 && is_open pod) pods)
 first-number u [] = refl
 first-number u (pod ∷ pods) = by (is_open pod) (nat_le u pod.uid.0) refl (first-number u pods)
   where
-    by : (o le : Bool) → nat_le u pod.uid.0 ≡ le → slice_get (filter (λ k. nat_le u k) (open_numbers pods)) 0 ≡ option_map (λ pod. pod.uid.0) (find (λ pod. nat_le u pod.uid.0 && is_open pod) pods)
-        → slice_get (filter (λ k. nat_le u k) (numbers (cond o (pod ∷ open_among pods) (open_among pods)))) 0
+    by : (o le : Bool) → nat_le u pod.uid.0 ≡ le → find (nat_le u) (open_numbers pods) ≡ option_map (λ pod. pod.uid.0) (find (λ pod. nat_le u pod.uid.0 && is_open pod) pods)
+        → find (nat_le u) (numbers (cond o (pod ∷ open_among pods) (open_among pods)))
         ≡ option_map (λ pod. pod.uid.0) (cond (le && o) (Some pod) (find (λ pod. nat_le u pod.uid.0 && is_open pod) pods))
-    by true true l ih = ap (λ b. slice_get (cond b (pod.uid.0 ∷ filter (λ k. nat_le u k) (open_numbers pods)) (filter (λ k. nat_le u k) (open_numbers pods))) 0) l
-    by true false l ih =
-        ap (λ b. slice_get (cond b (pod.uid.0 ∷ filter (λ k. nat_le u k) (open_numbers pods)) (filter (λ k. nat_le u k) (open_numbers pods))) 0) l
-        ∙ ih
+    by true true l ih = cond-true (nat_le u pod.uid.0) (Some pod.uid.0) (find (nat_le u) (open_numbers pods)) l
+    by true false l ih = cond-false (nat_le u pod.uid.0) (Some pod.uid.0) (find (nat_le u) (open_numbers pods)) l ∙ ih
     by false true l ih = ih
     by false false l ih = ih
 
-module _ (known : List ℕ) (pods : List Pod) (knows : KnowsOpen known pods) (u : Uid) (part : List ℕ) (at : part ≡ filter (range_contains nat_cmp (Included u.0) Unbounded) known) where
-  first : slice_get part 0 ≡ option_map (λ pod. pod.uid.0) (find (λ pod. nat_le u.0 pod.uid.0 && is_open pod) pods)
-  first =
-      ap (λ part. slice_get part 0) (at ∙ ap (λ (test : ℕ → Bool). filter test known) (λ i k. in_range u.0 k i) ∙ ap (filter (λ k. nat_le u.0 k)) knows.numbered)
-      ∙ first-number u.0 pods
+module _ (known : List ℕ) (pods : List Pod) (knows : KnowsOpen known pods) (u : Uid) (least : Option ℕ) (at : least ≡ find (nat_le u.0) known) where
+  first : least ≡ option_map (λ pod. pod.uid.0) (find (λ pod. nat_le u.0 pod.uid.0 && is_open pod) pods)
+  first = at ∙ ap (find (nat_le u.0)) knows.numbered ∙ first-number u.0 pods
 
-  -- There is none where the range is empty.
-  pub open_from-none : part ≡ [] → find (λ pod. nat_le u.0 pod.uid.0 && is_open pod) pods ≡ None
-  open_from-none empty = by (find (λ pod. nat_le u.0 pod.uid.0 && is_open pod) pods) (sym first ∙ ap (λ part. slice_get part 0) empty)
+  -- There is none where no number lies there.
+  pub open_from-none : least ≡ None → find (λ pod. nat_le u.0 pod.uid.0 && is_open pod) pods ≡ None
+  open_from-none none = by (find (λ pod. nat_le u.0 pod.uid.0 && is_open pod) pods) (sym first ∙ none)
     where
       by : (found : Option Pod) → option_map (λ pod. pod.uid.0) found ≡ None → found ≡ None
       by None h = refl
       by (Some pod) h = absurd (true≢false (ap is_some h))
 
-  -- It has the range's first number.
-  pub open_from-some : (n : ℕ) (rest : List ℕ) → part ≡ n ∷ rest → find (λ pod. pod.uid.0 == n) pods ≡ find (λ pod. nat_le u.0 pod.uid.0 && is_open pod) pods
-  open_from-some n rest more = by (find (λ pod. nat_le u.0 pod.uid.0 && is_open pod) pods) refl (sym first ∙ ap (λ part. slice_get part 0) more)
+  -- It has the first number that lies there.
+  pub open_from-some : (n : ℕ) → least ≡ Some n → find (λ pod. pod.uid.0 == n) pods ≡ find (λ pod. nat_le u.0 pod.uid.0 && is_open pod) pods
+  open_from-some n some = by (find (λ pod. nat_le u.0 pod.uid.0 && is_open pod) pods) refl (sym first ∙ some)
     where
       by : (found : Option Pod) → find (λ pod. nat_le u.0 pod.uid.0 && is_open pod) pods ≡ found → option_map (λ pod. pod.uid.0) found ≡ Some n → find (λ pod. pod.uid.0 == n) pods ≡ found
       by None f h = absurd (true≢false (sym (ap is_some h)))

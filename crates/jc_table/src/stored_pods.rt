@@ -51,6 +51,17 @@ fn close(numbers: &mut BTreeSet<u64>, pod: &Pod)
     numbers.remove(&pod.uid.0);
 }
 
+// The least of the numbers from this one on. It is mostly the least of all, for which no range is made.
+fn least_from(numbers: &BTreeSet<u64>, from: u64) -> Option<u64>
+    ensures { result ≡ find (nat_le from) numbers.now.keys }
+{
+    let least = *numbers.first()?;
+    if from <= least {
+        return Some(least);
+    }
+    numbers.range(from..).next().copied()
+}
+
 impl StoredPods {
     /// No pods. It takes no memory.
     pub fn new(alloc: Global) -> StoredPods
@@ -74,8 +85,8 @@ impl StoredPods {
         ensures { option_copied result
             ≡ find (λ pod. nat_le uid.0 pod.uid.0 && is_open pod) self.now }
     {
-        let number = self.numbers.range(uid.0..).next()?;
-        self.all.get(Uid(*number))
+        let number = least_from(&self.numbers, uid.0)?;
+        self.all.get(Uid(number))
     }
 
     /// Writes a new pod, which is open.

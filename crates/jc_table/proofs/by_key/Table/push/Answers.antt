@@ -1,4 +1,4 @@
-use Rattle.std.proofs.Common.{◌≡◌, None, OnErr, OnOk, Some, cond, nat_cmp, sym, ap, subst, ◌∙◌, arith}
+use Rattle.std.proofs.Common.{◌≡◌, OnErr, OnOk, Some, cond, nat_cmp, sym, ap, subst, ◌∙◌}
 use Rattle.std.specs.BTreeMap.{insert_entry}
 use Rattle.std.specs.Map.{values_of}
 use Rattle.jc_log.specs.Tables.{Sets, at, puts}

@@ -1,4 +1,4 @@
-use Rattle.std.proofs.Common.{None, Some, cond, is_some, sym, ap, true≢false, ◌∙◌}
+use Rattle.std.proofs.Common.{None, cond, is_some, sym, ap, true≢false, ◌∙◌}
 use Rattle.std.specs.Map.{values_of}
 use Rattle.std.specs.Option.{option_map}
 use Rattle.jc_log.specs.Tables.{at, takes}
