@@ -3,7 +3,7 @@
 ghost use Rattle.std.specs.Prelude.{◌≡◌, ◌+◌, ◌<◌, ◌≤◌, ◌^◌, IfOk, IfSome, IsSome, length};
 ghost use Rattle.jc_types.specs.Counts.{counts as counts_of};
 ghost use Rattle.jc_manage.specs.Creations.{creates, next};
-ghost use Rattle.jc_manage.specs.Planned.{backoff_in, creatable_in, creates_in, let_goes_in, marks_in, next_in};
+ghost use Rattle.jc_manage.specs.Planned.{backoff_in, creates_in, let_goes_in, marks_in, next_in};
 
 use crate::backoffs::{as_moment, backoff_after, is_delayed_until, opening};
 use crate::creations::creatable;
@@ -11,7 +11,7 @@ use crate::let_goes::{let_goes, marks};
 use crate::results::Wants;
 use jc_moment::Moment;
 use jc_states::Basis;
-use jc_types::{CountIn, Indexes, Job, Want};
+use jc_types::{CountIn, Indexes, Want};
 use std::alloc::Global;
 
 // Of what would be made at once, nothing before the opening.
@@ -32,70 +32,6 @@ fn next(opening: Option<u64>, now: Moment, creatable: &Indexes) -> Option<Moment
         return as_moment(opening);
     }
     None
-}
-
-// What the Job makes, and the moment of what is delayed. Of what is delayed it matters only whether there
-// is some.
-//
-// # Errors
-// `Want` where there is no memory for it.
-#[tactic(auto, using(crate::proofs::Fronts::next_front, crate::proofs::Fronts::creates_front))]
-fn made_and_next(
-    alloc: Global,
-    opening: Option<u64>,
-    target: bool,
-    job: &Job,
-    basis: &Basis,
-    counted: &CountIn,
-) -> Result<(Indexes, Option<Moment>), Want>
-    requires failed { (counts_of counted.now).0 < 2 ^ 64 }
-    requires succeeded { (counts_of counted.now).1 < 2 ^ 64 }
-    ensures creates { IfOk result (λ r. r.0 ≡ creates opening basis.entry.now.now
-        (creatable_in target job.now basis.entry.now counted.now)) }
-    ensures next { IfOk result (λ r. r.1 ≡ next opening basis.entry.now.now
-        (creatable_in target job.now basis.entry.now counted.now)) }
-{
-    let held_back = is_delayed_until(opening, basis.now);
-    let found = creatable(alloc, held_back, target, job, &*basis.pods, counted)?;
-    let next = next(opening, basis.now, &found);
-    Ok((creates(alloc, opening, basis.now, found), next))
-}
-
-// What a sync wants of the Job's pods.
-fn wants_of(
-    alloc: Global,
-    job: &Job,
-    basis: &Basis,
-    counted: &CountIn,
-    target: bool,
-) -> Result<Wants, Want>
-    requires failed { (counts_of counted.now).0 < 2 ^ 64 }
-    requires succeeded { (counts_of counted.now).1 < 2 ^ 64 }
-    requires failures { basis.now.backoff.failures + counted.now.new_failed < 2 ^ 64 }
-    ensures creates { IfOk result (λ wants.
-        wants.creates ≡ creates_in target job.now basis.entry.now counted.now) }
-    ensures marks { IfOk result (λ wants.
-        wants.marks ≡ marks_in target job.now basis.entry.now) }
-    ensures let_goes { IfOk result (λ wants.
-        wants.let_goes ≡ let_goes_in target job.now basis.entry.now counted.now) }
-    ensures next { IfOk result (λ wants.
-        wants.next ≡ next_in target job.now basis.entry.now counted.now) }
-    ensures backoff { IfOk result (λ wants.
-        wants.backoff ≡ backoff_in basis.entry.now counted.now) }
-{
-    let pods = &*basis.pods;
-    let backoff = backoff_after(&basis.backoff, counted, basis.now);
-    let opening = opening(&backoff);
-    let (creates, next) = made_and_next(alloc, opening, target, job, basis, counted)?;
-    let marks = marks(alloc, target, job, pods)?;
-    let let_goes = let_goes(alloc, target, job, pods, counted)?;
-    Ok(Wants {
-        creates,
-        marks,
-        let_goes,
-        next,
-        backoff,
-    })
 }
 
 /// What a sync wants of the pods of its Job (batch/v1, KEP-2307, KEP-2214, KEP-3939), from what it has
@@ -133,8 +69,20 @@ pub fn wants(alloc: Global, basis: &Basis, counted: &CountIn, target: bool) -> R
     ensures backoff { IfOk result (λ wants.
         wants.backoff ≡ backoff_in basis.entry.now counted.now) }
 {
-    match &basis.job {
-        None => unreachable!(),
-        Some(job) => wants_of(alloc, job, basis, counted, target),
-    }
+    let Some(job) = &basis.job else {
+        unreachable!();
+    };
+    let pods = &*basis.pods;
+    let backoff = backoff_after(&basis.backoff, counted, basis.now);
+    let opening = opening(&backoff);
+    // Of what is delayed it matters only whether there is some.
+    let held_back = is_delayed_until(opening, basis.now);
+    let found = creatable(alloc, held_back, target, job, pods, counted)?;
+    Ok(Wants {
+        next: next(opening, basis.now, &found),
+        creates: creates(alloc, opening, basis.now, found),
+        marks: marks(alloc, target, job, pods)?,
+        let_goes: let_goes(alloc, target, job, pods, counted)?,
+        backoff,
+    })
 }
