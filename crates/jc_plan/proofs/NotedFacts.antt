@@ -1,22 +1,30 @@
 -- The pods that lose their finalizer are among those at which a sync has to look, and the UIDs by which they are found
 -- ascend.
-use Rattle.std.proofs.Common.{◌≡◌, inl, inr, true, nat_le, ◌&&◌, List, [], filter, length, Option, None, Some, refl, ap, sym, ◌∙◌, arith, true≢false}
-use Rattle.std.proofs.lemmas.Bool.{and_parts, or_cases}
+use Rattle.std.proofs.Common.{◌≡◌, inl, inr, ℕ, ◌+◌, ◌≤◌, Bool, true, false, cond, not, nat_le, ◌&&◌, ◌||◌, List, [], ◌∷◌, filter, length, Option, None, Some, refl, ap, sym, ◌∙◌, arith, true≢false, ne_eqb}
+use Rattle.std.proofs.lemmas.Bool.{and_parts, or_cases, or_left}
+use Rattle.std.specs.List.{AllByRecursion as Each}
 use Rattle.std.proofs.lemmas.List.{nil_from_length}
 use Rattle.std.proofs.lemmas.List.Filters.{length-filter_both}
 use Rattle.jc_types.specs.declared.numbers.Uid.{Uid}
 use Rattle.jc_types.specs.declared.objects.Job.{Job}
 use Rattle.jc_types.specs.declared.objects.Pod.{Pod}
-use Rattle.jc_types.proofs.ListFacts.{filter_within}
+use Rattle.jc_types.proofs.ListFacts.{Each-both, Each-passes, Each-weaker, filter_all, filter_same, filter_within}
+use Rattle.jc_types.specs.Keys.{same_uid}
+use Rattle.jc_types.proofs.KeyFacts.{same_uid-itself}
 use Rattle.jc_states.specs.declared.bases.Basis.{Basis}
-use Rattle.jc_states.specs.Bases.{is_own}
+use Rattle.jc_states.specs.Bases.{is_own, own_pods}
 use Rattle.jc_states.specs.Noted.{needs_look}
 use Rattle.jc_states.specs.Owners.{is_foreign}
 use Rattle.jc_states.specs.Pods.{is_tracked}
-use Rattle.jc_states.specs.PodLists.{IsRising}
+use Rattle.jc_states.specs.PodLists.{IsRising, RisesFrom}
+use Rattle.jc_states.proofs.OddFacts.{passing-ascends}
+use Rattle.jc_states.proofs.PodListFacts.{rises-each, rises_filter}
+use Rattle.jc_states.proofs.UidPlaceFacts.{absent-below}
 use Rattle.jc_states.specs.Tallies.{pods_for}
 use Rattle.jc_states.specs.UidLists.{Ascends, is_in, uids_of}
 use Rattle.jc_states.proofs.AtOddsFacts.{noted-in, noted-other}
+use Rattle.jc_account.specs.Accounts.{counted_in}
+use Rattle.jc_account.specs.Judged.{is_to_release}
 use Rattle.jc_account.proofs.AccountFacts.{release-order}
 use Rattle.jc_plan.specs.Releases.{due_uids, is_orphan, is_owed, is_released, releases_of}
 
@@ -40,20 +48,79 @@ pub due-ascends : (job : Option Job) (pods : List Pod) → IsRising pods → Asc
 due-ascends None pods rising = tt
 due-ascends (Some job) pods rising = release-order job pods rising
 
--- Where all pods are the Job's, and it is to release none, none loses its finalizer: neither one that is owed nor an orphan.
-pub releases-none : (basis : Basis) (job : Job) → basis.job ≡ Some job → due_uids basis.job basis.pods ≡ [] → length (pods_for job.uid basis.pods) ≡ length basis.pods
-    → releases_of basis ≡ []
-releases-none basis job this none all =
-    ap uids_of
-    (sym (filter_within (is_released basis) (is_foreign (Some job)) foreign basis.pods)
-    ∙ ap (filter (is_released basis))
-    (nil_from_length (filter (is_foreign (Some job)) basis.pods) (omega (arith, all, length-filter_both (is_own job) (is_foreign (Some job)) (λ pod. refl) basis.pods))))
+-- ---- where all pods are the Job's
+
+module _ (test : Pod → Bool) where
+  -- Of pods in ascending UID those have a UID among those that pass that pass.
+  rises-in : (low : ℕ) (pods : List Pod) → RisesFrom low pods → Each (λ pod. is_in pod.uid (uids_of (filter test pods)) ≡ test pod) pods
+  rises-in low [] r = tt
+  rises-in low (q ∷ pods) r = (here (test q), rest pods (rises-each (q.uid.0 + 1) pods r.1) (rises-in (q.uid.0 + 1) pods r.1))
+    where
+      here : (b : Bool) → is_in q.uid (uids_of (cond b (q ∷ filter test pods) (filter test pods))) ≡ b
+      here true = or_left (same_uid q.uid q.uid) (is_in q.uid (uids_of (filter test pods))) (same_uid-itself q.uid)
+      here false = absent-below (q.uid.0 + 1) q.uid (uids_of (filter test pods)) (omega arith) (passing-ascends test (q.uid.0 + 1) pods r.1)
+
+      more : (pod : Pod) → q.uid.0 + 1 ≤ pod.uid.0 → (b : Bool) → is_in pod.uid (uids_of (cond b (q ∷ filter test pods) (filter test pods))) ≡ is_in pod.uid (uids_of (filter test pods))
+      more pod above true = ap (λ b. b || is_in pod.uid (uids_of (filter test pods))) (ne_eqb q.uid.0 pod.uid.0 (λ e. omega (arith, e, above)))
+      more pod above false = refl
+
+      rest : (some : List Pod) → Each (λ pod. q.uid.0 + 1 ≤ pod.uid.0) some → Each (λ pod. is_in pod.uid (uids_of (filter test pods)) ≡ test pod) some
+          → Each (λ pod. is_in pod.uid (uids_of (cond (test q) (q ∷ filter test pods) (filter test pods))) ≡ test pod) some
+      rest [] above h = tt
+      rest (pod ∷ some) above h = (more pod above.0 (test q) ∙ h.0, rest some above.1 h.1)
+
+  -- Where none passes, each fails.
+  none-passes : (pods : List Pod) → filter test pods ≡ [] → Each (λ pod. test pod ≡ false) pods
+  none-passes [] h = tt
+  none-passes (pod ∷ pods) h = by (none-passes pods) (test pod) refl h
+    where
+      by : (filter test pods ≡ [] → Each (λ p. test p ≡ false) pods) → (b : Bool) → test pod ≡ b → cond b (pod ∷ filter test pods) (filter test pods) ≡ [] → (test pod ≡ false) × Each (λ p. test p ≡ false) pods
+      by ih true t e = absurd (true≢false (ap (λ (pods : List Pod). elim pods [ [] ↦ false | p ∷ ps ↦ true ]) e))
+      by ih false t e = (t, ih e)
+
+-- Where all pods are the Job's, just those lose their finalizer that it is to release: none is an orphan.
+pub just-due : (basis : Basis) (job : Job) → IsRising basis.pods → basis.job ≡ Some job → length (pods_for job.uid basis.pods) ≡ length basis.pods
+    → releases_of basis ≡ due_uids basis.job basis.pods
+unfolding counted_in
+just-due basis job rising this all =
+    ap (λ pods. uids_of (filter (is_released basis) pods)) (sym whole)
+    ∙ ap uids_of (filter_same (is_released basis) goes own each-same)
+    ∙ sym due
   where
-    foreign : (pod : Pod) → is_released basis pod ≡ true → is_foreign (Some job) pod ≡ true
-    foreign pod h =
-        elim (or_cases (is_owed (due_uids basis.job basis.pods) pod) (is_orphan basis pod) h) [
-          | inl o ↦ absurd (true≢false (sym (and_parts (is_tracked pod) (is_in pod.uid (due_uids basis.job basis.pods)) o).1 ∙ ap (is_in pod.uid) none))
-          | inr o ↦
-              let parts = and_parts (is_foreign basis.job pod) (nat_le pod.version.0 basis.jobs_at.0) (and_parts (is_tracked pod) (is_foreign basis.job pod && nat_le pod.version.0 basis.jobs_at.0) o).1 in
-              ap (λ owner. is_foreign owner pod) (sym this) ∙ parts.0
-        ]
+    own : List Pod
+    own = own_pods job basis.pods
+
+    goes : Pod → Bool
+    goes pod = is_to_release job own pod
+
+    due : due_uids basis.job basis.pods ≡ uids_of (filter goes own)
+    due = ap (λ owner. due_uids owner basis.pods) this
+
+    each-own : Each (λ pod. is_foreign (Some job) pod ≡ false) basis.pods
+    each-own = none-passes (is_foreign (Some job)) basis.pods
+        (nil_from_length (filter (is_foreign (Some job)) basis.pods) (omega (arith, all, length-filter_both (is_own job) (is_foreign (Some job)) (λ pod. refl) basis.pods)))
+
+    mine : (b : Bool) → not b ≡ false → b ≡ true
+    mine true h = refl
+    mine false h = absurd (true≢false h)
+
+    whole : own ≡ basis.pods
+    whole = filter_all (is_own job) basis.pods (Each-weaker (λ pod. is_foreign (Some job) pod ≡ false) (λ pod. is_own job pod ≡ true) (λ pod h. mine (is_own job pod) h) basis.pods each-own)
+
+    last : (t b n : Bool) → (b ≡ true → t ≡ true) → ((t && b) || (t && (false && n))) ≡ b
+    last true true n h = refl
+    last true false n h = refl
+    last false true n h = h refl
+    last false false n h = refl
+
+    same : (pod : Pod) → is_own job pod ≡ true → is_in pod.uid (uids_of (filter goes own)) ≡ goes pod → is_released basis pod ≡ goes pod
+    same pod h among =
+        ap (λ b. (is_tracked pod && b) || is_orphan basis pod) (ap (is_in pod.uid) due ∙ among)
+        ∙ ap (λ b. (is_tracked pod && goes pod) || (is_tracked pod && (b && nat_le pod.version.0 basis.jobs_at.0))) (ap (λ owner. is_foreign owner pod) this ∙ ap not h)
+        ∙ last (is_tracked pod) (goes pod) (nat_le pod.version.0 basis.jobs_at.0) (λ t. (and_parts (is_tracked pod) _ t).0)
+
+    each-same : Each (λ pod. is_released basis pod ≡ goes pod) own
+    each-same =
+        Each-weaker (λ pod. (is_own job pod ≡ true) × (is_in pod.uid (uids_of (filter goes own)) ≡ goes pod)) (λ pod. is_released basis pod ≡ goes pod) (λ pod h. same pod h.0 h.1) own
+        (Each-both (λ pod. is_own job pod ≡ true) (λ pod. is_in pod.uid (uids_of (filter goes own)) ≡ goes pod) own
+        (Each-passes (is_own job) basis.pods) (rises-in goes 0 own (rises_filter 0 (is_own job) basis.pods rising)))

@@ -5,7 +5,7 @@ ghost use Rattle.jc_states.specs.UidLists.{Ascends, is_in, uids_of};
 ghost use Rattle.jc_plan.specs.Releases.{due_uids, is_owed, is_orphan, is_released, releases_of};
 
 use jc_states::{Basis, is_foreign};
-use jc_types::{Arc, Job, Pod, Uid, Uids, Want};
+use jc_types::{Arc, Copied, Job, Pod, Uid, Uids, Want};
 use std::alloc::Global;
 
 // Whether the pod is an orphan.
@@ -59,14 +59,14 @@ fn released_of(alloc: Global, basis: &Basis, due: &[Uid], pods: &[Arc<Pod>]) -> 
     Ok(uids)
 }
 
-// Whether it is plain that no pod loses its finalizer: all are the Job's, and it is to release none. It goes
-// over no pod.
-fn releases_none(basis: &Basis, job: &Job, due: &[Uid]) -> bool
+// Whether it is plain which pods lose their finalizer: all are the Job's, and they are those that it is to
+// release. It goes over no pod.
+fn are_just_due(basis: &Basis, job: &Job, due: &Uids) -> bool
     requires its_job { basis.now.job ≡ Some job.now }
     requires due { due.now ≡ due_uids basis.now.job basis.now.pods }
-    ensures { result ≡ true → releases_of basis.entry.now ≡ [] }
+    ensures { result ≡ true → releases_of basis.entry.now ≡ due.now }
 {
-    due.is_empty() && basis.pods.tally(job.uid).pods as usize == basis.pods.len()
+    basis.pods.tally(job.uid).pods as usize == basis.pods.len()
 }
 
 /// The pods that lose their finalizer, in their order (KEP-2307): those that the Job is to release, which
@@ -79,15 +79,15 @@ pub fn released(alloc: Global, basis: &Basis, due: &Uids) -> Result<Uids, Want>
     requires { due.now ≡ due_uids basis.now.job basis.now.pods }
     ensures { IfOk result (λ uids. uids ≡ releases_of basis.entry.now) }
 {
-    let due = due.as_slice();
+    let uids = due.as_slice();
     let pods = basis.pods.as_slice();
     let Some(job) = &basis.job else {
-        return released_of(alloc, basis, due, pods);
+        return released_of(alloc, basis, uids, pods);
     };
-    if releases_none(basis, job, due) {
-        return Ok(Uids::new(alloc));
+    if are_just_due(basis, job, due) {
+        return due.copy();
     }
     // Those that the Job is to release are among the pods to look at by their UID, orphans by their owner.
-    let noted = basis.pods.to_look_at(job.uid, due, &[])?;
-    released_of(alloc, basis, due, noted.as_slice())
+    let noted = basis.pods.to_look_at(job.uid, uids, &[])?;
+    released_of(alloc, basis, uids, noted.as_slice())
 }
