@@ -1,8 +1,6 @@
 -- Each processing key has what the end of its sync needs, whatever call is made.
-use Rattle.std.proofs.Common.{◌≡◌, ℕ, suc, ◌+◌, ◌≤◌, ◌<◌, Bool, true, false, cond, not, ◌&&◌, ◌||◌, nat_lt, List, [], ◌∷◌, ◌++◌, length, get_or, Some, None, slice_get, refl, sym, ap, ◌∙◌, subst, arith, true≢false}
-use Rattle.std.specs.List.{position}
+use Rattle.std.proofs.Common.{◌≡◌, ℕ, suc, ◌+◌, ◌≤◌, ◌<◌, Bool, true, false, cond, not, ◌&&◌, ◌||◌, nat_lt, List, [], ◌∷◌, ◌++◌, length, Some, None, slice_get, refl, sym, ap, ◌∙◌, subst, arith, true≢false}
 use Rattle.std.proofs.lemmas.Bool.{or_right}
-use Rattle.std.proofs.lemmas.List.Quantifiers.{position-Some}
 use Rattle.jc_control.specs.Schedules.{AreKnown, AreSupplied, IsProvided, RoomMoves}
 use Rattle.jc_control.specs.ControllerCalls.{all_added, delays_after, noted}
 use Rattle.jc_control.specs.declared.controller.Known.{Known}
@@ -14,7 +12,7 @@ use Rattle.jc_moment.specs.Range.{end_of_moments}
 use Rattle.jc_queue.proofs.KeyLists.{is_in-last, is_in-without}
 use Rattle.jc_queue.specs.Delayed.{Delayed, RoomedDelays, delayed, due_keys, failed, retried}
 use Rattle.jc_queue.specs.Queued.{IsQueue, Queued, RoomedQueue, added, finished, got, has_key, sent_back, without}
-use Rattle.jc_types.proofs.KeyFacts.{same_key-eq, same_key-itself}
+use Rattle.jc_types.proofs.KeyFacts.{same_key-eq}
 use Rattle.jc_types.specs.declared.objects.Key.{Key}
 use Rattle.jc_types.specs.Keys.{same_key}
 

@@ -27,7 +27,7 @@ pub enum SyncEnd {
 fn place_of(supplies: &[Supply], key: &Key) -> Option<usize>
     ensures { result ≡ position (same_key key.now) supplies.now }
 {
-    supplies.iter().position(|supply| supply.is_of(key))
+    supplies.iter().position(|supply| supply.same_key(key))
 }
 
 // Takes the supply of the key out of the list, in which there are as many as syncs.

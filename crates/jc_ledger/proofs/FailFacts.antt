@@ -1,5 +1,5 @@
 -- How often pods of each index have failed: more failures raise what the failures before came to.
-use Rattle.std.proofs.Common.{◌≡◌, ℕ, ◌+◌, ◌<◌, ◌≤◌, Bool, true, false, cond, eqb, ltb, ◌&&◌, ◌||◌, List, [], ◌∷◌, ◌++◌, map, filter, length, Option, Some, None, refl, sym, ap, ◌∙◌, subst, arith, eq-eqb, ne_eqb, true≢false}
+use Rattle.std.proofs.Common.{◌≡◌, ℕ, ◌+◌, ◌<◌, ◌≤◌, Bool, true, false, cond, eqb, ltb, ◌&&◌, ◌||◌, List, [], ◌∷◌, ◌++◌, map, filter, length, Option, Some, None, refl, sym, ap, ◌∙◌, subst, arith, eq-eqb, true≢false}
 use Rattle.std.specs.List.{AllByRecursion as Each, list_any}
 use Rattle.std.specs.Option.{option_map_or}
 use Rattle.std.proofs.lemmas.Bool.{eqb-true, ltb-false, ltb-true, or_left}
@@ -12,16 +12,13 @@ use Rattle.jc_types.specs.declared.objects.Job.{Job}
 use Rattle.jc_types.specs.declared.objects.Pod.{Pod}
 use Rattle.jc_types.specs.declared.policies.FailurePolicy.{FailurePolicy}
 use Rattle.jc_types.specs.declared.statuses.IndexCount.{IndexCount}
-use Rattle.jc_types.specs.Keys.{same_uid}
-use Rattle.jc_types.proofs.KeyFacts.{same_uid-itself}
-use Rattle.jc_types.proofs.ListFacts.{Each-both, Each-map, Each-weaker, filter_same}
+use Rattle.jc_types.proofs.ListFacts.{Each-map, Each-weaker, filter_same}
 use Rattle.jc_states.specs.Indexes.{has_index}
 use Rattle.jc_states.specs.Bases.{is_own, own_pods}
 use Rattle.jc_states.specs.PodLists.{IsRising, RisesFrom}
 use Rattle.jc_states.specs.UidLists.{is_in, join, uids_of}
-use Rattle.jc_states.proofs.PodListFacts.{rises-each, rises_filter}
-use Rattle.jc_states.proofs.UidListFacts.{has-join, uids_of-ascends}
-use Rattle.jc_states.proofs.UidPlaceFacts.{absent-below}
+use Rattle.jc_states.proofs.PodListFacts.{rises_filter}
+use Rattle.jc_states.proofs.UidListFacts.{has-join}
 use Rattle.jc_failpol.specs.declared.outcomes.Outcome.TheVariants.{Failed}
 use Rattle.jc_failpol.specs.Outcomes.{same_outcome}
 use Rattle.jc_account.specs.Accounts.{counted_in}
@@ -32,6 +29,7 @@ use Rattle.jc_account.proofs.GainFacts.{has-below_all}
 use Rattle.jc_account.proofs.JudgementFacts.{newly-is}
 use Rattle.jc_account.proofs.ListedFacts.{each, has-indexes}
 use Rattle.jc_account.proofs.Owned.{filter-least}
+use Rattle.jc_account.proofs.PickedFacts.{picked_uids}
 use Rattle.jc_perindex.specs.Failures.{count_at, failing_by, failing_in, failures_by, failures_in, failures_of, fails_at, newly_failed, policy_fails_index, raised, raised_at}
 use Rattle.jc_ledger.specs.Ledger.{Ledger, Record, failed_pods, judged_as}
 use Rattle.jc_ledger.specs.Once.{SaysFails}
@@ -178,26 +176,6 @@ module _ (failure : Option FailurePolicy) (old new : List Pod) where
       ∙ ap (λ f. map f (join [] (indexes_of (old ++ new)))) (λ i n. raised_both n i)
 
 -- ---- the pods that are newly judged as failed
-
--- The UIDs of those that pass are the pods'.
-picked_uids : (test : Pod → Bool) (low : ℕ) (pods : List Pod) → RisesFrom low pods → Each (λ pod. is_in pod.uid (uids_of (filter test pods)) ≡ test pod) pods
-picked_uids test low [] r = tt
-picked_uids test low (pod ∷ pods) r = (
-  here (test pod) refl,
-  Each-weaker (λ q. (pod.uid.0 + 1 ≤ q.uid.0) × (is_in q.uid (uids_of (filter test pods)) ≡ test q)) (λ q. is_in q.uid (uids_of (filter test (pod ∷ pods))) ≡ test q) (λ q b. later (test pod) q b.0 b.1) pods
-      (Each-both (λ q. pod.uid.0 + 1 ≤ q.uid.0) (λ q. is_in q.uid (uids_of (filter test pods)) ≡ test q) pods (rises-each (pod.uid.0 + 1) pods r.1) (picked_uids test (pod.uid.0 + 1) pods r.1)),
-)
-  where
-    none : is_in pod.uid (uids_of (filter test pods)) ≡ false
-    none = absent-below (pod.uid.0 + 1) pod.uid (uids_of (filter test pods)) (omega arith) (uids_of-ascends (pod.uid.0 + 1) (filter test pods) (rises_filter (pod.uid.0 + 1) test pods r.1))
-
-    here : (b : Bool) → test pod ≡ b → is_in pod.uid (uids_of (cond b (pod ∷ filter test pods) (filter test pods))) ≡ b
-    here true e = or_left (same_uid pod.uid pod.uid) (is_in pod.uid (uids_of (filter test pods))) (same_uid-itself pod.uid)
-    here false e = none
-
-    later : (b : Bool) (q : Pod) → pod.uid.0 + 1 ≤ q.uid.0 → is_in q.uid (uids_of (filter test pods)) ≡ test q → is_in q.uid (uids_of (cond b (pod ∷ filter test pods) (filter test pods))) ≡ test q
-    later true q above h = ap (λ s. s || is_in q.uid (uids_of (filter test pods))) (ne_eqb pod.uid.0 q.uid.0 (λ e. omega (arith, e, above))) ∙ h
-    later false q above h = h
 
 -- Of rising pods those of the UIDs that pass are those that pass.
 pub newly_failed-is : (test : Pod → Bool) (low : ℕ) (pods : List Pod) → RisesFrom low pods → newly_failed pods (uids_of (filter test pods)) ≡ filter test pods

@@ -40,7 +40,7 @@ no-pods [] h = refl
 no-pods (pod ∷ pods) h = absurd (omega (arith, h))
 
 -- What a filter leaves nothing of passes it nowhere.
-none-passes : (test : Pod → Bool) (pods : List Pod) → filter test pods ≡ [] → Each (λ pod. test pod ≡ false) pods
+pub none-passes : (test : Pod → Bool) (pods : List Pod) → filter test pods ≡ [] → Each (λ pod. test pod ≡ false) pods
 none-passes test [] h = tt
 none-passes test (pod ∷ pods) h = by (test pod) refl h (none-passes test pods)
   where

@@ -1,7 +1,7 @@
 -- The pods that lose their finalizer are among those at which a sync has to look, and the UIDs by which they are found
 -- ascend.
-use Rattle.std.proofs.Common.{◌≡◌, inl, inr, ℕ, ◌+◌, ◌≤◌, Bool, true, false, cond, not, nat_le, ◌&&◌, ◌||◌, List, [], ◌∷◌, filter, length, Option, None, Some, refl, ap, sym, ◌∙◌, arith, true≢false, ne_eqb}
-use Rattle.std.proofs.lemmas.Bool.{and_parts, or_cases, or_left}
+use Rattle.std.proofs.Common.{◌≡◌, inl, inr, Bool, true, false, not, nat_le, ◌&&◌, ◌||◌, List, filter, length, Option, None, Some, refl, ap, sym, ◌∙◌, arith, true≢false}
+use Rattle.std.proofs.lemmas.Bool.{and_parts, or_cases}
 use Rattle.std.specs.List.{AllByRecursion as Each}
 use Rattle.std.proofs.lemmas.List.{nil_from_length}
 use Rattle.std.proofs.lemmas.List.Filters.{length-filter_both}
@@ -9,23 +9,21 @@ use Rattle.jc_types.specs.declared.numbers.Uid.{Uid}
 use Rattle.jc_types.specs.declared.objects.Job.{Job}
 use Rattle.jc_types.specs.declared.objects.Pod.{Pod}
 use Rattle.jc_types.proofs.ListFacts.{Each-both, Each-passes, Each-weaker, filter_all, filter_same, filter_within}
-use Rattle.jc_types.specs.Keys.{same_uid}
-use Rattle.jc_types.proofs.KeyFacts.{same_uid-itself}
 use Rattle.jc_states.specs.declared.bases.Basis.{Basis}
 use Rattle.jc_states.specs.Bases.{is_own, own_pods}
 use Rattle.jc_states.specs.Noted.{needs_look}
 use Rattle.jc_states.specs.Owners.{is_foreign}
 use Rattle.jc_states.specs.Pods.{is_tracked}
-use Rattle.jc_states.specs.PodLists.{IsRising, RisesFrom}
-use Rattle.jc_states.proofs.OddFacts.{passing-ascends}
-use Rattle.jc_states.proofs.PodListFacts.{rises-each, rises_filter}
-use Rattle.jc_states.proofs.UidPlaceFacts.{absent-below}
+use Rattle.jc_states.specs.PodLists.{IsRising}
+use Rattle.jc_states.proofs.PodListFacts.{rises_filter}
 use Rattle.jc_states.specs.Tallies.{pods_for}
 use Rattle.jc_states.specs.UidLists.{Ascends, is_in, uids_of}
 use Rattle.jc_states.proofs.AtOddsFacts.{noted-in, noted-other}
 use Rattle.jc_account.specs.Accounts.{counted_in}
 use Rattle.jc_account.specs.Judged.{is_to_release}
 use Rattle.jc_account.proofs.AccountFacts.{release-order}
+use Rattle.jc_account.proofs.PickedFacts.{picked_uids}
+use Rattle.jc_plan.proofs.LeftFacts.{none-passes}
 use Rattle.jc_plan.specs.Releases.{due_uids, is_orphan, is_owed, is_released, releases_of}
 
 module _ (basis : Basis) (job : Job) (due more : List Uid) (this : basis.job ≡ Some job) (are : due ≡ due_uids basis.job basis.pods) where
@@ -49,34 +47,6 @@ due-ascends None pods rising = tt
 due-ascends (Some job) pods rising = release-order job pods rising
 
 -- ---- where all pods are the Job's
-
-module _ (test : Pod → Bool) where
-  -- Of pods in ascending UID those have a UID among those that pass that pass.
-  rises-in : (low : ℕ) (pods : List Pod) → RisesFrom low pods → Each (λ pod. is_in pod.uid (uids_of (filter test pods)) ≡ test pod) pods
-  rises-in low [] r = tt
-  rises-in low (q ∷ pods) r = (here (test q), rest pods (rises-each (q.uid.0 + 1) pods r.1) (rises-in (q.uid.0 + 1) pods r.1))
-    where
-      here : (b : Bool) → is_in q.uid (uids_of (cond b (q ∷ filter test pods) (filter test pods))) ≡ b
-      here true = or_left (same_uid q.uid q.uid) (is_in q.uid (uids_of (filter test pods))) (same_uid-itself q.uid)
-      here false = absent-below (q.uid.0 + 1) q.uid (uids_of (filter test pods)) (omega arith) (passing-ascends test (q.uid.0 + 1) pods r.1)
-
-      more : (pod : Pod) → q.uid.0 + 1 ≤ pod.uid.0 → (b : Bool) → is_in pod.uid (uids_of (cond b (q ∷ filter test pods) (filter test pods))) ≡ is_in pod.uid (uids_of (filter test pods))
-      more pod above true = ap (λ b. b || is_in pod.uid (uids_of (filter test pods))) (ne_eqb q.uid.0 pod.uid.0 (λ e. omega (arith, e, above)))
-      more pod above false = refl
-
-      rest : (some : List Pod) → Each (λ pod. q.uid.0 + 1 ≤ pod.uid.0) some → Each (λ pod. is_in pod.uid (uids_of (filter test pods)) ≡ test pod) some
-          → Each (λ pod. is_in pod.uid (uids_of (cond (test q) (q ∷ filter test pods) (filter test pods))) ≡ test pod) some
-      rest [] above h = tt
-      rest (pod ∷ some) above h = (more pod above.0 (test q) ∙ h.0, rest some above.1 h.1)
-
-  -- Where none passes, each fails.
-  none-passes : (pods : List Pod) → filter test pods ≡ [] → Each (λ pod. test pod ≡ false) pods
-  none-passes [] h = tt
-  none-passes (pod ∷ pods) h = by (none-passes pods) (test pod) refl h
-    where
-      by : (filter test pods ≡ [] → Each (λ p. test p ≡ false) pods) → (b : Bool) → test pod ≡ b → cond b (pod ∷ filter test pods) (filter test pods) ≡ [] → (test pod ≡ false) × Each (λ p. test p ≡ false) pods
-      by ih true t e = absurd (true≢false (ap (λ (pods : List Pod). elim pods [ [] ↦ false | p ∷ ps ↦ true ]) e))
-      by ih false t e = (t, ih e)
 
 -- Where all pods are the Job's, just those lose their finalizer that it is to release: none is an orphan.
 pub just-due : (basis : Basis) (job : Job) → IsRising basis.pods → basis.job ≡ Some job → length (pods_for job.uid basis.pods) ≡ length basis.pods
@@ -123,4 +93,4 @@ just-due basis job rising this all =
     each-same =
         Each-weaker (λ pod. (is_own job pod ≡ true) × (is_in pod.uid (uids_of (filter goes own)) ≡ goes pod)) (λ pod. is_released basis pod ≡ goes pod) (λ pod h. same pod h.0 h.1) own
         (Each-both (λ pod. is_own job pod ≡ true) (λ pod. is_in pod.uid (uids_of (filter goes own)) ≡ goes pod) own
-        (Each-passes (is_own job) basis.pods) (rises-in goes 0 own (rises_filter 0 (is_own job) basis.pods rising)))
+        (Each-passes (is_own job) basis.pods) (picked_uids goes 0 own (rises_filter 0 (is_own job) basis.pods rising)))

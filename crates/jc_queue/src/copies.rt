@@ -107,7 +107,7 @@ impl Supply {
     }
 
     /// Whether it is that of the key.
-    pub fn is_of(&self, key: &Key) -> bool
+    pub fn same_key(&self, key: &Key) -> bool
         ensures { result ≡ same_key key.now self.now }
     {
         *key == self.failed

@@ -1,5 +1,6 @@
 -- Numbers as a tree compares them.
-use Rattle.std.proofs.Common.{◌≡◌, ℕ, ◌==◌, nat_lt, nat_le, nat_cmp, is_le, Less, Equal, Greater, Bool, true, false, cond, ◌&&◌, List, [], ◌∷◌, filter, find, slice_get, option_copied, Option, Some, None, refl, sym, ap, ◌∙◌, arith, ltb-true, ltb-false, eqb-true, leb-true, leb-false}
+use Rattle.std.proofs.Common.{◌≡◌, ℕ, ◌==◌, nat_lt, nat_le, nat_cmp, is_le, Less, Equal, Greater, Bool, true, false, cond, ◌&&◌, List, [], ◌∷◌}
+use Rattle.std.proofs.Common.{filter, find, slice_get, option_copied, Option, Some, None, refl, sym, ap, ◌∙◌, arith, ltb-true, ltb-false, eqb-true, leb-true, leb-false}
 use denote.Ref.{Bor}
 use Rattle.std.specs.Map.Iter.{TakesFirst, deref}
 use Rattle.std.specs.BTreeMap.{is_at}
