@@ -9,6 +9,7 @@ use super::spec_changes::{changed_spec, is_other, same_limits, update_refusal};
 use super::statuses::same_status;
 use jc_moment::Moment;
 use jc_types::{Arc, Copied, Job, JobSpec, JobStatus, Key, Reply, SpecChange, Uid, Version, Want};
+use std::alloc::Global;
 
 impl Store {
     /// Creates a Job with an empty status, and replies `Created`. Where a Job has the key, it
@@ -74,7 +75,8 @@ impl Store {
             });
         }
         let version = self.next_version();
-        let changed = with_spec(job, version, Arc::new(self.allocator(), spec)?)?;
+        let alloc = self.allocator();
+        let changed = with_spec(alloc, job, version, Arc::new(alloc, spec)?)?;
         self.put_job(changed)?;
         Ok(Reply::Written { version })
     }
@@ -114,7 +116,7 @@ impl Store {
             });
         }
         let version = self.next_version();
-        let changed = with_status(job, version, status)?;
+        let changed = with_status(self.allocator(), job, version, status)?;
         self.put_job(changed)?;
         Ok(Reply::Written { version })
     }
@@ -147,25 +149,45 @@ fn with_version(job: &Job, version: Version) -> Result<Job, Want>
 }
 
 // The Job with another specification.
-fn with_spec(job: &Job, version: Version, spec: Arc<JobSpec>) -> Result<Job, Want>
+fn with_spec(
+    alloc: Global,
+    job: &Job,
+    version: Version,
+    spec: Arc<JobSpec>,
+) -> Result<Arc<Job>, Want>
     ensures { IfOk result (λ r. r ≡ record job.now { version = version; spec = spec }) }
 {
-    let mut changed = job.copy()?;
-    changed.version = version;
-    changed.spec = spec;
-    Ok(changed)
+    Arc::new(
+        alloc,
+        Job {
+            key: job.key.copy()?,
+            uid: job.uid,
+            version,
+            created: job.created,
+            spec,
+            status: job.status.copy()?,
+        },
+    )
 }
 
 // The Job with another status.
-fn with_status(job: &Job, version: Version, status: &Arc<JobStatus>) -> Result<Job, Want>
+fn with_status(
+    alloc: Global,
+    job: &Job,
+    version: Version,
+    status: &Arc<JobStatus>,
+) -> Result<Arc<Job>, Want>
     ensures { IfOk result (λ r. r ≡ record job.now { version = version; status = status.now }) }
 {
-    Ok(Job {
-        key: job.key.copy()?,
-        uid: job.uid,
-        version,
-        created: job.created,
-        spec: job.spec.copy()?,
-        status: status.copy()?,
-    })
+    Arc::new(
+        alloc,
+        Job {
+            key: job.key.copy()?,
+            uid: job.uid,
+            version,
+            created: job.created,
+            spec: job.spec.copy()?,
+            status: status.copy()?,
+        },
+    )
 }

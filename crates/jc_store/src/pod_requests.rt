@@ -52,7 +52,7 @@ impl Store {
             });
         }
         let version = self.next_version();
-        let marked = with_mark(found, version, now)?;
+        let marked = with_mark(self.allocator(), found, version, now)?;
         self.put_pod(marked)?;
         Ok(Reply::Written { version })
     }
@@ -72,7 +72,7 @@ impl Store {
             return Ok(Reply::NotTracked);
         }
         let version = self.next_version();
-        let released = without_finalizer(found, version)?;
+        let released = without_finalizer(self.allocator(), found, version)?;
         self.put_pod(released)?;
         Ok(Reply::Released { version })
     }
@@ -99,7 +99,7 @@ impl Store {
             return Ok(Reply::NotTracked);
         }
         let version = self.next_version();
-        let released = without_finalizer(found, version)?;
+        let released = without_finalizer(self.allocator(), found, version)?;
         self.put_pod(released)?;
         Ok(Reply::Released { version })
     }

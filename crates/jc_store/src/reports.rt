@@ -8,7 +8,7 @@ ghost use Rattle.jc_types.specs.Equality.{same_phase, same_container, same_patte
 
 use jc_states::same_phase;
 use jc_types::{
-    Container, ContainerChange, ContainerChanges, Containers, Copied, Name, Pattern, Patterns,
+    Arc, Container, ContainerChange, ContainerChanges, Containers, Copied, Name, Pattern, Patterns,
     Phase, PhaseChange, Pod, Same, Text, Version, Want,
 };
 use std::alloc::Global;
@@ -19,7 +19,7 @@ pub(super) fn with_report(
     pod: &Pod,
     version: Version,
     change: &PhaseChange,
-) -> Result<Pod, Want>
+) -> Result<Arc<Pod>, Want>
     ensures { IfOk result (λ r. r ≡ record pod.now {
       version = version;
       phase = change.now.phase;
@@ -27,12 +27,24 @@ pub(super) fn with_report(
       conditions = fold put_pattern pod.now.conditions change.now.conditions;
     }) }
 {
-    let mut changed = pod.copy()?;
-    changed.version = version;
-    changed.phase = change.phase;
-    changed.containers = reported(alloc, &pod.containers, &change.containers)?;
-    changed.conditions = with_conditions(alloc, &pod.conditions, change.conditions.as_slice())?;
-    Ok(changed)
+    Arc::new(
+        alloc,
+        Pod {
+            uid: pod.uid,
+            version,
+            owner: pod.owner.copy()?,
+            owner_uid: pod.owner_uid,
+            serial: pod.serial,
+            index: pod.index,
+            restart: pod.restart,
+            phase: change.phase,
+            containers: reported(alloc, &pod.containers, &change.containers)?,
+            conditions: with_conditions(alloc, &pod.conditions, &change.conditions)?,
+            marked: pod.marked,
+            tracked: pod.tracked,
+            created: pod.created,
+        },
+    )
 }
 
 // The containers as the report says. Most reports name none, and the pod's are then shared.
@@ -95,8 +107,18 @@ fn given_exit(given: Option<i32>, old: Option<i32>) -> Option<i32>
     }
 }
 
-// The conditions with each given one.
-fn with_conditions(
+// The conditions with each given one. Most pods have none before, and the given one is then shared.
+fn with_conditions(alloc: Global, conditions: &Patterns, given: &Patterns) -> Result<Patterns, Want>
+    ensures { IfOk result (λ r. r ≡ fold put_pattern conditions.now given.now) }
+{
+    if conditions.is_empty() && given.len() <= 1 {
+        return given.copy();
+    }
+    changed_conditions(alloc, conditions, given.as_slice())
+}
+
+// The conditions with each given one put among them.
+fn changed_conditions(
     alloc: Global,
     conditions: &Patterns,
     given: &[Pattern],

@@ -270,13 +270,12 @@ impl Store {
     }
 
     // Writes a Job that is there.
-    pub(super) fn put_job(&mut self, job: Job) -> Result<(), Want>
+    pub(super) fn put_job(&mut self, job: Arc<Job>) -> Result<(), Want>
         requires version { job.version ≡ next_version self.old }
         requires step { StepsFrom (job_in job.key self.old) job }
         ensures added { OnOk result (self.new ≡ JobPut job ∷ self.old) }
         ensures kept { OnErr result (self.new ≡ self.old) }
     {
-        let job = Arc::new(self.alloc, job)?;
         let entry = Entry::JobPut(job.copy()?);
         let written = job.copy()?;
         put_row(&mut self.jobs, &mut self.log, &written.key, job, entry)?;
@@ -319,13 +318,12 @@ impl Store {
     }
 
     // Writes a pod that is there. Where it is then marked, has ended and has no finalizer, it goes.
-    pub(super) fn put_pod(&mut self, pod: Pod) -> Result<(), Want>
+    pub(super) fn put_pod(&mut self, pod: Arc<Pod>) -> Result<(), Want>
         requires version { pod.version ≡ next_version self.old }
         requires step { CanGo (life pod.uid self.old) pod }
         ensures added { OnOk result (self.new ≡ pod_entry pod ∷ self.old) }
         ensures kept { OnErr result (self.new ≡ self.old) }
     {
-        let pod = Arc::new(self.alloc, pod)?;
         if goes(&pod) {
             self.end_pod(pod)
         } else {
