@@ -1,6 +1,6 @@
 //! Numbers in decimal digits.
 
-ghost use Rattle.std.specs.Prelude.{◌≡◌, ◌+◌, ◌<◌, ◌≤◌, ◌++◌, OnErr, OnOk, decimal, drop, string_bytes};
+ghost use Rattle.std.specs.Prelude.{◌≡◌, ◌<◌, ◌≤◌, ◌++◌, OnErr, OnOk, decimal, string_bytes};
 
 use itoa::{Buffer, Integer};
 use jc_types::Want;
@@ -36,41 +36,27 @@ fn put_digit(out: &mut String, digit: u8) -> Result<(), Want>
     out.push(char::from(b'0' + digit))
 }
 
-// Two digits, one by one: that takes fewer steps than a copy of two from a buffer.
-#[inline(always)]
-fn put_two(out: &mut String, number: u8) -> Result<(), Want>
-    requires low { 10 ≤ number }
-    requires high { number < 100 }
+// The digits of a number from 1000 on that is below 1,000,000. Behind the 1 of a million more than it stand six
+// digits, of which each arm takes as many as the number has: so many bytes are copied with no call. The
+// remainder is the number itself: it tells the compiler that seven digits are formatted, and that takes no loop.
+fn put_up_to_six(out: &mut String, number: u64) -> Result<(), Want>
+    requires low { 1000 ≤ number }
+    requires high { number < 1000000 }
     ensures { OnOk result (string_bytes out.new ≡ string_bytes out.old ++ decimal number) }
 {
-    put_digit(out, number / 10)?;
-    put_digit(out, number % 10)
-}
-
-// The digits of a number: one or two are put with no call.
-#[inline(always)]
-fn put_head(out: &mut String, number: u64) -> Result<(), Want>
-    ensures { OnOk result (string_bytes out.new ≡ string_bytes out.old ++ decimal number) }
-{
-    match number {
-        0..=9 => put_digit(out, number as u8),
-        10..=99 => put_two(out, number as u8),
-        _ => put_decimal(out, number),
+    let mut buffer = Buffer::new();
+    let digits = buffer.format(1_000_000 + number % 1_048_576);
+    if number < 10_000 {
+        out.push_str(&digits[3..])
+    } else if number < 100_000 {
+        out.push_str(&digits[2..])
+    } else {
+        out.push_str(&digits[1..])
     }
 }
 
-// Four digits, zeros in front too: those behind the 1 of a number from 10,000 on.
-fn put_four(out: &mut String, number: u64) -> Result<(), Want>
-    requires { number < 10000 }
-    ensures { OnOk result (string_bytes out.new
-        ≡ string_bytes out.old ++ drop 1 (decimal (10000 + number))) }
-{
-    let mut buffer = Buffer::new();
-    out.push_str(&buffer.format(10_000 + number)[1..])
-}
-
-/// Puts the digits of a number behind the text, as `put_decimal`: for numbers that mostly have five digits
-/// or six. Pieces of one, two and four digits are copied with no call.
+/// Puts the digits of a number behind the text, as `put_decimal`: for numbers that mostly have four to six
+/// digits. Where the text has room for those, they are put with no call.
 ///
 /// # Errors
 ///
@@ -80,14 +66,10 @@ fn put_four(out: &mut String, number: u64) -> Result<(), Want>
 pub fn put_long(out: &mut String, number: u64) -> Result<(), Want>
     ensures { OnOk result (string_bytes out.new ≡ string_bytes out.old ++ decimal number) }
 {
-    if number < 1000 {
+    if number < 1000 || number >= 1_000_000 || out.capacity() - out.len() < 6 {
         return put_decimal(out, number);
     }
-    let head = number / 10_000;
-    if number >= 10_000 {
-        put_head(out, head)?;
-    }
-    put_four(out, number % 10_000)
+    put_up_to_six(out, number)
 }
 
 /// Puts the digits of a number behind the text, as `put_decimal`: for numbers that mostly have one digit.
