@@ -236,3 +236,74 @@ pub fn print_system(out: &mut String, system: &Sys) -> Result<(), Want>
         Sys::Clock { add } => print_clock(out, *add),
     }
 }
+
+// What an event of the system does, from the blank behind its number up to the reply, in its pieces.
+#[inline(never)]
+fn put_pieces(out: &mut String, system: &Sys) -> Result<(), Want>
+    ensures { OnOk result (string_bytes out.new ≡ string_bytes out.old
+        ++ (codes " - " ++ (act_text (act_of_system system.now) ++ codes " -> "))) }
+{
+    out.push_str(" - ")?;
+    print_system(out, system)?;
+    out.push_str(" -> ")
+}
+
+// Most events of the system are of the first controller and its first worker: their words are put in one piece.
+fn put_first_deliver(out: &mut String, kind: Kind) -> Result<(), Want>
+    ensures { OnOk result (string_bytes out.new ≡ string_bytes out.old
+        ++ (codes " - " ++ (act_text (does.Deliver 0 kind) ++ codes " -> "))) }
+{
+    match kind {
+        Kind::Jobs => out.push_str(" - deliver 0 jobs -> "),
+        Kind::Pods => out.push_str(" - deliver 0 pods -> "),
+    }
+}
+
+fn put_first_begin(out: &mut String) -> Result<(), Want>
+    ensures { OnOk result (string_bytes out.new ≡ string_bytes out.old
+        ++ (codes " - " ++ (act_text (does.Begin 0 0) ++ codes " -> "))) }
+{
+    out.push_str(" - begin 0 0 -> ")
+}
+
+fn put_first_step(out: &mut String) -> Result<(), Want>
+    ensures { OnOk result (string_bytes out.new ≡ string_bytes out.old
+        ++ (codes " - " ++ (act_text (does.Step 0 0) ++ codes " -> "))) }
+{
+    out.push_str(" - step 0 0 -> ")
+}
+
+fn put_node(out: &mut String) -> Result<(), Want>
+    ensures { OnOk result (string_bytes out.new ≡ string_bytes out.old
+        ++ (codes " - " ++ (act_text does.Node ++ codes " -> "))) }
+{
+    out.push_str(" - node -> ")
+}
+
+/// Puts what an event of the system does behind the text, from the blank behind the event's number up to
+/// its reply.
+///
+/// # Errors
+///
+/// Want of memory.
+pub fn put_system(out: &mut String, system: &Sys) -> Result<(), Want>
+    ensures { OnOk result (string_bytes out.new ≡ string_bytes out.old
+        ++ (codes " - " ++ (act_text (act_of_system system.now) ++ codes " -> "))) }
+{
+    match system {
+        Sys::Deliver {
+            controller: 0,
+            kind,
+        } => put_first_deliver(out, *kind),
+        Sys::Begin {
+            controller: 0,
+            worker: 0,
+        } => put_first_begin(out),
+        Sys::Step {
+            controller: 0,
+            worker: 0,
+        } => put_first_step(out),
+        Sys::Node => put_node(out),
+        other => put_pieces(out, other),
+    }
+}

@@ -6,7 +6,7 @@ ghost use Rattle.jc_lines.specs.ActTexts.{act_text};
 ghost use Rattle.jc_verdicts.specs.Verdicts.{IsPlace};
 ghost use Rattle.jc_lines.specs.Events.{event_line, tag_text};
 
-use crate::acts::{print_action, print_system};
+use crate::acts::{print_action, put_system};
 use crate::replies::print_reply;
 use jc_print::{put_long, put_small};
 use jc_types::{Command, Event, Past, Script, Want};
@@ -41,19 +41,19 @@ fn print_command(
     Ok(())
 }
 
-// Whose event it is, behind a blank, and what it does.
-fn print_deed(out: &mut String, alloc: Global, script: &Script, event: &Event) -> Result<(), Want>
+// Whose event it is, behind a blank, what it does, and the arrow in front of the reply.
+fn put_deed(out: &mut String, alloc: Global, script: &Script, event: &Event) -> Result<(), Want>
     requires { IsPlace script.now.commands event.now }
     ensures { OnOk result (string_bytes out.new ≡ string_bytes out.old
         ++ (codes " " ++ (tag_text (lane_of event.now)
-        ++ (codes " " ++ act_text (act_of_event script.now.commands event.now))))) }
+        ++ (codes " " ++ (act_text (act_of_event script.now.commands event.now) ++ codes " -> "))))) }
 {
     match event {
-        Event::Command { lane, number } => print_command(out, alloc, script, *lane, *number),
-        Event::System(system) => {
-            out.push_str(" - ")?;
-            print_system(out, system)
+        Event::Command { lane, number } => {
+            print_command(out, alloc, script, *lane, *number)?;
+            out.push_str(" -> ")
         }
+        Event::System(system) => put_system(out, system),
     }
 }
 
@@ -75,11 +75,9 @@ pub fn put_event(
         ≡ string_bytes out.old ++ event_line number (deed script.now past.now)) }
 {
     put_long(out, number)?;
-    print_deed(out, alloc, script, &past.event)?;
-    out.push_str(" -> ")?;
+    put_deed(out, alloc, script, &past.event)?;
     print_reply(out, alloc, &past.reply)?;
-    out.push('\n')?;
-    Ok(())
+    out.push_str("\n")
 }
 
 /// Puts the line of an event behind the text, with its number in the history, counted from 1.

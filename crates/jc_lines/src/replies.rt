@@ -1,10 +1,11 @@
 //! The texts of requests, of answers and of replies.
 
-ghost use Rattle.std.specs.Prelude.{◌≡◌, ◌++◌, OnOk, codes, string_bytes};
+ghost use Rattle.std.specs.Prelude.{◌≡◌, ◌++◌, OnOk, codes, decimal, string_bytes};
 ghost use Rattle.jc_types.specs.declared.replies.Answer.TheVariants as answer;
 ghost use Rattle.jc_types.specs.declared.replies.Reply.TheVariants as reply;
 ghost use Rattle.jc_types.specs.declared.replies.Request.TheVariants as request;
 ghost use Rattle.jc_lines.specs.ReplyTexts.{TellsThree, answer_text, index_text, reply_text, request_text};
+ghost use Rattle.jc_lines.specs.ReportWords.{phase_word};
 
 use crate::keys::{print_key, print_pod, print_version};
 use crate::words::{field_word, objects_word, phase_word};
@@ -32,8 +33,10 @@ fn print_created(out: &mut String, uid: Uid, version: Version) -> Result<(), Wan
     ensures { OnOk result (string_bytes out.new
         ≡ string_bytes out.old ++ answer_text (answer.Created uid version)) }
 {
-    print_pod(out, "created ", uid)?;
-    print_version(out, " v", version)
+    out.push_str("created ")?;
+    put_long(out, uid.0)?;
+    out.push_str(" v")?;
+    put_long(out, version.0)
 }
 
 fn print_bad_step(out: &mut String, from: Phase, to: Phase) -> Result<(), Want>
@@ -83,14 +86,26 @@ fn print_behind(out: &mut String, kind: Kind, need: Version, have: Version) -> R
     print_version(out, " have v", have)
 }
 
+// The phase of a pod that was written, with the words around it.
+fn print_phase(out: &mut String, phase: Phase) -> Result<(), Want>
+    ensures { OnOk result (string_bytes out.new
+        ≡ string_bytes out.old ++ (codes " " ++ (phase_word phase ++ codes " written v"))) }
+{
+    match phase {
+        Phase::Pending => out.push_str(" Pending written v"),
+        Phase::Running => out.push_str(" Running written v"),
+        Phase::Succeeded => out.push_str(" Succeeded written v"),
+        Phase::Failed => out.push_str(" Failed written v"),
+    }
+}
+
 fn print_node(out: &mut String, pod: Uid, phase: Phase, version: Version) -> Result<(), Want>
     ensures { OnOk result (string_bytes out.new
         ≡ string_bytes out.old ++ reply_text (reply.NodeDone pod phase version)) }
 {
-    print_pod(out, "pod ", pod)?;
-    out.push_str(" ")?;
-    out.push_str(phase_word(phase))?;
-    out.push_str(" written v")?;
+    out.push_str("pod ")?;
+    put_long(out, pod.0)?;
+    print_phase(out, phase)?;
     put_long(out, version.0)
 }
 
@@ -108,6 +123,14 @@ fn print_written(out: &mut String, version: Version) -> Result<(), Want>
         ≡ string_bytes out.old ++ answer_text (answer.Written version)) }
 {
     out.push_str("written v")?;
+    put_long(out, version.0)
+}
+
+fn print_released(out: &mut String, version: Version) -> Result<(), Want>
+    ensures { OnOk result (string_bytes out.new
+        ≡ string_bytes out.old ++ answer_text (answer.Released version)) }
+{
+    out.push_str("released v")?;
     put_long(out, version.0)
 }
 
@@ -152,37 +175,49 @@ fn print_indexed(out: &mut String, words: &str, index: Option<u32>) -> Result<()
     print_index(out, index)
 }
 
+// The request of a pod for an index, or for none, and a blank.
 fn print_creation(out: &mut String, index: Option<u32>) -> Result<(), Want>
     ensures { OnOk result (string_bytes out.new
-        ≡ string_bytes out.old ++ request_text (request.CreatePod index)) }
+        ≡ string_bytes out.old ++ (request_text (request.CreatePod index) ++ codes " ")) }
 {
-    print_indexed(out, "create-pod ", index)
+    print_indexed(out, "create-pod ", index)?;
+    out.push_str(" ")
 }
 
-/// Puts a request of a sync behind the text.
-///
-/// # Errors
-///
-/// Want of memory.
-pub fn print_request(out: &mut String, request: &Request) -> Result<(), Want>
+// A request that names a pod, and a blank.
+fn print_asked(out: &mut String, words: &str, pod: Uid) -> Result<(), Want>
     ensures { OnOk result (string_bytes out.new
-        ≡ string_bytes out.old ++ request_text request.now) }
+        ≡ string_bytes out.old ++ ((words.now ++ decimal pod.0) ++ codes " ")) }
+{
+    print_pod(out, words, pod)?;
+    out.push_str(" ")
+}
+
+fn print_release(out: &mut String, pod: Uid) -> Result<(), Want>
+    ensures { OnOk result (string_bytes out.new
+        ≡ string_bytes out.old ++ (request_text (request.Release pod) ++ codes " ")) }
+{
+    out.push_str("release ")?;
+    put_long(out, pod.0)?;
+    out.push_str(" ")
+}
+
+// A request of a sync, and the blank in front of its answer.
+fn print_request(out: &mut String, request: &Request) -> Result<(), Want>
+    ensures { OnOk result (string_bytes out.new
+        ≡ string_bytes out.old ++ (request_text request.now ++ codes " ")) }
 {
     match request {
         Request::CreatePod { index } => print_creation(out, *index),
-        Request::MarkPod { pod } => print_pod(out, "mark ", *pod),
-        Request::LetGo { pod } => print_pod(out, "let-go ", *pod),
-        Request::Status => print_word(out, "status"),
-        Request::Release { pod } => print_pod(out, "release ", *pod),
+        Request::MarkPod { pod } => print_asked(out, "mark ", *pod),
+        Request::LetGo { pod } => print_asked(out, "let-go ", *pod),
+        Request::Status => out.push_str("status "),
+        Request::Release { pod } => print_release(out, *pod),
     }
 }
 
-/// Puts the answer to a request behind the text.
-///
-/// # Errors
-///
-/// Want of memory.
-pub fn print_answer(out: &mut String, answer: &Answer) -> Result<(), Want>
+// The answer to a request.
+fn print_answer(out: &mut String, answer: &Answer) -> Result<(), Want>
     ensures { OnOk result (string_bytes out.new
         ≡ string_bytes out.old ++ answer_text answer.now) }
 {
@@ -190,7 +225,7 @@ pub fn print_answer(out: &mut String, answer: &Answer) -> Result<(), Want>
         Answer::Created { uid, version } => print_created(out, *uid, *version),
         Answer::Written { version } => print_written(out, *version),
         Answer::Unchanged { version } => print_version(out, "unchanged v", *version),
-        Answer::Released { version } => print_version(out, "released v", *version),
+        Answer::Released { version } => print_released(out, *version),
         Answer::Removed { version } => print_version(out, "removed v", *version),
         Answer::Conflict { current } => print_version(out, "conflict v", *current),
         Answer::NotFound => print_word(out, "not-found"),
@@ -211,9 +246,7 @@ fn print_stepped(out: &mut String, request: &Request, answer: &Answer) -> Result
         ≡ string_bytes out.old ++ reply_text (reply.Stepped request.now answer.now)) }
 {
     print_request(out, request)?;
-    out.push_str(" ")?;
-    print_answer(out, answer)?;
-    Ok(())
+    print_answer(out, answer)
 }
 
 /// Puts the reply to an event behind the text.
@@ -252,7 +285,7 @@ pub fn print_reply(out: &mut String, alloc: Global, reply: &Reply) -> Result<(),
         Reply::Behind { .. } => print_three(out, reply),
         Reply::WorkerBusy => print_word(out, "worker-busy"),
         Reply::Stepped { request, answer } => print_stepped(out, request, answer),
-        Reply::Ended => print_word(out, "ended"),
+        Reply::Ended => out.push_str("ended"),
         Reply::Idle => print_word(out, "idle"),
         Reply::NodeDone { .. } => print_three(out, reply),
         Reply::Done => print_word(out, "done"),
