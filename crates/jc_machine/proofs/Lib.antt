@@ -7,7 +7,6 @@ mod Readings
 mod IdleFacts
 mod NodeCalls
 mod SyncFacts
-pub mod Newest
 pub mod QuietSyncs
 pub mod LongerFacts
 -- Lemmas of the crates below, handed on to those above.

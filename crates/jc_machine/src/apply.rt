@@ -1,6 +1,6 @@
 //! One event: which ones may come next, and what is admitted is done.
 
-ghost use Rattle.std.specs.Prelude.{◌≡◌, ◌↔◌, ◌<◌, ◌≤◌, Err, IfOk, IsTrue, None, OnErr, OnOk, length, map, slice_get};
+ghost use Rattle.std.specs.Prelude.{◌≡◌, ◌↔◌, ◌<◌, ◌≤◌, Err, IfOk, IsTrue, OnErr, OnOk, length, map, slice_get};
 ghost use Rattle.std.specs.Option.{option_copied};
 ghost use Rattle.jc_runs.specs.ValidActions.{IsValidAction};
 ghost use Rattle.jc_log.specs.Deeds.{act_of_action, act_of_command, act_of_event, act_of_system};
@@ -171,13 +171,12 @@ impl Machine {
         self.lanes.are_used()
     }
 
-    // What a command does that the system does not.
+    // What a command does.
     //
     // `Want` where there is no memory for it; the machine is then as before.
     fn act(&mut self, event: Event, action: Action1) -> Result<ReplyText, Want>
         requires may { MayCome self.old event (act_of_action action) }
         requires valid_action { IsValidAction action }
-        requires own { as_system action ≡ None }
         ensures { HappensOrKeeps self.old self.new event result }
     {
         match action {
@@ -200,13 +199,14 @@ impl Machine {
                 fault,
             } => self.put_fault(event, controller, worker, fault),
             Action1::Settle => self.settled(event),
-            Action1::Clock { .. }
-            | Action1::List { .. }
-            | Action1::Deliver { .. }
-            | Action1::Begin { .. }
-            | Action1::Sync { .. }
-            | Action1::Step { .. }
-            | Action1::Node => unreachable!(),
+            Action1::Clock { add } => self.clock(event, add),
+            Action1::List { controller, kind } => self.list(event, controller, kind),
+            Action1::Deliver { controller, kind } => self.deliver(event, controller, kind),
+            Action1::Begin { controller, worker } | Action1::Sync { controller, worker } => {
+                self.begin(event, controller, worker)
+            }
+            Action1::Step { controller, worker } => self.step(event, controller, worker),
+            Action1::Node => self.node(event),
         }
     }
 
@@ -294,8 +294,14 @@ impl Machine {
         ensures full { self.old.shape.events ≤ length self.old.pasts → result ≡ Err HistoryFull }
         ensures history_full { result ≡ Err HistoryFull → self.old.shape.events ≤ length self.old.pasts }
     {
-        self.happen_told(event)?;
-        Ok(())
+        if self.history.events.len() >= self.shape.events as usize {
+            return Err(ApplyFault::HistoryFull);
+        }
+        // Not by `happen_told`: a text that nobody wants would be moved once more at each event.
+        match self.occur(event) {
+            Ok(_) => Ok(()),
+            Err(_) => Err(ApplyFault::Want),
+        }
     }
 
     /// Does the event, and answers it. It is kept with its reply and the length of the log; the
