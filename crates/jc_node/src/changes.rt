@@ -1,18 +1,19 @@
 //! What is reported of a pod after what befell it.
 
-ghost use Rattle.std.specs.Prelude.{◌≡◌, ◌++◌, IfOk, IsSome, OnOk, Some, filter_map, if◌then◌else◌, map, option_map, option_to_list, pos};
+ghost use Rattle.std.specs.Prelude.{◌≡◌, ◌++◌, IfOk, IsSome, OnOk, Some, filter_map, if◌then◌else◌, option_map, option_to_list, pos};
 ghost use Rattle.std.specs.Ordering.{int_eq};
 ghost use Rattle.jc_types.specs.declared.objects.Phase.TheVariants.{Failed, Succeeded};
-ghost use Rattle.jc_history.specs.Nodes.{again_change, change_by, exits, finish_change, finishes, first_container, killed, once_more, pod_end, start_change, stop_change, true_pattern, with_exit};
+ghost use Rattle.jc_history.specs.Nodes.{again_change, change_by, exits, finish_change, finishes, first_container, killed, once_more, pod_end, start_change, stop_change, with_exit};
 ghost use Rattle.jc_node.specs.Fated.{ends_at_key};
 ghost use Rattle.jc_node.specs.NodeSteps.{act_of, code_after, code_for};
 
 use crate::acts::{NodeAct, NodeStep};
+use crate::conditions::true_conditions;
 use crate::fates::Fates;
 use jc_states::is_pending;
 use jc_types::{
-    Container, ContainerChange, ContainerChanges, Copied, Pattern, Phase, PhaseChange, Pod,
-    PodConditions, Text, Truth, Want,
+    Container, ContainerChange, ContainerChanges, Copied, Phase, PhaseChange, Pod, PodConditions,
+    Text, Want,
 };
 use std::alloc::Global;
 
@@ -63,20 +64,6 @@ fn phase_after(exit: i32) -> Phase
     } else {
         Phase::Failed
     }
-}
-
-// A condition of the kind that is true, where a kind is given.
-fn true_conditions(alloc: Global, kind: Option<Text>) -> Result<PodConditions, Want>
-    ensures { IfOk result (λ conditions. conditions ≡ map true_pattern (option_to_list kind)) }
-{
-    let mut conditions = PodConditions::new(alloc);
-    if let Some(kind) = kind {
-        conditions.push(Pattern {
-            kind,
-            truth: Truth::True,
-        })?;
-    }
-    Ok(conditions)
 }
 
 // The pod finishes with the code, and has the condition where one is given.
@@ -151,14 +138,13 @@ fn stop_change(alloc: Global, pod: &Pod) -> Result<PhaseChange, Want>
 }
 
 // A pending pod starts, and is ready.
-fn start_change(alloc: Global) -> Result<PhaseChange, Want>
+fn start_change(alloc: Global, fates: &Fates) -> Result<PhaseChange, Want>
     ensures { IfOk result (λ change. change ≡ start_change) }
 {
-    let ready = Text::from_str(alloc, "Ready")?;
     Ok(PhaseChange {
         phase: Phase::Running,
         containers: ContainerChanges::new(alloc),
-        conditions: true_conditions(alloc, Some(ready))?,
+        conditions: fates.ready()?,
     })
 }
 
@@ -221,7 +207,7 @@ pub fn change(alloc: Global, step: &NodeStep, pod: &Pod, fates: &Fates) -> Resul
 {
     match step.act {
         NodeAct::Stop => stop_change(alloc, pod),
-        NodeAct::Start => start_change(alloc),
+        NodeAct::Start => start_change(alloc, fates),
         NodeAct::Again => again_change(alloc, pod),
         NodeAct::Finish => fated_change(alloc, pod, fates),
     }

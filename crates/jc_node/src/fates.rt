@@ -5,10 +5,11 @@ ghost use Rattle.jc_types.specs.declared.objects.Key.{Key};
 ghost use Rattle.jc_types.specs.Keys.{same_key};
 ghost use Rattle.jc_log.specs.Tables.{puts};
 ghost use Rattle.jc_history.specs.Nodes.{end_at, last_end, pod_end};
-ghost use Rattle.jc_node.specs.Fated.{DecidesEnds, ends_at_key};
+ghost use Rattle.jc_node.specs.Fated.{DecidesEnds, conditions_at_start, ends_at_key};
 
+use crate::conditions::Ready;
 use jc_table::Table;
-use jc_types::{Copied, End, Ends, Key, Pod, Want};
+use jc_types::{Copied, End, Ends, Key, Pod, PodConditions, Want};
 use std::alloc::Global;
 use std::marker::Model;
 
@@ -18,6 +19,8 @@ use std::marker::Model;
 pub struct Fates {
     alloc: Global,
     rows: Table<Key, Ends>,
+    // The conditions of a pod that starts, which are made once a fate is set.
+    ready: Ready,
 }
 
 impl Model for Fates {
@@ -49,6 +52,7 @@ impl Copied for Fates {
         Ok(Fates {
             alloc: self.alloc,
             rows: copied_rows(self.alloc, &self.rows)?,
+            ready: self.ready.copy()?,
         })
     }
 }
@@ -61,6 +65,7 @@ impl Fates {
         Fates {
             alloc,
             rows: Table::new(alloc),
+            ready: Ready::new(),
         }
     }
 
@@ -75,6 +80,7 @@ impl Fates {
         ensures fates { OnOk result (DecidesEnds key.now ends self.old self.new) }
         ensures kept { OnErr result (self.new ≡ self.old) }
     {
+        self.ready.make(self.alloc)?;
         self.rows.put(key.copy()?, ends)
     }
 
@@ -85,6 +91,13 @@ impl Fates {
         ensures some_ends { IfSome (ends_at_key self.now key.now) (λ ends. ends ≢ []) }
     {
         self.rows.get(key)
+    }
+
+    // The conditions of a pod that starts.
+    pub(super) fn ready(&self) -> Result<PodConditions, Want>
+        ensures { IfOk result (λ conditions. conditions ≡ conditions_at_start) }
+    {
+        self.ready.conditions(self.alloc)
     }
 
     // How the pod is to end.

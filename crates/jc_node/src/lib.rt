@@ -4,6 +4,7 @@
 
 mod acts;
 mod changes;
+mod conditions;
 mod fates;
 mod laws;
 mod steps;
