@@ -9,6 +9,7 @@ ghost use Rattle.std.specs.Prelude.{
   IfOk,
   IfSome,
   IsSome,
+  OnErr,
   OnOk,
   filter,
   length,
@@ -117,27 +118,29 @@ fn raised(job: &Job, pods: &Pods, uids: &[Uid]) -> Result<IndexCounts, Want>
     raise_each(job, uids, noted.as_slice())
 }
 
-// What is counted of a Job, with its failures of each index and its failed indexes.
-fn fill_job(alloc: Global, job: &Job, pods: &Pods, counted: CountIn) -> Result<CountIn, Want>
+// Adds to what is counted of a Job its failures of each index and its failed indexes.
+fn fill_job(alloc: Global, job: &Job, pods: &Pods, counted: &mut CountIn) -> Result<(), Want>
     requires valid { IsValidSpec job.now.spec }
     requires few_pods { length pods.now < 2 ^ 31 }
     requires failures { FailuresFit job.now pods.now }
-    ensures { IfOk result (λ r. r ≡ filled_counts job.now (own_pods job.now pods.now) counted) }
+    ensures filled { OnOk result
+        (counted.new ≡ filled_counts job.now (own_pods job.now pods.now) counted.old) }
+    ensures kept { OnErr result (counted.new ≡ counted.old) }
 {
-    let mut counted = counted;
     let Some(limit) = job.spec.per_index else {
         counted.failed_indexes = Ranges::new(alloc);
         counted.index_failures = IndexCounts::new(alloc);
-        return Ok(counted);
+        return Ok(());
     };
     let counts = raised(job, pods, counted.judged_failed.as_slice())?;
     let failed = failed_set(alloc, job, limit, &counted.completed, &counts)?;
     counted.failed_indexes = failed;
     counted.index_failures = counts;
-    Ok(counted)
+    Ok(())
 }
 
-/// What a sync has counted, with the failures of each index and the indexes that have failed (KEP-3850).
+/// Adds to what a sync has counted the failures of each index and the indexes that have failed
+/// (KEP-3850).
 ///
 /// Where the Job has no limit for each index nothing is said of them. Otherwise the index of each pod that
 /// is newly judged as failed has one failure more, and the failure policy may fail the index for it. Until
@@ -145,14 +148,15 @@ fn fill_job(alloc: Global, job: &Job, pods: &Pods, counted: CountIn) -> Result<C
 /// pods have failed more often than the limit allows or which the policy failed; then they stay.
 ///
 /// # Errors
-/// `Want` where there is no memory for it.
-pub fn fill(alloc: Global, basis: &Basis, counted: CountIn) -> Result<CountIn, Want>
+/// `Want` where there is no memory for it; what is counted is then as before.
+pub fn fill(alloc: Global, basis: &Basis, counted: &mut CountIn) -> Result<(), Want>
     requires there { IsSome basis.now.job }
     requires valid { IfSome basis.now.job (λ job. IsValidSpec job.spec) }
     requires few_pods { length basis.now.pods < 2 ^ 31 }
     requires failures { IfSome basis.now.job (λ job. FailuresFit job basis.now.pods) }
-    ensures { IfOk result (λ r. IfSome basis.entry.now.job (λ job.
-        r ≡ filled_counts job (own_pods job basis.entry.now.pods) counted)) }
+    ensures filled { OnOk result (IfSome basis.entry.now.job (λ job.
+        counted.new ≡ filled_counts job (own_pods job basis.entry.now.pods) counted.old)) }
+    ensures kept { OnErr result (counted.new ≡ counted.old) }
 {
     match &basis.job {
         Some(job) => fill_job(alloc, job, &*basis.pods, counted),

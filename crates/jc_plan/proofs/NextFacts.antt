@@ -1,5 +1,6 @@
 -- The status that a plan leaves is the next status of its Job.
-use Rattle.std.proofs.Common.{◌≡◌, ◌⊎◌, inl, inr, ◌↔◌, ℕ, ◌+◌, nat_le, Bool, true, false, cond, not, ◌&&◌, ◌||◌, List, [], map, filter, length, Option, Some, None, IsSome, is_some, unwrap_or, refl, sym, ap, ◌∙◌, subst, true≢false, arith}
+use Rattle.std.proofs.Common.{◌≡◌, ◌⊎◌, inl, inr, ◌↔◌, ℕ, ◌+◌, nat_le, Bool, true, false, cond, not, ◌&&◌, ◌||◌, List, [], map, filter, length, Option, Some, None, IsSome, is_some, unwrap_or, refl, sym, ap, ◌∙◌, subst, arith}
+use Rattle.std.specs.Prelude.{IsTrue}
 use Rattle.std.specs.List.{range_with_len, list_any}
 use Rattle.std.proofs.lemmas.List.{nil_from_length}
 use Rattle.std.proofs.lemmas.Bool.{and_parts}
@@ -21,7 +22,7 @@ use Rattle.jc_types.specs.Counts.{counts}
 use Rattle.jc_states.specs.PodLists.{IsRising}
 use Rattle.jc_states.specs.Pods.{is_open, ending_pods, tracked_active_pods}
 use Rattle.jc_types.specs.Equality.{same_status}
-use Rattle.jc_types.proofs.EqualityFacts.{status-exact}
+use Rattle.jc_types.proofs.EqualityFacts.{same_from_exact, status-exact}
 use Rattle.jc_account.specs.Accounts.{completed_in, counted_in, counted_out}
 use Rattle.jc_account.specs.Judged.{newly}
 use Rattle.jc_account.specs.Modes.{succeeded_after}
@@ -179,7 +180,7 @@ module _ (job : Job) (basis : Basis) (rises : IsRising basis.pods) (tidy : job.s
 
 -- ---- the last status
 
-changed-or : (old new : JobStatus) → unwrap_or (changed old new) old ≡ new
+pub changed-or : (old new : JobStatus) → unwrap_or (changed old new) old ≡ new
 changed-or old new = by (same_status old new) refl
   where
     by : (b : Bool) → same_status old new ≡ b → unwrap_or (cond b None (Some new)) old ≡ new
@@ -290,6 +291,10 @@ module _ (job : Job) (basis : Basis) (tidy : job.spec.mode ≡ Indexed → job.s
 
 pub changed-none : (old new : JobStatus) → old ≡ new → changed old new ≡ None
 changed-none old new e = ap (λ (b : Bool). cond b None (Some new)) ((status-exact old new).1 e)
+
+pub changed-some : (old new : JobStatus) → (same : Bool) → IsTrue same ↔ (old ≡ new) → same ≡ false → Some new ≡ changed old new
+changed-some old new same exact differs =
+    ap (λ (b : Bool). cond b None (Some new)) (sym differs ∙ same_from_exact same_status status-exact same old new exact)
 
 pub changed-same : (old new : JobStatus) → changed old new ≡ None → old ≡ new
 changed-same old new e = sym (ap (λ (o : Option JobStatus). unwrap_or o old) e) ∙ changed-or old new

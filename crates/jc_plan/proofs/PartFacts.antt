@@ -1,26 +1,28 @@
 -- The parts of a plan from what its callees give.
-use Rattle.std.proofs.Common.{◌≡◌, ℕ, ◌+◌, ◌≤◌, Option, Some, IfSome, Result, Ok, Err, IfOk, refl, List, option_and_then, length, ap, sym, subst, ◌∙◌}
+use Rattle.std.proofs.Common.{◌≡◌, ℕ, ◌+◌, ◌≤◌, Bool, Option, Some, IfSome, refl, List, option_and_then, length, ap, sym, subst, ◌∙◌}
 use Rattle.jc_types.specs.declared.limits.TheConstants.{GREATEST_PARALLELISM}
 use Rattle.jc_types.specs.declared.numbers.Uid.{Uid}
-use Rattle.std.specs.declared.alloc.AllocError.{AllocError}
 use Rattle.jc_types.specs.declared.objects.Job.{Job}
 use Rattle.jc_types.specs.declared.objects.Pod.{Pod}
 use Rattle.jc_types.specs.declared.statuses.CondKind.{CondKind}
+use Rattle.jc_types.specs.declared.statuses.Condition.{Condition}
 use Rattle.jc_types.specs.declared.statuses.JobStatus.{JobStatus}
 use Rattle.jc_types.specs.declared.statuses.Reason.{Reason}
 use Rattle.jc_states.specs.declared.bases.Basis.{Basis}
 use Rattle.jc_types.specs.declared.syncs.CountIn.{CountIn}
 use Rattle.jc_states.specs.Bases.{CanPlan, own_pods}
 use Rattle.jc_types.specs.ValidSpecs.{IsValidSpec}
-use Rattle.jc_account.specs.Accounts.{counted_out}
-use Rattle.jc_finish.specs.Starts.{deadline_of, next_deadline}
+use Rattle.jc_account.specs.Accounts.{counted_in, counted_out}
+use Rattle.jc_finish.specs.Starts.{deadline_of, next_deadline, start_of}
 use Rattle.jc_manage.specs.declared.results.Wants.{Wants}
 use Rattle.jc_manage.specs.Backoffs.{backoff_after, opening}
 use Rattle.jc_states.specs.Pods.{active_pods}
 use Rattle.jc_perindex.specs.Failures.{filled_counts}
+use Rattle.jc_plan.specs.declared.numbers.Numbers.{Numbers}
 use Rattle.jc_plan.specs.Plans.{changed, earlier_of, planned, planned_for}
+use Rattle.jc_plan.specs.PodNumbers.{active_after, ending_after, ready_after}
 use Rattle.jc_plan.specs.Releases.{releases_of}
-use Rattle.jc_plan.specs.Statuses.{accounted, first_status_of, first_value, decided_in, is_end_decided, second_after, second_value, wants_in}
+use Rattle.jc_plan.specs.Statuses.{accounted, completed_at, conditions_at, first_status_of, first_value, decided_in, is_end_decided, is_first_due, second_after, second_value, status_with, wants_in}
 use Rattle.jc_plan.proofs.Going.{creates-bounded, going-active}
 
 -- The specification of the Job that is there is valid.
@@ -49,6 +51,44 @@ first-is job basis counted target wants first is_counted is_decided is_wanted is
     ∙ ap (λ (k : CountIn). first_status_of basis.now job (own_pods job basis.pods) k target wants) is_counted
     ∙ ap (λ (g : Option (CondKind × Reason)). first_status_of basis.now job (own_pods job basis.pods) (accounted job basis) g wants) is_decided
     ∙ ap (λ (w : Wants). first_status_of basis.now job (own_pods job basis.pods) (accounted job basis) (decided_in job basis) w) is_wanted
+
+-- The status of parts that are those of the first status is the first status.
+pub first-of-parts : (now : ℕ) (job : Job) (own : List Pod) (counted : CountIn) (target : Option (CondKind × Reason)) (wants : Wants) (due : Bool)
+    → (numbers : Numbers) (start completion : Option ℕ) (conditions : List Condition)
+    → numbers.active ≡ active_after wants own → numbers.ready ≡ ready_after wants own → numbers.terminating ≡ ending_after wants own
+    → start ≡ start_of now job.spec job.status
+    → conditions ≡ conditions_at now job target due
+    → completion ≡ completed_at now job.status conditions
+    → due ≡ is_first_due (is_end_decided job target) own counted
+    → status_with counted numbers (record { start = start; completion = completion; conditions = conditions }) ≡ first_status_of now job own counted target wants
+first-of-parts now job own counted target wants due numbers start completion conditions active ready ending starts settles completes is_due =
+    let conditions-are = settles ∙ ap (conditions_at now job target) is_due in
+    let completes-now = completes ∙ ap (completed_at now job.status) conditions-are in
+    λ i. record {
+      active = active i;
+      ready = ready i;
+      terminating = ending i;
+      succeeded = counted.succeeded;
+      failed = counted.failed;
+      completed = counted.completed;
+      failed_indexes = counted.failed_indexes;
+      index_failures = counted.index_failures;
+      uncounted_succeeded = counted.uncounted_succeeded;
+      uncounted_failed = counted.uncounted_failed;
+      start = starts i;
+      completion = completes-now i;
+      conditions = conditions-are i;
+    }
+
+-- The totals and lists of the first status are those of what is counted.
+pub first-totals : (job : Job) (basis : Basis) (counted : CountIn) (first : JobStatus) → counted ≡ accounted job basis → first ≡ first_value job basis
+    → (first.succeeded + length first.uncounted_succeeded ≡ counted.succeeded + length counted.uncounted_succeeded)
+    × (first.failed + length first.uncounted_failed ≡ counted.failed + length counted.uncounted_failed)
+unfolding first_value
+first-totals job basis counted first is_counted is_first = (
+  ap (λ (s : JobStatus). s.succeeded + length s.uncounted_succeeded) is_first ∙ ap (λ (k : CountIn). k.succeeded + length k.uncounted_succeeded) (sym is_counted),
+  ap (λ (s : JobStatus). s.failed + length s.uncounted_failed) is_first ∙ ap (λ (k : CountIn). k.failed + length k.uncounted_failed) (sym is_counted),
+)
 
 -- And the second.
 pub second-is : (job : Job) (basis : Basis) (counted : CountIn) (target : Option (CondKind × Reason)) (first second : JobStatus)
@@ -87,10 +127,23 @@ planned-is job basis wants is_wanted deadline f s r next this at_deadline is_f i
       next = e4 i;
     }
 
--- What holds of what is counted with what is said of indexes holds of a result that is it.
-pub filled-holds : (P : CountIn → Type 0) (job : Job) (own : List Pod) (counted : CountIn) (r : Result CountIn AllocError) → IfOk r (λ k. k ≡ filled_counts job own counted) → P (filled_counts job own counted) → IfOk r P
-filled-holds P job own counted (Ok k) e p = subst P (sym e) p
-filled-holds P job own counted (Err want) e p = tt
+-- What holds of the Job that is there.
+pub at-job : (P : Job → Type 0) (basis : Basis) (job : Job) → basis.job ≡ Some job → IfSome basis.job P → P job
+at-job P basis job this held = subst (λ (o : Option Job). IfSome o P) this held
+
+module _ (job : Job) (basis : Basis) (counted : CountIn) (this : basis.job ≡ Some job)
+    (is_counted : IfSome basis.job (λ (j : Job). counted ≡ counted_in j basis.pods)) where
+  module _ (full : CountIn) (is_full : IfSome basis.job (λ (j : Job). full ≡ filled_counts j (own_pods j basis.pods) counted)) where
+    -- With what is said of them it is what the sync accounts for,
+    pub accounted-is : full ≡ accounted job basis
+    accounted-is =
+        at-job (λ (j : Job). full ≡ filled_counts j (own_pods j basis.pods) counted) basis job this is_full
+        ∙ ap (filled_counts job (own_pods job basis.pods)) (at-job (λ (j : Job). counted ≡ counted_in j basis.pods) basis job this is_counted)
+
+    -- and what holds of all else holds as before.
+    pub filled-holds : (P : CountIn → Type 0) → P (filled_counts job (own_pods job basis.pods) counted) → P full
+    filled-holds P held =
+        subst P (sym (at-job (λ (j : Job). full ≡ filled_counts j (own_pods j basis.pods) counted) basis job this is_full)) held
 
 -- The plan is that for the Job that is there, or for none.
 pub planned-here : (basis : Basis) (o : Option Job) → basis.job ≡ o → planned_for basis o ≡ planned basis

@@ -4,6 +4,7 @@
 --     is_end_decided job target     how the Job ends is decided, before the sync or by it
 --     wants_at ..                   what the sync wants
 --     completed_at ..               when the Job completed
+--     status_with ..                the status of what is counted, of numbers of pods and of the Job's course
 --     filled .. due                 the status with all these; `due` says that its end is due
 --     lists_none status             no UID is uncounted in it
 --     leaves_none counted           no pod is left over
@@ -37,6 +38,8 @@ use Rattle.jc_manage.specs.Backoffs.{backoff_after, opening}
 use Rattle.jc_manage.specs.Creations.{creatable, creates, next}
 use Rattle.jc_manage.specs.LetGoes.{let_goes, marks}
 use Rattle.jc_perindex.specs.Failures.{filled_counts}
+use Rattle.jc_plan.specs.declared.numbers.Numbers.{Numbers}
+use Rattle.jc_plan.specs.declared.statuses.Course.{Course}
 use Rattle.jc_plan.specs.PodNumbers.{active_after, ending_after, ready_after}
 
 -- How the Job ends is decided: a target stands, or is decided now.
@@ -61,6 +64,24 @@ completed_at now status conditions =
 -- The conditions of the Job after the sync, with its end where that is due.
 abbrev pub conditions_at : ℕ → Job → Option (CondKind × Reason) → Bool → List Condition
 conditions_at now job target due = settled now job.spec.suspend target due job.status.conditions
+
+-- The status of what is counted, of these numbers of pods, and of this course of the Job.
+abbrev pub status_with : CountIn → Numbers → Course → JobStatus
+status_with counted numbers course = record {
+  active = numbers.active;
+  ready = numbers.ready;
+  terminating = numbers.terminating;
+  succeeded = counted.succeeded;
+  failed = counted.failed;
+  completed = counted.completed;
+  failed_indexes = counted.failed_indexes;
+  index_failures = counted.index_failures;
+  uncounted_succeeded = counted.uncounted_succeeded;
+  uncounted_failed = counted.uncounted_failed;
+  start = course.start;
+  completion = course.completion;
+  conditions = course.conditions;
+}
 
 -- The status with what is counted, the numbers of pods, the start time and the conditions.
 abbrev pub filled : ℕ → Job → List Pod → CountIn → Option (CondKind × Reason) → Wants → Bool → JobStatus

@@ -1,15 +1,12 @@
 //! How a sync makes its plan.
 
-ghost use Rattle.std.specs.Prelude.{◌≡◌, ◌+◌, ◌<◌, ◌≤◌, ◌^◌, [], IfOk, IfSome, IsSome, None, Some, false, is_some, length, true};
-ghost use Rattle.jc_states.specs.Bases.{CanPlan, own_pods};
+ghost use Rattle.std.specs.Prelude.{◌≡◌, ◌+◌, ◌<◌, ◌≤◌, ◌^◌, [], IfOk, IfSome, IsSome, None, Some, false, is_some, length, true, unwrap_or};
+ghost use Rattle.jc_states.specs.Bases.{CanPlan};
 ghost use Rattle.jc_states.specs.Conditions.{has_target};
 ghost use Rattle.jc_types.specs.Counts.{counts};
-ghost use Rattle.jc_types.specs.Equality.{same_status};
-ghost use Rattle.jc_account.specs.Accounts.{counted_in};
 ghost use Rattle.jc_finish.specs.Settled.{is_target_kind};
 ghost use Rattle.jc_finish.specs.Starts.{deadline_of};
 ghost use Rattle.jc_states.specs.Pods.{active_pods};
-ghost use Rattle.jc_perindex.specs.Failures.{filled_counts};
 ghost use Rattle.jc_plan.specs.Plans.{changed, earlier_of, planned, planned_for};
 ghost use Rattle.jc_plan.specs.Statuses.{accounted, first_value, decided_in, second_value, wants_in};
 
@@ -23,26 +20,9 @@ use jc_moment::Moment;
 use jc_perindex::fill;
 use jc_states::Basis;
 use jc_types::{
-    Arc, CondKind, Copied, CountIn, Indexes, Job, JobStatus, PodVersions, Reason, Same, Uids, Want,
+    Arc, CondKind, Copied, CountIn, Indexes, Job, JobStatus, PodVersions, Reason, Uids, Want,
 };
 use std::alloc::Global;
-
-// Whether both statuses are equal in every part.
-fn same_status(old: &JobStatus, new: &JobStatus) -> bool
-    ensures { result ≡ same_status old.now new.now }
-{
-    old.is_same(new)
-}
-
-// The new status, to be shared, where it differs from the old one.
-fn changed(alloc: Global, old: &JobStatus, new: JobStatus) -> Result<Option<Arc<JobStatus>>, Want>
-    ensures { IfOk result (λ r. r ≡ changed old.now new) }
-{
-    if same_status(old, &new) {
-        return Ok(None);
-    }
-    Ok(Some(Arc::new(alloc, new)?))
-}
 
 // The earlier of two moments, where they are there.
 fn earlier(left: Option<Moment>, right: Option<Moment>) -> Option<Moment>
@@ -59,41 +39,6 @@ fn earlier(left: Option<Moment>, right: Option<Moment>) -> Option<Moment>
             }
         }
     }
-}
-
-// What the sync counts in.
-fn counted_for(alloc: Global, basis: &Basis, job: &Job) -> Result<CountIn, Want>
-    requires its_job { basis.now.job ≡ Some job.now }
-    requires can { CanPlan basis.now }
-    ensures counted { IfOk result (λ r. r ≡ counted_in job.now basis.entry.now.pods) }
-    ensures failed_fits { IfOk result (λ r. (counts r).0 < 2 ^ 64) }
-    ensures succeeded_fits { IfOk result (λ r. (counts r).1 < 2 ^ 64) }
-    ensures few_failed { IfOk result (λ r. r.new_failed ≤ length basis.entry.now.pods) }
-{
-    count_in(alloc, basis)
-}
-
-// What is counted, with the failures of each index and the indexes that have failed.
-fn filled_for(alloc: Global, basis: &Basis, job: &Job, counted: CountIn) -> Result<CountIn, Want>
-    requires its_job { basis.now.job ≡ Some job.now }
-    requires can { CanPlan basis.now }
-    ensures { IfOk result (λ r.
-        r ≡ filled_counts job.now (own_pods job.now basis.entry.now.pods) counted) }
-{
-    fill(alloc, basis, counted)
-}
-
-// What the sync counts in, with what is said of failed indexes.
-fn accounted_for(alloc: Global, basis: &Basis, job: &Job) -> Result<CountIn, Want>
-    requires its_job { basis.now.job ≡ Some job.now }
-    requires can { CanPlan basis.now }
-    ensures counted { IfOk result (λ r. r ≡ accounted job.now basis.entry.now) }
-    ensures failed_fits { IfOk result (λ r. (counts r).0 < 2 ^ 64) }
-    ensures succeeded_fits { IfOk result (λ r. (counts r).1 < 2 ^ 64) }
-    ensures few_failed { IfOk result (λ r. r.new_failed ≤ length basis.entry.now.pods) }
-{
-    let counted = counted_for(alloc, basis, job)?;
-    filled_for(alloc, basis, job, counted)
 }
 
 // What the sync decides.
@@ -130,6 +75,37 @@ fn wants_for(
     wants(alloc, basis, counted, is_end_decided(job, target))
 }
 
+// The first status, where it is to be written.
+fn first_for(
+    alloc: Global,
+    basis: &Basis,
+    job: &Job,
+    counted: &CountIn,
+    target: Option<(CondKind, Reason)>,
+    wants: &Wants,
+) -> Result<Option<Arc<JobStatus>>, Want>
+    requires its_job { basis.now.job ≡ Some job.now }
+    requires can { CanPlan basis.now }
+    requires counted { counted.now ≡ accounted job.now basis.now }
+    requires target { target ≡ decided_in job.now basis.now }
+    requires kind { IfSome target (λ pair. is_target_kind pair.0 ≡ true) }
+    requires fresh { IsSome target → has_target job.now.status.conditions ≡ false }
+    requires wants { wants.now ≡ wants_in job.now basis.now }
+    ensures { IfOk result (λ r. r ≡ changed job.now.status (first_value job.now basis.entry.now)) }
+{
+    first_status(alloc, basis, job, counted, target, wants)
+}
+
+// The status of the Job once the first is written: its own, where that is not to be written.
+fn after_first<'a>(job: &'a Job, first: &'a Option<Arc<JobStatus>>) -> &'a JobStatus
+    ensures { result.now ≡ unwrap_or first.now job.now.status }
+{
+    match first {
+        None => &*job.status,
+        Some(first) => &**first,
+    }
+}
+
 // The second status, where it is to be written. Where no pod is to be released it is as the first.
 fn second_for(
     alloc: Global,
@@ -137,56 +113,32 @@ fn second_for(
     job: &Job,
     counted: &CountIn,
     target: Option<(CondKind, Reason)>,
-    first: &JobStatus,
+    first: &Option<Arc<JobStatus>>,
 ) -> Result<Option<Arc<JobStatus>>, Want>
     requires its_job { basis.now.job ≡ Some job.now }
     requires counted { counted.now ≡ accounted job.now basis.now }
     requires target { target ≡ decided_in job.now basis.now }
     requires kind { IfSome target (λ pair. is_target_kind pair.0 ≡ true) }
     requires fresh { IsSome target → has_target job.now.status.conditions ≡ false }
-    requires first { first.now ≡ first_value job.now basis.now }
-    requires succeeded { first.now.succeeded + length first.now.uncounted_succeeded < 2 ^ 64 }
-    requires failed { first.now.failed + length first.now.uncounted_failed < 2 ^ 64 }
+    requires failed { (counts counted.now).0 < 2 ^ 64 }
+    requires succeeded { (counts counted.now).1 < 2 ^ 64 }
+    requires first { first.now ≡ changed job.now.status (first_value job.now basis.now) }
     ensures { IfOk result (λ r.
         r ≡ changed (first_value job.now basis.entry.now) (second_value job.now basis.entry.now)) }
 {
     if counted.releases.is_empty() {
         return Ok(None);
     }
-    let second = second_status(alloc, basis, job, counted, target, first)?;
-    changed(alloc, first, second)
+    second_status(alloc, basis, job, counted, target, after_first(job, first))
 }
 
-// Both statuses, where they are to be written.
-fn statuses_for(
+// The plan of a basis with a Job, of what the sync counts in.
+fn planned_with(
     alloc: Global,
     basis: &Basis,
     job: &Job,
     counted: &CountIn,
-    target: Option<(CondKind, Reason)>,
-    wants: &Wants,
-) -> Result<(Option<Arc<JobStatus>>, Option<Arc<JobStatus>>), Want>
-    requires its_job { basis.now.job ≡ Some job.now }
-    requires can { CanPlan basis.now }
-    requires counted { counted.now ≡ accounted job.now basis.now }
-    requires target { target ≡ decided_in job.now basis.now }
-    requires kind { IfSome target (λ pair. is_target_kind pair.0 ≡ true) }
-    requires fresh { IsSome target → has_target job.now.status.conditions ≡ false }
-    requires failed { (counts counted.now).0 < 2 ^ 64 }
-    requires succeeded { (counts counted.now).1 < 2 ^ 64 }
-    requires wants { wants.now ≡ wants_in job.now basis.now }
-    ensures first { IfOk result (λ r.
-        r.0 ≡ changed job.now.status (first_value job.now basis.entry.now)) }
-    ensures second { IfOk result (λ r. r.1
-        ≡ changed (first_value job.now basis.entry.now) (second_value job.now basis.entry.now)) }
-{
-    let first = first_status(alloc, basis, job, counted, target, wants)?;
-    let second = second_for(alloc, basis, job, counted, target, &first)?;
-    Ok((changed(alloc, &*job.status, first)?, second))
-}
-
-// The plan of a basis with a Job, of what the sync counts in.
-fn planned_with(alloc: Global, basis: &Basis, job: &Job, counted: &CountIn) -> Result<Planned, Want>
+) -> Result<Arc<Planned>, Want>
     requires its_job { basis.now.job ≡ Some job.now }
     requires can { CanPlan basis.now }
     requires counted { counted.now ≡ accounted job.now basis.now }
@@ -198,49 +150,58 @@ fn planned_with(alloc: Global, basis: &Basis, job: &Job, counted: &CountIn) -> R
     let target = decided_in(basis, job, counted);
     let releases = released(alloc, basis, &counted.releases)?;
     let wants = wants_for(alloc, basis, job, counted, target)?;
-    let (first, second) = statuses_for(alloc, basis, job, counted, target, &wants)?;
-    Ok(Planned {
-        creates: wants.creates,
-        marks: wants.marks,
-        let_goes: wants.let_goes,
-        first,
-        releases,
-        second,
-        backoff: wants.backoff,
-        next: earlier(wants.next, next_deadline(basis)),
-    })
+    let first = first_for(alloc, basis, job, counted, target, &wants)?;
+    let second = second_for(alloc, basis, job, counted, target, &first)?;
+    Arc::new(
+        alloc,
+        Planned {
+            creates: wants.creates,
+            marks: wants.marks,
+            let_goes: wants.let_goes,
+            first,
+            releases,
+            second,
+            backoff: wants.backoff,
+            next: earlier(wants.next, next_deadline(basis)),
+        },
+    )
 }
 
 // The plan of a basis with a Job.
-fn planned_for(alloc: Global, basis: &Basis, job: &Job) -> Result<Planned, Want>
+fn planned_for(alloc: Global, basis: &Basis, job: &Job) -> Result<Arc<Planned>, Want>
     requires its_job { basis.now.job ≡ Some job.now }
     requires can { CanPlan basis.now }
     ensures { IfOk result (λ r. r ≡ planned_for basis.entry.now (Some job.now)) }
 {
-    let counted = accounted_for(alloc, basis, job)?;
+    let mut counted = count_in(alloc, basis)?;
+    fill(alloc, basis, &mut counted)?;
     planned_with(alloc, basis, job, &counted)
 }
 
 // The plan of a basis without a Job.
-fn planned_alone(alloc: Global, basis: &Basis) -> Result<Planned, Want>
+fn planned_alone(alloc: Global, basis: &Basis) -> Result<Arc<Planned>, Want>
     requires { basis.now.job ≡ None }
     ensures { IfOk result (λ r. r ≡ planned_for basis.entry.now None) }
 {
     let due = Uids::new(alloc);
-    Ok(Planned {
-        creates: Indexes::new(alloc),
-        marks: Uids::new(alloc),
-        let_goes: PodVersions::new(alloc),
-        first: None,
-        releases: released(alloc, basis, &due)?,
-        second: None,
-        backoff: basis.backoff,
-        next: None,
-    })
+    let releases = released(alloc, basis, &due)?;
+    Arc::new(
+        alloc,
+        Planned {
+            creates: Indexes::new(alloc),
+            marks: Uids::new(alloc),
+            let_goes: PodVersions::new(alloc),
+            first: None,
+            releases,
+            second: None,
+            backoff: basis.backoff,
+            next: None,
+        },
+    )
 }
 
 // The parts of the plan of a basis.
-fn parts_of(alloc: Global, basis: &Basis) -> Result<Planned, Want>
+fn parts_of(alloc: Global, basis: &Basis) -> Result<Arc<Planned>, Want>
     requires { IsSome basis.now.job → CanPlan basis.now }
     ensures { IfOk result (λ r. r ≡ planned basis.entry.now) }
 {
@@ -259,6 +220,6 @@ pub fn plan(alloc: Global, basis: &Arc<Basis>) -> Result<Plan, Want>
     ensures basis { IfOk result (λ plan. plan.basis ≡ basis.entry.now) }
     ensures parts { IfOk result (λ plan. plan.parts ≡ planned basis.entry.now) }
 {
-    let parts = Arc::new(alloc, parts_of(alloc, &**basis)?)?;
+    let parts = parts_of(alloc, &**basis)?;
     Ok(Plan::new(basis.copy()?, parts))
 }
