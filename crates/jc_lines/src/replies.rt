@@ -175,12 +175,12 @@ fn print_indexed(out: &mut String, words: &str, index: Option<u32>) -> Result<()
     print_index(out, index)
 }
 
-// The request of a pod for an index, or for none, and a blank.
-fn print_creation(out: &mut String, index: Option<u32>) -> Result<(), Want>
+// A request that names an index, or none, and a blank.
+fn print_made(out: &mut String, words: &str, index: Option<u32>) -> Result<(), Want>
     ensures { OnOk result (string_bytes out.new
-        ≡ string_bytes out.old ++ (request_text (request.CreatePod index) ++ codes " ")) }
+        ≡ string_bytes out.old ++ ((words.now ++ index_text index) ++ codes " ")) }
 {
-    print_indexed(out, "create-pod ", index)?;
+    print_indexed(out, words, index)?;
     out.push_str(" ")
 }
 
@@ -208,7 +208,7 @@ fn print_request(out: &mut String, request: &Request) -> Result<(), Want>
         ≡ string_bytes out.old ++ (request_text request.now ++ codes " ")) }
 {
     match request {
-        Request::CreatePod { index } => print_creation(out, *index),
+        Request::CreatePod { index } => print_made(out, "create-pod ", *index),
         Request::MarkPod { pod } => print_asked(out, "mark ", *pod),
         Request::LetGo { pod } => print_asked(out, "let-go ", *pod),
         Request::Status => out.push_str("status "),
