@@ -1,5 +1,5 @@
 -- When an event may come next, in the words of the code.
-use Rattle.std.proofs.Common.{◌≡◌, ℕ, Bool, true, not, ◌||◌, List, reverse, refl, sym, ap, ◌∙◌, subst}
+use Rattle.std.proofs.Common.{◌≡◌, Bool, not, ◌||◌, List, reverse, refl, sym, subst}
 use Rattle.std.specs.Prelude.{◌↔◌, IsTrue}
 use Rattle.jc_log.specs.Acts as does
 use Rattle.jc_log.specs.Acts.{Act}

@@ -19,7 +19,7 @@ use Rattle.jc_log.specs.Acts.{Act}
 use Rattle.jc_log.specs.Deeds.{Deed, act_of_event, deed}
 use Rattle.jc_history.specs.Available.{is_quiescent}
 use Rattle.jc_history.specs.Legal.{ComesNext, IsOfShape, MaySettle}
-use Rattle.jc_runs.specs.Machines.{IsMachine, IsTeam}
+use Rattle.jc_runs.specs.Machines.{IsMachine}
 use Rattle.jc_runs.specs.Seen.{Admits, Seen, act_seen, deeds_in, happened, reply_seen}
 use Rattle.jc_runs.specs.Teams.{Team}
 use Rattle.jc_machine.specs.MachineKept.{IsMachineKept, fates_in}

@@ -1,27 +1,26 @@
 -- The node's next step, found again by its pod's UID.
 --     Next log fates step     the pod of the step, and what befalls it
-use Rattle.std.proofs.Common.{◌≡◌, ℕ, Bool, true, false, not, cond, List, [], ◌∷◌, Option, Some, None, is_some, refl, sym, ap, ◌∙◌, subst, true≢false}
+use Rattle.std.proofs.Common.{◌≡◌, true, false, List, [], ◌∷◌, Option, Some, None, is_some, refl, sym, ap, ◌∙◌, subst, true≢false}
 use Rattle.std.specs.List.{AllByRecursion as Each}
-use Rattle.std.specs.Option.{option_map, option_or, unwrap_or}
+use Rattle.std.specs.Option.{option_map, option_or}
 use Rattle.jc_types.specs.declared.actions.End.{End}
 use Rattle.jc_types.specs.declared.actions.PhaseChange.{PhaseChange}
 use Rattle.jc_types.specs.declared.objects.Entry.{Entry}
 use Rattle.jc_types.specs.declared.objects.Key.{Key}
 use Rattle.jc_types.specs.declared.objects.Pod.{Pod}
 use Rattle.jc_types.proofs.ListFacts.{Each-weaker}
-use Rattle.jc_runs.specs.Pods.{is_marked, is_open, is_pending}
-use Rattle.jc_log.specs.Log.{Life, Live, life, living, pod_in, pods_in}
+use Rattle.jc_log.specs.Log.{Live, life, living, pod_in, pods_in}
 use Rattle.jc_log.specs.Requests.{Answered, grown, report_phase_gives}
 use Rattle.jc_log.proofs.PodFacts.{pods_in-live}
 use Rattle.jc_types.specs.declared.numbers.Version.{Version}
 use Rattle.jc_types.specs.declared.replies.Reply.{Reply}
 use Rattle.jc_types.specs.declared.replies.Reply.TheVariants as reply
-use Rattle.jc_history.specs.Nodes.{NodeAct as Act, act_on, act_with, change_by, is_again, node_step, pod_end}
+use Rattle.jc_history.specs.Nodes.{NodeAct as Act, act_on, change_by, node_step, pod_end}
 use Rattle.jc_history.specs.Nodes as does
 use Rattle.jc_history.specs.Notes.{newest}
 use Rattle.jc_history.specs.Replies.{node_gives, version_in}
 use Rattle.jc_node.specs.declared.acts.NodeStep.{NodeStep}
-use Rattle.jc_node.specs.NodeSteps.{act_of, act_kind, step_of}
+use Rattle.jc_node.specs.NodeSteps.{act_of, step_of}
 use Rattle.jc_node.proofs.LawFacts.{act-again}
 use Rattle.std.proofs.lemmas.Option.{same_Some as of_some}
 

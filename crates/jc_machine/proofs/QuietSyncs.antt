@@ -32,7 +32,7 @@ use Rattle.jc_runs.specs.QuietRuns.{AreSteps, BeginsCurrent, IsAtNext, IsQuietSy
 use Rattle.jc_runs.specs.Machines.{AllAskValid}
 use Rattle.jc_runs.specs.Seen.{Seen, deeds_in, deeds_seen, happened, log_seen, past_seen, reply_seen}
 use Rattle.jc_machine.specs.DiariesSeen.{diary_seen}
-use Rattle.jc_machine.specs.SyncsSeen.{StartsCurrent, IsLast, StepsOn, StepsWithoutStatus, begin_event, next_seen, tells_begin}
+use Rattle.jc_machine.specs.SyncsSeen.{StartsCurrent, IsLast, StepsOn, begin_event, next_seen, tells_begin}
 
 -- ---- what the laws of syncs on current caches say
 

@@ -1,8 +1,7 @@
 -- A machine at its start, and what holds of each item of a list.
-use Rattle.std.proofs.Common.{◌≡◌, ℕ, zero, suc, ◌≤◌, ◌<◌, List, [], ◌∷◌, ◌++◌, length, map, reverse, slice_get, Option, Some, None, is_some, refl, sym, ap, ◌∙◌, subst, arith, true≢false}
+use Rattle.std.proofs.Common.{◌≡◌, ℕ, ◌≤◌, ◌<◌, List, [], ◌∷◌, ◌++◌, length, map, reverse, slice_get, Option, Some, None, refl, sym, ap, ◌∙◌, subst, arith}
 use Rattle.std.specs.Prelude.{◌^◌}
 use Rattle.std.proofs.lemmas.List.{length-reverse, map-append, reverse-append}
-use Rattle.std.specs.Option.{unwrap_or}
 use Rattle.std.specs.List.{AllByRecursion as Each}
 use Rattle.jc_bounds.proofs.OrderFacts.{each-slice as each_at}
 use Rattle.jc_types.specs.declared.actions.End.{End}
@@ -13,7 +12,6 @@ use Rattle.jc_types.specs.declared.objects.Key.{Key}
 use Rattle.jc_types.specs.declared.runs.History.{History}
 use Rattle.jc_types.specs.declared.runs.Past.{Past}
 use Rattle.jc_types.specs.declared.runs.Shape.{Shape}
-use Rattle.jc_types.specs.Keys.{same_key}
 use Rattle.jc_log.specs.Deeds.{deed}
 use Rattle.jc_log.specs.Log.{job_in}
 use Rattle.jc_runs.specs.Once.{AllJustified, OnceAtEach}

@@ -1,21 +1,20 @@
 -- The events of a sync on one thread.
-use Rattle.std.proofs.Common.{◌≡◌, ℕ, ◌+◌, ◌-◌, ◌<◌, ◌≤◌, Bool, true, false, List, [], ◌∷◌, ◌++◌, length, map, slice_get, Option, Some, None, is_none, is_some, refl, sym, ap, ◌∙◌, subst, arith, true≢false}
+use Rattle.std.proofs.Common.{◌≡◌, ℕ, ◌+◌, ◌-◌, ◌<◌, ◌≤◌, true, false, List, [], ◌∷◌, ◌++◌, map, slice_get, Option, Some, None, is_none, is_some, refl, sym, ap, ◌∙◌, subst, true≢false}
 use Rattle.std.proofs.lemmas.List.{map-append}
 use Rattle.std.specs.List.{AllByRecursion as Each}
 use Rattle.jc_log.specs.Acts as does
-use Rattle.jc_types.specs.declared.actions.Script.{Script}
 use Rattle.jc_types.specs.declared.replies.Reply.{Reply}
 use Rattle.jc_types.specs.declared.runs.Event.{Event}
 use Rattle.jc_types.specs.declared.runs.Past.{Past}
 use Rattle.jc_types.specs.declared.runs.Shape.{Shape}
 use Rattle.jc_runs.specs.Basis.{Basis}
-use Rattle.jc_log.specs.Deeds.{Deed, deed}
+use Rattle.jc_log.specs.Deeds.{deed}
 use Rattle.jc_history.specs.Registers.{register}
 use Rattle.jc_history.specs.Replies.{diary}
 use Rattle.jc_runs.specs.QuietRuns.{AreSteps}
 use Rattle.jc_runs.specs.Seen.{Admits, Seen, deeds_in, deeds_seen, happened, past_seen, reply_seen}
 use Rattle.jc_machine.specs.DiariesSeen.{diary_seen}
-use Rattle.jc_machine.specs.SyncsSeen.{IsLast, IsSynced, Nothing, Began, StepsOn, begin_event, stepping_event}
+use Rattle.jc_machine.specs.SyncsSeen.{IsLast, StepsOn, begin_event, stepping_event}
 
 module _ (c w : ℕ) where
   -- A begin and a step may come next at any time.

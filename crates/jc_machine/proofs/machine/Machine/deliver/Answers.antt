@@ -1,4 +1,4 @@
-use Rattle.std.proofs.Common.{◌≡◌, ◌<◌, arith, List, length, set, slice_get, Some, reverse, refl, ap, sym, ◌∙◌, subst}
+use Rattle.std.proofs.Common.{set}
 use Rattle.jc_log.specs.Acts as does
 use Rattle.jc_runs.proofs.CacheFacts.{deliver_run}
 use Rattle.jc_team.proofs.LawFacts.{few-pods}

@@ -1,7 +1,7 @@
 use Rattle.std.proofs.Common.{List, reverse, sym, subst, ◌∙◌}
 use Rattle.jc_types.specs.declared.actions.Command.{Command}
 use Rattle.jc_machine.specs.MachineKept.{IsMachineKept}
-use Rattle.jc_machine.proofs.LongerFacts.{kept, not_pushed, was_pushed}
+use Rattle.jc_machine.proofs.LongerFacts.{kept, not_pushed}
 use Rattle.jc_machine.proofs.machine.Machine.extend.Goals as goal
 
 pub invariant_of-self : goal.invariant_of-self

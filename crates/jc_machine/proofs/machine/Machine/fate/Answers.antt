@@ -1,4 +1,4 @@
-use Rattle.std.proofs.Common.{◌≡◌, ◌<◌, List, length, set, slice_get, Some, reverse, refl, ap, sym, ◌∙◌, subst}
+use Rattle.std.proofs.Common.{set, refl, sym, ◌∙◌}
 use Rattle.jc_log.specs.Acts as does
 use Rattle.jc_runs.proofs.PlainEvents.{fated_run}
 use Rattle.jc_types.specs.declared.replies.Reply.TheVariants as reply

@@ -1,4 +1,4 @@
-use Rattle.std.proofs.Common.{◌≡◌, ◌<◌, List, length, reverse, refl, ap, sym, ◌∙◌, subst, w32}
+use Rattle.std.proofs.Common.{◌≡◌, subst, w32}
 use Rattle.std.proofs.lemmas.Int.{to_z-of_z}
 use Rattle.jc_log.specs.Requests.{grown}
 use Rattle.jc_machine.specs.FinishedPods.{finished_gives}

@@ -1,4 +1,4 @@
-use Rattle.std.proofs.Common.{◌≡◌, ◌<◌, List, length, set, slice_get, Some, reverse, refl, ap, sym, ◌∙◌, subst}
+use Rattle.std.proofs.Common.{List, set}
 use Rattle.jc_log.specs.Acts as does
 use Rattle.jc_runs.proofs.CacheFacts.{list_run}
 use Rattle.jc_machine.specs.MachineKept.{fates_in}

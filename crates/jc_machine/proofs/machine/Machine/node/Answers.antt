@@ -1,4 +1,3 @@
-use Rattle.std.proofs.Common.{◌≡◌, sym, ap, ◌∙◌, subst}
 use Rattle.jc_log.specs.Acts as does
 use Rattle.jc_runs.proofs.NodeFacts.{node_run}
 use Rattle.jc_machine.specs.MachineKept.{fates_in}

@@ -1,4 +1,3 @@
-use Rattle.std.proofs.Common.{◌≡◌, ◌<◌, List, length, reverse, refl, ap, sym, ◌∙◌}
 use Rattle.jc_log.specs.Acts as does
 use Rattle.jc_runs.proofs.PodEvents.{reported}
 use Rattle.jc_machine.specs.MachineKept.{fates_in}

@@ -1,8 +1,8 @@
-use Rattle.std.proofs.Common.{◌≡◌, ◌<◌, List, length, set, slice_get, Some, reverse, refl, ap, sym, ◌∙◌, subst}
+use Rattle.std.proofs.Common.{set, refl, sym, ◌∙◌, subst}
 use Rattle.jc_log.specs.Acts as does
 use Rattle.jc_runs.proofs.EventFacts.{holds_idle, replicate_free, restart_run}
 use Rattle.jc_runs.specs.Machines.{IsTeam}
-use Rattle.jc_runs.specs.Teams.{KnowsNothing, Team}
+use Rattle.jc_runs.specs.Teams.{KnowsNothing}
 use Rattle.jc_types.specs.declared.replies.Reply.TheVariants as reply
 use Rattle.jc_machine.specs.MachineKept.{fates_in}
 use Rattle.jc_machine.proofs.Closing.{After, Before, acts, before, closes, member, past, within}

@@ -1,4 +1,4 @@
-use Rattle.std.proofs.Common.{◌≡◌, refl, sym, ap, ◌∙◌, subst}
+use Rattle.std.proofs.Common.{refl}
 use Rattle.jc_log.specs.Acts as does
 use Rattle.jc_runs.proofs.PlainEvents.{settled_run}
 use Rattle.jc_types.specs.declared.replies.Reply.TheVariants as reply

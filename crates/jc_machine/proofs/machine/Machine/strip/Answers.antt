@@ -1,4 +1,3 @@
-use Rattle.std.proofs.Common.{◌≡◌, ◌<◌, List, length, set, slice_get, Some, reverse, refl, ap, sym, ◌∙◌, subst}
 use Rattle.jc_log.specs.Acts as does
 use Rattle.jc_runs.proofs.PodEvents.{stripped}
 use Rattle.jc_runs.proofs.TextFacts.{strip_texts}
