@@ -4,7 +4,6 @@ pub mod JudgementFacts
 pub mod ListedFacts
 pub mod NotedFacts
 pub mod Owned
-pub mod PickedFacts
 pub mod Placed
 pub mod RoomFacts
 pub mod StayingFacts

@@ -1,5 +1,5 @@
 -- The data that a value stands for.
-use Rattle.std.specs.Prelude.{ℕ, List, [], ◌∷◌, map}
+use Rattle.std.specs.Prelude.{ℕ, true, false, List, [], ◌∷◌, map}
 use Rattle.std.specs.Borrow.{Bor}
 use Rattle.serde_json.specs.Data.{Data, null, boolean, number, string, array, object, Items, no_items, item, Members, no_members, member, put}
 use Rattle.serde_json.specs.View.{items_of, number_view}
@@ -14,7 +14,8 @@ members_of (m ∷ ms) found = members_of ms (put m.0.now m.1 found)
 -- one level, with each value inside already seen as its data
 abbrev pub view_step : Value-F Data → Data
 view_step Value-F.Null = null
-view_step (Value-F.Bool b) = boolean b
+view_step Value-F.True = boolean true
+view_step Value-F.False = boolean false
 view_step (Value-F.Number x) = number (number_view x)
 view_step (Value-F.String s) = string s.now
 view_step (Value-F.Array v) = array (items_of v.items)

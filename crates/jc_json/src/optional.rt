@@ -85,7 +85,8 @@ pub fn may_bool(
 {
     match member(object, name) {
         None => Ok(None),
-        Some(Value::Bool(truth)) => Ok(Some(*truth)),
+        Some(Value::True) => Ok(Some(true)),
+        Some(Value::False) => Ok(Some(false)),
         Some(_) => Err(FieldFault::WrongType {
             path: Path::of_member(alloc, path, name)?,
         }),

@@ -5,7 +5,7 @@ ghost use Rattle.serde_json.specs.Data.{no_members};
 ghost use Rattle.serde_json.specs.View as owned;
 ghost use Rattle.jc_json.specs.View.{view, items_view, members_view};
 
-use crate::value::Value;
+use crate::value::{Value, truth};
 use serde_json::{Map, Value as Owned};
 use std::alloc::{AllocError, Global};
 
@@ -22,7 +22,7 @@ fn copy<'v>(alloc: Global, value: &'v Owned) -> Result<Value<'v>, AllocError>
 {
     match value {
         Owned::Null => Ok(Value::Null),
-        Owned::Bool(b) => Ok(Value::Bool(*b)),
+        Owned::Bool(b) => Ok(truth(*b)),
         Owned::Number(n) => Ok(Value::Number(*n)),
         Owned::String(text) => Ok(Value::String(text.as_str())),
         Owned::Array(items) => Ok(Value::Array(copy_items(alloc, items)?)),

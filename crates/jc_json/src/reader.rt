@@ -7,7 +7,7 @@ ghost use Rattle.jc_json.specs.View.{view, items_view, members_view};
 
 use crate::line::JsonFault;
 use crate::numerals::number;
-use crate::value::Value;
+use crate::value::{Value, truth};
 use json::{Reader, Scratch, Token};
 use std::alloc::Global;
 
@@ -52,7 +52,7 @@ fn read<'a>(alloc: Global, reader: &mut Reader<'a>, depth: usize) -> Result<Valu
             Some(number) => Ok(Value::Number(number)),
             None => Err(JsonFault::NotJson),
         },
-        Token::Bool(b) => Ok(Value::Bool(b)),
+        Token::Bool(b) => Ok(truth(b)),
         Token::Null => Ok(Value::Null),
         Token::EndObject | Token::EndArray | Token::Key(_) | Token::Bad => Err(JsonFault::NotJson),
         Token::BeginArray => {

@@ -1,7 +1,7 @@
 //! Values that borrow their texts from the line that they were read of.
 
 ghost use Rattle.std.specs.Prelude.{◌≡◌, is_some, option_map};
-ghost use Rattle.serde_json.specs.Data.{no_members};
+ghost use Rattle.serde_json.specs.Data.{boolean, no_members};
 ghost use Rattle.serde_json.specs.Find.{as_array, as_object, get, get_member};
 ghost use Rattle.jc_json.specs.View.{view, items_view, members_view};
 
@@ -11,7 +11,8 @@ use serde_json::Number;
 #[derive(Drop)]
 pub enum Value<'a> {
     Null,
-    Bool(bool),
+    True,
+    False,
     Number(Number),
     String(&'a str),
     Array(Vec<Value<'a>>),
@@ -60,6 +61,14 @@ impl<'a> Value<'a> {
             None
         }
     }
+}
+
+/// The value of a truth. It is one without parts: behind a byte of its own it would stand at an odd place, and each value
+/// would be moved in pieces.
+pub(crate) fn truth<'a>(is_true: bool) -> Value<'a>
+    ensures { view result ≡ boolean is_true }
+{
+    if is_true { Value::True } else { Value::False }
 }
 
 // The last member of that name.

@@ -29,7 +29,7 @@ use Rattle.jc_account.proofs.GainFacts.{has-below_all}
 use Rattle.jc_account.proofs.JudgementFacts.{newly-is}
 use Rattle.jc_account.proofs.ListedFacts.{each, has-indexes}
 use Rattle.jc_account.proofs.Owned.{filter-least}
-use Rattle.jc_account.proofs.PickedFacts.{picked_uids}
+use Rattle.jc_states.proofs.PickedFacts.{picked_uids}
 use Rattle.jc_perindex.specs.Failures.{count_at, failing_by, failing_in, failures_by, failures_in, failures_of, fails_at, newly_failed, policy_fails_index, raised, raised_at}
 use Rattle.jc_ledger.specs.Ledger.{Ledger, Record, failed_pods, judged_as}
 use Rattle.jc_ledger.specs.Once.{SaysFails}

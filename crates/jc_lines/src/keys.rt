@@ -30,7 +30,7 @@ pub fn print_version(out: &mut String, words: &str, version: Version) -> Result<
         ≡ string_bytes out.old ++ (words.now ++ decimal version.0)) }
 {
     out.push_str(words)?;
-    put_long(out, version.0)
+    put_long(out, u64::from(version.0))
 }
 
 /// Puts words behind the text, and the pod that they are said of.
@@ -43,5 +43,5 @@ pub fn print_pod(out: &mut String, words: &str, pod: Uid) -> Result<(), Want>
         ≡ string_bytes out.old ++ (words.now ++ decimal pod.0)) }
 {
     out.push_str(words)?;
-    put_long(out, pod.0)
+    put_long(out, u64::from(pod.0))
 }

@@ -34,9 +34,9 @@ fn print_created(out: &mut String, uid: Uid, version: Version) -> Result<(), Wan
         ≡ string_bytes out.old ++ answer_text (answer.Created uid version)) }
 {
     out.push_str("created ")?;
-    put_long(out, uid.0)?;
+    put_long(out, u64::from(uid.0))?;
     out.push_str(" v")?;
-    put_long(out, version.0)
+    put_long(out, u64::from(version.0))
 }
 
 fn print_bad_step(out: &mut String, from: Phase, to: Phase) -> Result<(), Want>
@@ -72,9 +72,9 @@ fn print_begun(out: &mut String, key: &Key, jobs_at: Version, pods_at: Version) 
     out.push_str("begun ")?;
     print_key(out, key)?;
     out.push_str(" jobs v")?;
-    put_long(out, jobs_at.0)?;
+    put_long(out, u64::from(jobs_at.0))?;
     out.push_str(" pods v")?;
-    put_long(out, pods_at.0)
+    put_long(out, u64::from(pods_at.0))
 }
 
 fn print_behind(out: &mut String, kind: Kind, need: Version, have: Version) -> Result<(), Want>
@@ -104,9 +104,9 @@ fn print_node(out: &mut String, pod: Uid, phase: Phase, version: Version) -> Res
         ≡ string_bytes out.old ++ reply_text (reply.NodeDone pod phase version)) }
 {
     out.push_str("pod ")?;
-    put_long(out, pod.0)?;
+    put_long(out, u64::from(pod.0))?;
     print_phase(out, phase)?;
-    put_long(out, version.0)
+    put_long(out, u64::from(version.0))
 }
 
 // Of words that are known where they are put the bytes are written with no call: so it is with those that come often.
@@ -115,7 +115,7 @@ fn print_delivered(out: &mut String, version: Version) -> Result<(), Want>
         ≡ string_bytes out.old ++ reply_text (reply.Delivered version)) }
 {
     out.push_str("entry v")?;
-    put_long(out, version.0)
+    put_long(out, u64::from(version.0))
 }
 
 fn print_written(out: &mut String, version: Version) -> Result<(), Want>
@@ -123,7 +123,7 @@ fn print_written(out: &mut String, version: Version) -> Result<(), Want>
         ≡ string_bytes out.old ++ answer_text (answer.Written version)) }
 {
     out.push_str("written v")?;
-    put_long(out, version.0)
+    put_long(out, u64::from(version.0))
 }
 
 fn print_released(out: &mut String, version: Version) -> Result<(), Want>
@@ -131,7 +131,7 @@ fn print_released(out: &mut String, version: Version) -> Result<(), Want>
         ≡ string_bytes out.old ++ answer_text (answer.Released version)) }
 {
     out.push_str("released v")?;
-    put_long(out, version.0)
+    put_long(out, u64::from(version.0))
 }
 
 // A reply that tells of three things.
@@ -198,7 +198,7 @@ fn print_release(out: &mut String, pod: Uid) -> Result<(), Want>
         ≡ string_bytes out.old ++ (request_text (request.Release pod) ++ codes " ")) }
 {
     out.push_str("release ")?;
-    put_long(out, pod.0)?;
+    put_long(out, u64::from(pod.0))?;
     out.push_str(" ")
 }
 

@@ -264,7 +264,7 @@ fn read_both(alloc: Global, exits: &Value, restarts: &Value) -> Result<Container
         (all_said (container_change (view exits.now) (view restarts.now))
         (names_in_either (view exits.now) (view restarts.now))) }
 {
-    let given = Value::Bool(true);
+    let given = Value::True;
     let exit_names = names_in(alloc, exits)?;
     let restart_names = names_in(alloc, restarts)?;
     let both = both_of(

@@ -62,7 +62,7 @@ pub fn read_pod(alloc: Global, value: &Value) -> Result<Uid, LineFault>
     ensures { Says (λ pod. pod) result (pod_named (view value.now)) }
 {
     let number = read_number(alloc, value, &Path::new(alloc), "pod", 1, 4_294_967_295)?;
-    Ok(Uid(u64::from(number)))
+    Ok(Uid(number))
 }
 
 /// A controller of the shape; the first where none is given.

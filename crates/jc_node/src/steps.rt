@@ -12,13 +12,12 @@ use crate::fates::Fates;
 use jc_store::Store;
 use jc_types::Uid;
 
-// The UIDs of pods are numbers of entries of the log. These lie in memory, so 64 bits can count one
-// more.
+// The UIDs of pods are numbers of entries of the log, of which 32 bits can count one more.
 fn can_count_on(store: &Store)
     ensures within { Each (λ pod. pod.uid.0 ≤ length store.now) (pods_in store.now) }
-    ensures small { length store.now + 1 < 2 ^ 64 }
+    ensures small { length store.now + 1 < 2 ^ 32 }
 {
-    let _entries = store.log().as_slice().len();
+    let _log = store.log();
 }
 
 /// The next step of the node: what befalls the open pod with the least UID that something befalls;

@@ -22,7 +22,7 @@ use Rattle.jc_states.proofs.AtOddsFacts.{noted-in, noted-other}
 use Rattle.jc_account.specs.Accounts.{counted_in}
 use Rattle.jc_account.specs.Judged.{is_to_release}
 use Rattle.jc_account.proofs.AccountFacts.{release-order}
-use Rattle.jc_account.proofs.PickedFacts.{picked_uids}
+use Rattle.jc_states.proofs.PickedFacts.{picked_uids}
 use Rattle.jc_plan.proofs.LeftFacts.{none-passes}
 use Rattle.jc_plan.specs.Releases.{due_uids, is_orphan, is_owed, is_released, releases_of}
 

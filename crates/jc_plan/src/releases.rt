@@ -66,7 +66,7 @@ fn are_just_due(basis: &Basis, job: &Job, due: &Uids) -> bool
     requires due { due.now ≡ due_uids basis.now.job basis.now.pods }
     ensures { result ≡ true → releases_of basis.entry.now ≡ due.now }
 {
-    basis.pods.tally(job.uid).pods as usize == basis.pods.len()
+    basis.pods.are_all_of(job.uid)
 }
 
 /// The pods that lose their finalizer, in their order (KEP-2307): those that the Job is to release, which

@@ -36,7 +36,7 @@ pub fn read_pod(word: &[u8]) -> Option<Uid>
     ensures { result ≡ pod_said word.now }
 {
     let number = number_below(word, 4_294_967_296)?;
-    if 0 < number { Some(Uid(number)) } else { None }
+    if 0 < number { Some(Uid(number as u32)) } else { None }
 }
 
 /// The version that an update wants, or that any will do.
@@ -45,7 +45,7 @@ pub fn read_printed_version(word: &[u8]) -> Option<Option<Version>>
 {
     match word {
         b"any" => Some(None),
-        [b'v', digits @ ..] => Some(Some(Version(number_below(digits, 4_294_967_296)?))),
+        [b'v', digits @ ..] => Some(Some(Version(number_below(digits, 4_294_967_296)? as u32))),
         _ => None,
     }
 }

@@ -31,7 +31,7 @@ pub fn read_version(alloc: Global, value: &Value) -> Result<Option<Version>, Lin
 {
     match read_given_number(alloc, value, &Path::new(alloc), "version", 0, 4_294_967_295)? {
         None => Ok(None),
-        Some(number) => Ok(Some(Version(u64::from(number)))),
+        Some(number) => Ok(Some(Version(number))),
     }
 }
 

@@ -11,3 +11,4 @@ pub mod UidPlaceFacts
 pub mod OddFacts
 pub mod AtOddsFacts
 pub mod NotedFacts
+pub mod PickedFacts

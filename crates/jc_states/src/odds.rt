@@ -10,7 +10,7 @@ use std::collections::BTreeSet;
 // Puts the number of the pod's UID in where it is at odds, and takes it out where it is not.
 //
 // `Want` where there is no memory for it; the numbers are then as before.
-pub(crate) fn put_odd(numbers: &mut BTreeSet<u64>, pod: &Pod) -> Result<(), Want>
+pub(crate) fn put_odd(numbers: &mut BTreeSet<u32>, pod: &Pod) -> Result<(), Want>
     ensures noted { OnOk result (numbers.new.keys ≡ with_note pod.now numbers.old.keys) }
     ensures kept { OnErr result (numbers.new.keys ≡ numbers.old.keys) }
 {

@@ -34,7 +34,7 @@ pub struct Pods {
     // The numbers of each owner. A row whose pods have gone may stay, with 0 in each number.
     tallies: IndexMap<Uid, Tally>,
     // The numbers of the UIDs of the pods that are at odds.
-    odd: BTreeSet<u64>,
+    odd: BTreeSet<u32>,
     // Which indexes the active pods of each owner with the finalizer hold.
     holders: Holders,
 }
@@ -77,7 +77,7 @@ pub fn is_there(pods: &[Arc<Pod>], uid: Uid, place: usize) -> bool
 // Notes the pod among those at odds, or that it is not, and the index that it holds, if it holds one.
 //
 // `Want` where there is no memory for it; the numbers and who holds which index are then as before.
-fn put_odd_and_enter(odd: &mut BTreeSet<u64>, holders: &mut Holders, pod: &Pod) -> Result<(), Want>
+fn put_odd_and_enter(odd: &mut BTreeSet<u32>, holders: &mut Holders, pod: &Pod) -> Result<(), Want>
     ensures noted { OnOk result (odd.new.keys ≡ with_note pod.now odd.old.keys) }
     ensures entered { OnOk result ((owner : Uid) → (n : ℕ) → held_in owner n holders.new
         ≡ held_in owner n holders.old + (if holds_index owner n pod.now then 1 else 0)) }
@@ -197,9 +197,10 @@ impl Pods {
         pods_to_look_at(self.alloc, self.as_slice(), owner, uids, more)
     }
 
-    // Whether all pods were made for the owner. It goes over no pod.
-    fn are_all_of(&self, owner: Uid) -> bool
-        ensures { result ≡ (length (pods_for owner self.now) == length self.now) }
+    /// Whether all pods were made for the owner. It takes no memory, and goes over no pod.
+    pub fn are_all_of(&self, owner: Uid) -> bool
+        ensures all { result ≡ (length (pods_for owner self.now) == length self.now) }
+        ensures rising { IsRising self.now }
     {
         self.tally(owner).pods as usize == self.len()
     }

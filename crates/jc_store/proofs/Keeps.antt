@@ -78,43 +78,45 @@ counts-keep born jobs pods made counts items more k to same =
       made_before = λ owner. same owner ∙ k.made_before owner;
       stored = k.stored;
       few = k.few;
+      few_entries = k.few_entries;
     })
 
 job_put : (born next : ℕ) (jobs rows : List (Key × Job)) (pods : List Pod) (made : List (Uid × ℕ)) (log : List Entry)
     (job : Job) → IsKept born jobs pods made log → rows ≡ puts same_key jobs job.key job → next
-    ≡ births (JobPut job ∷ log) → Writes log (JobPut job) → IsKept next rows pods made (JobPut job ∷ log)
-job_put born next jobs rows pods made log job k put count writes = record {
+    ≡ births (JobPut job ∷ log) → Writes log (JobPut job) → length log < 2 ^ 32 - 2 → IsKept next rows pods made (JobPut job ∷ log)
+job_put born next jobs rows pods made log job k put count writes room = record {
   counted = count;
   jobs_there = put ∙ ap (λ t. puts same_key t job.key job) k.jobs_there;
   pods_there = k.pods_there;
   made_before = k.made_before;
   stored = (writes, k.stored);
   few = k.few;
+  few_entries = omega (arith, room);
 }
 
 pub make_job-keeps : (born next : ℕ) (jobs rows : List (Key × Job)) (pods : List Pod) (made : List (Uid × ℕ))
-    (items more log : List Entry) (job : Job) → IsKept born jobs pods made (reverse items) → reverse items ≡ log → more
-    ≡ items ++ JobPut job ∷ [] → rows ≡ puts same_key jobs job.key job → next ≡ births log + 1 → job.version
+    (items more log : List Entry) (job : Job) → IsKept born jobs pods made (reverse items) → reverse items ≡ log
+    → length log < 2 ^ 32 - 2 → more ≡ items ++ JobPut job ∷ [] → rows ≡ puts same_key jobs job.key job → next ≡ births log + 1 → job.version
     ≡ next_version log → IsNewJob log job → job_in job.key log ≡ None → IsKept next rows pods made (reverse more)
-make_job-keeps born next jobs rows pods made items more log job kept is to put count version new absent =
+make_job-keeps born next jobs rows pods made items more log job kept is room to put count version new absent =
     let k = subst (IsKept born jobs pods made) is kept in
     subst (IsKept next rows pods made) (sym (appended items more log (JobPut job) is to))
-    (job_put born next jobs rows pods made log job k put (count ∙ sym (made_job-births log job k.stored new)) (made_job-writes log job version new absent))
+    (job_put born next jobs rows pods made log job k put (count ∙ sym (made_job-births log job k.stored new)) (made_job-writes log job version new absent) room)
 
 pub put_job-keeps : (born : ℕ) (jobs rows : List (Key × Job)) (pods : List Pod) (made : List (Uid × ℕ))
-    (items more log : List Entry) (job : Job) → IsKept born jobs pods made (reverse items) → reverse items ≡ log → more
-    ≡ items ++ JobPut job ∷ [] → rows ≡ puts same_key jobs job.key job → job.version ≡ next_version log
+    (items more log : List Entry) (job : Job) → IsKept born jobs pods made (reverse items) → reverse items ≡ log
+    → length log < 2 ^ 32 - 2 → more ≡ items ++ JobPut job ∷ [] → rows ≡ puts same_key jobs job.key job → job.version ≡ next_version log
     → StepsFrom (job_in job.key log) job → IsKept born rows pods made (reverse more)
-put_job-keeps born jobs rows pods made items more log job kept is to put version step =
+put_job-keeps born jobs rows pods made items more log job kept is room to put version step =
     let k = subst (IsKept born jobs pods made) is kept in
     subst (IsKept born rows pods made) (sym (appended items more log (JobPut job) is to))
-    (job_put born born jobs rows pods made log job k put (k.counted ∙ sym (put_job-births log job step)) (put_job-writes log job version step))
+    (job_put born born jobs rows pods made log job k put (k.counted ∙ sym (put_job-births log job step)) (put_job-writes log job version step) room)
 
 pub end_job-keeps : (born : ℕ) (jobs rows : List (Key × Job)) (pods : List Pod) (made : List (Uid × ℕ))
-    (items more log : List Entry) (job : Job) → IsKept born jobs pods made (reverse items) → reverse items ≡ log → more
-    ≡ items ++ JobGone job ∷ [] → rows ≡ takes same_key jobs job.key → job.version ≡ next_version log
+    (items more log : List Entry) (job : Job) → IsKept born jobs pods made (reverse items) → reverse items ≡ log
+    → length log < 2 ^ 32 - 2 → more ≡ items ++ JobGone job ∷ [] → rows ≡ takes same_key jobs job.key → job.version ≡ next_version log
     → CanEnd (job_in job.key log) job → IsKept born rows pods made (reverse more)
-end_job-keeps born jobs rows pods made items more log job kept is to take version end =
+end_job-keeps born jobs rows pods made items more log job kept is room to take version end =
     let k = subst (IsKept born jobs pods made) is kept in
     subst (IsKept born rows pods made) (sym (appended items more log (JobGone job) is to)) (record {
       counted = k.counted;
@@ -123,6 +125,7 @@ end_job-keeps born jobs rows pods made items more log job kept is to take versio
       made_before = k.made_before;
       stored = (end_job-writes log job version end, k.stored);
       few = k.few;
+      few_entries = omega (arith, room);
     })
 
 -- A pod that was there before is not counted again.
@@ -144,10 +147,10 @@ written_few log pod few step = by (life pod.uid log) refl step
     by Gone is step = absurd step
 
 pub write_pod-keeps : (born : ℕ) (jobs : List (Key × Job)) (pods rows : List Pod) (made : List (Uid × ℕ))
-    (items more log : List Entry) (pod : Pod) → IsKept born jobs pods made (reverse items) → reverse items ≡ log → more
-    ≡ items ++ PodPut pod ∷ [] → rows ≡ put_pod pod pods → pod.version ≡ next_version log → CanGo (life pod.uid log) pod
+    (items more log : List Entry) (pod : Pod) → IsKept born jobs pods made (reverse items) → reverse items ≡ log
+    → length log < 2 ^ 32 - 2 → more ≡ items ++ PodPut pod ∷ [] → rows ≡ put_pod pod pods → pod.version ≡ next_version log → CanGo (life pod.uid log) pod
     → goes pod ≡ false → IsKept born jobs rows made (reverse more)
-write_pod-keeps born jobs pods rows made items more log pod kept is to put version step stays =
+write_pod-keeps born jobs pods rows made items more log pod kept is room to put version step stays =
     let k = subst (IsKept born jobs pods made) is kept in
     subst (IsKept born jobs rows made) (sym (appended items more log (PodPut pod) is to)) (record {
       counted = k.counted ∙ sym (write_pod-births log pod step);
@@ -158,13 +161,14 @@ write_pod-keeps born jobs pods rows made items more log pod kept is to put versi
           ∙ sym (not_again (same_uid pod.owner_uid owner) (is_never (life pod.uid log)) (made_for owner log) (step_made pod (life pod.uid log) step));
       stored = (write_pod-writes log pod version step stays, k.stored);
       few = written_few log pod k.few step;
+      few_entries = omega (arith, room);
     })
 
 pub end_pod-keeps : (born : ℕ) (jobs : List (Key × Job)) (pods rows : List Pod) (made : List (Uid × ℕ))
-    (items more log : List Entry) (pod : Pod) → IsKept born jobs pods made (reverse items) → reverse items ≡ log → more
-    ≡ items ++ PodGone pod ∷ [] → rows ≡ drop_pod pod.uid pods → pod.version ≡ next_version log
+    (items more log : List Entry) (pod : Pod) → IsKept born jobs pods made (reverse items) → reverse items ≡ log
+    → length log < 2 ^ 32 - 2 → more ≡ items ++ PodGone pod ∷ [] → rows ≡ drop_pod pod.uid pods → pod.version ≡ next_version log
     → CanGo (life pod.uid log) pod → goes pod ≡ true → IsKept born jobs rows made (reverse more)
-end_pod-keeps born jobs pods rows made items more log pod kept is to drop version step going =
+end_pod-keeps born jobs pods rows made items more log pod kept is room to drop version step going =
     let k = subst (IsKept born jobs pods made) is kept in
     subst (IsKept born jobs rows made) (sym (appended items more log (PodGone pod) is to)) (record {
       counted = k.counted;
@@ -173,6 +177,7 @@ end_pod-keeps born jobs pods rows made items more log pod kept is to drop versio
       made_before = k.made_before;
       stored = (end_pod-writes log pod version step going, k.stored);
       few = let less = length-drop_pod pod.uid (pods_in log) in let few = k.few in omega (arith, less, few);
+      few_entries = omega (arith, room);
     })
 
 -- The counts after one more pod of an owner.
@@ -194,7 +199,7 @@ pub make_pod-keeps : (born next : ℕ) (jobs : List (Key × Job)) (pods rows : L
     → IsKept born jobs pods made (reverse items) → reverse items ≡ log → more ≡ items ++ PodPut pod ∷ [] → rows
     ≡ put_pod pod pods → ((owner : Uid) → count_of counts owner ≡ count_of made owner) → count
     ≡ made_for pod.owner_uid log → Sets same_uid counts counted pod.owner_uid (Some (count + 1)) → next ≡ births log + 1
-    → length log < 2 ^ 32 - 1 → pod.version ≡ next_version log → IsNewPod log pod
+    → length log < 2 ^ 32 - 2 → pod.version ≡ next_version log → IsNewPod log pod
     → IsKept next jobs rows counted (reverse more)
 make_pod-keeps born next jobs pods rows made counts counted items more log pod count kept is to put same found sets birth room version new =
     let k = subst (IsKept born jobs pods made) is kept in
@@ -205,6 +210,7 @@ make_pod-keeps born next jobs pods rows made counts counted items more log pod c
       made_before = counts_more made counts counted log pod count k.made_before same found sets (new_never log pod k.stored new);
       stored = (made_pod-writes log pod k.stored version new, k.stored);
       few = let all = pods_in-few log in let one = length-put_pod pod (pods_in log) in omega (arith, all, one, room);
+      few_entries = omega (arith, room);
     })
 
 -- ---- rows for counts

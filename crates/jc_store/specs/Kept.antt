@@ -1,5 +1,5 @@
 -- What the store keeps of its log beside it.
-use Rattle.std.specs.Prelude.{ℕ, List, ◌≡◌, ◌<◌, ◌^◌, length, unwrap_or}
+use Rattle.std.specs.Prelude.{ℕ, List, ◌≡◌, ◌-◌, ◌<◌, ◌^◌, length, unwrap_or}
 use Rattle.jc_types.specs.declared.numbers.Uid.{Uid}
 use Rattle.jc_types.specs.declared.objects.Entry.{Entry}
 use Rattle.jc_types.specs.declared.objects.Job.{Job}
@@ -16,7 +16,7 @@ count_of counts owner = unwrap_or (at same_uid counts owner) 0
 
 -- The number is that of the Jobs and pods that were made, the tables have the Jobs and the pods that
 -- are there and how many pods were made for each owner, and each entry is a write of the store. So few pods are there
--- that 32 bits count them.
+-- that 32 bits count them, and so few entries that they count one more.
 pub record IsKept (born : ℕ) (jobs : List (Key × Job)) (pods : List Pod) (made : List (Uid × ℕ))
     (log : List Entry) : Type 0 where
   pub counted : born ≡ births log
@@ -25,3 +25,4 @@ pub record IsKept (born : ℕ) (jobs : List (Key × Job)) (pods : List Pod) (mad
   pub made_before : (owner : Uid) → count_of made owner ≡ made_for owner log
   pub stored : Stored log
   pub few : length (pods_in log) < 2 ^ 32
+  pub few_entries : length log < 2 ^ 32 - 1

@@ -34,7 +34,7 @@ impl Store {
             (create_job_at self.old key.now spec now None) result }
     {
         let uid = self.next_uid();
-        let version = self.next_version();
+        let version = self.next_version()?;
         let job = new_job(self.allocator(), key, uid, version, spec, now)?;
         self.make_job(job)?;
         Ok(Reply::Created { uid, version })
@@ -74,7 +74,7 @@ impl Store {
                 version: job.version,
             });
         }
-        let version = self.next_version();
+        let version = self.next_version()?;
         let alloc = self.allocator();
         let changed = with_spec(alloc, job, version, Arc::new(alloc, spec)?)?;
         self.put_job(changed)?;
@@ -115,7 +115,7 @@ impl Store {
                 version: job.version,
             });
         }
-        let version = self.next_version();
+        let version = self.next_version()?;
         let changed = with_status(self.allocator(), job, version, status)?;
         self.put_job(changed)?;
         Ok(Reply::Written { version })
@@ -132,7 +132,7 @@ impl Store {
         let Some(job) = self.job(key) else {
             return Ok(Reply::NotFound);
         };
-        let version = self.next_version();
+        let version = self.next_version()?;
         let gone = with_version(job, version)?;
         self.end_job(gone)?;
         Ok(Reply::Removed { version })

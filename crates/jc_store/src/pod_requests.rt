@@ -28,7 +28,7 @@ impl Store {
             (create_pod_gives self.old owner.now index now) result }
     {
         let uid = self.next_uid();
-        let version = self.next_version();
+        let version = self.next_version()?;
         let serial = self.made_for(owner.uid);
         let pod = new_pod(self.allocator(), owner, index, serial, uid, version, now)?;
         self.make_pod(pod)?;
@@ -51,7 +51,7 @@ impl Store {
                 version: found.version,
             });
         }
-        let version = self.next_version();
+        let version = self.next_version()?;
         let marked = with_mark(self.allocator(), found, version, now)?;
         self.put_pod(marked)?;
         Ok(Reply::Written { version })
@@ -71,7 +71,7 @@ impl Store {
         if !found.tracked {
             return Ok(Reply::NotTracked);
         }
-        let version = self.next_version();
+        let version = self.next_version()?;
         let released = without_finalizer(self.allocator(), found, version)?;
         self.put_pod(released)?;
         Ok(Reply::Released { version })
@@ -98,7 +98,7 @@ impl Store {
         if !found.tracked {
             return Ok(Reply::NotTracked);
         }
-        let version = self.next_version();
+        let version = self.next_version()?;
         let released = without_finalizer(self.allocator(), found, version)?;
         self.put_pod(released)?;
         Ok(Reply::Released { version })
@@ -133,7 +133,7 @@ impl Store {
             let name = unnamed.name.copy()?;
             return Ok(Reply::NoContainer { name });
         }
-        let version = self.next_version();
+        let version = self.next_version()?;
         let changed = with_report(self.allocator(), found, version, change)?;
         if same_course_of(found, &changed) {
             return Ok(Reply::Unchanged {

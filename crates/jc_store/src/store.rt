@@ -15,7 +15,7 @@ use super::pod_table::owned;
 use jc_states::goes;
 use jc_table::{PodTable, StoredPods, Table};
 use jc_types::{Arc, Copied, Entries, Entry, Job, Key, ListOf, Pod, Uid, Version, Want};
-use std::alloc::Global;
+use std::alloc::{AllocError, Global};
 use std::marker::Model;
 
 /// The store. Contracts see it as its log, newest first.
@@ -26,7 +26,7 @@ pub struct Store {
     // Oldest first.
     log: Entries,
     // How many Jobs and pods were made.
-    born: u64,
+    born: u32,
     // The Jobs that are there.
     jobs: Table<Key, Arc<Job>>,
     // The pods that are there.
@@ -155,6 +155,7 @@ impl Store {
     pub fn log(&self) -> &Entries
         ensures entries { reverse result.now ≡ self.now }
         ensures stored { Stored self.now }
+        ensures few_entries { length self.now < 2 ^ 32 - 1 }
     {
         &self.log
     }
@@ -231,11 +232,16 @@ impl Store {
         self.alloc
     }
 
-    // The version of the next write.
-    pub(super) fn next_version(&self) -> Version
-        ensures { result ≡ next_version self.now }
+    // The version of the next write; `Want` where 32 bits would not count one more.
+    pub(super) fn next_version(&self) -> Result<Version, Want>
+        ensures next { IfOk result (λ version. version ≡ next_version self.now) }
+        ensures room { OnOk result (length self.now < 2 ^ 32 - 2) }
     {
-        Version(self.entries() + 1)
+        let count = self.entries();
+        if count >= u32::MAX - 1 {
+            return Err(AllocError);
+        }
+        Ok(Version(count + 1))
     }
 
     // The UID of the next Job or pod.
@@ -254,6 +260,7 @@ impl Store {
 
     // Makes a Job, where its key has none.
     pub(super) fn make_job(&mut self, job: Job) -> Result<(), Want>
+        requires room { length self.old < 2 ^ 32 - 2 }
         requires version { job.version ≡ next_version self.old }
         requires new_job { IsNewJob self.old job }
         requires absent { job_in job.key self.old ≡ None }
@@ -271,6 +278,7 @@ impl Store {
 
     // Writes a Job that is there.
     pub(super) fn put_job(&mut self, job: Arc<Job>) -> Result<(), Want>
+        requires room { length self.old < 2 ^ 32 - 2 }
         requires version { job.version ≡ next_version self.old }
         requires step { StepsFrom (job_in job.key self.old) job }
         ensures added { OnOk result (self.new ≡ JobPut job ∷ self.old) }
@@ -284,6 +292,7 @@ impl Store {
 
     // Takes a Job away. Its last state is as it was, but for the version.
     pub(super) fn end_job(&mut self, job: Job) -> Result<(), Want>
+        requires room { length self.old < 2 ^ 32 - 2 }
         requires version { job.version ≡ next_version self.old }
         requires end { CanEnd (job_in job.key self.old) job }
         ensures added { OnOk result (self.new ≡ JobGone job ∷ self.old) }
@@ -298,7 +307,7 @@ impl Store {
 
     // Makes a pod.
     pub(super) fn make_pod(&mut self, pod: Pod) -> Result<(), Want>
-        requires few_entries { length self.old < 2 ^ 32 - 1 }
+        requires room { length self.old < 2 ^ 32 - 2 }
         requires version { pod.version ≡ next_version self.old }
         requires new_pod { IsNewPod self.old pod }
         ensures added { OnOk result (self.new ≡ PodPut pod ∷ self.old) }
@@ -319,6 +328,7 @@ impl Store {
 
     // Writes a pod that is there. Where it is then marked, has ended and has no finalizer, it goes.
     pub(super) fn put_pod(&mut self, pod: Arc<Pod>) -> Result<(), Want>
+        requires room { length self.old < 2 ^ 32 - 2 }
         requires version { pod.version ≡ next_version self.old }
         requires step { CanGo (life pod.uid self.old) pod }
         ensures added { OnOk result (self.new ≡ pod_entry pod ∷ self.old) }
@@ -333,6 +343,7 @@ impl Store {
 
     // Writes a pod that is there and stays.
     fn write_pod(&mut self, pod: Arc<Pod>) -> Result<(), Want>
+        requires room { length self.old < 2 ^ 32 - 2 }
         requires version { pod.version ≡ next_version self.old }
         requires step { CanGo (life pod.uid self.old) pod }
         requires stays { goes pod ≡ false }
@@ -347,6 +358,7 @@ impl Store {
 
     // Takes a pod away.
     fn end_pod(&mut self, pod: Arc<Pod>) -> Result<(), Want>
+        requires room { length self.old < 2 ^ 32 - 2 }
         requires version { pod.version ≡ next_version self.old }
         requires step { CanGo (life pod.uid self.old) pod }
         requires goes { goes pod ≡ true }
@@ -360,19 +372,17 @@ impl Store {
     }
 
     // How many Jobs and pods were made. Each has an entry.
-    fn births(&self) -> u64
+    fn births(&self) -> u32
         ensures value { result ≡ births self.now }
-        ensures small { result + 1 < 2 ^ 64 }
+        ensures small { result + 1 < 2 ^ 32 }
     {
-        let _entries = self.entries();
         self.born
     }
 
-    // How many entries the log has. They lie in memory, so 64 bits can count one more.
-    fn entries(&self) -> u64
-        ensures value { result ≡ length self.now }
-        ensures small { result + 1 < 2 ^ 64 }
+    // How many entries the log has.
+    fn entries(&self) -> u32
+        ensures { result ≡ length self.now }
     {
-        self.log.as_slice().len() as u64
+        self.log.as_slice().len() as u32
     }
 }

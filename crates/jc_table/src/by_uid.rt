@@ -17,7 +17,7 @@ use std::marker::Model;
 #[derive(Drop)]
 pub struct PodTable {
     // Each pod in the row of its UID's number, in ascending UID.
-    rows: BTreeMap<u64, Arc<Pod>>,
+    rows: BTreeMap<u32, Arc<Pod>>,
 }
 
 impl Model for PodTable {
@@ -73,7 +73,7 @@ impl PodTable {
     }
 
     /// All pods, in ascending UID.
-    pub fn values(&self) -> Values<'_, u64, Arc<Pod>>
+    pub fn values(&self) -> Values<'_, u32, Arc<Pod>>
         ensures pods { result ≡ self.now }
         ensures runs { ShowsInOrder (deref {X = Pod}) }
         ensures fits { length self.now < 2 ^ 63 }

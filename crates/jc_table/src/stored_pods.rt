@@ -25,7 +25,7 @@ pub struct StoredPods {
     // All pods.
     all: PodTable,
     // The numbers of the UIDs of the open ones.
-    numbers: BTreeSet<u64>,
+    numbers: BTreeSet<u32>,
 }
 
 impl Model for StoredPods {
@@ -41,7 +41,7 @@ impl Model for StoredPods {
 }
 
 // Takes the number of a pod that has ended out of those of the open pods.
-fn close(numbers: &mut BTreeSet<u64>, pod: &Pod)
+fn close(numbers: &mut BTreeSet<u32>, pod: &Pod)
     ensures { numbers.new.keys ≡ (if is_open pod.now then numbers.old.keys
         else remove_key (is_at (nat_cmp pod.now.uid.0)) numbers.old.keys) }
 {
@@ -52,7 +52,7 @@ fn close(numbers: &mut BTreeSet<u64>, pod: &Pod)
 }
 
 // The least of the numbers from this one on. It is mostly the least of all, for which no range is made.
-fn least_from(numbers: &BTreeSet<u64>, from: u64) -> Option<u64>
+fn least_from(numbers: &BTreeSet<u32>, from: u32) -> Option<u32>
     ensures { result ≡ find (nat_le from) numbers.now.keys }
 {
     let least = *numbers.first()?;

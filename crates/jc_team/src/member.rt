@@ -250,7 +250,7 @@ impl Member {
             return Ok(Reply::NotSynced);
         };
         let end = store.log_len();
-        let floor = Version(end.0.saturating_sub(window as u64));
+        let floor = Version(end.0.saturating_sub(window));
         if number.0 < floor.0 {
             self.controller.forget(kind);
             return Ok(Reply::Expired { floor });

@@ -5,12 +5,12 @@ use crate::lists::ListOf;
 
 /// The UID of a Job or a pod: 1 and up, and never used again (`metadata.uid`).
 #[derive(Clone, Copy, PartialEq, Eq, PartialOrd, Ord, Hash, Debug)]
-pub struct Uid(pub u64);
+pub struct Uid(pub u32);
 
 /// A place in the log of accepted writes, counted from 1; 0 is the empty log
 /// (`metadata.resourceVersion`).
 #[derive(Clone, Copy, PartialEq, Eq, PartialOrd, Ord, Hash, Debug)]
-pub struct Version(pub u64);
+pub struct Version(pub u32);
 
 /// UIDs in an order of their own.
 pub type Uids = ListOf<Uid>;

@@ -71,7 +71,7 @@ fn judge(
     job: &Job,
     log: &[Entry],
     places: &Places,
-    seen: u64,
+    seen: u32,
 ) -> Result<(), Want>
     requires places { ArePlaces (reverse log.now) places.now }
     requires sound { IsBookOf job.now.uid log.now book.old }
@@ -107,7 +107,7 @@ pub fn judge_in(
     job: &Job,
     log: &[Entry],
     places: &Places,
-    seen: u64,
+    seen: u32,
 ) -> Result<(), Want>
     requires places { ArePlaces (reverse log.now) places.now }
     requires sound { AreBooksOf log.now books.old.entries }

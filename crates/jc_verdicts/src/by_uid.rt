@@ -52,7 +52,7 @@ pub fn new_lists(alloc: Global, bound: usize) -> Result<Lists, Want>
 pub fn places_under(lists: &Lists, uid: Uid) -> &[usize]
     ensures { result.now ≡ places_under lists.now uid }
 {
-    if uid.0 < lists.near.len() as u64 {
+    if (uid.0 as usize) < lists.near.len() {
         return lists.near[uid.0 as usize].as_slice();
     }
     places_at(&lists.far, &uid)
@@ -62,7 +62,7 @@ pub fn places_under(lists: &Lists, uid: Uid) -> &[usize]
 pub fn add_to(alloc: Global, lists: &mut Lists, uid: Uid, place: usize) -> Result<(), Want>
     ensures { OnOk result (AddsTo lists.old lists.new (same_uid uid) place) }
 {
-    if uid.0 < lists.near.len() as u64 {
+    if (uid.0 as usize) < lists.near.len() {
         lists.near[uid.0 as usize].push(place)?;
         return Ok(());
     }
@@ -84,7 +84,7 @@ pub fn put_owner(owners: &mut Owners, pod: Uid, owner: Uid) -> Result<Option<Uid
     ensures before { IfOk result (λ before. before ≡ owner_in owners.old pod) }
     ensures sets { OnOk result (Sets owners.old owners.new pod (Some owner)) }
 {
-    if pod.0 < owners.near.len() as u64 {
+    if (pod.0 as usize) < owners.near.len() {
         let place = pod.0 as usize;
         let before = owners.near[place];
         owners.near[place] = Some(owner);
@@ -99,7 +99,7 @@ pub fn take_owner(owners: &mut Owners, pod: Uid) -> Option<Uid>
     ensures before { result ≡ owner_in owners.old pod }
     ensures sets { Sets owners.old owners.new pod None }
 {
-    if pod.0 < owners.near.len() as u64 {
+    if (pod.0 as usize) < owners.near.len() {
         let place = pod.0 as usize;
         let before = owners.near[place];
         owners.near[place] = None;

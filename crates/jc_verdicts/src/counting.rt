@@ -35,7 +35,7 @@ fn judging<'a>(
     past: &Past,
     log: &'a [Entry],
     places: &Places,
-) -> Option<(&'a Job, u64)>
+) -> Option<(&'a Job, u32)>
     requires starts { HasStarts (deeds_of script.now before.now) starts.now.entries }
     requires event { IsPlace script.now.commands past.now.event }
     requires places { ArePlaces (reverse log.now) places.now }

@@ -48,7 +48,7 @@ fn is_status(reply: &Reply) -> bool
 }
 
 /// The length of the log after the events.
-fn reach(script: &Script, events: &[Past]) -> u64
+fn reach(script: &Script, events: &[Past]) -> u32
     ensures { result ≡ reach (deeds_of script.now events.now) }
 {
     match events.last() {

@@ -19,11 +19,11 @@ use jc_states::{is_active, is_there, place_from};
 use jc_types::{Arc, Copied, Entry, Job, Key, Pod, Uid, Want};
 
 /// How many of the first n entries there are.
-pub fn end_of(log: &[Entry], n: u64) -> usize
+pub fn end_of(log: &[Entry], n: u32) -> usize
     ensures within { result ≤ length log.now }
     ensures same { take result log.now ≡ take n log.now }
 {
-    if n < log.len() as u64 {
+    if (n as usize) < log.len() {
         n as usize
     } else {
         log.len()
@@ -202,7 +202,7 @@ pub fn look(
     owner: Uid,
     log: &[Entry],
     places: &[usize],
-    seen: u64,
+    seen: u32,
 ) -> Result<usize, Want>
     requires places { places.now ≡ touching_places owner log.now }
     requires seen { HasSeen owner log.now known.now.entries pods.old.items at }

@@ -17,7 +17,7 @@ pub fn next(store: &Store, from: Version, window: u32) -> Next<'_>
     ensures { Shows store.now from window result }
 {
     let length = store.log_len().0;
-    let floor = length.saturating_sub(window as u64);
+    let floor = length.saturating_sub(window);
     if from.0 < floor {
         return Next::Expired {
             floor: Version(floor),

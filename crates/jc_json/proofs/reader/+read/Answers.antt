@@ -7,7 +7,7 @@ use Rattle.serde_json.specs.Data.{null, boolean, no_members, number, string, arr
 use Rattle.serde_json.specs.Read.{of_json, of_items, of_members, converted}
 use Rattle.serde_json.specs.View.{number_view}
 use Rattle.jc_json.specs.View.{view, members_view}
-use Rattle.jc_json.specs.declared.value.Value.{String, Number, Bool, Null, the_lemmas}
+use Rattle.jc_json.specs.declared.value.Value.{String, Number, Null, the_lemmas}
 use Rattle.jc_json.proofs.Reading.{converted-array, converted-object, item_read, item_refused, items_over, member_read, member_refused, key_refused, members_over, items_before, items_before-no_items, one_more_item, none_before}
 use Rattle.jc_json.proofs.Views.{view-Array, view-Object, members_view-push}
 use Rattle.jc_json.proofs.reader.+read.Goals as goal
@@ -60,8 +60,7 @@ pub read-returns-in-Bool-clause-ok : goal.read-returns-in-Bool-clause-ok
 read-returns-in-Bool-clause-ok t c =
     let first : c.args.reader.now ≡ token_of c.in_ok-token.token ∷ c.next.new.self = grind arith in
     let is : c.args.reader.now ≡ Token.boolean c.in-Bool.b ∷ c.next.new.self = grind (arith, first) in
-    let seen : view (Bool c.in-Bool.b) ≡ boolean c.in-Bool.b = search (rules, the_lemmas) in
-    ap (converted of_json) (ap (value c.args.depth) is ∙ value_is c.args.depth _) ∙ ap (λ d. Some (d, c.next.new.self)) (sym seen)
+    ap (converted of_json) (ap (value c.args.depth) is ∙ value_is c.args.depth _) ∙ ap (λ d. Some (d, c.next.new.self)) (sym c.truth.ensures)
 
 pub read-returns-in-Null-clause-ok : goal.read-returns-in-Null-clause-ok
 read-returns-in-Null-clause-ok t c =

@@ -3,4 +3,4 @@ use Rattle.jc_node.proofs.NextFacts.{pods-within}
 use Rattle.jc_node.proofs.steps.can_count_on.Goals as goal
 
 pub returns-clause-within : goal.returns-clause-within
-returns-clause-within c = pods-within c.args.store.now c.log.ensures.stored
+returns-clause-within c = pods-within c.args.store.now c.log-log.ensures.stored

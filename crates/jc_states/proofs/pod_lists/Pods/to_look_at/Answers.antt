@@ -12,7 +12,7 @@ pub returns-then-not-has_calm-2-clause-pods : goal.returns-then-not-has_calm-2-c
 returns-then-not-has_calm-2-clause-pods c =
     subst (λ all. IfOk c.odd_pods.result (λ pods. pods.items ≡ all))
     (noted-odd c.args.owner c.args.uids.now c.args.more.now c.args.self.now c.odd_pods.ensures.rising
-    (eqb-true (length (pods_for c.args.owner c.args.self.now)) (length c.args.self.now) (sym c.are_all_of.ensures ∙ c.if-are_all_of.true))
+    (eqb-true (length (pods_for c.args.owner c.args.self.now)) (length c.args.self.now) (sym c.are_all_of.ensures.all ∙ c.if-are_all_of.true))
     (sym c.has_calm.ensures ∙ c.if-not-has_calm.true) (sym c.has_calm-then-not-has_calm.ensures ∙ c.if-not-has_calm-2.true))
     c.odd_pods.ensures.pods
 

@@ -1,4 +1,4 @@
-use Rattle.std.proofs.Common.{arith, reverse, ap, length, ◌∙◌}
+use Rattle.std.proofs.Common.{arith, reverse, ap, ◌∙◌}
 use Rattle.jc_log.specs.Log.{births}
 use Rattle.jc_log.proofs.CountFacts.{births_within}
 use Rattle.jc_store.proofs.store.Store.births.Goals as goal
@@ -8,4 +8,4 @@ returns-clause-value c = c.self.invariant.counted ∙ ap births c.self.view_is
 
 pub returns-clause-small : goal.returns-clause-small
 returns-clause-small c =
-    omega (arith, births_within (reverse c.self.inside.log), c.self.invariant.counted, ap length c.self.view_is, c.entries-entries.ensures.value, c.entries-entries.ensures.small)
+    omega (arith, births_within (reverse c.self.inside.log), c.self.invariant.counted, c.self.invariant.few_entries)

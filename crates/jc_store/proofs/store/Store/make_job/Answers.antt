@@ -14,7 +14,7 @@ add_row-requires c =
 pub invariant_of-self-2 : goal.invariant_of-self-2
 invariant_of-self-2 c =
     make_job-keeps c.self.inside.born (c.births-born.result + 1) c.self.inside.jobs c.add_row.new.rows c.self.inside.pods c.self.inside.made
-    c.self.inside.log c.add_row.new.log c.args.self.now c.args.job c.self.invariant c.self.view_is
+    c.self.inside.log c.add_row.new.log c.args.self.now c.args.job c.self.invariant c.self.view_is c.requires.room
     (c.in_ok-add_row.ensures.entry ∙ ap (λ j. c.self.inside.log ++ JobPut j ∷ []) (c.in_ok-copy.ensures ∙ c.in_ok-job.ensures))
     (c.in_ok-add_row.ensures.row
     ∙ ap (λ j. puts same_key c.self.inside.jobs j.key c.in_ok-job.job) (c.deref.ensures ∙ c.in_ok-made.ensures ∙ c.in_ok-job.ensures)

@@ -12,7 +12,7 @@ use Rattle.jc_store.proofs.store.Store.make_pod.Goals as goal
 
 pub overflow_add-more : goal.overflow_add-more
 overflow_add-more c =
-    omega (arith, made_within c.args.pod.owner_uid c.args.self.now, c.made_for-count.ensures, c.requires.few_entries)
+    omega (arith, made_within c.args.pod.owner_uid c.args.self.now, c.made_for-count.ensures, c.requires.room)
 
 pub reserve_count-requires : goal.reserve_count-requires
 reserve_count-requires c =
@@ -39,4 +39,4 @@ invariant_of-self-2 c =
     c.made_for-count.result c.self.invariant c.self.view_is
     (c.in_ok-add_pod.ensures.entry ∙ ap (λ p. c.self.inside.log ++ PodPut p ∷ []) (c.in_ok-copy.ensures ∙ c.in_ok-pod.ensures))
     (c.in_ok-add_pod.ensures.row ∙ ap (λ p. put_pod p c.self.inside.pods) c.in_ok-pod.ensures) c.reserve_count.ensures.counts c.made_for-count.ensures c.replace.ensures.sets
-    (ap (λ n. n + 1) c.births-born.ensures.value) c.requires.few_entries c.requires.version c.requires.new_pod
+    (ap (λ n. n + 1) c.births-born.ensures.value) c.requires.room c.requires.version c.requires.new_pod

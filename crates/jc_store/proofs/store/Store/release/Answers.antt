@@ -5,4 +5,4 @@ use Rattle.jc_store.proofs.store.Store.release.Goals as goal
 pub put_pod-requires-clause-step : goal.put_pod-requires-clause-step
 put_pod-requires-clause-step c =
     goes_from_pod c.args.pod c.args.self.now c.deref-2.result.now c.in_ok-released.released (ap Some c.deref-2.ensures ∙ c.in-Some.ensures)
-    (release_step c.deref-2.result.now c.next_version-version.result c.in_ok-released.released c.in_ok-released.ensures)
+    (release_step c.deref-2.result.now c.in_ok-version.version c.in_ok-released.released c.in_ok-released.ensures)

@@ -8,7 +8,7 @@ use Rattle.jc_store.proofs.store.Store.report_phase.Goals as goal
 pub put_pod-requires-clause-step : goal.put_pod-requires-clause-step
 put_pod-requires-clause-step c =
     goes_from_pod c.args.pod c.args.self.now c.deref-4.result.now c.in_ok-changed.changed (ap Some c.deref-4.ensures ∙ c.in-Some.ensures)
-    (report_step c.deref-4.result.now c.next_version-version.result c.args.change.now c.in_ok-changed.changed
+    (report_step c.deref-4.result.now c.in_ok-version.version c.args.change.now c.in_ok-changed.changed
     (ap (λ p. is_final p.phase) (c.deref-4.ensures ∙ sym c.deref.ensures) ∙ sym c.is_final.ensures ∙ c.if-is_final.false)
     (ap (λ p. same_phase p.phase Running && same_phase c.args.change.now.phase Pending) (c.deref-4.ensures ∙ sym c.deref-2.ensures)
     ∙ sym c.is_step_back.ensures ∙ c.if-is_step_back.false)
