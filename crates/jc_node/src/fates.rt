@@ -1,14 +1,14 @@
 //! How the pods of each key are to end.
 
-ghost use Rattle.std.specs.Prelude.{◌≡◌, ◌≢◌, [], IfOk, IfSome, OnErr, OnOk, option_copied};
+ghost use Rattle.std.specs.Prelude.{◌≡◌, ◌≢◌, [], IfOk, IfSome, OnErr, OnOk, Some, option_copied};
 ghost use Rattle.jc_types.specs.declared.objects.Key.{Key};
 ghost use Rattle.jc_types.specs.Keys.{same_key};
-ghost use Rattle.jc_log.specs.Tables.{puts};
+ghost use Rattle.jc_log.specs.Tables.{Sets, puts};
 ghost use Rattle.jc_history.specs.Nodes.{end_at, last_end, pod_end};
 ghost use Rattle.jc_node.specs.Fated.{DecidesEnds, conditions_at_start, ends_at_key};
 
 use crate::conditions::Ready;
-use jc_table::Table;
+use indexmap::IndexMap;
 use jc_types::{Copied, End, Ends, Key, Pod, PodConditions, Want};
 use std::alloc::Global;
 use std::marker::Model;
@@ -18,7 +18,7 @@ use std::marker::Model;
 #[derive(Drop)]
 pub struct Fates {
     alloc: Global,
-    rows: Table<Key, Ends>,
+    rows: IndexMap<Key, Ends>,
     // The conditions of a pod that starts, which are made once a fate is set.
     ready: Ready,
 }
@@ -31,18 +31,28 @@ impl Model for Fates {
 
     ghost Value = { List (Key × List End) };
 
-    ghost view = { λ f. f.rows };
+    ghost view = { λ f. f.rows.entries };
 
-    ghost invariant = { λ f. HaveEnds f.rows };
+    ghost invariant = { λ f. HaveEnds f.rows.entries };
+}
+
+// Puts the ends at the key: in the place of those that are there, or in a new row at the end.
+fn put(rows: &mut IndexMap<Key, Ends>, key: Key, ends: Ends) -> Result<(), Want>
+    ensures puts { OnOk result (rows.new.entries ≡ puts same_key rows.old.entries key ends) }
+    ensures sets { OnOk result (Sets same_key rows.old.entries rows.new.entries key (Some ends)) }
+    ensures kept { OnErr result (rows.new.entries ≡ rows.old.entries) }
+{
+    rows.insert(key, ends)?;
+    Ok(())
 }
 
 // Copies of the rows, in their order.
-fn copied_rows(alloc: Global, rows: &Table<Key, Ends>) -> Result<Table<Key, Ends>, Want>
-    ensures { IfOk result (λ copies. copies ≡ rows.now) }
+fn copied_rows(alloc: Global, rows: &IndexMap<Key, Ends>) -> Result<IndexMap<Key, Ends>, Want>
+    ensures { IfOk result (λ copies. copies.entries ≡ rows.now.entries) }
 {
-    let mut copies = Table::new(alloc);
-    for (key, ends) in rows.rows() {
-        copies.put(key.copy()?, ends.copy()?)?;
+    let mut copies = IndexMap::new(alloc);
+    for (key, ends) in rows.iter() {
+        put(&mut copies, key.copy()?, ends.copy()?)?;
     }
     Ok(copies)
 }
@@ -64,7 +74,7 @@ impl Fates {
     {
         Fates {
             alloc,
-            rows: Table::new(alloc),
+            rows: IndexMap::new(alloc),
             ready: Ready::new(),
         }
     }
@@ -81,7 +91,7 @@ impl Fates {
         ensures kept { OnErr result (self.new ≡ self.old) }
     {
         self.ready.make(self.alloc)?;
-        self.rows.put(key.copy()?, ends)
+        put(&mut self.rows, key.copy()?, ends)
     }
 
     /// How the pods of the key are to end; `None` exactly where that is not decided. There is at

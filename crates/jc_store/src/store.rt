@@ -1,5 +1,5 @@
 //! The store, what can be read of it, and how entries are appended.
-ghost use Rattle.std.specs.Prelude.{◌≡◌, ◌<◌, ◌+◌, ◌-◌, ◌^◌, ◌∷◌, ◌++◌, [], reverse, length, option_copied, find, nat_le, ◌&&◌, false, true, IfOk, IsSome, OnOk, OnErr, None};
+ghost use Rattle.std.specs.Prelude.{◌≡◌, ◌<◌, ◌+◌, ◌-◌, ◌^◌, ◌∷◌, ◌++◌, [], reverse, length, option_copied, find, nat_le, ◌&&◌, false, true, IfOk, IsSome, OnOk, OnErr, None, Some};
 ghost use Rattle.jc_types.specs.declared.numbers.Uid.{Uid};
 ghost use Rattle.jc_types.specs.declared.objects.Entry.TheVariants.{JobGone, JobPut, PodGone, PodPut};
 ghost use Rattle.jc_log.specs.Requests.{pod_entry};
@@ -7,11 +7,12 @@ ghost use Rattle.jc_types.specs.Keys.{same_key, same_uid};
 ghost use Rattle.jc_log.specs.Log.{RowsRise, births, entry_at, job_in, jobs_in, life, made_for, next_uid, next_version, pod_in, pods_in, pods_of};
 ghost use Rattle.jc_states.specs.PodLists.{put_pod};
 ghost use Rattle.jc_states.specs.Pods.{goes, is_open};
-ghost use Rattle.jc_log.specs.Tables.{at, puts};
+ghost use Rattle.jc_log.specs.Tables.{Sets, at, puts};
 ghost use Rattle.jc_log.specs.Writes.{CanEnd, CanGo, IsNewJob, IsNewPod, StepsFrom, Stored};
 ghost use Rattle.jc_store.specs.Kept.{count_of};
 
 use super::pod_table::owned;
+use indexmap::IndexMap;
 use jc_states::goes;
 use jc_table::{PodTable, StoredPods, Table};
 use jc_types::{Arc, Copied, Entries, Entry, Job, Key, ListOf, Pod, Uid, Version, Want};
@@ -32,7 +33,7 @@ pub struct Store {
     // The pods that are there.
     pods: StoredPods,
     // How many pods were made for each owner that had one.
-    made: Table<Uid, u32>,
+    made: IndexMap<Uid, u32>,
 }
 
 impl Model for Store {
@@ -44,20 +45,32 @@ impl Model for Store {
 
     ghost view = { λ s. reverse s.log };
 
-    ghost invariant = { λ s. IsKept s.born s.jobs s.pods s.made (reverse s.log) };
+    ghost invariant = { λ s. IsKept s.born s.jobs s.pods s.made.entries (reverse s.log) };
 }
 
 // Makes a row for the owner's count, without a change of any count. An owner that was counted has one.
-fn reserve_count(made: &mut Table<Uid, u32>, owner: Uid, count: u32) -> Result<(), Want>
-    requires { count ≡ count_of made.old owner }
-    ensures counts { (other : Uid) → count_of made.new other ≡ count_of made.old other }
-    ensures row { OnOk result (IsSome (at same_uid made.new owner)) }
+fn reserve_count(made: &mut IndexMap<Uid, u32>, owner: Uid, count: u32) -> Result<(), Want>
+    requires { count ≡ count_of made.old.entries owner }
+    ensures counts { (other : Uid)
+        → count_of made.new.entries other ≡ count_of made.old.entries other }
+    ensures row { OnOk result (IsSome (at same_uid made.new.entries owner)) }
 {
     if count > 0 {
         return Ok(());
     }
-    made.put(owner, count)?;
+    made.insert(owner, count)?;
     Ok(())
+}
+
+// Writes the count of an owner that has a row.
+fn put_count(made: &mut IndexMap<Uid, u32>, owner: Uid, count: u32)
+    requires { IsSome (at same_uid made.old.entries owner) }
+    ensures { Sets same_uid made.old.entries made.new.entries owner (Some count) }
+{
+    let Some(place) = made.get_mut(&owner) else {
+        unreachable!()
+    };
+    *place = count;
 }
 
 // Writes the row of a new key, and its entry. Row and entry may be of any type, so that the proof needs not
@@ -140,7 +153,7 @@ impl Store {
             born: 0,
             jobs: Table::new(alloc),
             pods: StoredPods::new(alloc),
-            made: Table::new(alloc),
+            made: IndexMap::new(alloc),
         }
     }
 
@@ -321,7 +334,7 @@ impl Store {
         let pod = Arc::new(self.alloc, pod)?;
         let entry = Entry::PodPut(pod.copy()?);
         add_pod(&mut self.pods, &mut self.log, pod, entry)?;
-        self.made.replace(&owner, more);
+        put_count(&mut self.made, owner, more);
         self.born = born;
         Ok(())
     }

@@ -7,9 +7,10 @@ use Rattle.jc_node.proofs.fates.copied_rows.Goals as goal
 -- The first of the rows that are left is put behind the copies.
 pub loop-key-preserved : goal.loop-key-preserved
 loop-key-preserved c =
-    let row = c.in-Some.field-0.now in
-    let first : c.loop-key.key-iterator ≡ row ∷ c.next.new.self = c.in-Some.ensures.steps in
-    let key : c.in_ok-copy.field-0 ≡ row.0 = search rules in
-    let ends : c.in_ok-copy-2.field-0 ≡ row.1 = search rules in
-    row-copied same_key same_key-eq same_key-itself c.args.rows.now c.loop-key.copies c.loop-key.key-iterator c.next.new.self c.put.new.self row.0 c.in_ok-copy.field-0 row.1 c.in_ok-copy-2.field-0
-    c.rows-key-items.ensures.once c.loop-key.invariant first key ends c.in_ok-put.ensures.puts
+    let key = c.in-Some.key.now in
+    let ends = c.in-Some.ends.now in
+    let first : c.loop-key.key-iterator ≡ (key, ends) ∷ c.next.new.self = c.in-Some.ensures.steps in
+    let same : c.in_ok-copy.field-0 ≡ key = search rules in
+    let again : c.in_ok-copy-2.field-0 ≡ ends = search rules in
+    row-copied same_key same_key-eq same_key-itself c.args.rows.now.entries c.loop-key.copies.entries c.loop-key.key-iterator c.next.new.self c.put.new.rows.entries key c.in_ok-copy.field-0 ends c.in_ok-copy-2.field-0
+    c.iter-key-items.ensures.unique c.loop-key.invariant first same again c.in_ok-put.ensures.puts

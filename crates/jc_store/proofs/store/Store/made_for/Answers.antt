@@ -6,6 +6,6 @@ use Rattle.jc_store.proofs.store.Store.made_for.Goals as goal
 pub returns : goal.returns
 returns c =
     c.unwrap_or.ensures
-    ∙ ap (λ o. unwrap_or o 0) (c.copied.ensures ∙ c.get.ensures)
+    ∙ ap (λ o. unwrap_or o 0) (c.copied.ensures ∙ c.get.ensures.value)
     ∙ c.self.invariant.made_before c.args.owner
     ∙ ap (made_for c.args.owner) c.self.view_is

@@ -13,7 +13,7 @@ add_row-requires c =
 
 pub invariant_of-self-2 : goal.invariant_of-self-2
 invariant_of-self-2 c =
-    make_job-keeps c.self.inside.born (c.births-born.result + 1) c.self.inside.jobs c.add_row.new.rows c.self.inside.pods c.self.inside.made
+    make_job-keeps c.self.inside.born (c.births-born.result + 1) c.self.inside.jobs c.add_row.new.rows c.self.inside.pods c.self.inside.made.entries
     c.self.inside.log c.add_row.new.log c.args.self.now c.args.job c.self.invariant c.self.view_is c.requires.room
     (c.in_ok-add_row.ensures.entry ∙ ap (λ j. c.self.inside.log ++ JobPut j ∷ []) (c.in_ok-copy.ensures ∙ c.in_ok-job.ensures))
     (c.in_ok-add_row.ensures.row

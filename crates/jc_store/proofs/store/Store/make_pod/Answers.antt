@@ -29,14 +29,14 @@ add_pod-requires-clause-absent c =
 pub add_pod-requires-clause-begins_open : goal.add_pod-requires-clause-begins_open
 add_pod-requires-clause-begins_open c = ap is_open c.in_ok-pod.ensures ∙ ap (λ phase. not (is_final phase)) c.requires.new_pod.phase
 
-pub replace-requires : goal.replace-requires
-replace-requires c = c.in_ok-reserve_count.ensures.row
+pub put_count-requires : goal.put_count-requires
+put_count-requires c = c.in_ok-reserve_count.ensures.row
 
 pub invariant_of-self-2 : goal.invariant_of-self-2
 invariant_of-self-2 c =
-    make_pod-keeps c.self.inside.born (c.births-born.result + 1) c.self.inside.jobs c.self.inside.pods c.add_pod.new.pods c.self.inside.made
-    c.reserve_count.new.made c.replace.new.self c.self.inside.log c.add_pod.new.log c.args.self.now c.args.pod
+    make_pod-keeps c.self.inside.born (c.births-born.result + 1) c.self.inside.jobs c.self.inside.pods c.add_pod.new.pods c.self.inside.made.entries
+    c.reserve_count.new.made.entries c.put_count.new.made.entries c.self.inside.log c.add_pod.new.log c.args.self.now c.args.pod
     c.made_for-count.result c.self.invariant c.self.view_is
     (c.in_ok-add_pod.ensures.entry ∙ ap (λ p. c.self.inside.log ++ PodPut p ∷ []) (c.in_ok-copy.ensures ∙ c.in_ok-pod.ensures))
-    (c.in_ok-add_pod.ensures.row ∙ ap (λ p. put_pod p c.self.inside.pods) c.in_ok-pod.ensures) c.reserve_count.ensures.counts c.made_for-count.ensures c.replace.ensures.sets
+    (c.in_ok-add_pod.ensures.row ∙ ap (λ p. put_pod p c.self.inside.pods) c.in_ok-pod.ensures) c.reserve_count.ensures.counts c.made_for-count.ensures c.put_count.ensures
     (ap (λ n. n + 1) c.births-born.ensures.value) c.requires.room c.requires.version c.requires.new_pod

@@ -12,7 +12,7 @@ put_row-requires c =
 
 pub invariant_of-self-2 : goal.invariant_of-self-2
 invariant_of-self-2 c =
-    put_job-keeps c.self.inside.born c.self.inside.jobs c.put_row.new.rows c.self.inside.pods c.self.inside.made
+    put_job-keeps c.self.inside.born c.self.inside.jobs c.put_row.new.rows c.self.inside.pods c.self.inside.made.entries
     c.self.inside.log c.put_row.new.log c.args.self.now c.args.job c.self.invariant c.self.view_is c.requires.room
     (c.in_ok-put_row.ensures.entry ∙ ap (λ j. c.self.inside.log ++ JobPut j ∷ []) c.in_ok-copy.ensures)
     (c.in_ok-put_row.ensures.row
