@@ -174,43 +174,46 @@ impl Machine {
     // What a command does.
     //
     // `Want` where there is no memory for it; the machine is then as before.
-    fn act(&mut self, event: Event, action: Action1) -> Result<ReplyText, Want>
-        requires may { MayCome self.old event (act_of_action action) }
-        requires valid_action { IsValidAction action }
+    fn act(&mut self, event: Event, action: &Action1) -> Result<ReplyText, Want>
+        requires may { MayCome self.old event (act_of_action action.now) }
+        requires valid_action { IsValidAction action.now }
         ensures { HappensOrKeeps self.old self.new event result }
     {
         match action {
-            Action1::Create { key, spec } => self.create(event, &key, spec),
+            Action1::Create { key, spec } => {
+                let shared = spec.copy()?;
+                self.create(event, key, shared)
+            }
             Action1::Update {
                 key,
                 version,
                 change,
-            } => self.update(event, &key, version, &change),
-            Action1::Delete { key } => self.delete(event, &key),
-            Action1::Mark { pod } => self.mark(event, pod),
-            Action1::Strip { pod } => self.strip(event, pod),
-            Action1::Finish { pod, exit } => self.finish(event, pod, exit),
-            Action1::Report { pod, change } => self.report(event, pod, &change),
-            Action1::Fate { key, ends } => self.fate(event, &key, &ends),
-            Action1::Restart { controller } => self.restart(event, controller),
+            } => self.update(event, key, *version, change),
+            Action1::Delete { key } => self.delete(event, key),
+            Action1::Mark { pod } => self.mark(event, *pod),
+            Action1::Strip { pod } => self.strip(event, *pod),
+            Action1::Finish { pod, exit } => self.finish(event, *pod, *exit),
+            Action1::Report { pod, change } => self.report(event, *pod, change),
+            Action1::Fate { key, ends } => self.fate(event, key, ends),
+            Action1::Restart { controller } => self.restart(event, *controller),
             Action1::PutFault {
                 controller,
                 worker,
                 fault,
-            } => self.put_fault(event, controller, worker, fault),
+            } => self.put_fault(event, *controller, *worker, *fault),
             Action1::Settle => self.settled(event),
-            Action1::Clock { add } => self.clock(event, add),
-            Action1::List { controller, kind } => self.list(event, controller, kind),
-            Action1::Deliver { controller, kind } => self.deliver(event, controller, kind),
+            Action1::Clock { add } => self.clock(event, *add),
+            Action1::List { controller, kind } => self.list(event, *controller, *kind),
+            Action1::Deliver { controller, kind } => self.deliver(event, *controller, *kind),
             Action1::Begin { controller, worker } | Action1::Sync { controller, worker } => {
-                self.begin(event, controller, worker)
+                self.begin(event, *controller, *worker)
             }
-            Action1::Step { controller, worker } => self.step(event, controller, worker),
+            Action1::Step { controller, worker } => self.step(event, *controller, *worker),
             Action1::Node => self.node(event),
         }
     }
 
-    // The command at the place of the script. One that does what the system does is not copied.
+    // The command at the place of the script. It is read of a copy of their list, which shares its memory.
     //
     // `Want` where there is no memory for it; the machine is then as before.
     fn command(&mut self, event: Event, number: u32) -> Result<ReplyText, Want>
@@ -223,8 +226,11 @@ impl Machine {
         if let Some(system) = as_system(&command.action) {
             return self.system(event, system);
         }
-        let action = command.action.copy()?;
-        self.act(event, action)
+        let commands = self.script.commands.copy()?;
+        let Some(command) = commands.as_slice().get(number as usize) else {
+            unreachable!()
+        };
+        self.act(event, &command.action)
     }
 
     // An event of the system.
