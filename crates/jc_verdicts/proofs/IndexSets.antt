@@ -1,6 +1,6 @@
 -- In which order indexes are put in a set.
-use Rattle.std.proofs.Common.{◌≡◌, ℕ, ◌<◌, nat_lt, ◌+◌, Bool, true, false, cond, List, [], ◌∷◌, ◌++◌, drop, filter, get_or, length, refl, sym, ap, ◌∙◌, arith, lt-ltb, ltb-true, ltb-false, le-ltb}
-use Rattle.std.proofs.lemmas.List.{append-nil, append_assoc, drop_more}
+use Rattle.std.proofs.Common.{◌≡◌, ℕ, ◌<◌, nat_lt, Bool, true, false, cond, List, [], ◌∷◌, ◌++◌, filter, refl, sym, ap, ◌∙◌, arith, lt-ltb, ltb-true, ltb-false, le-ltb}
+use Rattle.std.proofs.lemmas.List.{append-nil, append_assoc}
 use Rattle.std.proofs.lemmas.List.Elements.{filter-append}
 use Rattle.jc_ranges.specs.Sets.{with_member}
 use Rattle.jc_types.proofs.ListFacts.{Each-passes, Each-weaker, filter_all, filter_none, filter_swap, filter_within}
@@ -90,12 +90,7 @@ join-first : (index : ℕ) (xs more : List ℕ) → join (with_member index xs) 
 join-first index xs [] = refl
 join-first index xs (m ∷ more) = ap (with_member m) (join-first index xs more) ∙ with-swap m index (join xs more)
 
--- One index more, from the first to the last.
-pub joined-next : (indexes : List ℕ) (d k : ℕ) (set so_far new : List ℕ) → k < length indexes
-    → join so_far (drop k indexes) ≡ join set indexes → new ≡ with_member (get_or indexes k d) so_far
-    → join new (drop (k + 1) indexes) ≡ join set indexes
-joined-next indexes d k set so_far new within told puts =
-    ap (λ all. join all (drop (k + 1) indexes)) puts
-    ∙ join-first (get_or indexes k d) so_far (drop (k + 1) indexes)
-    ∙ ap (join so_far) (sym (drop_more indexes k d within))
-    ∙ told
+-- Indexes that are put in after others.
+pub join-append : (set xs ys : List ℕ) → join set (xs ++ ys) ≡ join (join set xs) ys
+join-append set [] ys = refl
+join-append set (x ∷ xs) ys = ap (with_member x) (join-append set xs ys) ∙ sym (join-first x (join set xs) ys)

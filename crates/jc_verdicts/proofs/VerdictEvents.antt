@@ -6,7 +6,7 @@ use Rattle.jc_types.specs.declared.objects.Job.{Job}
 use Rattle.jc_log.specs.Deeds.{Deed}
 use Rattle.jc_log.specs.Log.{job_in}
 use Rattle.jc_log.proofs.LogFacts.{upto-reverse}
-use Rattle.jc_verdicts.specs.declared.starts.Start.{Start}
+use Rattle.jc_verdicts.specs.declared.workers.Start.{Start}
 use Rattle.jc_ledger.specs.Ledger.{Judging, is_status, judging_at, judging_of}
 use Rattle.jc_verdicts.specs.SyncStarts.{began_with}
 use Rattle.jc_ledger.specs.Syncs.{Began, appends, request_of, step_sync}
@@ -22,9 +22,10 @@ judging_by_sync d past log = by (is_status (request_of d.reply) && appends d pas
 
 module _ (d : Deed) (past : List Deed) (log : List Entry) where
   -- The sync wrote that began so: it judges by the Job that was there.
-  pub judging-start : (found : Option Start) (start : Start) (end : ℕ) (job : Option Job) → option_map began_with found ≡ sync_at d past → found ≡ Some start → take end log ≡ take start.jobs_at.0 log → job ≡ job_in start.key (reverse (take end log))
+  pub judging-start : (found : Option Start) (start : Start) (end : ℕ) (job : Option Job) → option_map began_with found ≡ sync_at d past
+      → found ≡ Some start → take end log ≡ take start.jobs_at.0 log → job ≡ job_in start.key.now (reverse (take end log))
       → option_map (λ (there : Job). record { job = there; seen = start.pods_at.0; at = d.length.0 }) job ≡ judging_of d past (reverse log)
   judging-start found start end job syncs some same finds =
       sym (judging_by_sync d past (reverse log) ∙ ap (option_and_then (judging_at d.length.0 (reverse log))) (sym syncs ∙ ap (option_map began_with) some)
       ∙ ap (option_map (λ (there : Job). record { job = there; seen = start.pods_at.0; at = d.length.0 }))
-      (ap (job_in start.key) (upto-reverse start.jobs_at.0 log ∙ ap reverse (sym same)) ∙ sym finds))
+      (ap (job_in start.key.now) (upto-reverse start.jobs_at.0 log ∙ ap reverse (sym same)) ∙ sym finds))

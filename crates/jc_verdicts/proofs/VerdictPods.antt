@@ -116,33 +116,33 @@ pub rises-dropped : (u : Uid) (pods new : List Pod) → IsRising pods → new �
 rises-dropped u pods new rises drops = subst IsRising (sym drops) (rises_filter 0 (λ pod. not (same_uid pod.uid u)) pods rises)
 
 -- A pod is written over that of its UID, or put in front of the first of a greater one, or is not there and does not stay.
-module _ (known : List (Uid × Outcome)) (items slice slice2 : List Pod) (pod again here here2 : Pod) (i : ℕ) (rises : IsRising items)
-    (shown : slice ≡ items) (shown2 : slice2 ≡ items) (copied : again ≡ pod) (is : here ≡ again) (is2 : here2 ≡ again) (at : i ≡ place_from here.uid slice)
+module _ (known : List (Uid × Outcome)) (items slice slice2 : List Pod) (pod here here2 : Pod) (i : ℕ) (rises : IsRising items)
+    (shown : slice ≡ items) (shown2 : slice2 ≡ items) (is : here ≡ pod) (is2 : here2 ≡ pod) (at : i ≡ place_from here.uid slice)
     (there : Bool) (tells : there ≡ is_some (pod_among here2.uid slice2)) where
   -- The place is that of its UID.
-  place : i ≡ place_from again.uid items
-  place = at ∙ ap (λ (p : Pod). place_from p.uid slice) is ∙ ap (place_from again.uid) shown
+  place : i ≡ place_from pod.uid items
+  place = at ∙ ap (λ (p : Pod). place_from p.uid slice) is ∙ ap (place_from pod.uid) shown
 
   -- Whether there is one of its UID.
-  told : there ≡ is_some (pod_among again.uid items)
-  told = tells ∙ ap (λ (p : Pod). is_some (pod_among p.uid slice2)) is2 ∙ ap (λ ps. is_some (pod_among again.uid ps)) shown2
+  told : there ≡ is_some (pod_among pod.uid items)
+  told = tells ∙ ap (λ (p : Pod). is_some (pod_among p.uid slice2)) is2 ∙ ap (λ ps. is_some (pod_among pod.uid ps)) shown2
 
-  none : there ≡ false → pod_among again.uid items ≡ None
-  none not_so = none_from_false (pod_among again.uid items) (sym told ∙ not_so)
+  none : there ≡ false → pod_among pod.uid items ≡ None
+  none not_so = none_from_false (pod_among pod.uid items) (sym told ∙ not_so)
 
   -- The place lies within the pods where there is one, and else at their end at most.
   pub put-within : there ≡ true → i < length items
-  put-within is_so = place-there again.uid items i place (sym told ∙ is_so)
+  put-within is_so = place-there pod.uid items i place (sym told ∙ is_so)
 
   pub put-fits : i ≤ length items
-  put-fits = let fits = place-within again.uid items in omega (arith, fits, place)
+  put-fits = let fits = place-within pod.uid items in omega (arith, fits, place)
 
   -- It is put.
-  pub put-over : there ≡ true → set items i again ≡ put_pod pod items
-  put-over is_so = ap (λ n. set items n again) place ∙ set-place 0 again items rises (sym told ∙ is_so) ∙ ap (λ p. put_pod p items) copied
+  pub put-over : (again : Pod) → again ≡ pod → there ≡ true → set items i again ≡ put_pod pod items
+  put-over again copied is_so = ap (set items i) copied ∙ ap (λ n. set items n pod) place ∙ set-place 0 pod items rises (sym told ∙ is_so)
 
-  pub put-new : there ≡ false → (new : List Pod) → new ≡ insert items i again → new ≡ put_pod pod items
-  put-new not_so new inserts = inserts ∙ ap (λ n. insert items n again) place ∙ insert-place again items (none not_so) ∙ ap (λ p. put_pod p items) copied
+  pub put-new : (again : Pod) → again ≡ pod → there ≡ false → (new : List Pod) → new ≡ insert items i again → new ≡ put_pod pod items
+  put-new again copied not_so new inserts = inserts ∙ ap (insert items i) copied ∙ ap (λ n. insert items n pod) place ∙ insert-place pod items (none not_so)
 
   -- The pods rise still, and those that stay are as they are to be.
   pub put-rises : (new : List Pod) → new ≡ put_pod pod items → IsRising new
@@ -153,9 +153,9 @@ module _ (known : List (Uid × Outcome)) (items slice slice2 : List Pod) (pod ag
   put-stays new puts = ap (filter (stays known)) puts ∙ passing-put (stays known) pod 0 items rises
 
   -- So they are where it is not there and does not stay.
-  pub put-none : (here3 : Pod) → here3 ≡ again → there ≡ false → stays known here3 ≡ false
+  pub put-none : (here3 : Pod) → here3 ≡ pod → there ≡ false → stays known here3 ≡ false
       → filter (stays known) items ≡ cond (stays known pod) (put_pod pod (filter (stays known) items)) (drop_pod pod.uid (filter (stays known) items))
   put-none here3 is3 not_so leaves =
-      sym (ap (filter (stays known)) (ap (λ (p : Pod). drop_pod p.uid items) (sym copied) ∙ drop-absent again.uid items (none not_so)))
+      sym (ap (filter (stays known)) (drop-absent pod.uid items (none not_so)))
       ∙ passing-drop (stays known) pod.uid items
-      ∙ sym (cond-false (stays known pod) (put_pod pod (filter (stays known) items)) (drop_pod pod.uid (filter (stays known) items)) (ap (stays known) (sym (is3 ∙ copied)) ∙ leaves))
+      ∙ sym (cond-false (stays known pod) (put_pod pod (filter (stays known) items)) (drop_pod pod.uid (filter (stays known) items)) (ap (stays known) (sym is3) ∙ leaves))

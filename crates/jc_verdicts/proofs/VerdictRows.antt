@@ -42,6 +42,7 @@ use Rattle.jc_account.proofs.RoomFacts.{first_of, room-below}
 use Rattle.jc_account.specs.declared.judgements.Judgement.{Judgement as Row}
 use Rattle.jc_account.specs.Judged.{has_come_to, is_fresh}
 use Rattle.jc_ledger.specs.Ledger.{Record, Ledger, record_of, has_record, is_held, is_success, is_within, fresh, chosen, kept, recorded, judged_as, successes, entered, within}
+use Rattle.jc_verdicts.proofs.IndexSets.{join-append}
 use Rattle.jc_verdicts.specs.Verdicts.{row_of, row_for, done_by, fresh_row, has_joined_list, is_row_of, is_success_by, new_rows, outcome_in, rows_for, space_by, success_index, success_indexes, waiting, IsCount}
 
 -- ---- the set of indexes
@@ -264,12 +265,13 @@ done_is job records done pods =
     ap (λ ps. join (kept job done) (within job.spec (indexes_of ps))) (filter_agree (is_success job records) (is_success_by job (outcome_in (map row_of records))) (success_is job records) pods)
     ∙ ap (join (kept job done)) (indexes_are job (outcome_in (map row_of records)) pods)
 
--- The indexes of pods and of one more.
-pub one-index : (job : Job) (known : Uid → Option Outcome) (pods : List Pod) (pod : Pod) (indexes new : List ℕ) (o : Option ℕ) → indexes ≡ success_indexes job known pods → o ≡ success_index job known pod → new ≡ indexes ++ cons_option o []
-    → new ≡ success_indexes job known (pods ++ pod ∷ [])
-one-index job known pods pod indexes new o are is more =
-    more ∙ ap (λ ns. ns ++ cons_option o []) are ∙ ap (λ i. success_indexes job known pods ++ cons_option i []) is
-    ∙ sym (filter_map-append (success_index job known) pods (pod ∷ []))
+-- The indexes of pods are put in, and then that of one more.
+pub joined-more : (job : Job) (known : Uid → Option Outcome) (pods : List Pod) (pod : Pod) (set so_far new : List ℕ) → so_far ≡ join set (success_indexes job known pods)
+    → new ≡ join so_far (success_indexes job known (pod ∷ [])) → new ≡ join set (success_indexes job known (pods ++ pod ∷ []))
+joined-more job known pods pod set so_far new are puts =
+    puts ∙ ap (λ ns. join ns (success_indexes job known (pod ∷ []))) are
+    ∙ sym (join-append set (success_indexes job known pods) (success_indexes job known (pod ∷ [])))
+    ∙ ap (join set) (sym (filter_map-append (success_index job known) pods (pod ∷ [])))
 
 -- What is kept after a write that judges.
 pub count_entered : (job : Job) (pods : List Pod) (seen at : ℕ) (ledger : Ledger) (rows rows' : List Row) (done done' : List ℕ) → IsCount rows done ledger → rows' ≡ rows ++ new_rows job.spec rows pods → done' ≡ done_by job (outcome_in rows) done pods

@@ -12,7 +12,7 @@ ghost use Rattle.jc_verdicts.specs.Verdicts.{done_once_seen, fresh_rows, outcome
 
 use crate::by_uid::places_under;
 use crate::places::Places;
-use crate::rows::{add_outcomes, new_rows, success_indexes, take_indexes};
+use crate::rows::{add_outcomes, new_rows, take_successes};
 use crate::seen::look;
 use indexmap::IndexMap;
 use jc_account::Judgement as Row;
@@ -93,8 +93,7 @@ fn judge(
     )?;
     let pods = book.pods.as_slice();
     let new = new_rows(alloc, &job.spec, &book.known, pods)?;
-    let more = success_indexes(alloc, job, &book.known, pods)?;
-    take_indexes(&mut book.done, job, more.as_slice())?;
+    take_successes(&mut book.done, job, &book.known, pods)?;
     let fresh = new.as_slice();
     enter(&mut book.rows, &mut book.known, fresh)?;
     Ok(())

@@ -19,7 +19,8 @@ use crate::events::written_sync;
 use crate::places::{Places, places_of};
 use crate::rows::count;
 use crate::seen::{end_of, job_among};
-use crate::starts::{Start, Worker, add_begin};
+use crate::starts::{add_begin, new_starts};
+use crate::workers::Starts;
 use indexmap::IndexMap;
 use jc_failpol::Outcome;
 use jc_ledger::{Verdicts, pods_are_judged_once};
@@ -30,13 +31,13 @@ use std::alloc::Global;
 /// The Job whose pods an event judges, and among how many entries it judges them.
 fn judging<'a>(
     script: &Script,
-    starts: &IndexMap<Worker, Start>,
+    starts: &Starts<'_>,
     before: &[Past],
     past: &Past,
     log: &'a [Entry],
     places: &Places,
 ) -> Option<(&'a Job, u32)>
-    requires starts { HasStarts (deeds_of script.now before.now) starts.now.entries }
+    requires starts { HasStarts (deeds_of script.now before.now) starts.now }
     requires event { IsPlace script.now.commands past.now.event }
     requires places { ArePlaces (reverse log.now) places.now }
     ensures { option_map (λ found. judging_as past.now found.0.now found.1) result
@@ -45,7 +46,7 @@ fn judging<'a>(
     let Some(start) = written_sync(script, starts, before, past) else {
         return None;
     };
-    let Some(job) = job_among(log, places, end_of(log, start.jobs_at.0), &start.key) else {
+    let Some(job) = job_among(log, places, end_of(log, start.jobs_at.0), start.key) else {
         return None;
     };
     Some((job, start.pods_at.0))
@@ -56,13 +57,13 @@ fn take_in(
     alloc: Global,
     books: &mut IndexMap<Uid, Book>,
     script: &Script,
-    starts: &IndexMap<Worker, Start>,
+    starts: &Starts<'_>,
     before: &[Past],
     past: &Past,
     log: &[Entry],
     places: &Places,
 ) -> Result<(), Want>
-    requires starts { HasStarts (deeds_of script.now before.now) starts.now.entries }
+    requires starts { HasStarts (deeds_of script.now before.now) starts.now }
     requires event { IsPlace script.now.commands past.now.event }
     requires places { ArePlaces (reverse log.now) places.now }
     requires sound { AreBooksOf log.now books.old.entries }
@@ -91,7 +92,7 @@ fn filled(
     ensures { IfOk result (λ books. AreCounts
         (λ j. ledger_of j (deeds_of script.now events.now) (reverse log.now)) books.entries) }
 {
-    let mut starts = IndexMap::new(alloc);
+    let mut starts = new_starts(alloc)?;
     let mut books = IndexMap::new(alloc);
     for place in 0..events.len() {
         let past = &events[place];

@@ -1,15 +1,14 @@
 //! What the events of a history did, as far as the ledger asks.
 
 ghost use Rattle.std.specs.Prelude.{◌≡◌, option_map};
-ghost use Rattle.std.specs.Option.{option_copied};
 ghost use Rattle.jc_log.specs.Deeds.{act_of_action, act_of_event, deed};
 ghost use Rattle.jc_ledger.specs.Ledger.{is_status};
 ghost use Rattle.jc_verdicts.specs.SyncStarts.{HasStarts, began_with};
 ghost use Rattle.jc_ledger.specs.Syncs.{reach, request_of, stepper};
 ghost use Rattle.jc_verdicts.specs.Verdicts.{IsPlace, deeds_of, sync_at};
 
-use crate::starts::{Start, Worker};
-use indexmap::IndexMap;
+use crate::starts::last_start;
+use crate::workers::{Start, Starts, Worker};
 use jc_types::{Action1, Command, Event, Past, Reply, Request, Script, Sys};
 
 /// The controller and the worker of a command that steps; `None` exactly where it does something else.
@@ -60,13 +59,13 @@ fn reach(script: &Script, events: &[Past]) -> u32
 /// With what the sync began whose accepted write of a status this event is.
 pub fn written_sync<'a>(
     script: &Script,
-    starts: &'a IndexMap<Worker, Start>,
+    starts: &Starts<'a>,
     before: &[Past],
     past: &Past,
-) -> Option<&'a Start>
-    requires starts { HasStarts (deeds_of script.now before.now) starts.now.entries }
+) -> Option<Start<'a>>
+    requires starts { HasStarts (deeds_of script.now before.now) starts.now }
     requires event { IsPlace script.now.commands past.now.event }
-    ensures { option_map began_with (option_copied result)
+    ensures { option_map began_with result
         ≡ sync_at (deed script.now past.now) (deeds_of script.now before.now) }
 {
     if !is_status(&past.reply) {
@@ -76,5 +75,5 @@ pub fn written_sync<'a>(
         return None;
     }
     let (controller, worker) = stepper(script.commands.as_slice(), &past.event)?;
-    starts.get(&Worker { controller, worker })
+    last_start(starts, Worker { controller, worker })
 }

@@ -10,5 +10,6 @@ mod places;
 mod rows;
 mod seen;
 mod starts;
+mod workers;
 
 pub use counting::{all_verdicts, verdicts, verdicts_at};

@@ -14,7 +14,7 @@ ghost use Rattle.jc_failpol.specs.Outcomes.{is_succeeded, same_outcome};
 ghost use Rattle.jc_account.specs.declared.judgements.Judgement.{Judgement as Row};
 ghost use Rattle.jc_account.specs.Rooms.{joins_list};
 ghost use Rattle.jc_ledger.specs.Ledger.{is_within, kept as kept_of};
-ghost use Rattle.jc_verdicts.specs.Verdicts.{fresh_row, has_joined_list, is_success_by, outcome_in, row_for, rows_for, space_by};
+ghost use Rattle.jc_verdicts.specs.Verdicts.{done_by, fresh_row, has_joined_list, is_success_by, outcome_in, row_for, rows_for, space_by};
 ghost use Rattle.jc_verdicts.specs.Verdicts.{success_index, success_indexes, waiting};
 
 use indexmap::IndexMap;
@@ -117,13 +117,14 @@ pub fn new_rows(
     rows_within(alloc, spec.mode, first, rows)
 }
 
-/// Notes the outcome of a row, where its UID has none.
+/// Notes the outcome of a row, where its UID has none. Mostly it has none, so it is looked for only
+/// once; an outcome that it had is put back.
 fn add_outcome(known: &mut IndexMap<Uid, Outcome>, row: &Row) -> Result<(), Want>
     ensures { OnOk result ((u : Uid) → at same_uid known.new.entries u
         ≡ option_or (at same_uid known.old.entries u) (outcome_in (row.now ∷ []) u)) }
 {
-    if !known.contains_key(&row.uid) {
-        known.insert(row.uid, row.outcome)?;
+    if let Some(before) = known.insert(row.uid, row.outcome)? {
+        known.insert(row.uid, before)?;
     }
     Ok(())
 }
@@ -200,25 +201,6 @@ fn success_index(job: &Job, known: &IndexMap<Uid, Outcome>, pod: &Pod) -> Option
     }
 }
 
-/// The indexes of the pods that have succeeded, and that were not judged Failed.
-pub fn success_indexes(
-    alloc: Global,
-    job: &Job,
-    known: &IndexMap<Uid, Outcome>,
-    pods: &[Arc<Pod>],
-) -> Result<Vec<u32>, Want>
-    ensures { IfOk result (λ indexes. indexes.items
-        ≡ success_indexes job.now (at same_uid known.now.entries) pods.now) }
-{
-    let mut indexes = Vec::new(alloc);
-    for pod in pods {
-        if let Some(index) = success_index(job, known, pod) {
-            indexes.push(index)?;
-        }
-    }
-    Ok(indexes)
-}
-
 /// How many of the indexes are below the number of completions: they stand in front.
 fn count_within(done: &[u32], completions: u32) -> usize
     requires { IsIncreasing done.now }
@@ -249,27 +231,55 @@ fn put_index(done: &mut Vec<u32>, index: u32) -> Result<(), Want>
     Ok(())
 }
 
-/// Puts the indexes in their places. They mostly come behind those that are there, the first one first.
-fn put_indexes(done: &mut Vec<u32>, indexes: &[u32]) -> Result<(), Want>
+/// Puts the index of a pod in its place, where the pod has succeeded and was not judged Failed.
+fn put_success(
+    done: &mut Vec<u32>,
+    job: &Job,
+    known: &IndexMap<Uid, Outcome>,
+    pod: &Pod,
+) -> Result<(), Want>
     requires { IsIncreasing done.old.items }
-    ensures { OnOk result (done.new.items ≡ join done.old.items indexes.now) }
+    ensures { OnOk result (done.new.items ≡ join done.old.items
+        (success_indexes job.now (at same_uid known.now.entries) (pod.now ∷ []))) }
 {
-    for index in indexes {
-        put_index(done, *index)?;
+    match success_index(job, known, pod) {
+        Some(index) => put_index(done, index),
+        None => Ok(()),
+    }
+}
+
+/// Puts the indexes of such pods in their places. They mostly come behind those that are there.
+fn put_successes(
+    done: &mut Vec<u32>,
+    job: &Job,
+    known: &IndexMap<Uid, Outcome>,
+    pods: &[Arc<Pod>],
+) -> Result<(), Want>
+    requires { IsIncreasing done.old.items }
+    ensures { OnOk result (done.new.items ≡ join done.old.items
+        (success_indexes job.now (at same_uid known.now.entries) pods.now)) }
+{
+    for pod in pods {
+        put_success(done, job, known, pod)?;
     }
     Ok(())
 }
 
-/// Makes of the indexes those after a write: the old ones that stay, with the new ones. Where all
-/// stay and none is new, it goes over none.
-pub fn take_indexes(done: &mut Vec<u32>, job: &Job, indexes: &[u32]) -> Result<(), Want>
+/// Makes of the indexes those after a write that saw the pods: the old ones that stay, with those
+/// of the pods that have succeeded. Where all stay and none is new, it goes over none.
+pub fn take_successes(
+    done: &mut Vec<u32>,
+    job: &Job,
+    known: &IndexMap<Uid, Outcome>,
+    pods: &[Arc<Pod>],
+) -> Result<(), Want>
     requires { IsIncreasing done.old.items }
-    ensures done { OnOk result
-        (done.new.items ≡ join (kept_of job.now done.old.items) indexes.now) }
+    ensures done { OnOk result (done.new.items
+        ≡ done_by job.now (at same_uid known.now.entries) done.old.items pods.now) }
     ensures order { OnOk result (IsIncreasing done.new.items) }
 {
     retain_indexes(done, job);
-    put_indexes(done, indexes)?;
+    put_successes(done, job, known, pods)?;
     Ok(())
 }
 

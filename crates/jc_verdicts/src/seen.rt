@@ -64,7 +64,7 @@ fn stays(known: &IndexMap<Uid, Outcome>, pod: &Pod) -> bool
 }
 
 /// Puts a pod of the Job in its place. One that does not stay is written only over that of its UID:
-/// to take each out alone would move all that come after it.
+/// to take each out alone would move all that come after it. It is copied only where it is put.
 fn put(pods: &mut Vec<Arc<Pod>>, known: &IndexMap<Uid, Outcome>, pod: &Arc<Pod>) -> Result<(), Want>
     requires { IsRising pods.old.items }
     ensures rising { OnOk result (IsRising pods.new.items) }
@@ -73,14 +73,15 @@ fn put(pods: &mut Vec<Arc<Pod>>, known: &IndexMap<Uid, Outcome>, pod: &Arc<Pod>)
         then put_pod pod.now (filter (stays known.now.entries) pods.old.items)
         else drop_pod pod.now.uid (filter (stays known.now.entries) pods.old.items))) }
 {
-    let again = pod.copy()?;
-    let place = place_from(pods.as_slice(), again.uid);
-    if is_there(pods.as_slice(), again.uid, place) {
+    let place = place_from(pods.as_slice(), pod.uid);
+    if is_there(pods.as_slice(), pod.uid, place) {
+        let again = pod.copy()?;
         pods[place] = again;
         return Ok(());
     }
-    if stays(known, &again) {
-        pods.insert(place, again)?;
+    if stays(known, pod) {
+        let added = pod.copy()?;
+        pods.insert(place, added)?;
     }
     Ok(())
 }

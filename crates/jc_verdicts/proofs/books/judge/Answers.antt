@@ -24,7 +24,7 @@ returns-clause-sound c = record {
   seen =
       seen-judged c.args.book.now.known.entries c.enter.new.known.entries c.args.job.now.uid c.args.log.now c.look.new.pods.items c.in_ok-book.field-0 c.deref.result.now c.as_slice-fresh.result.now c.in_ok-book.ensures.seen
       (c.as_slice-fresh.ensures.value ∙ c.in_ok-new.ensures ∙ ap (rows_for c.deref.result.now (at same_uid c.args.book.now.known.entries)) c.as_slice-pods.ensures.value) c.in_ok-enter.ensures.known;
-  order = c.in_ok-take_indexes.ensures.order;
+  order = c.in_ok-take_successes.ensures.order;
   known =
       knows-more c.args.book.now.known.entries c.enter.new.known.entries c.args.book.now.rows.items c.as_slice-fresh.result.now c.enter.new.rows.items c.requires.sound.known c.in_ok-enter.ensures.known
       c.in_ok-enter.ensures.rows;
@@ -45,8 +45,9 @@ returns-clause-rows c =
 -- The indexes are those that are done after it.
 pub returns-clause-done : goal.returns-clause-done
 returns-clause-done c =
-    c.in_ok-take_indexes.ensures.done
-    ∙ done-known c.args.job.now c.args.log.now c.args.seen c.args.book.now.known.entries c.args.book.now.rows.items c.args.book.now.done.items c.as_slice.result.now (pods_of c.args.job.now.uid (reverse (take c.args.seen c.args.log.now))) refl
+    c.in_ok-take_successes.ensures.done
+    ∙ done-known c.args.job.now c.args.log.now c.args.seen c.args.book.now.known.entries c.args.book.now.rows.items c.args.book.now.done.items
+    (success_indexes c.args.job.now (at same_uid c.args.book.now.known.entries) c.as_slice-pods.result.now) (pods_of c.args.job.now.uid (reverse (take c.args.seen c.args.log.now))) refl
     c.requires.sound.known
-    (c.as_slice.ensures.value ∙ c.in_ok-more.ensures ∙ ap (success_indexes c.args.job.now (at same_uid c.args.book.now.known.entries)) (c.as_slice-pods.ensures.value ∙ c.in_ok-book.ensures.pods)
+    (ap (success_indexes c.args.job.now (at same_uid c.args.book.now.known.entries)) (c.as_slice-pods.ensures.value ∙ c.in_ok-book.ensures.pods)
     ∙ indexes-kept_pods c.args.book.now.known.entries c.args.job.now (pods_of c.args.job.now.uid (reverse (take c.args.seen c.args.log.now))))

@@ -9,6 +9,6 @@ use Rattle.jc_verdicts.proofs.counting.filled.Given as goal
 abbrev pub invariant-loop-place : goal.invariant-loop-place
 invariant-loop-place l = record {
   counts : AreCounts (λ j. ledger_of j (deeds_of l.script (take l.place l.events)) (reverse l.log)) l.books.entries;
-  starts : HasStarts (deeds_of l.script (take l.place l.events)) l.starts.entries;
+  starts : HasStarts (deeds_of l.script (take l.place l.events)) l.starts;
   sound : AreBooksOf l.log l.books.entries;
 }
