@@ -236,6 +236,7 @@ impl Machine {
     // An event of the system.
     //
     // `Want` where there is no memory for it; the machine is then as before.
+    #[inline(always)]
     fn system(&mut self, event: Event, system: Sys) -> Result<ReplyText, Want>
         requires { MayCome self.old event (act_of_system system) }
         ensures { HappensOrKeeps self.old self.new event result }
@@ -253,6 +254,7 @@ impl Machine {
     // An event, where there is room for it.
     //
     // `Want` where there is no memory for it; the machine is then as before.
+    #[inline(always)]
     fn occur(&mut self, event: Event) -> Result<ReplyText, Want>
         requires { MayCome self.old event (act_seen self.old event) }
         ensures { HappensOrKeeps self.old self.new event result }
@@ -293,6 +295,7 @@ impl Machine {
     ///
     /// # Errors
     /// As `apply`. Nothing has changed then.
+    #[inline(always)]
     pub fn happen(&mut self, event: Event) -> Result<(), ApplyFault>
         requires { Admits self.old event }
         ensures ok { OnOk result (self.new ≡ happened self.old event) }

@@ -112,6 +112,7 @@ pub(crate) fn node_event(machine: &Machine) -> Option<Event>
 }
 
 // What there is but for the clock.
+#[inline(always)]
 pub(crate) fn but_clock_event(machine: &Machine) -> Option<Event>
     ensures { result ≡ first_event (but_clock machine.now.shape (deeds_seen machine.now)
         (log_seen machine.now)) }
@@ -143,6 +144,7 @@ pub(crate) fn clock_event(machine: &Machine) -> Option<Event>
 }
 
 // The first of all that is available.
+#[inline(always)]
 fn first_available(machine: &Machine) -> Option<Event>
     ensures { result ≡ first_event (available machine.now.shape (deeds_seen machine.now)
         (log_seen machine.now)) }
@@ -158,6 +160,7 @@ fn first_available(machine: &Machine) -> Option<Event>
 /// node, and the clock only where there is nothing else. Within a kind it goes by controller, then
 /// Jobs before pods, then by worker. `None` exactly where nothing is available. The time it takes
 /// does not grow with what was kept so far.
+#[inline(always)]
 pub fn next_event(machine: &Machine) -> Option<Event>
     ensures first { result ≡ first_event (available machine.now.shape (deeds_seen machine.now)
         (log_seen machine.now)) }

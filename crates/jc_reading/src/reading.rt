@@ -36,7 +36,11 @@ pub fn read_pod(word: &[u8]) -> Option<Uid>
     ensures { result ≡ pod_said word.now }
 {
     let number = number_below(word, 4_294_967_296)?;
-    if 0 < number { Some(Uid(number as u32)) } else { None }
+    if 0 < number {
+        Some(Uid(number as u32))
+    } else {
+        None
+    }
 }
 
 /// The version that an update wants, or that any will do.

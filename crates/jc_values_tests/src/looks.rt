@@ -9,11 +9,11 @@ use std::test::Fail;
 
 // A pod that is put: its UID, that of its Job, its index, its phase, whether it is marked, and whether it has
 // the finalizer.
-type Made = (u64, u64, u32, Phase, bool, bool);
+type Made = (u32, u32, u32, Phase, bool, bool);
 
 // What is then so of the Job of UID 1: the UIDs of the pods at which a sync looks, whether two pods share an
 // index, whether one has an index from 3 to 5, and the least index from 3 to 9 that none has.
-type Told = (&'static [u64], bool, bool, u32);
+type Told = (&'static [u32], bool, bool, u32);
 
 const ROWS: &[(Made, Told)] = &[
     (
@@ -61,7 +61,7 @@ fn row_of(made: Made) -> PodRow {
 }
 
 // The UIDs of the pods at which a sync of the Job of UID 1 looks, where these are listed.
-fn noted(alloc: Global, pods: &Pods, listed: &[Uid]) -> Result<Vec<u64>, Want> {
+fn noted(alloc: Global, pods: &Pods, listed: &[Uid]) -> Result<Vec<u32>, Want> {
     let noted = pods.to_look_at(Uid(1), listed, &[])?;
     noted.iter().map(|pod| pod.uid.0).collect(alloc)
 }

@@ -97,11 +97,11 @@ pub fn job(alloc: Global, created: Moment, status: JobStatus) -> Result<Job, Wan
 #[derive(Clone, Copy)]
 pub struct PodRow {
     /// Its UID.
-    pub uid: u64,
+    pub uid: u32,
     /// The place of its last write in the log.
-    pub version: u64,
+    pub version: u32,
     /// The UID of the Job that it was made for.
-    pub owner: u64,
+    pub owner: u32,
     /// Its completion index.
     pub index: Option<u32>,
     /// How far it has come.

@@ -22,10 +22,10 @@ fn fill(alloc: Global, store: &mut Store, pi: &Key, now: Moment) -> Result<(), F
 // What a request was answered.
 #[derive(Clone, Copy, PartialEq, Eq, Debug)]
 enum Answered {
-    Written(u64),
-    Unchanged(u64),
-    Released(u64),
-    Conflict(u64),
+    Written(u32),
+    Unchanged(u32),
+    Released(u32),
+    Conflict(u32),
     NotFound,
     NotTracked,
     BadParallelism,
@@ -54,9 +54,9 @@ fn told(reply: Result<Reply, Want>) -> Answered {
 #[derive(Clone, Copy)]
 enum Ask {
     // The status is written for the Job of that UID at that version.
-    Write(u64, u64),
+    Write(u32, u32),
     // The pod of that UID is let go at that version.
-    LetGo(u64, u64),
+    LetGo(u32, u32),
     // The Job is to have so many pods at once.
     Parallelism(u32),
 }

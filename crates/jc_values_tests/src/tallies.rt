@@ -13,15 +13,15 @@ enum Step {
     // Five pods of the Job of UID 1 are put, of the UIDs from 2 on.
     Five,
     // The pod of the UID is put as marked.
-    Mark(u64),
+    Mark(u32),
     // It is put as running and ready, its container was restarted so often.
-    Run(u64, u32),
+    Run(u32, u32),
     // It is put as ended.
-    End(u64),
+    End(u32),
     // It is put for the Job of another UID.
-    Give(u64, u64),
+    Give(u32, u32),
     // It is taken; and whether it was there.
-    Take(u64, bool),
+    Take(u32, bool),
 }
 
 // Pods, open, active, active and tracked, open and marked, ready, restarts.
@@ -46,7 +46,7 @@ fn plain(alloc: Global, row: PodRow) -> Result<Arc<Pod>, Fail> {
     Ok(Arc::new(alloc, pod_of(alloc, key(alloc)?, moment(0)?, row))?)
 }
 
-fn running(alloc: Global, uid: u64, restarts: u32) -> Result<Arc<Pod>, Fail> {
+fn running(alloc: Global, uid: u32, restarts: u32) -> Result<Arc<Pod>, Fail> {
     let row = PodRow {
         uid,
         phase: Phase::Running,
@@ -66,7 +66,7 @@ fn put(rt: &impl Abort, pods: &mut Pods, pod: Arc<Pod>) -> Result<(), Fail> {
 }
 
 fn put_five(rt: &impl Abort, alloc: Global, pods: &mut Pods) -> Result<(), Fail> {
-    for uid in [4u64, 2, 6, 3, 5] {
+    for uid in [4u32, 2, 6, 3, 5] {
         put(rt, pods, plain(alloc, PodRow { uid, ..POD })?)?;
     }
     Ok(())

@@ -231,7 +231,7 @@ fn begun(alloc: Global) -> Result<Reply, Want> {
     })
 }
 
-fn behind(need: u64, have: u64) -> Reply {
+fn behind(need: u32, have: u32) -> Reply {
     Reply::Behind {
         kind: Kind::Jobs,
         need: Version(need),
