@@ -8,9 +8,12 @@ use crate::sets::{asks, inserts, set};
 use jc_types::{Uid, uid_text};
 use std::alloc::{AllocError, Global};
 
-// The printed form of the UID.
+// The printed form of the UID, which has 32 bits.
 fn uid(alloc: Global, text: &str) -> Result<String, AllocError> {
-    let text = uid_text(alloc, Uid(text.parse().unwrap_or(0)))?;
+    let Ok(number) = text.parse() else {
+        return String::from_str(alloc, "no such UID");
+    };
+    let text = uid_text(alloc, Uid(number))?;
     String::from_str(alloc, text.as_str())
 }
 
