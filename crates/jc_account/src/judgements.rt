@@ -140,22 +140,11 @@ fn completed(alloc: Global, job: &Job, rows: &[Judgement]) -> Result<Ranges, Wan
     }
 }
 
-/// The rows of the pods for which there is room.
-///
-/// # Errors
-/// `Want` where there is no memory for them.
-pub fn rows_within(
-    alloc: Global,
-    mode: Mode,
-    first: Option<Uid>,
-    rows: &[Judgement],
-) -> Result<Vec<Judgement>, Want>
-    ensures { IfOk result (λ judged. judged.items ≡ rows_within mode first rows.now) }
+/// Leaves out the rows of the pods for which there is no room. It takes no memory.
+pub fn retain_within(rows: &mut Vec<Judgement>, mode: Mode, first: Option<Uid>)
+    ensures { rows.new.items ≡ rows_within mode first rows.old.items }
 {
-    rows.iter()
-        .copied()
-        .filter(|row| is_fit(mode, first, row.outcome, row.uid))
-        .collect(alloc)
+    rows.retain(|row| is_fit(mode, first, row.outcome, row.uid));
 }
 
 // How many of the pods for which there is no room have this outcome.
@@ -198,15 +187,17 @@ pub(crate) fn judge(
     ensures few_failed { IfOk result (λ r. length r.failed + r.left_failed ≤ length pods.now) }
 {
     let mode = job.spec.mode;
-    let rows = judgements(alloc, job, pods)?;
+    let mut rows = judgements(alloc, job, pods)?;
     let first_left = first_beyond(mode, rows.as_slice(), room);
-    let judged = rows_within(alloc, mode, first_left, rows.as_slice())?;
+    let left_succeeded = count_beyond(mode, first_left, rows.as_slice(), Outcome::Succeeded);
+    let left_failed = count_beyond(mode, first_left, rows.as_slice(), Outcome::Failed);
+    retain_within(&mut rows, mode, first_left);
     Ok(Verdicts {
-        succeeded: uids_judged(alloc, judged.as_slice(), Outcome::Succeeded)?,
-        failed: uids_judged(alloc, judged.as_slice(), Outcome::Failed)?,
-        completed: completed(alloc, job, judged.as_slice())?,
-        left_succeeded: count_beyond(mode, first_left, rows.as_slice(), Outcome::Succeeded),
-        left_failed: count_beyond(mode, first_left, rows.as_slice(), Outcome::Failed),
+        succeeded: uids_judged(alloc, rows.as_slice(), Outcome::Succeeded)?,
+        failed: uids_judged(alloc, rows.as_slice(), Outcome::Failed)?,
+        completed: completed(alloc, job, rows.as_slice())?,
+        left_succeeded,
+        left_failed,
         first_left,
     })
 }

@@ -12,7 +12,7 @@ mod rooms;
 mod uids;
 
 pub use accounts::{count_in, count_out};
-pub use judgements::{Judgement, rows_within};
+pub use judgements::{Judgement, retain_within};
 pub use laws::{
     indexes_are_counted_in, lists_are_counted_in, newly_judged_are_filters,
     released_lists_end_empty, releases_hold_the_lists, totals_are_counted_in,

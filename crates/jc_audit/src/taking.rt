@@ -23,10 +23,16 @@ fn clock_seconds(machine: &Machine) -> Option<u64>
     ensures exactly { (add : ℕ) → CanCome machine.now (event.System (sys.Clock add))
         → result ≡ Some add }
 {
-    match available(machine, Actor::Clock) {
-        Some(Event::System(Sys::Clock { add })) => Some(add),
-        _ => None,
-    }
+    let Some(event) = available(machine, Actor::Clock) else {
+        return None;
+    };
+    let Event::System(system) = event else {
+        return None;
+    };
+    let Sys::Clock { add } = system else {
+        return None;
+    };
+    Some(add.as_u64())
 }
 
 // A number of seconds fits 64 bits.
@@ -66,7 +72,7 @@ pub fn is_available(machine: &Machine, system: &Sys) -> bool
     ensures clock { IsClock system.now → FitsClock machine.now }
 {
     match system {
-        Sys::Clock { add } => can_pass(machine, *add),
+        Sys::Clock { add } => can_pass(machine, add.as_u64()),
         Sys::List { .. } | Sys::Deliver { .. } | Sys::Begin { .. } | Sys::Step { .. } | Sys::Node =>
             fits(machine, &Event::System(*system)),
     }

@@ -8,12 +8,12 @@ use Rattle.std.proofs.lemmas.List.Elements.{All-contains, All-from_recursion, fi
 use Rattle.std.proofs.lemmas.Option.{same_Some as some_is}
 use Rattle.jc_types.proofs.KeyFacts.{same_key-either_way, same_key-eq, same_uid-eq, same_uid-itself}
 use Rattle.jc_types.proofs.ListFacts.{Each-append, Each-both, Each-filter, Each-map, Each-passes, Each-weaker, filter_all, filter_none}
+use Rattle.jc_types.specs.declared.objects.KeyNames.{KeyNames as Key}
 use Rattle.jc_types.specs.Keys.{same_key, same_uid}
 use Rattle.jc_types.specs.declared.numbers.Uid.{Uid}
 use Rattle.jc_types.specs.declared.numbers.Version.{Version}
 use Rattle.jc_types.specs.declared.objects.Entry.{Entry}
 use Rattle.jc_types.specs.declared.objects.Job.{Job}
-use Rattle.jc_types.specs.declared.objects.Key.{Key}
 use Rattle.jc_types.specs.declared.objects.Pod.{Pod}
 use Rattle.jc_types.specs.declared.statuses.JobStatus.{JobStatus}
 use Rattle.jc_states.specs.Bases.{is_own, own_pods}

@@ -11,8 +11,8 @@ use Rattle.jc_types.specs.declared.numbers.Uid.{Uid}
 use Rattle.jc_types.specs.declared.numbers.Version.{Version}
 use Rattle.jc_types.specs.declared.objects.Entry.{Entry}
 use Rattle.jc_types.specs.declared.objects.Job.{Job}
-use Rattle.jc_types.specs.declared.objects.Key.{Key}
 use Rattle.jc_types.specs.declared.runs.Shape.{Shape}
+use Rattle.jc_types.specs.declared.objects.KeyNames.{KeyNames as Key}
 use Rattle.jc_types.specs.Keys.{same_key, same_uid}
 use Rattle.jc_states.specs.Bases.{own_pods}
 use Rattle.jc_states.specs.declared.bases.Basis.{Basis}

@@ -8,7 +8,6 @@ use Rattle.jc_plan.specs.Statuses.{wants_in}
 use Rattle.jc_types.specs.declared.objects.Entry.{Entry}
 use Rattle.jc_types.specs.declared.objects.Entry.TheVariants.{JobPut, JobGone, PodPut, PodGone}
 use Rattle.jc_types.specs.declared.objects.Job.{Job}
-use Rattle.jc_types.specs.declared.objects.Key.{Key}
 use Rattle.jc_types.specs.declared.objects.Pod.{Pod}
 use Rattle.jc_types.specs.declared.runs.Shape.{Shape}
 use Rattle.jc_types.specs.declared.specifications.Replacement.TheVariants.{FailedOnly}
@@ -18,6 +17,7 @@ use Rattle.jc_log.specs.Acts.{Act}
 use Rattle.jc_log.specs.Requests.{grown}
 use Rattle.jc_states.specs.Bases.{is_own, own_pods}
 use Rattle.jc_log.specs.Deeds.{Deed}
+use Rattle.jc_types.specs.declared.objects.KeyNames.{KeyNames as Key}
 use Rattle.jc_types.specs.Keys.{same_key, same_uid}
 use Rattle.jc_log.specs.Log.{Never, is_never, life, pods_in, pods_of, pods_under, upto}
 use Rattle.jc_log.specs.Writes.{Legal, Stored, Writes}

@@ -21,7 +21,6 @@ use Rattle.jc_types.specs.declared.numbers.Version.{Version}
 use Rattle.jc_types.specs.declared.objects.Entry.{Entry}
 use Rattle.jc_types.specs.declared.objects.Entry.TheVariants.{JobPut, JobGone, PodPut, PodGone}
 use Rattle.jc_types.specs.declared.objects.Job.{Job}
-use Rattle.jc_types.specs.declared.objects.Key.{Key}
 use Rattle.jc_types.specs.declared.objects.Pod.{Pod}
 use Rattle.jc_types.specs.declared.replies.Answer.{Answer}
 use Rattle.jc_types.specs.declared.replies.Reply.TheVariants as reply
@@ -35,6 +34,7 @@ use Rattle.jc_states.specs.Bases.{own_pods}
 use Rattle.jc_log.specs.Requests.{Answered, create_job_gives, delete_job_gives, empty_status, grown, mark_pod_gives, refused, release_gives, report_phase_gives, update_spec_gives, with_status}
 use Rattle.jc_log.specs.Acts.{Act}
 use Rattle.jc_log.specs.Deeds.{Deed}
+use Rattle.jc_types.specs.declared.objects.KeyNames.{KeyNames as Key}
 use Rattle.jc_types.specs.Keys.{same_key, same_uid}
 use Rattle.jc_log.specs.Log.{has_job, is_never, job_in, life, pod_in, upto}
 use Rattle.jc_types.specs.Equality.{same_status}

@@ -19,7 +19,6 @@ use Rattle.jc_types.specs.declared.numbers.Version.{Version}
 use Rattle.jc_types.specs.declared.objects.Entry.{Entry}
 use Rattle.jc_types.specs.declared.objects.Entry.TheVariants.{JobPut, PodPut, PodGone}
 use Rattle.jc_types.specs.declared.objects.Job.{Job}
-use Rattle.jc_types.specs.declared.objects.Key.{Key}
 use Rattle.jc_types.specs.declared.objects.Kind.{Kind}
 use Rattle.jc_types.specs.declared.objects.Kind.TheVariants.{Jobs, Pods}
 use Rattle.jc_types.specs.declared.objects.Phase.TheVariants.{Pending, Running}
@@ -36,6 +35,7 @@ use Rattle.jc_log.specs.Requests.{pod_entry, refused, release_at, release_gives,
 use Rattle.jc_log.specs.Requests.{with_report, with_spec, without_finalizer}
 use Rattle.jc_log.specs.Acts.{Act}
 use Rattle.jc_log.specs.Deeds.{Deed}
+use Rattle.jc_types.specs.declared.objects.KeyNames.{KeyNames as Key}
 use Rattle.jc_types.specs.Keys.{same_key}
 use Rattle.jc_log.specs.Log.{Live, is_never, job_in, life, next_version, pod_in}
 use Rattle.jc_states.specs.Pods.{goes, is_final, is_marked}

@@ -3,7 +3,7 @@
 
 ghost use Rattle.std.specs.Prelude.{◌≡◌, ◌∷◌, List, map};
 ghost use Rattle.jc_types.specs.declared.objects.Entry.{Entry};
-ghost use Rattle.jc_types.specs.declared.objects.Key.{Key};
+ghost use Rattle.jc_types.specs.declared.objects.KeyNames.{KeyNames as Key};
 ghost use Rattle.jc_log.specs.Log.{jobs_in, pods_under};
 ghost use Rattle.jc_log.specs.Writes.{Stored};
 ghost use Rattle.jc_cache.specs.Caches.{AreApart, owned_after, job_rows};

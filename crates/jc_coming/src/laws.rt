@@ -5,7 +5,7 @@ ghost use Rattle.std.specs.Prelude.{◌≡◌, ◌<◌, ◌≤◌, ◌∷◌, Li
 ghost use Rattle.jc_types.specs.declared.objects.Entry.{Entry};
 ghost use Rattle.jc_types.specs.declared.objects.Entry.TheVariants.{JobPut};
 ghost use Rattle.jc_types.specs.declared.objects.Job.{Job};
-ghost use Rattle.jc_types.specs.declared.objects.Key.{Key};
+ghost use Rattle.jc_types.specs.declared.objects.KeyNames.{KeyNames as Key};
 ghost use Rattle.jc_types.specs.declared.statuses.JobStatus.{JobStatus};
 ghost use Rattle.jc_states.specs.declared.bases.Basis.{Basis};
 ghost use Rattle.jc_states.specs.Bases.{own_pods};

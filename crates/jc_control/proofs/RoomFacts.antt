@@ -13,7 +13,7 @@ use Rattle.jc_queue.proofs.KeyLists.{is_in-last, is_in-without}
 use Rattle.jc_queue.specs.Delayed.{Delayed, RoomedDelays, delayed, due_keys, failed, retried}
 use Rattle.jc_queue.specs.Queued.{IsQueue, Queued, RoomedQueue, added, finished, got, has_key, sent_back, without}
 use Rattle.jc_types.proofs.KeyFacts.{same_key-eq}
-use Rattle.jc_types.specs.declared.objects.Key.{Key}
+use Rattle.jc_types.specs.declared.objects.KeyNames.{KeyNames as Key}
 use Rattle.jc_types.specs.Keys.{same_key}
 
 -- ---- the same keys are processing

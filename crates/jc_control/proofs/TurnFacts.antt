@@ -19,9 +19,9 @@ use Rattle.jc_queue.specs.Queued.{IsQueue, Queued, added, finished, got, got_fir
 use Rattle.std.proofs.lemmas.Bool.{cond-true, or_right}
 use Rattle.jc_types.specs.declared.numbers.Version.{Version}
 use Rattle.jc_types.specs.declared.objects.Job.{Job}
-use Rattle.jc_types.specs.declared.objects.Key.{Key}
 use Rattle.jc_types.specs.declared.objects.Kind.TheVariants.{Jobs, Pods}
 use Rattle.jc_states.specs.declared.bases.Basis.{Basis}
+use Rattle.jc_types.specs.declared.objects.KeyNames.{KeyNames as Key}
 use Rattle.jc_types.specs.Keys.{same_key}
 use Rattle.jc_log.specs.Tables.{Sets, at, puts}
 use Rattle.jc_types.proofs.KeyFacts.{same_key-eq, same_key-itself}

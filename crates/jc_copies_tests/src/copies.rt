@@ -12,8 +12,8 @@ use jc_queue::Delays;
 use jc_script::Cause;
 use jc_states::{Basis, Pods};
 use jc_types::{
-    Arc, Backoff, Copied, End, Ends, Indexes, Jobs, Key, Name, PodVersions, Text, Uid, Uids,
-    Version, Want,
+    Arc, Backoff, Copied, End, Ends, Indexes, Jobs, Key, KeyNames, Label, PodVersions, Text, Uid,
+    Uids, Version, Want,
 };
 use std::alloc::Global;
 use std::test::Fail;
@@ -25,10 +25,9 @@ fn is_copied<T: Copied>(value: &T) -> bool {
 
 // The key of the Job `pi` in the namespace `default`.
 fn key(alloc: Global) -> Result<Key, Want> {
-    Ok(Key {
-        namespace: Name::from_text(alloc, "default")?,
-        name: Name::from_text(alloc, "pi")?,
-    })
+    let namespace = Label::from_text(alloc, "default")?;
+    let name = Label::from_text(alloc, "pi")?;
+    Key::new(alloc, KeyNames { namespace, name })
 }
 
 // One pod's UID.

@@ -5,6 +5,7 @@
 --     KeepsShared seen slots              what the type keeps
 --     has_holders slots              a seat holds one of them
 --     is_open_slot seen slot              its sync has no plan, and nobody holds it
+--     is_unplanned slots                  one that nobody holds wants a plan
 --     holds_slot seat c w slot       the seat holds that register
 --     taken_by seat c w slots        it is now held by the seat
 --     put_back_by seat c w slots     it is no longer held by that seat
@@ -69,6 +70,10 @@ abbrev pub is_open_slot : Seen → Slot → Bool
 is_open_slot seen slot =
     slot.wants && is_none slot.holder
     && is_some (register slot.worker (diary_seen seen slot.controller))
+
+-- One that nobody holds wants a plan.
+abbrev pub is_unplanned : List Slot → Bool
+is_unplanned slots = list_any (λ (slot : Slot). slot.wants && is_none slot.holder) slots
 
 -- The seat is this one.
 abbrev pub is_seat : ℕ → Option ℕ → Bool

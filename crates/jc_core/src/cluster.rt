@@ -87,7 +87,8 @@ impl Cluster {
         ensures history_full { result ≡ Err HistoryFull
             → self.old.seen.shape.events ≤ length self.old.seen.pasts }
     {
-        let touch = touch_of_event(self.machine.script(), event);
+        let deed = event;
+        let touch = touch_of_event(self.machine.script(), deed);
         let reply = self.machine.apply(event)?;
         touch_all(&mut self.slots, self.machine.shape(), touch, &reply);
         Ok(reply)
@@ -109,7 +110,8 @@ impl Cluster {
         ensures history_full { result ≡ Err HistoryFull
             → self.old.seen.shape.events ≤ length self.old.seen.pasts }
     {
-        let touch = touch_of_event(self.machine.script(), event);
+        let deed = event;
+        let touch = touch_of_event(self.machine.script(), deed);
         self.machine.happen(event)?;
         let Some(reply) = self.machine.last_reply() else {
             unreachable!()

@@ -2,7 +2,7 @@
 
 ghost use Rattle.std.specs.Prelude.{◌≡◌, ◌⊎◌, ◌<◌, ◌≤◌, Err, IfOk, OnErr, OnOk, drop, false, is_none, length, map, reverse, true};
 ghost use Rattle.jc_types.specs.declared.objects.Job.{Job};
-ghost use Rattle.jc_types.specs.declared.objects.Key.{Key};
+ghost use Rattle.jc_types.specs.declared.objects.KeyNames.{KeyNames as Key};
 ghost use Rattle.jc_types.specs.declared.replies.Reply.TheVariants.{Ended};
 ghost use Rattle.jc_history.specs.Diaries.{moment};
 ghost use Rattle.jc_history.specs.Legal.{AreUsed};

@@ -5,7 +5,7 @@ ghost use Rattle.std.specs.List.{list_any};
 ghost use Rattle.jc_runs.specs.Bases.{CanPlan};
 ghost use Rattle.jc_history.specs.Registers.{register};
 ghost use Rattle.jc_play.specs.DiariesSeen.{diary_seen};
-ghost use Rattle.jc_core.specs.Shared.{all_registers, freed_slots, has_holders, holds_slot, is_open_slot, numbers_of, put_back_by, submitted_by, taken_by};
+ghost use Rattle.jc_core.specs.Shared.{all_registers, freed_slots, has_holders, holds_slot, is_open_slot, is_unplanned, numbers_of, put_back_by, submitted_by, taken_by};
 ghost use Rattle.jc_core.specs.Since.{seen_at};
 
 use crate::changes::{Change, change_all};
@@ -65,6 +65,15 @@ impl Cluster {
             worker: slot.worker,
             basis,
         }))
+    }
+
+    /// Whether a register that nobody holds wants a plan. Where none does there is no plan to take.
+    pub fn is_unplanned(&self) -> bool
+        ensures { result ≡ is_unplanned self.now.slots }
+    {
+        self.slots
+            .iter()
+            .any(|slot| slot.wants && slot.holder.is_none())
     }
 
     // Whether the seat holds the register, and the plan was made of what its sync began with. The register is

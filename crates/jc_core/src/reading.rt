@@ -2,7 +2,7 @@
 
 ghost use Rattle.std.specs.Prelude.{◌≡◌, ◌↔◌, ◌≤◌, IsTrue, Some, length, reverse};
 ghost use Rattle.jc_types.specs.declared.objects.Job.{Job};
-ghost use Rattle.jc_types.specs.declared.objects.Key.{Key};
+ghost use Rattle.jc_types.specs.declared.objects.KeyNames.{KeyNames as Key};
 ghost use Rattle.jc_log.specs.Log.{job_in};
 ghost use Rattle.jc_history.specs.Diaries.{moment};
 ghost use Rattle.jc_history.specs.Legal.{InLanes, IsHistory, IsLegal, next_command};

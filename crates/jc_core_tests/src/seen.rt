@@ -79,6 +79,11 @@ fn while_out<J: Naming>(
     Some((out, found))
 }
 
+// The command that creates the Job.
+fn create() -> Event {
+    Event::Command { lane: 0, number: 0 }
+}
+
 // The first seat creates the Job, and tells the second, which lists the Jobs then. The command cannot
 // come again. While the first has the cluster, the second finds it out.
 fn play_seen<J: Naming>(
@@ -92,16 +97,15 @@ fn play_seen<J: Naming>(
     ensures first { IsSameSeat a.old a.new × (a.new.holds ≡ false) }
     ensures second { IsSameSeat b.old b.new × (b.new.holds ≡ false) }
 {
-    let create = Event::Command { lane: 0, number: 0 };
     let list = Event::System(Sys::List {
         controller: 0,
         kind: Kind::Jobs,
     });
-    assert_eq!(rt; told_of(lock, a, create), Answered::Created);
+    assert_eq!(rt; told_of(lock, a, create()), Answered::Created);
     lock.meet(a, b)?;
     assert_eq!(rt; told_of(lock, b, list), Answered::Listed);
-    assert_eq!(rt; told_of(lock, a, create), Answered::NotNow);
-    let seen = while_out(lock, a, b, create);
+    assert_eq!(rt; told_of(lock, a, create()), Answered::NotNow);
+    let seen = while_out(lock, a, b, create());
     assert_eq!(rt; seen, Some((Answered::Out, 2)));
     Ok(())
 }

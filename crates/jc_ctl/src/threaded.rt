@@ -28,6 +28,7 @@ use jc_single::{
 use jc_types::{Shape, Want};
 use jc_words::LockKind;
 use std::alloc::{AllocError, Global};
+use std::mem;
 use std::sync::Wait;
 use std::thread::Threads;
 
@@ -118,7 +119,8 @@ fn run_by<R: Threads + Wait + Sync, G: Gate + Sync>(
     }
 }
 
-// The report of a run of the script on threads.
+// The report of a run of the script on threads. The cluster is not given back piece by piece: the program
+// prints the report and ends.
 fn threaded_report<R: Threads + Wait + Sync, G: Gate + Sync>(
     host: &Host<'_, R, G>,
     lock: LockKind,
@@ -132,7 +134,9 @@ fn threaded_report<R: Threads + Wait + Sync, G: Gate + Sync>(
         IsReport play.entry.threads play.entry.script.now play.entry.shape.now output.full output.text.items) }
 {
     let ended = run_by(host, lock, play)?;
-    told(host.alloc, &ended.cluster, ended.full)
+    let output = told(host.alloc, &ended.cluster, ended.full);
+    mem::forget(ended);
+    output
 }
 
 // The report of a run on threads of the script in the input.

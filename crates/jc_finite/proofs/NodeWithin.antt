@@ -5,10 +5,10 @@ use Rattle.std.specs.List.{AllByRecursion as Each, list_any}
 use Rattle.std.specs.Option.{option_map_or}
 use Rattle.jc_types.proofs.KeyFacts.{same_key-eq}
 use Rattle.jc_types.proofs.ListFacts.{Each-filter, Each-weaker}
+use Rattle.jc_types.specs.declared.objects.KeyNames.{KeyNames as Key}
 use Rattle.jc_types.specs.Keys.{same_key, same_uid}
 use Rattle.jc_types.specs.declared.objects.Entry.{Entry}
 use Rattle.jc_types.specs.declared.objects.Entry.TheVariants.{PodPut, PodGone}
-use Rattle.jc_types.specs.declared.objects.Key.{Key}
 use Rattle.jc_types.specs.declared.objects.Kind.TheVariants.{Pods}
 use Rattle.jc_types.specs.declared.objects.Pod.{Pod}
 use Rattle.jc_types.specs.declared.runs.Shape.{Shape}

@@ -19,7 +19,7 @@ use Rattle.std.specs.List.{AllByRecursion as Each}
 use Rattle.jc_types.specs.declared.actions.End.{End}
 use Rattle.jc_types.specs.declared.objects.Entry.{Entry}
 use Rattle.jc_types.specs.declared.objects.Job.{Job}
-use Rattle.jc_types.specs.declared.objects.Key.{Key}
+use Rattle.jc_types.specs.declared.objects.KeyNames.{KeyNames as Key}
 use Rattle.jc_types.specs.declared.objects.Pod.{Pod}
 use Rattle.jc_types.specs.declared.runs.Shape.{Shape}
 use Rattle.jc_states.specs.Pods.{is_active}

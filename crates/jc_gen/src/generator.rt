@@ -4,8 +4,8 @@ ghost use Rattle.std.specs.Prelude.{◌≡◌, ◌+◌, ◌*◌, ◌%◌, ◌≤
 ghost use Rattle.jc_gen.specs.Generated.{creation, end_with, fate_command, generated, job_ends, job_key, job_mode, job_spec};
 
 use jc_types::{
-    Action1, Arc, Command, Commands, End, Ends, JobSpec, Key, Mode, Name, Names, Replacement,
-    Restart, Script, Template, Want,
+    Action1, Arc, Command, Commands, End, Ends, JobSpec, Key, KeyNames, Label, Mode, Name, Names,
+    Replacement, Restart, Script, Template, Want,
 };
 use std::alloc::Global;
 
@@ -26,10 +26,9 @@ fn job_key(alloc: Global, i: u32) -> Result<Key, Want>
     ensures { IfOk result (λ key. key ≡ job_key i) }
 {
     let name = format!(in alloc; "g{i}")?;
-    Ok(Key {
-        namespace: Name::from_text(alloc, "default")?,
-        name: Name::from_string(name)?,
-    })
+    let namespace = Label::from_text(alloc, "default")?;
+    let name = Label::from_string(name);
+    Key::new(alloc, KeyNames { namespace, name })
 }
 
 fn job_mode(number: u32, i: u32) -> Mode

@@ -4,7 +4,7 @@ use Rattle.std.proofs.lemmas.Option.{none-some as none_some}
 use Rattle.jc_types.specs.declared.actions.SpecChange.{SpecChange}
 use Rattle.jc_types.specs.declared.objects.Entry.{Entry}
 use Rattle.jc_types.specs.declared.objects.Job.{Job}
-use Rattle.jc_types.specs.declared.objects.Key.{Key}
+use Rattle.jc_types.specs.declared.objects.KeyNames.{KeyNames as Key}
 use Rattle.jc_types.specs.declared.objects.Kind.{Kind}
 use Rattle.jc_types.specs.declared.numbers.Version.{Version}
 use Rattle.jc_types.specs.declared.replies.Reply.TheVariants as reply

@@ -8,7 +8,7 @@ use Rattle.jc_control.specs.Schedules.{Schedule}
 use Rattle.jc_plan.specs.Plans.{planned}
 use Rattle.jc_ledger.specs.Syncs.{Began as Sync, began_by, began_of, is_begin, sync_of}
 use Rattle.jc_types.specs.declared.objects.Entry.{Entry}
-use Rattle.jc_types.specs.declared.objects.Key.{Key}
+use Rattle.jc_types.specs.declared.objects.KeyNames.{KeyNames as Key}
 use Rattle.jc_types.specs.declared.objects.Kind.{Kind}
 use Rattle.jc_types.specs.declared.replies.Reply.{Reply}
 use Rattle.jc_types.specs.declared.replies.Reply.TheVariants as reply

@@ -10,10 +10,10 @@ use Rattle.jc_control.specs.Schedules.{ControllerView, Schedule, MirrorsLog, Mir
 use Rattle.jc_control.specs.ControllerCalls.{basis_of, begun, begun_at, begun_first, begun_unless, behind, first_lag, noted, noted_at, pods_need, lag as lag_of}
 use Rattle.jc_types.specs.declared.numbers.Version.{Version}
 use Rattle.jc_types.specs.declared.objects.Entry.{Entry}
-use Rattle.jc_types.specs.declared.objects.Key.{Key}
 use Rattle.jc_types.specs.declared.objects.Kind.{Kind}
 use Rattle.jc_types.specs.declared.objects.Kind.TheVariants.{Jobs, Pods}
 use Rattle.jc_states.specs.declared.bases.Basis.{Basis}
+use Rattle.jc_types.specs.declared.objects.KeyNames.{KeyNames as Key}
 use Rattle.jc_types.specs.Keys.{same_key}
 use Rattle.jc_log.specs.Log.{job_in, pods_under, upto}
 use Rattle.jc_log.specs.Tables.{at}

@@ -7,8 +7,8 @@ use Rattle.jc_control.specs.declared.ends.SyncEnd.{SyncEnd}
 use Rattle.jc_control.specs.declared.ends.SyncEnd.TheVariants as end
 use Rattle.jc_control.specs.ControllerCalls.{delays_after}
 use Rattle.jc_moment.specs.Range.{end_of_moments}
-use Rattle.jc_types.specs.declared.objects.Key.{Key}
 use Rattle.jc_states.specs.declared.bases.Basis.{Basis}
+use Rattle.jc_types.specs.declared.objects.KeyNames.{KeyNames as Key}
 use Rattle.jc_types.specs.Keys.{same_key}
 use Rattle.jc_log.specs.Tables.{at, puts, takes}
 use Rattle.jc_types.proofs.KeyFacts.{same_key-either_way, same_key-eq, same_key-itself}

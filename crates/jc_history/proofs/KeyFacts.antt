@@ -4,7 +4,7 @@ use Rattle.std.specs.List.{AllByRecursion as Each, IsDistinct}
 use Rattle.std.proofs.Math.Bool.{and_comm}
 use Rattle.std.proofs.lemmas.List.Elements.{filter_agree}
 use Rattle.std.proofs.lemmas.List.Folds.{list_any-append}
-use Rattle.jc_types.specs.declared.objects.Key.{Key}
+use Rattle.jc_types.specs.declared.objects.KeyNames.{KeyNames as Key}
 use Rattle.jc_types.specs.Keys.{same_key}
 use Rattle.jc_types.proofs.KeyFacts.{same_key-eq, same_key-itself, same_key-either_way}
 use Rattle.jc_types.proofs.ListFacts.{Each-filter, Each-passes, Each-weaker, filter_filter, filter_swap}

@@ -10,8 +10,8 @@ use Rattle.jc_queue.proofs.KeyLists.{is_in-last, is_in-without}
 use Rattle.jc_queue.proofs.KeySets.{ascends-once}
 use Rattle.jc_queue.proofs.QueueFacts.{first_is_dirty, first_is_idle}
 use Rattle.jc_queue.specs.Queued.{IsQueue, Queued, finished, got, got_first, has_key, sent_back, sent_back_first, without}
-use Rattle.jc_types.specs.declared.objects.Key.{Key}
 use Rattle.jc_states.specs.declared.bases.Basis.{Basis}
+use Rattle.jc_types.specs.declared.objects.KeyNames.{KeyNames as Key}
 use Rattle.jc_types.specs.Keys.{same_key}
 use Rattle.jc_types.proofs.KeyFacts.{same_key-itself, same_key-either_way}
 use Rattle.jc_types.proofs.ListFacts.{Each-weaker, filter_same}

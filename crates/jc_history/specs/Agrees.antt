@@ -6,8 +6,8 @@ use Rattle.jc_control.specs.Schedules.{Schedule, backoff_of, floor_of, number_of
 use Rattle.std.specs.List.{IsDistinct}
 use Rattle.std.specs.Map.{keys_of}
 use Rattle.jc_queue.specs.Queued.{IsQueue, has_key}
-use Rattle.jc_types.specs.declared.objects.Key.{Key}
 use Rattle.jc_types.specs.declared.objects.Kind.{Kind}
+use Rattle.jc_types.specs.declared.objects.KeyNames.{KeyNames as Key}
 use Rattle.jc_types.specs.Keys.{same_key}
 use Rattle.jc_log.specs.Tables.{at}
 use Rattle.jc_history.specs.Delays.{delay, failures}

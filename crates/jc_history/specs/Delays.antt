@@ -13,7 +13,7 @@ use Rattle.jc_control.specs.declared.ends.SyncEnd.{SyncEnd}
 use Rattle.jc_control.specs.declared.ends.SyncEnd.TheVariants as end
 use Rattle.jc_moment.specs.Range.{end_of_moments}
 use Rattle.jc_queue.specs.Delayed.{earlier, first_of, in_turn, is_due, seconds_after}
-use Rattle.jc_types.specs.declared.objects.Key.{Key}
+use Rattle.jc_types.specs.declared.objects.KeyNames.{KeyNames as Key}
 use Rattle.jc_types.specs.Keys.{same_key}
 use Rattle.jc_history.specs.KeyLists.{once}
 use Rattle.jc_history.specs.Notes.{Note, Ended, Ticked}

@@ -10,7 +10,7 @@ use Rattle.jc_control.specs.declared.begins.Lag.{Lag}
 use Rattle.jc_control.specs.ControllerCalls.{behind, first_lag, pods_need, is_begun}
 use Rattle.jc_types.specs.declared.numbers.Version.{Version}
 use Rattle.jc_types.specs.declared.objects.Entry.{Entry}
-use Rattle.jc_types.specs.declared.objects.Key.{Key}
+use Rattle.jc_types.specs.declared.objects.KeyNames.{KeyNames as Key}
 use Rattle.jc_types.specs.declared.objects.Kind.TheVariants.{Jobs, Pods}
 use Rattle.jc_states.specs.declared.bases.Basis.{Basis}
 use Rattle.jc_log.specs.Log.{job_in, pods_under, upto}

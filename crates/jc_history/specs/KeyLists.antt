@@ -2,7 +2,7 @@
 --     once keys       each key once, at its first place
 --     last_of keys    each key once, at its last place
 use Rattle.std.specs.Prelude.{not, List, [], ◌∷◌, filter, if◌then◌else◌}
-use Rattle.jc_types.specs.declared.objects.Key.{Key}
+use Rattle.jc_types.specs.declared.objects.KeyNames.{KeyNames as Key}
 use Rattle.jc_types.specs.Keys.{same_key}
 use Rattle.jc_queue.specs.Queued.{has_key}
 

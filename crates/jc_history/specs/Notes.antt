@@ -7,7 +7,7 @@ use Rattle.std.specs.Option.{option_or}
 use Rattle.jc_control.specs.declared.ends.SyncEnd.{SyncEnd}
 use Rattle.jc_types.specs.declared.actions.Fault.{Fault}
 use Rattle.jc_types.specs.declared.numbers.Version.{Version}
-use Rattle.jc_types.specs.declared.objects.Key.{Key}
+use Rattle.jc_types.specs.declared.objects.KeyNames.{KeyNames as Key}
 use Rattle.jc_types.specs.declared.objects.Kind.{Kind}
 use Rattle.jc_types.specs.declared.replies.Answer.{Answer}
 use Rattle.jc_types.specs.declared.replies.Request.{Request}

@@ -23,7 +23,7 @@ use Rattle.jc_types.specs.declared.actions.SpecChange.{SpecChange}
 use Rattle.jc_types.specs.declared.numbers.Uid.{Uid}
 use Rattle.jc_types.specs.declared.numbers.Version.{Version}
 use Rattle.jc_types.specs.declared.objects.Job.{Job}
-use Rattle.jc_types.specs.declared.objects.Key.{Key}
+use Rattle.jc_types.specs.declared.objects.KeyNames.{KeyNames as Key}
 use Rattle.jc_types.specs.declared.objects.Phase.{Phase}
 use Rattle.jc_types.specs.declared.policies.Action.TheVariants.{FailIndex, FailJob, Ignore}
 use Rattle.jc_types.specs.declared.policies.Operator.TheVariants.{Within}

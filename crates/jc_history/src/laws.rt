@@ -21,7 +21,7 @@ ghost use Rattle.jc_types.specs.declared.actions.Script.{Script};
 ghost use Rattle.jc_types.specs.declared.numbers.Version.{Version};
 ghost use Rattle.jc_types.specs.declared.objects.Entry.{Entry};
 ghost use Rattle.jc_types.specs.declared.objects.Job.{Job};
-ghost use Rattle.jc_types.specs.declared.objects.Key.{Key};
+ghost use Rattle.jc_types.specs.declared.objects.KeyNames.{KeyNames as Key};
 ghost use Rattle.jc_types.specs.declared.objects.Kind.{Kind};
 ghost use Rattle.jc_types.specs.declared.objects.Kind.TheVariants.{Jobs, Pods};
 ghost use Rattle.jc_types.specs.declared.objects.Pod.{Pod};

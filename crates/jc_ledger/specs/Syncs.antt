@@ -8,7 +8,7 @@
 --     appends d past       the deed appended an entry to the log
 use Rattle.std.specs.Prelude.{ℕ, ◌==◌, nat_lt, Bool, false, ◌&&◌, List, [], ◌∷◌, find, if◌then◌else◌, Option, Some, None, is_some, option_and_then}
 use Rattle.jc_log.specs.Acts as does
-use Rattle.jc_types.specs.declared.objects.Key.{Key}
+use Rattle.jc_types.specs.declared.objects.KeyNames.{KeyNames as Key}
 use Rattle.jc_types.specs.declared.replies.Reply.{Reply}
 use Rattle.jc_types.specs.declared.replies.Reply.TheVariants as reply
 use Rattle.jc_types.specs.declared.replies.Request.{Request}

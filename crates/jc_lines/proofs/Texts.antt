@@ -10,7 +10,7 @@ use Rattle.jc_queue.specs.Delayed.{key_order}
 use Rattle.jc_types.specs.declared.actions.Script.{Script}
 use Rattle.jc_types.specs.declared.numbers.Uid.{Uid}
 use Rattle.jc_types.specs.declared.objects.Job.{Job}
-use Rattle.jc_types.specs.declared.objects.Key.{Key}
+use Rattle.jc_types.specs.declared.objects.KeyNames.{KeyNames as Key}
 use Rattle.jc_types.specs.declared.runs.Past.{Past}
 use Rattle.jc_lines.specs.Reports.{by_key, job_lines, jobs_text, lines_with}
 

@@ -233,7 +233,7 @@ pub fn print_system(out: &mut String, system: &Sys) -> Result<(), Want>
             print_worker(out, *controller, *worker)
         }
         Sys::Node => out.push_str("node"),
-        Sys::Clock { add } => print_clock(out, *add),
+        Sys::Clock { add } => print_clock(out, add.as_u64()),
     }
 }
 

@@ -14,7 +14,6 @@ use Rattle.jc_types.specs.declared.numbers.Version.{Version}
 use Rattle.jc_types.specs.declared.objects.Entry.{Entry}
 use Rattle.jc_types.specs.declared.objects.Entry.TheVariants.{JobPut, PodPut, PodGone}
 use Rattle.jc_types.specs.declared.objects.Job.{Job}
-use Rattle.jc_types.specs.declared.objects.Key.{Key}
 use Rattle.jc_types.specs.declared.objects.Phase.TheVariants.{Pending, Running}
 use Rattle.jc_types.specs.declared.objects.Pod.{Pod}
 use Rattle.jc_types.specs.declared.replies.Reply.{Reply}
@@ -25,6 +24,7 @@ use Rattle.jc_log.specs.StoredAnswers.{StaysLegal, StaysStored}
 use Rattle.jc_log.specs.Requests.{Answered, accepted, changed_spec, create_job_at, create_job_gives, create_pod_gives, delete_job_at, delete_job_gives, gone_job, grown, is_other, is_unnamed, let_go_at, let_go_gives, made_job, made_pod}
 use Rattle.jc_log.specs.Requests.{mark_pod_at, mark_pod_gives, new_container, new_containers, pod_entry, refused, release_at, release_gives, released, report_phase_at, report_phase_gives, report_unless, same_course_of, update_refusal}
 use Rattle.jc_log.specs.Requests.{update_spec_at, update_spec_gives, update_unless, with_mark, with_report, with_spec, with_status, without_finalizer, write_status_at, write_status_gives}
+use Rattle.jc_types.specs.declared.objects.KeyNames.{KeyNames as Key}
 use Rattle.jc_types.specs.Keys.{same_uid}
 use Rattle.jc_log.specs.Log.{Life, Never, Live, Gone, has_job, job_in, life, next_version, pod_in}
 use Rattle.jc_states.specs.Pods.{goes, is_final, is_marked}

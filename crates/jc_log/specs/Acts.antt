@@ -7,7 +7,7 @@ use Rattle.jc_types.specs.declared.actions.PhaseChange.{PhaseChange}
 use Rattle.jc_types.specs.declared.actions.SpecChange.{SpecChange}
 use Rattle.jc_types.specs.declared.numbers.Uid.{Uid}
 use Rattle.jc_types.specs.declared.numbers.Version.{Version}
-use Rattle.jc_types.specs.declared.objects.Key.{Key}
+use Rattle.jc_types.specs.declared.objects.KeyNames.{KeyNames as Key}
 use Rattle.jc_types.specs.declared.objects.Kind.{Kind}
 use Rattle.jc_types.specs.declared.specifications.JobSpec.{JobSpec}
 

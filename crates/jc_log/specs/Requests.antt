@@ -20,7 +20,6 @@ use Rattle.jc_types.specs.declared.objects.Container.{Container}
 use Rattle.jc_types.specs.declared.objects.Entry.{Entry}
 use Rattle.jc_types.specs.declared.objects.Entry.TheVariants.{JobPut, JobGone, PodPut, PodGone}
 use Rattle.jc_types.specs.declared.objects.Job.{Job}
-use Rattle.jc_types.specs.declared.objects.Key.{Key}
 use Rattle.jc_types.specs.declared.objects.Phase.TheVariants.{Pending, Running}
 use Rattle.jc_types.specs.declared.objects.Pod.{Pod}
 use Rattle.jc_types.specs.declared.policies.Pattern.{Pattern}
@@ -32,6 +31,7 @@ use Rattle.jc_types.specs.declared.specifications.Mode.{Mode}
 use Rattle.jc_types.specs.declared.specifications.Mode.TheVariants.{NonIndexed, Indexed}
 use Rattle.jc_types.specs.declared.specifications.Template.{Template}
 use Rattle.jc_types.specs.declared.statuses.JobStatus.{JobStatus}
+use Rattle.jc_types.specs.declared.objects.KeyNames.{KeyNames as Key}
 use Rattle.jc_types.specs.Keys.{same_uid}
 use Rattle.jc_log.specs.Log.{job_in, pod_in, next_uid, next_version, made_for}
 use Rattle.jc_states.specs.Pods.{goes, is_final, is_marked}

@@ -17,7 +17,7 @@ ghost use Rattle.jc_team.specs.RepliesAgain.{IsReplyText};
 
 use crate::machine::Machine;
 use jc_team::{ReplyText, again};
-use jc_types::{Action1, Copied, Event, Reply, Same, Script, Shape, Sys, Want};
+use jc_types::{Action1, Copied, Event, Reply, Same, Script, Seconds, Shape, Sys, Want};
 
 // Whether the controller is one of the shape.
 fn has_controller(shape: &Shape, controller: u32) -> bool
@@ -104,7 +104,9 @@ fn as_system(action: &Action1) -> Option<Sys>
     ensures { result ≡ as_system action.now }
 {
     match action {
-        Action1::Clock { add } => Some(Sys::Clock { add: *add }),
+        Action1::Clock { add } => Some(Sys::Clock {
+            add: Seconds::from_u64(*add),
+        }),
         Action1::List { controller, kind } => Some(Sys::List {
             controller: *controller,
             kind: *kind,
@@ -246,7 +248,7 @@ impl Machine {
             Sys::Deliver { controller, kind } => self.deliver(event, controller, kind),
             Sys::Begin { controller, worker } => self.begin(event, controller, worker),
             Sys::Step { controller, worker } => self.step(event, controller, worker),
-            Sys::Clock { add } => self.clock(event, add),
+            Sys::Clock { add } => self.clock(event, add.as_u64()),
             Sys::Node => self.node(event),
         }
     }
@@ -259,7 +261,8 @@ impl Machine {
         requires { MayCome self.old event (act_seen self.old event) }
         ensures { HappensOrKeeps self.old self.new event result }
     {
-        match event {
+        let deed = event;
+        match deed {
             Event::System(system) => self.system(event, system),
             Event::Command { number, .. } => self.command(event, number),
         }

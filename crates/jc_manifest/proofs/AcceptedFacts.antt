@@ -15,7 +15,7 @@ use Rattle.serde_json.specs.Find.{get, as_array, as_integer, as_number}
 use Rattle.jc_json.specs.Place.{path_to, path_at}
 use Rattle.jc_json.specs.Field.{Refusal, wrong_type, out_of_range, ◌>>=◌, member_of, unless_null, within_bounds, bounded_number, listed_items, list_of, may_be, optional_number, optional_list, optional_object, needed_text, needed_list}
 use Rattle.jc_types.specs.declared.limits.TheConstants.{GREATEST_COMPLETIONS, GREATEST_LIMIT, GREATEST_PARALLELISM, MOST_CONTAINERS}
-use Rattle.jc_types.specs.declared.objects.Key.{Key}
+use Rattle.jc_types.specs.declared.objects.KeyNames.{KeyNames as Key}
 use Rattle.jc_types.specs.declared.policies.Action.{Action}
 use Rattle.jc_types.specs.declared.policies.Action.TheVariants.{FailIndex}
 use Rattle.jc_types.specs.declared.policies.FailurePolicy.{FailurePolicy}

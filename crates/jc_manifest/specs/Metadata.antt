@@ -3,7 +3,7 @@ use Rattle.std.specs.Prelude.{ℕ, List, [], ◌∷◌, bytes_eq, codes, None, u
 use Rattle.std.specs.Result.{result_unwrap_or}
 use Rattle.serde_json.specs.Data.{Data}
 use Rattle.jc_json.specs.Field.{needed_text, optional_text}
-use Rattle.jc_types.specs.declared.objects.Key.{Key}
+use Rattle.jc_types.specs.declared.objects.KeyNames.{KeyNames as Key}
 use Rattle.jc_rows.specs.ManifestRows.{Row, first_refusal, text_row, given_text_row}
 use Rattle.jc_rows.specs.NameForms.{is_label, is_subdomain}
 

@@ -8,7 +8,7 @@ ghost use Rattle.jc_manifest.specs.Metadata.{type_refusal, metadata_refusal, nam
 
 use jc_json::{Path, Value, may_text, need_text};
 use jc_rows::{ManifestFault, broken, is_label, is_subdomain};
-use jc_types::{Key, Name};
+use jc_types::{Key, KeyNames, Label};
 use std::alloc::Global;
 
 // That a member is that word.
@@ -43,7 +43,7 @@ pub fn check_type(alloc: Global, job: &Value, path: &Path) -> Result<(), Manifes
 
 // The Job's name.
 #[tactic(auto, unfolding(jc_rows::specs::ManifestRows::text_row, crate::specs::Metadata::name_in))]
-fn read_name(alloc: Global, metadata: &Value, path: &Path) -> Result<Name, ManifestFault>
+fn read_name(alloc: Global, metadata: &Value, path: &Path) -> Result<Label, ManifestFault>
     ensures { Reads (λ name. name) result
         (text_row path.now (view metadata.now) (codes "name") 3 is_subdomain)
         (name_in path.now (view metadata.now)) }
@@ -52,23 +52,23 @@ fn read_name(alloc: Global, metadata: &Value, path: &Path) -> Result<Name, Manif
     if !is_subdomain(text.as_bytes()) {
         return Err(broken(path, "name", 3));
     }
-    Ok(Name::from_text(alloc, text)?)
+    Ok(Label::from_text(alloc, text)?)
 }
 
 // The Job's namespace.
 #[tactic(auto, unfolding(jc_rows::specs::ManifestRows::given_text_row, crate::specs::Metadata::namespace_in))]
-fn read_namespace(alloc: Global, metadata: &Value, path: &Path) -> Result<Name, ManifestFault>
+fn read_namespace(alloc: Global, metadata: &Value, path: &Path) -> Result<Label, ManifestFault>
     ensures { Reads (λ name. name) result
         (given_text_row path.now (view metadata.now) (codes "namespace") 4 is_label)
         (namespace_in path.now (view metadata.now)) }
 {
     let Some(text) = may_text(alloc, metadata, path, "namespace")? else {
-        return Ok(Name::from_text(alloc, "default")?);
+        return Ok(Label::from_text(alloc, "default")?);
     };
     if !is_label(text.as_bytes()) {
         return Err(broken(path, "namespace", 4));
     }
-    Ok(Name::from_text(alloc, text)?)
+    Ok(Label::from_text(alloc, text)?)
 }
 
 /// The key of the Job.
@@ -79,5 +79,5 @@ pub fn read_key(alloc: Global, metadata: &Value, path: &Path) -> Result<Key, Man
 {
     let name = read_name(alloc, metadata, path)?;
     let namespace = read_namespace(alloc, metadata, path)?;
-    Ok(Key { namespace, name })
+    Ok(Key::new(alloc, KeyNames { namespace, name })?)
 }

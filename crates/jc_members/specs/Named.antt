@@ -7,7 +7,7 @@ use Rattle.serde_json.specs.Data.{Data}
 use Rattle.jc_json.specs.Field.{◌>>=◌}
 use Rattle.jc_rows.specs.NameForms.{is_label, is_subdomain}
 use Rattle.jc_types.specs.declared.numbers.Uid.{Uid}
-use Rattle.jc_types.specs.declared.objects.Key.{Key}
+use Rattle.jc_types.specs.declared.objects.KeyNames.{KeyNames as Key}
 use Rattle.jc_types.specs.declared.runs.Shape.{Shape}
 use Rattle.jc_members.specs.declared.causes.Cause.{Cause}
 use Rattle.jc_members.specs.declared.names.Seat.{Seat}

@@ -8,7 +8,7 @@ use crate::causes::{LineFault, broken};
 use crate::members::{read_given_number, read_number};
 use jc_json::{Path, Value, may_text, need_text};
 use jc_rows::{is_label, is_subdomain};
-use jc_types::{Key, Name, Shape, Uid};
+use jc_types::{Key, KeyNames, Label, Shape, Uid};
 use std::alloc::Global;
 
 /// A worker of a controller.
@@ -20,7 +20,7 @@ pub struct Seat {
 
 // The name of a Job.
 #[tactic(auto, unfolding(crate::specs::Members::text_in, crate::specs::Named::job_name_in))]
-fn read_name(alloc: Global, value: &Value) -> Result<Name, LineFault>
+fn read_name(alloc: Global, value: &Value) -> Result<Label, LineFault>
     ensures { Says (λ name. name) result (job_name_in (view value.now)) }
 {
     let path = Path::new(alloc);
@@ -28,22 +28,22 @@ fn read_name(alloc: Global, value: &Value) -> Result<Name, LineFault>
     if !is_subdomain(text.as_bytes()) {
         return Err(broken(&path, "name", 3));
     }
-    Ok(Name::from_text(alloc, text)?)
+    Ok(Label::from_text(alloc, text)?)
 }
 
 // The namespace of a Job.
 #[tactic(auto, unfolding(crate::specs::Members::given_text_in, crate::specs::Named::job_namespace_in))]
-fn read_namespace(alloc: Global, value: &Value) -> Result<Name, LineFault>
+fn read_namespace(alloc: Global, value: &Value) -> Result<Label, LineFault>
     ensures { Says (λ name. name) result (job_namespace_in (view value.now)) }
 {
     let path = Path::new(alloc);
     let Some(text) = may_text(alloc, value, &path, "namespace")? else {
-        return Ok(Name::from_text(alloc, "default")?);
+        return Ok(Label::from_text(alloc, "default")?);
     };
     if !is_label(text.as_bytes()) {
         return Err(broken(&path, "namespace", 4));
     }
-    Ok(Name::from_text(alloc, text)?)
+    Ok(Label::from_text(alloc, text)?)
 }
 
 /// The key of a Job.
@@ -53,7 +53,7 @@ pub fn read_key(alloc: Global, value: &Value) -> Result<Key, LineFault>
 {
     let name = read_name(alloc, value)?;
     let namespace = read_namespace(alloc, value)?;
-    Ok(Key { namespace, name })
+    Ok(Key::new(alloc, KeyNames { namespace, name })?)
 }
 
 /// A pod by its number.

@@ -6,7 +6,7 @@
 --     AreAtStart kept      what is kept, where it is there, are these
 use Rattle.std.specs.Prelude.{◌≡◌, ◌≢◌, if◌then◌else◌, List, [], ◌∷◌, Option, Some, IfSome}
 use Rattle.jc_types.specs.declared.actions.End.{End}
-use Rattle.jc_types.specs.declared.objects.Key.{Key}
+use Rattle.jc_types.specs.declared.objects.KeyNames.{KeyNames as Key}
 use Rattle.jc_types.specs.Keys.{same_key}
 use Rattle.jc_types.specs.declared.policies.Pattern.{Pattern}
 use Rattle.jc_log.specs.Tables.{at}

@@ -1,7 +1,7 @@
 //! How the pods of each key are to end.
 
 ghost use Rattle.std.specs.Prelude.{◌≡◌, ◌≢◌, [], IfOk, IfSome, OnErr, OnOk, Some, option_copied};
-ghost use Rattle.jc_types.specs.declared.objects.Key.{Key};
+ghost use Rattle.jc_types.specs.declared.objects.KeyNames.{KeyNames as Key};
 ghost use Rattle.jc_types.specs.Keys.{same_key};
 ghost use Rattle.jc_log.specs.Tables.{Sets, puts};
 ghost use Rattle.jc_history.specs.Nodes.{end_at, last_end, pod_end};
@@ -26,7 +26,7 @@ pub struct Fates {
 impl Model for Fates {
     ghost use Rattle.std.specs.Prelude.{List};
     ghost use Rattle.jc_types.specs.declared.actions.End.{End};
-    ghost use Rattle.jc_types.specs.declared.objects.Key.{Key};
+    ghost use Rattle.jc_types.specs.declared.objects.KeyNames.{KeyNames as Key};
     ghost use Rattle.jc_node.specs.Fated.{HaveEnds};
 
     ghost Value = { List (Key × List End) };

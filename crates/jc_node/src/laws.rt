@@ -4,7 +4,7 @@
 ghost use Rattle.std.specs.Prelude.{◌≡◌, ◌∷◌, [], List, None, Option, Some};
 ghost use Rattle.jc_types.specs.declared.actions.End.{End};
 ghost use Rattle.jc_types.specs.declared.objects.Entry.{Entry};
-ghost use Rattle.jc_types.specs.declared.objects.Key.{Key};
+ghost use Rattle.jc_types.specs.declared.objects.KeyNames.{KeyNames as Key};
 ghost use Rattle.jc_types.specs.declared.objects.Pod.{Pod};
 ghost use Rattle.jc_log.specs.Acts as does;
 ghost use Rattle.jc_log.specs.Deeds.{Deed};

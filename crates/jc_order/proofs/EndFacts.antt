@@ -19,7 +19,6 @@ use Rattle.jc_types.specs.declared.numbers.Version.{Version}
 use Rattle.jc_types.specs.declared.objects.Entry.{Entry}
 use Rattle.jc_types.specs.declared.objects.Entry.TheVariants.{JobPut, JobGone, PodPut, PodGone}
 use Rattle.jc_types.specs.declared.objects.Job.{Job}
-use Rattle.jc_types.specs.declared.objects.Key.{Key}
 use Rattle.jc_types.specs.declared.objects.Kind.{Kind}
 use Rattle.jc_types.specs.declared.objects.Kind.TheVariants.{Jobs, Pods}
 use Rattle.jc_types.specs.declared.objects.Pod.{Pod}
@@ -37,6 +36,7 @@ use Rattle.jc_log.specs.Requests.{Answered, grown, refused, accepted, create_job
 use Rattle.jc_log.specs.Requests.{same_course_of, is_unnamed, update_refusal, update_spec_at, update_unless, changed_spec, with_mark, with_report, with_spec, with_status, gone_job, without_finalizer, write_status_at}
 use Rattle.jc_log.specs.Acts.{Act}
 use Rattle.jc_log.specs.Deeds.{Deed}
+use Rattle.jc_types.specs.declared.objects.KeyNames.{KeyNames as Key}
 use Rattle.jc_types.specs.Keys.{same_key, same_uid}
 use Rattle.jc_log.specs.Log.{Life, Live, Gone, job_in, job_after, life, life_after, living, next_uid, next_version, pod_in, upto}
 use Rattle.jc_states.specs.Pods.{goes, is_final, is_marked}

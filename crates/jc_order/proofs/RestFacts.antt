@@ -5,7 +5,6 @@ use Rattle.std.specs.Option.{option_map, option_to_list}
 use Rattle.jc_queue.specs.Delayed.{first_of}
 use Rattle.jc_types.specs.declared.numbers.Version.{Version}
 use Rattle.jc_types.specs.declared.objects.Entry.{Entry}
-use Rattle.jc_types.specs.declared.objects.Key.{Key}
 use Rattle.jc_types.specs.declared.objects.Pod.{Pod}
 use Rattle.jc_types.specs.declared.objects.Kind.{Kind}
 use Rattle.jc_types.specs.declared.objects.Kind.TheVariants.{Jobs, Pods}
@@ -14,6 +13,7 @@ use Rattle.jc_types.specs.declared.runs.Sys.{Sys}
 use Rattle.jc_types.specs.declared.runs.Sys.TheVariants as sys
 use Rattle.jc_states.specs.declared.bases.Basis.{Basis}
 use Rattle.jc_log.specs.Deeds.{Deed}
+use Rattle.jc_types.specs.declared.objects.KeyNames.{KeyNames as Key}
 use Rattle.jc_types.specs.Keys.{same_key}
 use Rattle.jc_log.specs.Tables.{at}
 use Rattle.jc_history.specs.Available.{available, begin_events, below, but_clock, clock_events, delivery_events, delivery_event, earliest, free_worker, is_empty, is_quiescent, least_of_all, list_event, list_events, node_events, or_clock}

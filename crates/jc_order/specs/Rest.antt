@@ -4,7 +4,7 @@
 --     HasComeToRest shape deeds          the history is legal, has workers, and nothing is available at its end
 use Rattle.std.specs.Prelude.{◌≡◌, ℕ, ◌<◌, List, [], None, true}
 use Rattle.jc_types.specs.declared.objects.Entry.{Entry}
-use Rattle.jc_types.specs.declared.objects.Key.{Key}
+use Rattle.jc_types.specs.declared.objects.KeyNames.{KeyNames as Key}
 use Rattle.jc_types.specs.declared.runs.Shape.{Shape}
 use Rattle.jc_log.specs.Deeds.{Deed}
 use Rattle.jc_history.specs.Available.{is_quiescent}

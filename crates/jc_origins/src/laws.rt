@@ -2,7 +2,7 @@
 //! callers may cite it.
 
 ghost use Rattle.std.specs.Prelude.{◌≡◌, Bool, List, length, true};
-ghost use Rattle.jc_types.specs.declared.objects.Key.{Key};
+ghost use Rattle.jc_types.specs.declared.objects.KeyNames.{KeyNames as Key};
 ghost use Rattle.jc_types.specs.declared.runs.Shape.{Shape};
 ghost use Rattle.jc_log.specs.Deeds.{Deed};
 ghost use Rattle.jc_history.specs.Diaries.{moment};

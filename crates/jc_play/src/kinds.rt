@@ -1,6 +1,7 @@
 //! The first event of each kind that a controller can do of itself.
 
 ghost use Rattle.std.specs.Prelude.{◌≡◌, ◌<◌};
+ghost use Rattle.std.specs.Option.{option_or};
 ghost use Rattle.jc_machine.specs.DiariesSeen.{diary_seen};
 ghost use Rattle.jc_history.specs.Available.{begin_events, delivery_event, delivery_events, free_worker, list_event, list_events, step_events};
 ghost use Rattle.jc_history.specs.Numbers.{number};
@@ -36,6 +37,17 @@ pub(crate) fn delivery_of(machine: &Machine, controller: u32, kind: Kind) -> Opt
     }
 }
 
+// The first of two events, where there is one.
+#[inline(always)]
+pub(crate) fn first_of(one: Option<Event>, other: Option<Event>) -> Option<Event>
+    ensures { result ≡ option_or one other }
+{
+    match one {
+        Some(event) => Some(event),
+        None => other,
+    }
+}
+
 // The controller's first list.
 pub(crate) fn controller_lists(machine: &Machine, controller: u32) -> Option<Event>
     requires { controller < machine.now.shape.controllers }
@@ -44,7 +56,7 @@ pub(crate) fn controller_lists(machine: &Machine, controller: u32) -> Option<Eve
 {
     let jobs = list_of(machine, controller, Kind::Jobs);
     let pods = list_of(machine, controller, Kind::Pods);
-    jobs.or(pods)
+    first_of(jobs, pods)
 }
 
 // The controller's first delivery.
@@ -55,7 +67,7 @@ pub(crate) fn controller_delivers(machine: &Machine, controller: u32) -> Option<
 {
     let jobs = delivery_of(machine, controller, Kind::Jobs);
     let pods = delivery_of(machine, controller, Kind::Pods);
-    jobs.or(pods)
+    first_of(jobs, pods)
 }
 
 // The step of the controller's first worker that has a sync.

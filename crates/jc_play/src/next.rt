@@ -13,7 +13,7 @@ ghost use Rattle.jc_play.specs.Turns.{earliest_of, is_quiescent_seen};
 use crate::kinds::{controller_begins, controller_delivers, controller_lists, controller_steps};
 use jc_machine::Machine;
 use jc_moment::Moment;
-use jc_types::{Event, Sys};
+use jc_types::{Event, Seconds, Sys};
 
 // The first list of all controllers.
 pub(crate) fn first_list(machine: &Machine) -> Option<Event>
@@ -139,7 +139,7 @@ pub(crate) fn clock_event(machine: &Machine) -> Option<Event>
         (least_of_all machine.now.shape (deeds_seen machine.now) (log_seen machine.now))) }
 {
     let due = least_of_all(machine)?;
-    let add = due.since(&machine.moment());
+    let add = Seconds::from_u64(due.since(&machine.moment()));
     Some(Event::System(Sys::Clock { add }))
 }
 

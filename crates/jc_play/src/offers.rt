@@ -10,7 +10,7 @@ ghost use Rattle.jc_play.specs.declared.actors.Actor.TheVariants as actor;
 ghost use Rattle.jc_play.specs.Actors.{CanCome, IsOfActor, IsOnly};
 
 use crate::actors::Actor;
-use crate::kinds::{delivery_of, first_free, list_of};
+use crate::kinds::{delivery_of, first_free, first_of, list_of};
 use crate::next::{but_clock_event, clock_event, node_event};
 use jc_machine::Machine;
 use jc_types::{Event, Kind, Sys};
@@ -37,7 +37,7 @@ fn cache_offer(machine: &Machine, controller: u32, kind: Kind) -> Option<Event>
     }
     let list = list_of(machine, controller, kind);
     let delivery = delivery_of(machine, controller, kind);
-    list.or(delivery)
+    first_of(list, delivery)
 }
 
 // Whether the worker is the one to begin the controller's next sync: one can begin, and this is the

@@ -3,7 +3,7 @@ use Rattle.std.proofs.Common.{◌≡◌, ℕ, ◌+◌, ◌<◌, get_or, length, 
 use Rattle.std.specs.List.{AllByRecursion as Each}
 use Rattle.std.specs.Option.{option_to_list, unwrap_or}
 use Rattle.std.proofs.lemmas.List.{map-append, take_more}
-use Rattle.jc_types.specs.declared.objects.Key.{Key}
+use Rattle.jc_types.specs.declared.objects.KeyNames.{KeyNames as Key}
 use Rattle.jc_types.proofs.ListFacts.{Each-append}
 use Rattle.jc_queue.specs.declared.calls.Call.{Call}
 use Rattle.jc_queue.specs.declared.calls.Call.TheVariants.{Add, Get, Done, Finish, SendBack, Retract}

@@ -5,7 +5,7 @@ use Rattle.std.specs.List.{AllByRecursion as Each, IsDistinct, remove, slice_get
 use Rattle.std.specs.Map.{keys_of}
 use Rattle.indexmap.specs.IndexMap.{insert_entry}
 use Rattle.std.specs.Option.{option_and_then, option_map, unwrap_or}
-use Rattle.jc_types.specs.declared.objects.Key.{Key}
+use Rattle.jc_types.specs.declared.objects.KeyNames.{KeyNames as Key}
 use Rattle.jc_types.specs.Keys.{same_key}
 use Rattle.std.specs.Ordering.{is_lt}
 use Rattle.jc_log.specs.Tables.{at, puts, takes}

@@ -7,7 +7,7 @@ use Rattle.std.specs.List.Sorted.{IsStrictlySortedBy}
 use Rattle.std.specs.Ordering.{is_lt, match_ordering, nat_cmp, ordering_reverse}
 use Rattle.std.specs.declared.cmp.Ordering.{Ordering}
 use Rattle.std.specs.declared.cmp.Ordering.TheVariants.{Less, Equal, Greater}
-use Rattle.jc_types.specs.declared.objects.Key.{Key}
+use Rattle.jc_types.specs.declared.objects.KeyNames.{KeyNames as Key}
 use Rattle.jc_types.specs.Keys.{same_key}
 use Rattle.jc_types.proofs.KeyFacts.{same_key-eq, same_key-either_way}
 use Rattle.jc_queue.specs.Queued.{has_key, key_order, key_set, plus_key, without}

@@ -9,7 +9,7 @@
 --     StopsAfter q calls n   n is the queue after some of the calls, from the first on
 use Rattle.std.specs.Prelude.{◌≡◌, ℕ, false, List, [], ◌∷◌, ◌++◌, map, take, if◌then◌else◌}
 use Rattle.std.specs.List.{AllByRecursion as Each}
-use Rattle.jc_types.specs.declared.objects.Key.{Key}
+use Rattle.jc_types.specs.declared.objects.KeyNames.{KeyNames as Key}
 use Rattle.jc_queue.specs.declared.calls.Call.{Call}
 use Rattle.jc_queue.specs.declared.calls.Call.TheVariants.{Add, Get, Done, Finish, SendBack, Retract}
 use Rattle.jc_queue.specs.Queued.{Queued, added, finished, got, has_key, retracted, sent_back}

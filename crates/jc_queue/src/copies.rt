@@ -26,7 +26,7 @@ pub struct Twice {
 
 impl Model for Twice {
     ghost use Rattle.std.specs.Prelude.{◌≡◌};
-    ghost use Rattle.jc_types.specs.declared.objects.Key.{Key};
+    ghost use Rattle.jc_types.specs.declared.objects.KeyNames.{KeyNames as Key};
 
     ghost Value = { Key };
 
@@ -75,7 +75,7 @@ pub struct Supply {
 
 impl Model for Supply {
     ghost use Rattle.std.specs.Prelude.{◌≡◌};
-    ghost use Rattle.jc_types.specs.declared.objects.Key.{Key};
+    ghost use Rattle.jc_types.specs.declared.objects.KeyNames.{KeyNames as Key};
 
     ghost Value = { Key };
 

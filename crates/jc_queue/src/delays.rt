@@ -5,7 +5,7 @@ ghost use Rattle.std.specs.Map.Iter.{deref_pair};
 ghost use Rattle.std.specs.Option.{option_map};
 ghost use Rattle.indexmap.specs.IndexMap.{IsUnique, spare};
 ghost use Rattle.indexmap.specs.IndexSet.{spare as set_spare};
-ghost use Rattle.jc_types.specs.declared.objects.Key.{Key};
+ghost use Rattle.jc_types.specs.declared.objects.KeyNames.{KeyNames as Key};
 ghost use Rattle.jc_types.specs.Keys.{same_key};
 ghost use Rattle.jc_log.specs.Tables.{at};
 ghost use Rattle.jc_queue.specs.Delayed.{AreCopied, HasOneMoment, at_with_moment, delayed, due_key, earlier, first_of, forgotten, is_before, least_moment, left_by, retried, row_at, seconds_after, sooner, with_moment};

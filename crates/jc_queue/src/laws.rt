@@ -4,7 +4,7 @@
 ghost use Rattle.std.specs.Prelude.{◌≡◌, ◌∷◌, ◌+◌, [], ℕ, List, None, Some, false, length, true};
 ghost use Rattle.std.specs.List.{AllByRecursion as Each};
 ghost use Rattle.std.specs.List.Sorted.{IsPermutation};
-ghost use Rattle.jc_types.specs.declared.objects.Key.{Key};
+ghost use Rattle.jc_types.specs.declared.objects.KeyNames.{KeyNames as Key};
 ghost use Rattle.jc_queue.specs.Delayed.{Delayed, HasOneMoment, HaveSameMoments, IsInTurn, due_key, due_keys, first_of, in_turn, is_before, left_after, left_by};
 ghost use Rattle.jc_queue.specs.Queued.{IsQueue, Queued, added, finished, got, has_key, retracted, sent_back};
 

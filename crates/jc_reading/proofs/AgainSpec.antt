@@ -6,7 +6,7 @@ use Rattle.std.specs.Result.{result_unwrap_or}
 use Rattle.serde_json.specs.Data.{Data, string, object, no_members, put}
 use Rattle.jc_json.specs.Place.{path_to}
 use Rattle.jc_json.specs.Field.{member_of, unless_null, may_be, object_of, optional_object, optional_text, needed_text}
-use Rattle.jc_types.specs.declared.objects.Key.{Key}
+use Rattle.jc_types.specs.declared.objects.KeyNames.{KeyNames as Key}
 use Rattle.jc_types.specs.declared.policies.FailurePolicy.{FailurePolicy}
 use Rattle.jc_types.specs.declared.policies.SuccessPolicy.{SuccessPolicy}
 use Rattle.jc_types.specs.declared.specifications.JobSpec.{JobSpec}

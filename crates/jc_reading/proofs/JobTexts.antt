@@ -22,7 +22,7 @@ use Rattle.jc_ranges.specs.Texts.{ranges_text}
 use Rattle.jc_rows.specs.ManifestRows.{object_in}
 use Rattle.jc_rows.specs.Templates.{is_among, is_new_label, list_in}
 use Rattle.jc_rows.specs.NameForms.{is_label}
-use Rattle.jc_types.specs.declared.objects.Key.{Key}
+use Rattle.jc_types.specs.declared.objects.KeyNames.{KeyNames as Key}
 use Rattle.jc_types.specs.declared.policies.Action.{Action}
 use Rattle.jc_types.specs.declared.policies.Action.TheVariants.{FailJob, Ignore, Count, FailIndex}
 use Rattle.jc_types.specs.declared.policies.FailurePolicy.{FailurePolicy}

@@ -7,7 +7,7 @@ use Rattle.std.proofs.lemmas.Option.{none-some, same_Some, cond_some as tested_b
 use Rattle.jc_rows.specs.NameForms.{is_label, is_subdomain}
 use Rattle.jc_types.specs.declared.numbers.Uid.{Uid}
 use Rattle.jc_types.specs.declared.numbers.Version.{Version}
-use Rattle.jc_types.specs.declared.objects.Key.{Key}
+use Rattle.jc_types.specs.declared.objects.KeyNames.{KeyNames as Key}
 use Rattle.jc_reading.specs.Allowed.{IsAllowedKey}
 use Rattle.jc_reading.specs.Proper.{IsPod}
 use Rattle.jc_reading.specs.LineReadings.{number_below, digits_from, is_digit, key_said, label_if, lane_behind, digits_said, parted, pod_said, subdomain_if, tag_said, uid_at, version_from, version_behind, version_printed}

@@ -14,7 +14,7 @@ use Rattle.jc_types.specs.declared.actions.ContainerChange.{ContainerChange}
 use Rattle.jc_types.specs.declared.actions.End.{End}
 use Rattle.jc_types.specs.declared.actions.PhaseChange.{PhaseChange}
 use Rattle.jc_types.specs.declared.actions.SpecChange.{SpecChange}
-use Rattle.jc_types.specs.declared.objects.Key.{Key}
+use Rattle.jc_types.specs.declared.objects.KeyNames.{KeyNames as Key}
 use Rattle.jc_types.specs.declared.objects.Phase.{Phase}
 use Rattle.jc_types.specs.declared.objects.Phase.TheVariants.{Pending, Running, Succeeded, Failed}
 use Rattle.jc_types.specs.declared.policies.Pattern.{Pattern}

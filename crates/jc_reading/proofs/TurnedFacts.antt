@@ -6,7 +6,7 @@ use Rattle.serde_json.specs.Find.{as_array, as_str, get}
 use Rattle.jc_json.specs.Field.{member_of, needed_object}
 use Rattle.jc_manifest.specs.Manifests.{spec_of}
 use Rattle.jc_rows.specs.ManifestRows.{object_in}
-use Rattle.jc_types.specs.declared.objects.Key.{Key}
+use Rattle.jc_types.specs.declared.objects.KeyNames.{KeyNames as Key}
 use Rattle.jc_reading.specs.Manifested.{all_named, items_named, manifest_data, manifest_spec, members_in, pod_spec_of}
 use Rattle.jc_reading.specs.Proper.{HasUnicodeTypes}
 use Rattle.jc_reading.specs.Spelled.{AreSpelled, HasSpelled, IsSpelled}

@@ -3,7 +3,7 @@ use Rattle.std.proofs.Common.{[], subst}
 use Rattle.jc_manifest.proofs.AcceptedFacts.{accepted_is_valid}
 use Rattle.jc_print.specs.PrintedSpecs.{spec_data}
 use Rattle.jc_types.specs.ValidSpecs.{IsValidSpec}
-use Rattle.jc_types.specs.declared.objects.Key.{Key}
+use Rattle.jc_types.specs.declared.objects.KeyNames.{KeyNames as Key}
 use Rattle.jc_types.specs.declared.specifications.JobSpec.{JobSpec}
 use Rattle.jc_reading.specs.Allowed.{IsAllowedKey, IsAllowedSpec}
 use Rattle.jc_reading.specs.Manifested.{manifest_data}

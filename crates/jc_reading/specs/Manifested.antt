@@ -7,7 +7,7 @@ use Rattle.std.specs.Prelude.{codes, Option, Some, option_and_then, unwrap_or}
 use Rattle.std.specs.Option.{option_map_or}
 use Rattle.serde_json.specs.Data.{Data, null, string, array, object, Items, no_items, item, Members, no_members, put}
 use Rattle.serde_json.specs.Find.{get, as_array, as_object}
-use Rattle.jc_types.specs.declared.objects.Key.{Key}
+use Rattle.jc_types.specs.declared.objects.KeyNames.{KeyNames as Key}
 
 -- a container of that name
 abbrev pub container_named : Data → Data

@@ -16,7 +16,7 @@ use Rattle.jc_script.specs.Updates.{change_in}
 use Rattle.jc_types.specs.declared.actions.End.{End}
 use Rattle.jc_types.specs.declared.actions.PhaseChange.{PhaseChange}
 use Rattle.jc_types.specs.declared.actions.SpecChange.{SpecChange}
-use Rattle.jc_types.specs.declared.objects.Key.{Key}
+use Rattle.jc_types.specs.declared.objects.KeyNames.{KeyNames as Key}
 use Rattle.jc_types.specs.declared.specifications.JobSpec.{JobSpec}
 use Rattle.jc_lines.specs.ChangeTexts.{ends_data, phase_change_data}
 use Rattle.jc_reading.specs.Manifested.{manifest_data}

@@ -11,7 +11,7 @@ use jc_json::{JsonFault, Path, borrowed, read_owned};
 use jc_manifest::read_job;
 use jc_rows::{ManifestFault, is_label, is_subdomain};
 use jc_script::{LineFault, read_change, read_ends, read_report};
-use jc_types::{Ends, JobSpec, Key, Name, PhaseChange, SpecChange, Want};
+use jc_types::{Ends, JobSpec, Key, KeyNames, Label, PhaseChange, SpecChange, Want};
 use serde_json::Value;
 use std::alloc::{AllocError, Global};
 
@@ -58,28 +58,28 @@ fn behind_slash(word: &[u8]) -> &[u8]
 
 // The name of a namespace.
 #[tactic(auto, using(crate::proofs::KeyFacts::no_label, crate::proofs::KeyFacts::some_label))]
-fn read_label(alloc: Global, word: &[u8]) -> Result<Option<Name>, Want>
+fn read_label(alloc: Global, word: &[u8]) -> Result<Option<Label>, Want>
     ensures { IfOk result (λ o. o ≡ label_if word.now) }
 {
     if !is_label(word) {
         return Ok(None);
     }
     match str::from_utf8(word) {
-        Ok(text) => Ok(Some(Name::from_text(alloc, text)?)),
+        Ok(text) => Ok(Some(Label::from_text(alloc, text)?)),
         Err(_) => Ok(None),
     }
 }
 
 // The name of a Job.
 #[tactic(auto, using(crate::proofs::KeyFacts::no_subdomain, crate::proofs::KeyFacts::some_subdomain))]
-fn read_subdomain(alloc: Global, word: &[u8]) -> Result<Option<Name>, Want>
+fn read_subdomain(alloc: Global, word: &[u8]) -> Result<Option<Label>, Want>
     ensures { IfOk result (λ o. o ≡ subdomain_if word.now) }
 {
     if !is_subdomain(word) {
         return Ok(None);
     }
     match str::from_utf8(word) {
-        Ok(text) => Ok(Some(Name::from_text(alloc, text)?)),
+        Ok(text) => Ok(Some(Label::from_text(alloc, text)?)),
         Err(_) => Ok(None),
     }
 }
@@ -95,7 +95,7 @@ pub fn read_key(alloc: Global, word: &[u8]) -> Result<Option<Key>, Want>
     let Some(name) = read_subdomain(alloc, behind_slash(word))? else {
         return Ok(None);
     };
-    Ok(Some(Key { namespace, name }))
+    Ok(Some(Key::new(alloc, KeyNames { namespace, name })?))
 }
 
 // The value that a word spells.

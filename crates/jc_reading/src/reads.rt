@@ -17,7 +17,7 @@ use crate::reading::{
 };
 use jc_lines::{print_action, print_system};
 use jc_print::put_decimal;
-use jc_types::{Action1, Arc, Sys, Want};
+use jc_types::{Action1, Arc, Seconds, Sys, Want};
 use std::alloc::Global;
 
 /// What an event does: a command's action, or an event of the system.
@@ -227,7 +227,7 @@ fn read_system(verb: Verb, first: &[u8], second: &[u8]) -> Option<Sys>
         }
         Verb::Node => Some(Sys::Node),
         Verb::Clock => {
-            let add = read_number(first)?;
+            let add = Seconds::from_u64(read_number(first)?);
             Some(Sys::Clock { add })
         }
         _ => None,

@@ -6,7 +6,7 @@ use Rattle.jc_types.specs.declared.actions.Action1.TheVariants as act
 use Rattle.jc_types.specs.declared.actions.Command.{Command}
 use Rattle.jc_types.specs.declared.numbers.Uid.{Uid}
 use Rattle.jc_types.specs.declared.objects.Entry.{Entry}
-use Rattle.jc_types.specs.declared.objects.Key.{Key}
+use Rattle.jc_types.specs.declared.objects.KeyNames.{KeyNames as Key}
 use Rattle.jc_types.specs.declared.objects.Pod.{Pod}
 use Rattle.jc_log.specs.Log.{jobs_in, pods_of}
 use Rattle.jc_runs.specs.Diaries.{moment}

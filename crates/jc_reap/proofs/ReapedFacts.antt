@@ -18,6 +18,7 @@ use Rattle.jc_script.specs.Cause.{Cause}
 use Rattle.jc_script.specs.TextLines.{lines_of}
 use Rattle.jc_script.specs.Scripts.{BadLine, text_says}
 use Rattle.jc_runs.specs.PodLists.{put_pod}
+use Rattle.jc_types.specs.declared.objects.KeyNames.{KeyNames as Key}
 use Rattle.jc_types.specs.Keys.{same_uid}
 use Rattle.jc_types.specs.declared.actions.Action1.{Action1}
 use Rattle.jc_types.specs.declared.actions.Action1.TheVariants as act
@@ -26,7 +27,6 @@ use Rattle.jc_types.specs.declared.actions.Script.{Script}
 use Rattle.jc_types.specs.declared.numbers.Uid.{Uid}
 use Rattle.jc_types.specs.declared.objects.Entry.{Entry}
 use Rattle.jc_types.specs.declared.objects.Entry.TheVariants.{JobPut, JobGone, PodPut, PodGone}
-use Rattle.jc_types.specs.declared.objects.Key.{Key}
 use Rattle.jc_types.specs.declared.objects.Pod.{Pod}
 use Rattle.jc_types.specs.declared.runs.Event.{Event}
 use Rattle.jc_types.specs.declared.runs.Event.TheVariants as event

@@ -3,9 +3,9 @@ use Rattle.std.proofs.Common.{◌≡◌, ℕ, ◌<◌, ◌≤◌, List, ◌∷�
 use Rattle.std.specs.List.{AllByRecursion as Each}
 use Rattle.std.specs.Option.{option_map_or}
 use Rattle.jc_types.proofs.ListFacts.{find_each}
+use Rattle.jc_types.specs.declared.objects.KeyNames.{KeyNames as Key}
 use Rattle.jc_types.specs.Keys.{same_uid}
 use Rattle.jc_types.specs.declared.objects.Job.{Job}
-use Rattle.jc_types.specs.declared.objects.Key.{Key}
 use Rattle.jc_types.specs.declared.objects.Pod.{Pod}
 use Rattle.jc_types.specs.declared.runs.Shape.{Shape}
 use Rattle.jc_states.specs.Bases.{own_pods}

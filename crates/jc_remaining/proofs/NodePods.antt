@@ -10,6 +10,7 @@ use Rattle.std.specs.Cmp.Lexicographic.{pointwise_decides}
 use Rattle.jc_types.proofs.EqualityFacts.{containers-exact, nat-exact}
 use Rattle.jc_types.proofs.KeyFacts.{same_uid-eq}
 use Rattle.jc_types.proofs.ListFacts.{Each-weaker}
+use Rattle.jc_types.specs.declared.objects.KeyNames.{KeyNames as Key}
 use Rattle.jc_types.specs.Keys.{same_uid}
 use Rattle.jc_types.specs.Equality.{same_container, same_pattern, same_phase, same_text}
 use Rattle.jc_types.specs.declared.actions.ContainerChange.{ContainerChange}
@@ -17,7 +18,6 @@ use Rattle.jc_types.specs.declared.actions.End.{End}
 use Rattle.jc_types.specs.declared.objects.Container.{Container}
 use Rattle.jc_types.specs.declared.objects.Entry.{Entry}
 use Rattle.jc_types.specs.declared.objects.Entry.TheVariants.{PodPut, PodGone}
-use Rattle.jc_types.specs.declared.objects.Key.{Key}
 use Rattle.jc_types.specs.declared.objects.Phase.{Phase}
 use Rattle.jc_types.specs.declared.objects.Phase.TheVariants.{Pending, Running, Succeeded, Failed}
 use Rattle.jc_types.specs.declared.objects.Pod.{Pod}

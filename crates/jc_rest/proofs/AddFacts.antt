@@ -11,7 +11,7 @@ use Rattle.jc_control.specs.Queued.{has_key}
 use Rattle.jc_control.specs.Schedules.{log_end}
 use Rattle.jc_types.specs.declared.numbers.Version.{Version}
 use Rattle.jc_types.specs.declared.objects.Entry.{Entry}
-use Rattle.jc_types.specs.declared.objects.Key.{Key}
+use Rattle.jc_types.specs.declared.objects.KeyNames.{KeyNames as Key}
 use Rattle.jc_types.specs.declared.objects.Kind.{Kind}
 use Rattle.jc_types.specs.declared.objects.Kind.TheVariants.{Jobs, Pods}
 use Rattle.jc_types.specs.declared.objects.Pod.{Pod}

@@ -7,8 +7,8 @@ use Rattle.std.specs.Option.{option_or, option_to_list, unwrap_or}
 use Rattle.jc_control.specs.ControllerCalls.{forgets_caches}
 use Rattle.jc_control.specs.Queued.{has_key}
 use Rattle.jc_types.specs.declared.numbers.Version.{Version}
-use Rattle.jc_types.specs.declared.objects.Key.{Key}
 use Rattle.jc_types.specs.declared.objects.Kind.TheVariants.{Jobs, Pods}
+use Rattle.jc_types.specs.declared.objects.KeyNames.{KeyNames as Key}
 use Rattle.jc_types.specs.Keys.{same_key}
 use Rattle.jc_types.proofs.KeyFacts.{same_key-either_way, same_key-itself}
 use Rattle.jc_history.specs.Delays.{added_by_end, keys_due, tries}

@@ -3,7 +3,7 @@
 
 ghost use Rattle.std.specs.Prelude.{◌≡◌, ◌<◌, List, Some};
 ghost use Rattle.jc_types.specs.declared.objects.Job.{Job};
-ghost use Rattle.jc_types.specs.declared.objects.Key.{Key};
+ghost use Rattle.jc_types.specs.declared.objects.KeyNames.{KeyNames as Key};
 ghost use Rattle.jc_types.specs.declared.runs.Shape.{Shape};
 ghost use Rattle.jc_log.specs.Deeds.{Deed};
 ghost use Rattle.jc_log.specs.Log.{job_in};

@@ -6,6 +6,7 @@ use Rattle.std.specs.Option.{option_map, option_map_or, option_or, option_to_lis
 use Rattle.std.proofs.lemmas.Option.{none-some as none_some, same_Some as some_is}
 use Rattle.jc_types.specs.Equality.{same_limits, same_phase, same_status}
 use Rattle.jc_types.proofs.ListFacts.{Each-append}
+use Rattle.jc_types.specs.declared.objects.KeyNames.{KeyNames as Key}
 use Rattle.jc_types.specs.Keys.{same_uid}
 use Rattle.jc_types.specs.declared.actions.ContainerChange.{ContainerChange}
 use Rattle.jc_types.specs.declared.actions.Fault.{Fault}
@@ -19,7 +20,6 @@ use Rattle.jc_types.specs.declared.objects.Container.{Container}
 use Rattle.jc_types.specs.declared.objects.Entry.{Entry}
 use Rattle.jc_types.specs.declared.objects.Entry.TheVariants.{JobPut, JobGone, PodPut}
 use Rattle.jc_types.specs.declared.objects.Job.{Job}
-use Rattle.jc_types.specs.declared.objects.Key.{Key}
 use Rattle.jc_types.specs.declared.objects.Phase.TheVariants.{Pending, Running}
 use Rattle.jc_types.specs.declared.objects.Pod.{Pod}
 use Rattle.jc_types.specs.declared.replies.Reply.{Reply}

@@ -5,13 +5,13 @@ use Rattle.std.specs.Option.{option_or, unwrap_or}
 use Rattle.jc_log.specs.Acts as does
 use Rattle.jc_types.specs.declared.objects.Entry.{Entry}
 use Rattle.jc_types.specs.declared.objects.Job.{Job}
-use Rattle.jc_types.specs.declared.objects.Key.{Key}
 use Rattle.jc_types.specs.declared.objects.Pod.{Pod}
 use Rattle.jc_types.specs.declared.replies.Reply.TheVariants as reply
 use Rattle.jc_types.specs.declared.runs.Shape.{Shape}
 use Rattle.jc_states.specs.declared.bases.Basis.{Basis}
 use Rattle.jc_log.specs.Deeds.{Deed}
 use Rattle.jc_states.specs.Bases.{own_pods}
+use Rattle.jc_types.specs.declared.objects.KeyNames.{KeyNames as Key}
 use Rattle.jc_types.specs.Keys.{same_key, same_uid}
 use Rattle.jc_states.specs.PodLists.{IsRising}
 use Rattle.jc_log.specs.Log.{job_in, pods_in, pods_under, upto}

@@ -22,10 +22,10 @@ use Rattle.jc_states.specs.declared.bases.Basis.{Basis}
 use Rattle.jc_log.specs.Requests.{Answered, let_go_at, mark_pod_at, release_at, write_status_at}
 use Rattle.jc_types.specs.declared.numbers.Uid.{Uid}
 use Rattle.jc_types.specs.declared.objects.Job.{Job}
-use Rattle.jc_types.specs.declared.objects.Key.{Key}
 use Rattle.jc_types.specs.declared.objects.Pod.{Pod}
 use Rattle.jc_types.specs.declared.statuses.JobStatus.{JobStatus}
 use Rattle.jc_types.specs.declared.syncs.Backoff.{Backoff}
+use Rattle.jc_types.specs.declared.objects.KeyNames.{KeyNames as Key}
 use Rattle.jc_types.specs.Keys.{same_uid}
 use Rattle.jc_log.specs.Log.{job_in, pod_in}
 use Rattle.jc_states.specs.Pods.{is_marked}

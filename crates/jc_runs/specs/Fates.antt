@@ -4,7 +4,7 @@
 --     WithFate fates new k ends  the new ones have these ends at the key, and are else as before
 use Rattle.std.specs.Prelude.{◌≡◌, List, if◌then◌else◌, Option, Some}
 use Rattle.jc_types.specs.declared.actions.End.{End}
-use Rattle.jc_types.specs.declared.objects.Key.{Key}
+use Rattle.jc_types.specs.declared.objects.KeyNames.{KeyNames as Key}
 use Rattle.jc_types.specs.Keys.{same_key}
 use Rattle.jc_log.specs.Deeds.{Deed}
 use Rattle.jc_history.specs.Nodes.{fate}

@@ -6,7 +6,7 @@ ghost use Rattle.std.specs.Prelude.{◌≡◌, ◌≤◌, ◌^◌, ◌∷◌, []
 ghost use Rattle.std.specs.List.{AllByRecursion as Each};
 ghost use Rattle.jc_types.specs.declared.actions.Script.{Script};
 ghost use Rattle.jc_types.specs.declared.objects.Job.{Job};
-ghost use Rattle.jc_types.specs.declared.objects.Key.{Key};
+ghost use Rattle.jc_types.specs.declared.objects.KeyNames.{KeyNames as Key};
 ghost use Rattle.jc_types.specs.declared.replies.Reply.TheVariants as reply;
 ghost use Rattle.jc_types.specs.declared.runs.Past.{Past};
 ghost use Rattle.jc_types.specs.declared.runs.Shape.{Shape};

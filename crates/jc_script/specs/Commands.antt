@@ -12,7 +12,7 @@ use Rattle.jc_types.specs.declared.actions.Action1.TheVariants as act
 use Rattle.jc_types.specs.declared.actions.Command.{Command}
 use Rattle.jc_types.specs.declared.actions.Fault.{Fault}
 use Rattle.jc_types.specs.declared.actions.Fault.TheVariants.{Drop, Lose}
-use Rattle.jc_types.specs.declared.objects.Key.{Key}
+use Rattle.jc_types.specs.declared.objects.KeyNames.{KeyNames as Key}
 use Rattle.jc_types.specs.declared.objects.Kind.{Kind}
 use Rattle.jc_types.specs.declared.objects.Kind.TheVariants.{Jobs, Pods}
 use Rattle.jc_types.specs.declared.runs.Shape.{Shape}

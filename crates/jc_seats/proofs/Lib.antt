@@ -6,3 +6,4 @@ pub mod TurnFacts
 pub mod UsedFacts
 -- Lemmas of the crates below, handed on to those above.
 pub use Rattle.jc_core.proofs.GoFacts
+pub mod PlannedFacts

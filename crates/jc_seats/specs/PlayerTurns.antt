@@ -6,8 +6,11 @@
 --     HaveHappened player events ..  the events have happened one after the other, each of them the player's own
 --     HasTurned player old new       so such events have, and then no more; nothing is said of slots
 --     HasTakenPlan player work old new      the player has taken this plan to make
-use Rattle.std.specs.Prelude.{◌≡◌, ℕ, ◌<◌, ◌%◌, ◌⊎◌, List, [], ◌∷◌, Some}
+--     wants_none event               an event of the system after which no more registers want a plan
+use Rattle.std.specs.Prelude.{◌≡◌, ℕ, ◌<◌, ◌%◌, ◌⊎◌, Bool, true, false, List, [], ◌∷◌, Some}
 use Rattle.jc_types.specs.declared.runs.Event.{Event}
+use Rattle.jc_types.specs.declared.runs.Event.TheVariants as event
+use Rattle.jc_types.specs.declared.runs.Sys.TheVariants as sys
 use Rattle.jc_runs.specs.Seen.{Seen, act_seen, happened, reply_seen}
 use Rattle.jc_history.specs.Play.{first_event}
 use Rattle.jc_history.specs.Registers.{register}
@@ -73,3 +76,9 @@ pub record HasTakenPlan (player : Player) (work : Work) (old new : Shared) : Typ
   pub worker : work.worker < old.seen.shape.workers
   pub slots : new.slots ≡ taken_by player.number work.controller work.worker old.slots
   pub seen : new.seen ≡ old.seen
+
+-- The event is of the system, and no begin: no register wants a plan after it that wanted none before.
+abbrev pub wants_none : Event → Bool
+wants_none (event.System (sys.Begin controller worker)) = false
+wants_none (event.System other) = true
+wants_none (event.Command lane number) = false

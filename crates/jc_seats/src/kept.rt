@@ -1,25 +1,28 @@
 //! The cluster of a threaded run, as it stands behind the lock.
 
-ghost use Rattle.std.specs.Prelude.{◌≡◌, ◌↔◌, ◌≤◌, Err, IfOk, IsTrue, OnErr, OnOk, Some, length};
+ghost use Rattle.std.specs.Prelude.{◌≡◌, ◌↔◌, ◌≤◌, ◌&&◌, Err, IfOk, IfSome, IsSome, IsTrue, None, OnErr, OnOk, Some, find, length};
 ghost use Rattle.jc_types.specs.declared.runs.Event.{Event};
 ghost use Rattle.jc_history.specs.Available.{IsOrderly};
+ghost use Rattle.jc_runs.specs.Bases.{CanPlan};
 ghost use Rattle.jc_runs.specs.Seen.{act_seen, deeds_seen, happened, reply_seen};
 ghost use Rattle.jc_core.specs.Actors.{CanCome};
 ghost use Rattle.jc_core.specs.ApplyFault.TheVariants.{HistoryFull};
 ghost use Rattle.jc_history.specs.Registers.{register};
 ghost use Rattle.jc_core.specs.DiariesSeen.{diary_seen};
-ghost use Rattle.jc_core.specs.Shared.{put_back_by, slots_after, submitted_by};
+ghost use Rattle.jc_core.specs.Shared.{is_open_slot, put_back_by, slots_after, submitted_by};
 ghost use Rattle.jc_core.specs.Since.{seen_at};
 ghost use Rattle.jc_seats.specs.Hands.{IsAwaited};
 ghost use Rattle.jc_seats.specs.Names.{AreUsedFrom, IsOfName};
+ghost use Rattle.jc_seats.specs.PlayerTurns.{HasTakenPlan, wants_none};
 ghost use Rattle.jc_core.specs.Places.{most_lanes};
 
 use crate::lanes::{lanes_left, lanes_of};
 use crate::naming::Naming;
-use jc_core::{ApplyFault, Cluster, available_events_keep_the_order};
+use crate::players::Player;
+use jc_core::{ApplyFault, Cluster, Work, available_events_keep_the_order};
 use jc_plan::Plan;
 use jc_turn::Booked;
-use jc_types::{Event, History, Reply};
+use jc_types::{Event, History, Reply, Sys, Want};
 use std::marker::{Model, PhantomData};
 
 /// The cluster of a threaded run. It keeps what the type of the cluster keeps, that the history is orderly,
@@ -29,11 +32,14 @@ pub struct Kept<J: Naming> {
     pub(crate) cluster: Cluster,
     // Each lane from this one on is used up: a seat asks none of them.
     lanes: u32,
+    // Whether it is known that no register that nobody holds wants a plan: then a seat looks at none.
+    planned: bool,
     of: PhantomData<J>,
 }
 
 impl<J: Naming> Model for Kept<J> {
-    ghost use Rattle.jc_core.specs.Shared.{Shared};
+    ghost use Rattle.std.specs.Prelude.{◌≡◌, IsTrue, false};
+    ghost use Rattle.jc_core.specs.Shared.{Shared, is_unplanned};
     ghost use Rattle.jc_seats.specs.Names.{KeepsRun, IsOfName};
 
     ghost Value = { Shared };
@@ -41,7 +47,8 @@ impl<J: Naming> Model for Kept<J> {
     ghost view = { λ k. k.cluster };
 
     ghost invariant = { λ k. KeepsRun k.lanes k.cluster.seen
-        × IsOfName J.script J.shape k.cluster.seen };
+        × IsOfName J.script J.shape k.cluster.seen
+        × (IsTrue k.planned → is_unplanned k.cluster.slots ≡ false) };
 }
 
 /// A cluster to be shared. It takes no memory, and changes nothing of the cluster.
@@ -54,8 +61,26 @@ pub fn keep<J: Naming>(cluster: Cluster) -> Kept<J>
     Kept {
         cluster,
         lanes,
+        planned: false,
         of: PhantomData,
     }
+}
+
+// Whether the event is one of the system after which no register wants a plan that wanted none before.
+fn wants_none(event: &Event) -> bool
+    ensures { result ≡ wants_none event.now }
+{
+    match event {
+        Event::System(Sys::Begin { .. }) | Event::Command { .. } => false,
+        Event::System(_) => true,
+    }
+}
+
+// Whether it is known after the event that no register wants a plan, where it was known before or not.
+fn stays_planned(planned: bool, event: &Event) -> bool
+    ensures { result ≡ (planned && wants_none event.now) }
+{
+    planned && wants_none(event)
 }
 
 impl<J: Naming> Booked for Kept<J> {
@@ -111,9 +136,30 @@ impl<J: Naming> Kept<J> {
             → self.old.seen.shape.events ≤ length self.old.seen.pasts }
     {
         available_events_keep_the_order();
+        self.planned = false;
         let reply = self.cluster.apply(event)?;
         self.lanes = lanes_left(&self.cluster, self.lanes);
         Ok(reply)
+    }
+
+    // Takes the first plan for the player to make, as `Cluster::take_plan`. Where it is known that there is none,
+    // no register is looked at.
+    pub(crate) fn take_plan(&mut self, player: &Player) -> Result<Option<Work>, Want>
+        ensures taken { IfOk result (λ found. IfSome found (λ work.
+            HasTakenPlan player.now work self.old self.new)) }
+        ensures plannable { IfOk result (λ found. IfSome found (λ work.
+            IsSome work.basis.job → CanPlan work.basis)) }
+        ensures none { IfOk result (λ found. found ≡ None → self.new ≡ self.old) }
+        ensures first { IfOk result (λ found. found ≡ None
+            → find (is_open_slot self.old.seen) self.old.slots ≡ None) }
+        ensures kept { OnErr result (self.new ≡ self.old) }
+    {
+        if self.planned {
+            return Ok(None);
+        }
+        let found = self.cluster.take_plan(player.number)?;
+        self.planned = found.is_none() && !self.cluster.is_unplanned();
+        Ok(found)
     }
 
     // Does the event as `apply` does, and gives no reply.
@@ -129,8 +175,11 @@ impl<J: Naming> Kept<J> {
             → self.old.seen.shape.events ≤ length self.old.seen.pasts }
     {
         available_events_keep_the_order();
+        let planned = stays_planned(self.planned, &event);
+        self.planned = false;
         self.cluster.happen(event)?;
         self.lanes = lanes_left(&self.cluster, self.lanes);
+        self.planned = planned;
         Ok(())
     }
 
@@ -151,6 +200,7 @@ impl<J: Naming> Kept<J> {
             ≡ submitted_by seat controller worker result self.old.slots }
         ensures seen { self.new.seen ≡ self.old.seen }
     {
+        self.planned = false;
         self.cluster
             .submit_since(seat, controller, worker, plan, events)
     }
@@ -160,6 +210,7 @@ impl<J: Naming> Kept<J> {
         ensures slots { self.new.slots ≡ put_back_by seat controller worker self.old.slots }
         ensures seen { self.new.seen ≡ self.old.seen }
     {
+        self.planned = false;
         self.cluster.put_back(seat, controller, worker);
     }
 

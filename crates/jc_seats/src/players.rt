@@ -11,6 +11,9 @@ pub struct Player {
     pub threads: u32,
     /// Whether a command of its lanes is tried next before what the system can do of itself.
     pub tries_lanes: bool,
+    /// Whether none of its lanes' next commands could come when they were last tried: each waits until
+    /// the system has nothing left to do, so none is tried before that.
+    pub lanes_wait: bool,
     /// Whether there was no memory for what it was to do. It has ended then.
     pub is_out_of_memory: bool,
     ghost within: { number < threads },
@@ -27,6 +30,7 @@ impl Player {
             number,
             threads,
             tries_lanes: true,
+            lanes_wait: false,
             is_out_of_memory: false,
         }
     }

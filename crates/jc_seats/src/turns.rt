@@ -69,7 +69,7 @@ impl<J: Naming> Kept<J> {
         }
     }
 
-    // Does the event. The player tries the other kind next.
+    // Does the event. The player tries the other kind next, but lanes that wait only where the system has nothing.
     //
     // As `apply` where it is not done; nothing has changed then.
     fn go(&mut self, player: &mut Player, event: Event) -> Result<(), ApplyFault>
@@ -81,7 +81,10 @@ impl<J: Naming> Kept<J> {
         ensures number { player.new.number ≡ player.old.number }
         ensures threads { player.new.threads ≡ player.old.threads }
     {
-        player.tries_lanes = matches!(event, Event::System(_));
+        let is_system = matches!(event, Event::System(_));
+        // Lanes that were tried first gave nothing where the system comes.
+        player.lanes_wait = is_system && (player.tries_lanes || player.lanes_wait);
+        player.tries_lanes = is_system && !player.lanes_wait;
         self.happen(event)
     }
 
@@ -114,7 +117,7 @@ impl<J: Naming> Kept<J> {
         ensures player { (player.new.number ≡ player.old.number)
             × (player.new.threads ≡ player.old.threads) }
     {
-        match self.cluster.take_plan(player.number) {
+        match self.take_plan(player) {
             Ok(Some(work)) => return Ok(NextAction::Plan(work)),
             Ok(None) => {}
             Err(_) => return Err(ApplyFault::Want),

@@ -5,7 +5,7 @@ use Rattle.std.specs.List.{flat_map, range_with_len}
 use Rattle.std.specs.Option.{option_map, option_to_list}
 use Rattle.jc_types.specs.declared.numbers.Version.{Version}
 use Rattle.jc_types.specs.declared.objects.Entry.{Entry}
-use Rattle.jc_types.specs.declared.objects.Key.{Key}
+use Rattle.jc_types.specs.declared.objects.KeyNames.{KeyNames as Key}
 use Rattle.jc_types.specs.declared.objects.Kind.{Kind}
 use Rattle.jc_types.specs.declared.objects.Kind.TheVariants.{Jobs, Pods}
 use Rattle.jc_types.specs.declared.objects.Pod.{Pod}

@@ -10,7 +10,7 @@ use Rattle.jc_types.specs.declared.actions.End.{End}
 use Rattle.jc_moment.specs.declared.moment.Moment.{Moment}
 use Rattle.jc_types.specs.declared.objects.Container.{Container}
 use Rattle.jc_types.specs.declared.objects.Entry.{Entry}
-use Rattle.jc_types.specs.declared.objects.Key.{Key}
+use Rattle.jc_types.specs.declared.objects.KeyNames.{KeyNames as Key}
 use Rattle.jc_types.specs.declared.objects.Phase.TheVariants.{Succeeded, Failed}
 use Rattle.jc_types.specs.declared.objects.Pod.{Pod}
 use Rattle.jc_finish.specs.Decisions.{restarts_on_failure}

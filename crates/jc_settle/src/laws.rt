@@ -18,7 +18,7 @@ ghost use Rattle.jc_moment.specs.declared.moment.Moment.{Moment};
 ghost use Rattle.jc_states.specs.Pods.{is_marked, is_open};
 ghost use Rattle.jc_types.specs.declared.actions.End.{End};
 ghost use Rattle.jc_types.specs.declared.objects.Entry.{Entry};
-ghost use Rattle.jc_types.specs.declared.objects.Key.{Key};
+ghost use Rattle.jc_types.specs.declared.objects.KeyNames.{KeyNames as Key};
 ghost use Rattle.jc_types.specs.declared.objects.Pod.{Pod};
 ghost use Rattle.jc_settle.specs.Comes.{Comes, SeesAll};
 ghost use Rattle.jc_settle.specs.Left.{ComesTo, pod_left};

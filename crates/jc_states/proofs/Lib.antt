@@ -12,3 +12,4 @@ pub mod OddFacts
 pub mod AtOddsFacts
 pub mod NotedFacts
 pub mod PickedFacts
+pub mod RowFacts

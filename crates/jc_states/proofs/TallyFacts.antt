@@ -1,19 +1,20 @@
 -- What a put and a drop do to the numbers of each owner, and how large these numbers are.
-use Rattle.std.proofs.Common.{◌≡◌, ℕ, ◌+◌, ◌-◌, ◌*◌, ◌<◌, ◌≤◌, ◌^◌, suc, nat_lt, ◌==◌, Bool, true, false, cond, not, ◌||◌, List, [], ◌∷◌, All, filter, length, sum_by, Some, None, is_some, refl, sym, ap, subst, ◌∙◌, arith, true≢false}
+use Rattle.std.proofs.Common.{◌≡◌, ℕ, ◌+◌, ◌-◌, ◌*◌, ◌<◌, ◌≤◌, ◌^◌, suc, nat_lt, ◌==◌, Bool, true, false, cond, not, ◌||◌, List, [], ◌∷◌, All, filter, length, sum_by, Some, None, is_some, unwrap_or, refl, sym, ap, subst, ◌∙◌, arith, true≢false}
 use Rattle.std.proofs.Common.{lt-ltb, ltb-true, eqb-true}
 use Rattle.std.specs.List.{AllByRecursion as Each, list_any}
+use Rattle.std.specs.Map.{lookup}
 use Rattle.std.proofs.lemmas.Bool.{cond-true, eqb-false}
 use Rattle.std.proofs.lemmas.List.Elements.{All-from_recursion, recursion_from_All}
 use Rattle.std.proofs.lemmas.List.Sums.{sum_by-cons, sum_by-le}
 use Rattle.jc_types.specs.declared.numbers.Uid.{Uid}
 use Rattle.jc_types.specs.declared.objects.Pod.{Pod}
 use Rattle.jc_types.specs.Keys.{same_uid}
-use Rattle.jc_types.proofs.KeyFacts.{same_uid-itself}
+use Rattle.jc_types.proofs.KeyFacts.{same_uid-eq, same_uid-itself}
 use Rattle.jc_types.proofs.ListFacts.{Each-filter, Each-passes, Each-both, Each-weaker}
 use Rattle.jc_states.specs.declared.tallies.Tally.{Tally}
 use Rattle.jc_states.specs.PodLists.{put_pod, drop_pod, RisesFrom, IsRising}
 use Rattle.jc_states.specs.Pods.{is_active, is_ending, is_open, is_ready, is_tracked_active}
-use Rattle.jc_states.specs.Tallies.{AreTallied, CountsPod, HasFewRestarts, HasRoom, KeepsTallies, tally_with, tally_without, open_restarts, pods_for, restarts_in, restarts_of, tally_as, tally_in, tally_of, with_pod, without_pod}
+use Rattle.jc_states.specs.Tallies.{AreTallied, CountsPod, HasFewRestarts, HasRoom, KeepsTallies, tally_with, tally_without, no_pods, open_restarts, pods_for, restarts_in, restarts_of, tally_as, tally_in, tally_of, with_pod, without_pod}
 use Rattle.jc_states.proofs.PodListFacts.{pod_among, among_none, drop-absent, rises_put, rises_filter, length-filter-le}
 
 -- ---- what is counted of each pod, in any order
@@ -275,3 +276,17 @@ kept-replaced pod old pods rows rest new kept found lack small is =
     let len = length-found 0 pod.uid old pods kept.rising found in
     let few = kept.few in
     kept-entered pod pods rest new kept.rising kept.small small (omega (arith, len, few)) (kept-left pod.uid old pods rows rest kept found lack).tallied is
+
+-- Once a row is put for a pod whose owner had none.
+pub put-row : (pod : Pod) (tally : Tally) (rows new : List (Uid × Tally)) → lookup (same_uid pod.owner_uid) rows ≡ None → tally ≡ tally_with (no_pods pod.owner_uid) pod
+    → ((owner : Uid) → lookup (same_uid owner) new ≡ cond (same_uid pod.owner_uid owner) (Some tally) (lookup (same_uid owner) rows))
+    → (owner : Uid) → tally_in owner new ≡ with_pod owner pod (tally_in owner rows)
+put-row pod tally rows new none is puts owner = ap (λ found. unwrap_or found (no_pods owner)) (puts owner) ∙ by (same_uid pod.owner_uid owner) refl
+  where
+    had : tally_in pod.owner_uid rows ≡ no_pods pod.owner_uid
+    had = ap (λ found. unwrap_or found (no_pods pod.owner_uid)) none
+
+    by : (b : Bool) → same_uid pod.owner_uid owner ≡ b
+        → unwrap_or (cond b (Some tally) (lookup (same_uid owner) rows)) (no_pods owner) ≡ cond b (tally_with (tally_in owner rows) pod) (tally_in owner rows)
+    by true e = is ∙ ap (λ t. tally_with t pod) (sym had) ∙ ap (λ u. tally_with (tally_in u rows) pod) (same_uid-eq pod.owner_uid owner e)
+    by false e = refl

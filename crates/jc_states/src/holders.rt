@@ -10,6 +10,7 @@ ghost use Rattle.jc_states.specs.Pods.{is_tracked_active};
 
 use crate::held::Held;
 use crate::pods::is_tracked_active;
+use crate::rows::{row_mut, row_of};
 use indexmap::IndexMap;
 use jc_types::{Pod, Uid, Want};
 use std::alloc::Global;
@@ -59,7 +60,7 @@ impl Holders {
     pub(crate) fn shares(&self, owner: Uid) -> bool
         ensures { result ≡ nat_lt 0 (repeats (held_by owner self.now)) }
     {
-        match self.rows.get(&owner) {
+        match row_of(&self.rows, owner) {
             None => false,
             Some(held) => held.has_repeats(),
         }
@@ -69,7 +70,7 @@ impl Holders {
     pub(crate) fn holds_between(&self, owner: Uid, first: u32, last: u32) -> bool
         ensures { result ≡ list_any (is_between first last) (held_by owner self.now) }
     {
-        match self.rows.get(&owner) {
+        match row_of(&self.rows, owner) {
             None => false,
             Some(held) => held.has_between(first, last),
         }
@@ -79,7 +80,7 @@ impl Holders {
     pub(crate) fn holds_from(&self, owner: Uid, first: u32) -> bool
         ensures { result ≡ list_any (λ n. nat_le first n) (held_by owner self.now) }
     {
-        match self.rows.get(&owner) {
+        match row_of(&self.rows, owner) {
             None => false,
             Some(held) => held.has_from(first),
         }
@@ -95,7 +96,7 @@ impl Holders {
         ensures free { result < end
             → list_any (is_between result result) (held_by owner self.now) ≡ false }
     {
-        match self.rows.get(&owner) {
+        match row_of(&self.rows, owner) {
             None => from,
             Some(held) => held.first_absent(from, end),
         }
@@ -133,7 +134,7 @@ impl Holders {
             ≡ held_in other n self.old + (if same_uid owner other && index == n then 1 else 0)) }
         ensures kept { OnErr result (self.new ≡ self.old) }
     {
-        if let Some(held) = self.rows.get_mut(&owner) {
+        if let Some(held) = row_mut(&mut self.rows, owner) {
             return held.add(index);
         }
         let mut held = Held::new(self.alloc);
@@ -147,7 +148,7 @@ impl Holders {
         ensures { (other : Uid) → (n : ℕ) → held_in other n self.new
             ≡ held_in other n self.old - (if same_uid owner other && index == n then 1 else 0) }
     {
-        let Some(held) = self.rows.get_mut(&owner) else {
+        let Some(held) = row_mut(&mut self.rows, owner) else {
             return;
         };
         held.remove(index);

@@ -18,6 +18,7 @@ mod owners;
 mod phases;
 mod pod_lists;
 mod pods;
+mod rows;
 mod tallies;
 mod uids;
 

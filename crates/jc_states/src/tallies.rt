@@ -6,6 +6,7 @@ ghost use Rattle.jc_types.specs.declared.numbers.Uid.{Uid};
 ghost use Rattle.jc_states.specs.Tallies.{CountsPod, HasFewRestarts, HasRoom, tally_with, tally_without, no_pods, open_restarts, restarts_in, tally_in, with_pod, without_pod};
 
 use crate::pods::{is_active, is_ending, is_open, is_ready, is_tracked_active};
+use crate::rows::{row_mut, row_of};
 use indexmap::IndexMap;
 use jc_types::{Pod, Uid};
 
@@ -102,10 +103,11 @@ fn tally_without(tally: Tally, pod: &Pod) -> Tally
 }
 
 // The numbers of the owner; where it has no row, those of no pods.
+#[inline(always)]
 pub(crate) fn tally_in(rows: &IndexMap<Uid, Tally>, owner: Uid) -> Tally
     ensures { result ≡ tally_in owner rows.now.entries }
 {
-    match rows.get(&owner) {
+    match row_of(rows, owner) {
         None => no_pods(owner),
         Some(tally) => *tally,
     }
@@ -119,7 +121,12 @@ pub(crate) fn enter(rows: &mut IndexMap<Uid, Tally>, pod: &Pod)
         ≡ with_pod owner pod.now (tally_in owner rows.old.entries) }
     ensures few_restarts { HasFewRestarts pod.now }
 {
-    let tally = tally_with(tally_in(rows, pod.owner_uid), pod);
+    // A row that is there is written where it stands.
+    if let Some(tally) = row_mut(rows, pod.owner_uid) {
+        *tally = tally_with(*tally, pod);
+        return;
+    }
+    let tally = tally_with(no_pods(pod.owner_uid), pod);
     let Ok(_) = rows.insert(pod.owner_uid, tally) else {
         unreachable!()
     };
@@ -132,7 +139,7 @@ pub(crate) fn leave(rows: &mut IndexMap<Uid, Tally>, pod: &Pod)
         ≡ without_pod owner pod.now (tally_in owner rows.old.entries) }
     ensures room { spare rows.new ≡ spare rows.old }
 {
-    if let Some(tally) = rows.get_mut(&pod.owner_uid) {
+    if let Some(tally) = row_mut(rows, pod.owner_uid) {
         *tally = tally_without(*tally, pod);
     }
 }

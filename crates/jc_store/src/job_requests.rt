@@ -16,7 +16,7 @@ impl Store {
     /// replies `AlreadyExists`.
     ///
     /// # Errors
-    /// `Want` where there is no memory; the log is then as before.
+    /// `Want` where there is no memory, or a log of 2 ^ 32 - 2 entries; the log is then as before.
     pub fn create_job(&mut self, key: &Key, spec: Arc<JobSpec>, now: Moment) -> Result<Reply, Want>
         ensures { GivesOrKeeps self.old self.new
             (create_job_gives self.old key.now spec now) result }
@@ -47,7 +47,7 @@ impl Store {
     /// not the Job's, and `Immutable` or `Invalid` where the change may not be made.
     ///
     /// # Errors
-    /// `Want` where there is no memory; the log is then as before.
+    /// `Want` where there is no memory, or a log of 2 ^ 32 - 2 entries; the log is then as before.
     pub fn update_spec(
         &mut self,
         key: &Key,
@@ -88,7 +88,7 @@ impl Store {
     /// another version: the optimistic lock of Kubernetes' API.
     ///
     /// # Errors
-    /// `Want` where there is no memory; the log is then as before.
+    /// `Want` where there is no memory, or a log of 2 ^ 32 - 2 entries; the log is then as before.
     pub fn write_status(
         &mut self,
         key: &Key,
@@ -125,7 +125,7 @@ impl Store {
     /// `NotFound`.
     ///
     /// # Errors
-    /// `Want` where there is no memory; the log is then as before.
+    /// `Want` where there is no memory, or a log of 2 ^ 32 - 2 entries; the log is then as before.
     pub fn delete_job(&mut self, key: &Key) -> Result<Reply, Want>
         ensures { GivesOrKeeps self.old self.new (delete_job_gives self.old key.now) result }
     {

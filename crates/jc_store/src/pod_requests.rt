@@ -16,7 +16,7 @@ impl Store {
     /// the pod's serial fits.
     ///
     /// # Errors
-    /// `Want` where there is no memory; the log is then as before.
+    /// `Want` where there is no memory, or a log of 2 ^ 32 - 2 entries; the log is then as before.
     pub fn create_pod(
         &mut self,
         owner: &Job,
@@ -39,7 +39,7 @@ impl Store {
     /// Where there is no such pod, it replies `NotFound`.
     ///
     /// # Errors
-    /// `Want` where there is no memory; the log is then as before.
+    /// `Want` where there is no memory, or a log of 2 ^ 32 - 2 entries; the log is then as before.
     pub fn mark_pod(&mut self, pod: Uid, now: Moment) -> Result<Reply, Want>
         ensures { GivesOrKeeps self.old self.new (mark_pod_gives self.old pod now) result }
     {
@@ -61,7 +61,7 @@ impl Store {
     /// it replies `NotTracked`.
     ///
     /// # Errors
-    /// `Want` where there is no memory; the log is then as before.
+    /// `Want` where there is no memory, or a log of 2 ^ 32 - 2 entries; the log is then as before.
     pub fn release(&mut self, pod: Uid) -> Result<Reply, Want>
         ensures { GivesOrKeeps self.old self.new (release_gives self.old pod) result }
     {
@@ -83,7 +83,7 @@ impl Store {
     /// and `NotTracked` where it has no finalizer.
     ///
     /// # Errors
-    /// `Want` where there is no memory; the log is then as before.
+    /// `Want` where there is no memory, or a log of 2 ^ 32 - 2 entries; the log is then as before.
     pub fn let_go(&mut self, pod: Uid, version: Version) -> Result<Reply, Want>
         ensures { GivesOrKeeps self.old self.new (let_go_gives self.old pod version) result }
     {
@@ -112,7 +112,7 @@ impl Store {
     /// first name that is none of its containers'.
     ///
     /// # Errors
-    /// `Want` where there is no memory; the log is then as before.
+    /// `Want` where there is no memory, or a log of 2 ^ 32 - 2 entries; the log is then as before.
     pub fn report_phase(&mut self, pod: Uid, change: &PhaseChange) -> Result<Reply, Want>
         ensures { GivesOrKeeps self.old self.new
             (report_phase_gives self.old pod change.now) result }

@@ -1,5 +1,5 @@
 //! The store, what can be read of it, and how entries are appended.
-ghost use Rattle.std.specs.Prelude.{◌≡◌, ◌<◌, ◌+◌, ◌-◌, ◌^◌, ◌∷◌, ◌++◌, [], reverse, length, option_copied, find, nat_le, ◌&&◌, false, true, IfOk, IsSome, OnOk, OnErr, None, Some};
+ghost use Rattle.std.specs.Prelude.{◌≡◌, ◌<◌, ◌≤◌, ◌+◌, ◌-◌, ◌^◌, ◌∷◌, ◌++◌, [], reverse, length, option_copied, find, nat_le, ◌&&◌, false, true, IfOk, IsSome, OnOk, OnErr, None, Some};
 ghost use Rattle.jc_types.specs.declared.numbers.Uid.{Uid};
 ghost use Rattle.jc_types.specs.declared.objects.Entry.TheVariants.{JobGone, JobPut, PodGone, PodPut};
 ghost use Rattle.jc_log.specs.Requests.{pod_entry};
@@ -197,14 +197,6 @@ impl Store {
         self.pods.all().get(pod)
     }
 
-    /// The pod that is there with the least UID from this one on. There is none where all are below
-    /// it.
-    pub fn pod_at_or_after(&self, uid: Uid) -> Option<&Arc<Pod>>
-        ensures { option_copied result ≡ find (λ pod. nat_le uid.0 pod.uid.0) (pods_in self.now) }
-    {
-        self.pods.all().at_or_after(uid)
-    }
-
     /// The open pod with the least UID from this one on. There is none where each that is there is
     /// below it or has ended.
     pub fn open_pod_from(&self, uid: Uid) -> Option<&Arc<Pod>>
@@ -249,6 +241,7 @@ impl Store {
     pub(super) fn next_version(&self) -> Result<Version, Want>
         ensures next { IfOk result (λ version. version ≡ next_version self.now) }
         ensures room { OnOk result (length self.now < 2 ^ 32 - 2) }
+        ensures full { OnErr result (2 ^ 32 - 2 ≤ length self.now) }
     {
         let count = self.entries();
         if count >= u32::MAX - 1 {

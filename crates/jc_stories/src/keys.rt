@@ -2,22 +2,21 @@
 
 use jc_moment::Moment;
 use jc_queue::{Call, Delays, Queue, run};
-use jc_types::{Key, Name};
+use jc_types::{Key, KeyNames, Label};
 use std::alloc::{AllocError, Global};
 
 // The name, or `x` where it is empty or too long for one.
-fn name(alloc: Global, text: &str) -> Result<Name, AllocError> {
+fn name(alloc: Global, text: &str) -> Result<Label, AllocError> {
     if text.is_empty() || text.len() > 63 {
-        return Name::from_text(alloc, "x");
+        return Label::from_text(alloc, "x");
     }
-    Name::from_text(alloc, text)
+    Label::from_text(alloc, text)
 }
 
 fn key(alloc: Global, text: &str) -> Result<Key, AllocError> {
-    Ok(Key {
-        namespace: name(alloc, "default")?,
-        name: name(alloc, text)?,
-    })
+    let namespace = name(alloc, "default")?;
+    let name = name(alloc, text)?;
+    Key::new(alloc, KeyNames { namespace, name })
 }
 
 fn call(alloc: Global, word: &str) -> Result<Call, AllocError> {

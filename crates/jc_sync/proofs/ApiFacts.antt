@@ -6,12 +6,12 @@ use Rattle.jc_types.specs.declared.numbers.Version.{Version}
 use Rattle.jc_types.specs.declared.objects.Entry.{Entry}
 use Rattle.jc_types.specs.declared.objects.Entry.TheVariants.{JobPut}
 use Rattle.jc_types.specs.declared.objects.Job.{Job}
-use Rattle.jc_types.specs.declared.objects.Key.{Key}
 use Rattle.jc_types.specs.declared.objects.Pod.{Pod}
 use Rattle.jc_types.specs.declared.replies.Reply.{Reply}
 use Rattle.jc_types.specs.declared.replies.Reply.TheVariants.{Written, Unchanged, Conflict, NotFound, NotTracked}
 use Rattle.jc_types.specs.declared.statuses.JobStatus.{JobStatus}
 use Rattle.jc_log.specs.Requests.{Answered, accepted, refused, released, release_at, release_gives, let_go_at, let_go_gives, mark_pod_at, mark_pod_gives, with_mark, pod_entry, write_status_at, write_status_gives, with_status}
+use Rattle.jc_types.specs.declared.objects.KeyNames.{KeyNames as Key}
 use Rattle.jc_types.specs.Keys.{same_uid}
 use Rattle.jc_log.specs.Log.{Life, Never, Live, Gone, life, living, is_lost, job_in, next_version}
 use Rattle.jc_states.specs.Pods.{is_marked}

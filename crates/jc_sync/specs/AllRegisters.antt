@@ -18,7 +18,7 @@ use Rattle.std.specs.List.{AllByRecursion as Each}
 use Rattle.jc_types.specs.declared.objects.Entry.{Entry}
 use Rattle.jc_types.specs.declared.objects.Entry.TheVariants.{JobPut}
 use Rattle.jc_types.specs.declared.objects.Job.{Job}
-use Rattle.jc_types.specs.declared.objects.Key.{Key}
+use Rattle.jc_types.specs.declared.objects.KeyNames.{KeyNames as Key}
 use Rattle.jc_states.specs.declared.bases.Basis.{Basis}
 use Rattle.jc_log.specs.Requests.{Answered, grown}
 use Rattle.jc_log.specs.Acts as does

@@ -9,7 +9,7 @@ ghost use Rattle.jc_types.specs.declared.numbers.Uid.{Uid};
 ghost use Rattle.jc_types.specs.declared.numbers.Version.{Version};
 ghost use Rattle.jc_types.specs.declared.objects.Entry.{Entry};
 ghost use Rattle.jc_types.specs.declared.objects.Job.{Job};
-ghost use Rattle.jc_types.specs.declared.objects.Key.{Key};
+ghost use Rattle.jc_types.specs.declared.objects.KeyNames.{KeyNames as Key};
 ghost use Rattle.jc_types.specs.declared.replies.Answer.{Answer};
 ghost use Rattle.jc_types.specs.declared.specifications.JobSpec.{JobSpec};
 ghost use Rattle.jc_states.specs.declared.bases.Basis.{Basis};

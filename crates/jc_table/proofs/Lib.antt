@@ -1,5 +1,6 @@
 mod Numbers
 mod OpenPods
+mod PageFacts
 mod PodRows
 pub mod ResultFacts
 pub mod RowFacts

@@ -1,11 +1,9 @@
 -- What a look-up, a write and a removal among the rows of pods in ascending UID are among the pods.
-use Rattle.std.proofs.Common.{◌≡◌, ℕ, ◌+◌, ◌<◌, ◌≤◌, ◌==◌, nat_lt, nat_le, nat_cmp, Less, Equal, Greater, Bool, true, false, cond, not, List, [], ◌∷◌, filter, find, slice_get, Some, None, IsSome, is_some, refl, sym, ap, subst, ◌∙◌, arith}
-use Rattle.std.proofs.Common.{true≢false, ltb-true, eqb-true, ne_eqb, option_map}
+use Rattle.std.proofs.Common.{◌≡◌, ℕ, ◌+◌, ◌<◌, ◌≤◌, ◌==◌, nat_lt, nat_cmp, Less, Equal, Greater, Bool, true, false, cond, not, List, [], ◌∷◌, find, Some, IsSome, is_some, refl, sym, ap, subst, ◌∙◌, arith}
+use Rattle.std.proofs.Common.{true≢false, ltb-true, eqb-true, ne_eqb}
 use Rattle.std.specs.Ordering.{match_ordering}
 use Rattle.std.specs.Map.{lookup, remove_entry, set_value}
 use Rattle.std.specs.BTreeMap.{insert_entry, is_at}
-use Rattle.std.specs.BTreeMap.Range.{entries_between}
-use Rattle.std.specs.declared.ops.Bound.TheVariants.{Included, Unbounded}
 use Rattle.jc_types.specs.declared.numbers.Uid.{Uid}
 use Rattle.jc_types.specs.declared.objects.Pod.{Pod}
 use Rattle.jc_types.specs.Keys.{same_uid}
@@ -13,7 +11,7 @@ use Rattle.jc_states.specs.PodLists.{put_pod, drop_pod, RisesFrom, IsRising}
 use Rattle.jc_states.proofs.PodListFacts.{rises_put, rises_filter}
 use Rattle.jc_types.proofs.KeyFacts.{same_uid-either_way}
 use Rattle.jc_table.specs.Rows.{pods_in_rows, pod_rows, IsInOrder}
-use Rattle.jc_table.proofs.Numbers.{asks, in_range}
+use Rattle.jc_table.proofs.Numbers.{asks}
 
 -- ---- rows and pods
 
@@ -99,17 +97,6 @@ remove-pod_rows u low (pod ∷ pods) r =
         ap pod_rows (sym (drop_pod-below u (pod.uid.0 + 1) pods r.1 (omega (arith, is))))
     by false e ih = ap (λ rows. (pod.uid.0, pod) ∷ rows) ih
 
--- The first row from a UID on has the first pod whose UID is at least that one.
-first-pod_rows : (u : Uid) (pods : List Pod) → option_map (λ row. row.1) (slice_get (filter (λ row. nat_le u.0 row.0) (pod_rows pods)) 0) ≡ find (λ pod. nat_le u.0 pod.uid.0) pods
-first-pod_rows u [] = refl
-first-pod_rows u (pod ∷ pods) = by (nat_le u.0 pod.uid.0) (first-pod_rows u pods)
-  where
-    by : (b : Bool) → option_map (λ row. row.1) (slice_get (filter (λ row. nat_le u.0 row.0) (pod_rows pods)) 0) ≡ find (λ pod. nat_le u.0 pod.uid.0) pods
-        → option_map (λ row. row.1) (slice_get (cond b ((pod.uid.0, pod) ∷ filter (λ row. nat_le u.0 row.0) (pod_rows pods)) (filter (λ row. nat_le u.0 row.0) (pod_rows pods))) 0)
-        ≡ cond b (Some pod) (find (λ pod. nat_le u.0 pod.uid.0) pods)
-    by true ih = refl
-    by false ih = ih
-
 -- ---- the rows of a table, and the pods that a contract sees
 
 module _ (rows : List (ℕ × Pod)) (pods : List Pod) (order : IsInOrder rows) (is : pods_in_rows rows ≡ pods) where
@@ -158,15 +145,3 @@ module _ (rows : List (ℕ × Pod)) (pods : List Pod) (order : IsInOrder rows) (
 
   pub insert-puts : (pod : Pod) (new : List (ℕ × Pod)) → new ≡ insert_entry nat_cmp rows pod.uid.0 pod → pods_in_rows new ≡ put_pod pod pods
   insert-puts pod new at = ap pods_in_rows (insert-is pod new at) ∙ pods_in_rows-pod_rows (put_pod pod pods)
-
-  -- The first row of the range from a UID on.
-  pub first-is : (u : Uid) (part : List (ℕ × Pod)) → part ≡ entries_between nat_cmp (Included u.0) Unbounded rows → option_map (λ row. row.1) (slice_get part 0) ≡ find (λ pod. nat_le u.0 pod.uid.0) pods
-  first-is u part at =
-      ap (λ part. option_map (λ (row : ℕ × Pod). row.1) (slice_get part 0)) (at ∙ ap (λ (test : ℕ × Pod → Bool). filter test rows) (λ i row. in_range u.0 row.0 i) ∙ ap (filter (λ row. nat_le u.0 row.0)) are)
-      ∙ first-pod_rows u pods
-
-  pub first-none : (u : Uid) (part : List (ℕ × Pod)) → part ≡ entries_between nat_cmp (Included u.0) Unbounded rows → part ≡ [] → find (λ pod. nat_le u.0 pod.uid.0) pods ≡ None
-  first-none u part at empty = sym (first-is u part at) ∙ ap (λ part. option_map (λ (row : ℕ × Pod). row.1) (slice_get part 0)) empty
-
-  pub first-some : (u : Uid) (part rest : List (ℕ × Pod)) (k : ℕ) (pod : Pod) → part ≡ entries_between nat_cmp (Included u.0) Unbounded rows → part ≡ (k, pod) ∷ rest → Some pod ≡ find (λ pod. nat_le u.0 pod.uid.0) pods
-  first-some u part rest k pod at more = sym (ap (λ part. option_map (λ (row : ℕ × Pod). row.1) (slice_get part 0)) more) ∙ first-is u part at

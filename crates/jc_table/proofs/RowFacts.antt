@@ -1,5 +1,5 @@
 -- Rows under numbers: what a look-up, a write and a removal under a number are among the rows by key.
-use Rattle.std.proofs.Common.{◌≡◌, ℕ, ◌+◌, ◌≤◌, ◌==◌, ◌||◌, nat_lt, nat_cmp, Less, Equal, Greater, Bool, true, false, cond, List, [], ◌∷◌, ◌++◌, Option, Some, None, is_some, refl, sym, ap, subst, ◌∙◌, arith, true≢false, ltb-true}
+use Rattle.std.proofs.Common.{◌≡◌, ℕ, ◌+◌, ◌≤◌, ◌==◌, ◌||◌, nat_lt, nat_cmp, Less, Equal, Greater, Bool, true, false, cond, List, [], ◌∷◌, ◌++◌, Option, Some, None, IsSome, is_some, refl, sym, ap, subst, ◌∙◌, arith, true≢false, ltb-true}
 use Rattle.std.proofs.Common.{eqb-true, eq-eqb, ne_eqb, option_map}
 use Rattle.std.proofs.lemmas.Bool.{cond-false}
 use Rattle.std.proofs.lemmas.Map.Keys.{IsDistinct-head, IsDistinct-tail, IsDistinct-cons, IsDistinct-push}
@@ -8,6 +8,7 @@ use Rattle.std.specs.BTreeMap.{insert_entry, is_at}
 use Rattle.std.specs.Cmp.{IsEquivalence}
 use Rattle.std.specs.List.{AllByRecursion, IsDistinct, list_any}
 use Rattle.std.specs.Map.{keys_of, values_of, lookup, remove_entry, set_value}
+use Rattle.std.specs.Option.{IfSome}
 use Rattle.std.specs.Ordering.{match_ordering}
 use Rattle.jc_log.specs.Tables.{at, puts, takes, Sets}
 use Rattle.jc_table.specs.Numbered.{Ascend, AreNumbered, key_numbers}
@@ -283,6 +284,14 @@ module _ {K V : Type 0} (same : K → K → Bool) (rows : List (ℕ × (K × V))
   pub found : (k : K) (s : ℕ) → at same numbers k ≡ Some s → option_map (λ row. row.1) (lookup (is_at (nat_cmp s)) rows) ≡ at same (values_of rows) k
   found k s is = ap (λ test. option_map (λ (row : K × V). row.1) (lookup test rows)) (asks s) ∙ numbered-found same k 0 next s rows are.ascend (sym (are.known k) ∙ is)
 
+  -- The number of a key has a row.
+  pub has_row : (k : K) (s : ℕ) → at same numbers k ≡ Some s → IsSome (lookup (is_at (nat_cmp s)) rows)
+  has_row k s is = by (lookup (is_at (nat_cmp s)) rows) (ap is_some (found k s is) ∙ sym (is_there k) ∙ ap is_some is)
+    where
+      by : (row : Option (K × V)) → is_some (option_map (λ row. row.1) row) ≡ true → IsSome row
+      by None h = absurd (true≢false (sym h))
+      by (Some row) h = refl
+
   -- The row under the number of a key is taken out.
   pub taken-rows : (k : K) (s : ℕ) (new : List (ℕ × (K × V))) → at same numbers k ≡ Some s → new ≡ remove_entry (is_at (nat_cmp s)) rows → values_of new ≡ takes same (values_of rows) k
   taken-rows k s new is out = ap values_of (out ∙ ap (λ test. remove_entry test rows) (asks s)) ∙ (numbered-taken same k 0 next s rows are.ascend (sym (are.known k) ∙ is)).0
@@ -293,11 +302,11 @@ module _ {K V : Type 0} (same : K → K → Bool) (rows : List (ℕ × (K × V))
   set-both k v r s is there =
       numbered-set same k v r 0 next s rows are.ascend (sym (are.known k) ∙ is) (ap (λ test. lookup test rows) (sym (asks s)) ∙ there)
 
-  pub set-rows : (k : K) (v : V) (r : K × V) (s : ℕ) (new : List (ℕ × (K × V))) → at same numbers k ≡ Some s → lookup (is_at (nat_cmp s)) rows ≡ Some r
+  set-rows : (k : K) (v : V) (r : K × V) (s : ℕ) (new : List (ℕ × (K × V))) → at same numbers k ≡ Some s → lookup (is_at (nat_cmp s)) rows ≡ Some r
       → new ≡ set_value (is_at (nat_cmp s)) rows (r.0, v) → values_of new ≡ puts same (values_of rows) k v
   set-rows k v r s new is there out = ap values_of (out ∙ ap (λ test. set_value test rows (r.0, v)) (asks s)) ∙ (set-both k v r s is there).0
 
-  pub set-numbered : (k : K) (v : V) (r : K × V) (s : ℕ) (new : List (ℕ × (K × V))) → at same numbers k ≡ Some s → lookup (is_at (nat_cmp s)) rows ≡ Some r
+  set-numbered : (k : K) (v : V) (r : K × V) (s : ℕ) (new : List (ℕ × (K × V))) → at same numbers k ≡ Some s → lookup (is_at (nat_cmp s)) rows ≡ Some r
       → new ≡ set_value (is_at (nat_cmp s)) rows (r.0, v) → AreNumbered same new numbers next
   set-numbered k v r s new is there out =
       let plain : new ≡ set_value (λ j. s == j) rows (r.0, v) = out ∙ ap (λ test. set_value test rows (r.0, v)) (asks s) in
@@ -307,6 +316,23 @@ module _ {K V : Type 0} (same : K → K → Bool) (rows : List (ℕ × (K × V))
         distinct = subst (IsDistinct same) (sym (numbered-keys rows) ∙ ap keys_of (sym alike) ∙ numbered-keys new) are.distinct;
         known = λ q. are.known q ∙ ap (λ table. at same table q) (sym alike);
       }
+
+  -- The same, where the row is not at hand.
+  pub second-rows : (k : K) (v : V) (s : ℕ) (new : List (ℕ × (K × V))) → at same numbers k ≡ Some s
+      → IfSome (lookup (is_at (nat_cmp s)) rows) (λ row. new ≡ set_value (is_at (nat_cmp s)) rows (row.0, v)) → values_of new ≡ puts same (values_of rows) k v
+  second-rows k v s new is out = by (lookup (is_at (nat_cmp s)) rows) refl out
+    where
+      by : (row : Option (K × V)) → lookup (is_at (nat_cmp s)) rows ≡ row → IfSome row (λ row. new ≡ set_value (is_at (nat_cmp s)) rows (row.0, v)) → values_of new ≡ puts same (values_of rows) k v
+      by None there out = absurd (true≢false (sym (has_row k s is) ∙ ap is_some there))
+      by (Some row) there out = set-rows k v row s new is there out
+
+  pub second-numbered : (k : K) (v : V) (s : ℕ) (new : List (ℕ × (K × V))) → at same numbers k ≡ Some s
+      → IfSome (lookup (is_at (nat_cmp s)) rows) (λ row. new ≡ set_value (is_at (nat_cmp s)) rows (row.0, v)) → AreNumbered same new numbers next
+  second-numbered k v s new is out = by (lookup (is_at (nat_cmp s)) rows) refl out
+    where
+      by : (row : Option (K × V)) → lookup (is_at (nat_cmp s)) rows ≡ row → IfSome row (λ row. new ≡ set_value (is_at (nat_cmp s)) rows (row.0, v)) → AreNumbered same new numbers next
+      by None there out = absurd (true≢false (sym (has_row k s is) ∙ ap is_some there))
+      by (Some row) there out = set-numbered k v row s new is there out
 
   -- A row that is inserted under the next number is put at its key.
   pub pushed-rows : (k : K) (v : V) (new : List (ℕ × (K × V))) → at same (values_of rows) k ≡ None → new ≡ insert_entry nat_cmp rows next (k, v) → values_of new ≡ puts same (values_of rows) k v

@@ -1,17 +1,18 @@
 //! Rows by key, in the order in which their keys came.
 
-ghost use Rattle.std.specs.Prelude.{◌≡◌, ◌<◌, ◌^◌, ◌↔◌, [], IsSome, IsTrue, None, OnErr, OnOk, Some, is_some, length, map, slice_get};
+ghost use Rattle.std.specs.Prelude.{◌≡◌, ◌<◌, ◌^◌, ◌↔◌, [], IsSome, IsTrue, None, OnErr, OnOk, Some, is_some, length, map};
 ghost use Rattle.std.specs.List.{IsDistinct};
 ghost use Rattle.std.specs.Map.{keys_of};
-ghost use Rattle.std.specs.Map.Iter.{ShowsInOrder, ShowsInReverse, deref, deref_pair};
-ghost use Rattle.std.specs.Option.{option_copied, option_map};
+ghost use Rattle.std.specs.Map.Iter.{ShowsInOrder, ShowsInReverse, deref};
+ghost use Rattle.std.specs.Option.{option_copied};
 ghost use Rattle.jc_log.specs.Tables.{at, puts, takes, Sets};
 
+use crate::numbered::Numbered;
+use crate::rows::Rows;
 use crate::values::Values;
 use indexmap::IndexMap;
 use jc_types::{Copied, Want};
 use std::alloc::{AllocError, Global};
-use std::collections::{BTreeMap, btree_map};
 use std::hash::Hash;
 use std::marker::Model;
 
@@ -20,7 +21,7 @@ use std::marker::Model;
 #[derive(Drop)]
 pub struct Table<K: Eq + Hash, V> {
     // The rows in their order, each under a number.
-    rows: BTreeMap<u64, (K, V)>,
+    rows: Numbered<(K, V)>,
     // The number of each key's row.
     numbers: IndexMap<K, u64>,
     // The number of the next new row. All others are below it.
@@ -34,9 +35,9 @@ impl<K: Eq + Hash, V> Model for Table<K, V> {
 
     ghost Value = { List (K × V) };
 
-    ghost view = { λ t. values_of t.rows.entries };
+    ghost view = { λ t. values_of t.rows };
 
-    ghost invariant = { λ t. AreNumbered K.eq t.rows.entries t.numbers.entries t.next };
+    ghost invariant = { λ t. AreNumbered K.eq t.rows t.numbers.entries t.next };
 }
 
 impl<K: Eq + Hash, V> Table<K, V> {
@@ -45,7 +46,7 @@ impl<K: Eq + Hash, V> Table<K, V> {
         ensures { result ≡ [] }
     {
         Table {
-            rows: BTreeMap::new(alloc),
+            rows: Numbered::new(alloc),
             numbers: IndexMap::new(alloc),
             next: 0,
         }
@@ -70,7 +71,7 @@ impl<K: Eq + Hash, V> Table<K, V> {
         ensures { option_copied result ≡ at K.eq self.now key.now }
     {
         let number = self.numbers.get(key)?;
-        let (_key, value) = self.rows.get(number)?;
+        let (_key, value) = self.rows.get(*number)?;
         Some(value)
     }
 
@@ -81,18 +82,8 @@ impl<K: Eq + Hash, V> Table<K, V> {
         self.numbers.contains_key(key)
     }
 
-    /// The row of this place, counted from 0; `None` exactly from the number of rows on. It walks
-    /// over the rows before it.
-    pub fn row(&self, place: usize) -> Option<(&K, &V)>
-        ensures row { option_map deref_pair result ≡ slice_get self.now place }
-        ensures found { IsSome result ↔ (place < length self.now) }
-    {
-        let (key, value) = self.rows.values().nth(place)?;
-        Some((key, value))
-    }
-
     /// All rows, in their order, from the front or from the back.
-    pub fn rows(&self) -> btree_map::Values<'_, u64, (K, V)>
+    pub fn rows(&self) -> Rows<'_, (K, V)>
         ensures rows { result ≡ self.now }
         ensures once { IsDistinct K.eq (keys_of self.now) }
         ensures runs { ShowsInOrder (deref {X = K × V}) }
@@ -128,10 +119,7 @@ impl<K: Eq + Hash + Copied, V: Drop> Table<K, V> {
         let Some(number) = self.numbers.get(&key) else {
             return self.push(key, value);
         };
-        let Some(row) = self.rows.get_mut(number) else {
-            unreachable!()
-        };
-        row.1 = value;
+        self.rows.set_second(*number, value);
         Ok(())
     }
 
@@ -153,7 +141,7 @@ impl<K: Eq + Hash + Copied, V: Drop> Table<K, V> {
                 Ok(())
             }
             Err(_) => {
-                self.rows.remove(&number);
+                self.rows.remove(number);
                 Err(AllocError)
             }
         }
@@ -170,10 +158,7 @@ impl<K: Eq + Hash + Drop, V: Drop> Table<K, V> {
         let Some(number) = self.numbers.get(key) else {
             unreachable!()
         };
-        let Some(row) = self.rows.get_mut(number) else {
-            unreachable!()
-        };
-        row.1 = value;
+        self.rows.set_second(*number, value);
     }
 
     /// Takes the row of the key out, and hands over its value; `None` exactly where no row has the
@@ -184,7 +169,7 @@ impl<K: Eq + Hash + Drop, V: Drop> Table<K, V> {
         ensures rows { self.new ≡ takes K.eq self.old key.now }
     {
         let number = self.numbers.get(key)?;
-        let Some((_key, value)) = self.rows.remove(number) else {
+        let Some((_key, value)) = self.rows.remove(*number) else {
             unreachable!()
         };
         self.numbers.swap_remove(key);

@@ -1,23 +1,23 @@
 //! Pods by UID, in ascending UID.
 
-ghost use Rattle.std.specs.Prelude.{◌≡◌, ◌<◌, ◌^◌, ◌↔◌, [], IsSome, IsTrue, None, OnErr, OnOk, find, length, nat_le};
+ghost use Rattle.std.specs.Prelude.{◌≡◌, ◌<◌, ◌^◌, ◌↔◌, [], IsSome, IsTrue, None, OnErr, OnOk, find, length};
 ghost use Rattle.std.specs.Map.Iter.{ShowsInOrder, deref};
 ghost use Rattle.std.specs.Option.{option_copied};
 ghost use Rattle.jc_types.specs.declared.objects.Pod.{Pod};
 ghost use Rattle.jc_types.specs.Keys.{same_uid};
 ghost use Rattle.jc_states.specs.PodLists.{IsRising, drop_pod, put_pod};
 
+use crate::numbered::Numbered;
+use crate::rows::Rows;
 use jc_types::{Arc, Pod, Uid, Want};
 use std::alloc::Global;
-use std::collections::BTreeMap;
-use std::collections::btree_map::Values;
 use std::marker::Model;
 
 /// Pods in ascending UID, none twice.
 #[derive(Drop)]
 pub struct PodTable {
     // Each pod in the row of its UID's number, in ascending UID.
-    rows: BTreeMap<u32, Arc<Pod>>,
+    rows: Numbered<Arc<Pod>>,
 }
 
 impl Model for PodTable {
@@ -27,9 +27,9 @@ impl Model for PodTable {
 
     ghost Value = { List Pod };
 
-    ghost view = { λ t. pods_in_rows t.rows.entries };
+    ghost view = { λ t. pods_in_rows t.rows };
 
-    ghost invariant = { λ t. IsInOrder t.rows.entries };
+    ghost invariant = { λ t. IsInOrder t.rows };
 }
 
 impl PodTable {
@@ -38,7 +38,7 @@ impl PodTable {
         ensures { result ≡ [] }
     {
         PodTable {
-            rows: BTreeMap::new(alloc),
+            rows: Numbered::new(alloc),
         }
     }
 
@@ -61,19 +61,11 @@ impl PodTable {
     pub fn get(&self, uid: Uid) -> Option<&Arc<Pod>>
         ensures { option_copied result ≡ find (λ pod. same_uid pod.uid uid) self.now }
     {
-        self.rows.get(&uid.0)
-    }
-
-    /// The pod with the least UID from this one on; `None` exactly where all are below it.
-    pub fn at_or_after(&self, uid: Uid) -> Option<&Arc<Pod>>
-        ensures { option_copied result ≡ find (λ pod. nat_le uid.0 pod.uid.0) self.now }
-    {
-        let (_uid, pod) = self.rows.range(uid.0..).next()?;
-        Some(pod)
+        self.rows.get(u64::from(uid.0))
     }
 
     /// All pods, in ascending UID.
-    pub fn values(&self) -> Values<'_, u32, Arc<Pod>>
+    pub fn values(&self) -> Rows<'_, Arc<Pod>>
         ensures pods { result ≡ self.now }
         ensures runs { ShowsInOrder (deref {X = Pod}) }
         ensures fits { length self.now < 2 ^ 63 }
@@ -90,7 +82,7 @@ impl PodTable {
         ensures kept { OnErr result (self.new ≡ self.old) }
         ensures new_uid { OnErr result (find (λ p. same_uid p.uid pod.uid) self.old ≡ None) }
     {
-        self.rows.insert(pod.uid.0, pod)?;
+        self.rows.insert(u64::from(pod.uid.0), pod)?;
         Ok(())
     }
 
@@ -99,10 +91,7 @@ impl PodTable {
         requires { IsSome (find (λ p. same_uid p.uid pod.uid) self.old) }
         ensures { self.new ≡ put_pod pod self.old }
     {
-        let Some(place) = self.rows.get_mut(&pod.uid.0) else {
-            unreachable!()
-        };
-        *place = pod;
+        self.rows.set(u64::from(pod.uid.0), pod);
     }
 
     /// Takes the pod of the UID out; `None` exactly where none has it. It takes no memory.
@@ -110,7 +99,7 @@ impl PodTable {
         ensures taken { result ≡ find (λ pod. same_uid pod.uid uid) self.old }
         ensures drops { self.new ≡ drop_pod uid self.old }
     {
-        self.rows.remove(&uid.0)
+        self.rows.remove(u64::from(uid.0))
     }
 
     /// Takes all pods out.

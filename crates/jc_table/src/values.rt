@@ -5,13 +5,13 @@ ghost use Rattle.std.specs.Iterator.{at_most};
 ghost use Rattle.std.specs.Map.{values_of};
 ghost use Rattle.std.specs.Map.Iter.{TakesFirst, deref};
 
-use std::collections::btree_map;
+use crate::rows::Rows;
 use std::marker::Model;
 
 /// The values that are left, in the order of the rows.
 #[derive(Drop)]
 pub struct Values<'a, K, V> {
-    rows: btree_map::Values<'a, u64, (K, V)>,
+    rows: Rows<'a, (K, V)>,
 }
 
 impl<'a, K, V> Model for Values<'a, K, V> {
@@ -25,7 +25,7 @@ impl<'a, K, V> Model for Values<'a, K, V> {
 
 impl<'a, K, V> Values<'a, K, V> {
     // Those of these rows.
-    pub(crate) fn new(rows: btree_map::Values<'a, u64, (K, V)>) -> Self
+    pub(crate) fn new(rows: Rows<'a, (K, V)>) -> Self
         ensures { result ≡ values_of rows.entry }
     {
         Values { rows }

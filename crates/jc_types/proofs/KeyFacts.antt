@@ -4,8 +4,7 @@ use Rattle.std.specs.Cmp.{first_so, second_so}
 use Rattle.std.specs.Cmp.Lexicographic.{pointwise, bytes_decides}
 use Rattle.std.proofs.lemmas.Bool.{and_from, false_from_ne_true, both_ways}
 use Rattle.jc_types.specs.declared.numbers.Uid.{Uid}
-use Rattle.jc_types.specs.declared.objects.Key.{Key}
-use Rattle.jc_types.specs.Keys.{same_key, same_uid}
+use Rattle.jc_types.specs.Keys.{Key, same_key, same_uid}
 
 -- Keys that are the same are equal.
 pub same_key-eq : (a b : Key) → same_key a b ≡ true → a ≡ b

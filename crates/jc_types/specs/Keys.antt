@@ -4,7 +4,7 @@
 use Rattle.std.specs.Prelude.{Bool, ◌&&◌, ◌==◌, nat_eq}
 use Rattle.std.specs.Cmp.Lexicographic.{pointwise}
 use Rattle.jc_types.specs.declared.numbers.Uid.{Uid}
-use Rattle.jc_types.specs.declared.objects.Key.{Key}
+pub use Rattle.jc_types.specs.declared.objects.KeyNames.{KeyNames as Key}
 
 -- Namespace and name agree byte by byte.
 abbrev pub same_key : Key → Key → Bool

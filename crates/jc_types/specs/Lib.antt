@@ -6,3 +6,4 @@ pub mod PastLists
 pub mod ValidSpecs
 pub mod Pieces
 pub mod Letters
+pub mod Halves

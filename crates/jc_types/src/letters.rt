@@ -78,6 +78,7 @@ fn code_of(text: &str) -> u64
 }
 
 // Whether a code is that of a text of at most 7 bytes.
+#[inline(always)]
 fn is_short(code: u64) -> bool
     ensures { result ≡ nat_lt (code % 256) 8 }
 {
@@ -101,6 +102,7 @@ impl Letters {
     }
 
     // Its code.
+    #[inline(always)]
     pub(crate) fn code(&self) -> u64
         ensures { result ≡ code_of self.now }
     {
@@ -108,6 +110,7 @@ impl Letters {
     }
 
     // Whether both are the same text.
+    #[inline(always)]
     pub(crate) fn is_equal(&self, other: &Letters) -> bool
         ensures { result ≡ pointwise nat_eq self.now other.now }
     {

@@ -35,8 +35,10 @@ pub use limits::{
     GREATEST_COMPLETIONS, GREATEST_LIMIT, GREATEST_PARALLELISM, MOST_CONTAINERS, MOST_UNCOUNTED,
 };
 pub use lists::ListOf;
-pub use numbers::{Uid, Uids, Version};
-pub use objects::{Container, Containers, Entries, Entry, Job, Jobs, Key, Kind, Phase, Pod};
+pub use numbers::{Seconds, Uid, Uids, Version};
+pub use objects::{
+    Container, Containers, Entries, Entry, Job, Jobs, Key, KeyNames, Kind, Phase, Pod,
+};
 pub use pasts::Pasts;
 pub use pieces::Pieces;
 pub use policies::{
@@ -49,5 +51,5 @@ pub use shared::Arc;
 pub use specifications::{JobSpec, Mode, Replacement, Restart, Template};
 pub use statuses::{CondKind, Condition, Conditions, IndexCount, IndexCounts, JobStatus, Reason};
 pub use syncs::{Backoff, CountIn, Indexes, PodVersions, counts};
-pub use texts::{Name, Names, Text};
+pub use texts::{Label, Name, Names, Text};
 pub use uid_words::uid_text;

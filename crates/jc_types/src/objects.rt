@@ -7,17 +7,20 @@ use crate::policies::PodConditions;
 use crate::shared::Arc;
 use crate::specifications::{JobSpec, Restart};
 use crate::statuses::JobStatus;
-use crate::texts::Name;
+use crate::texts::{Label, Name};
 use jc_moment::Moment;
 
 /// Where a Job stands: its namespace and its name in it.
 #[derive(PartialEq, Eq, PartialOrd, Ord, Hash, Drop)]
-pub struct Key {
+pub struct KeyNames {
     /// The namespace (`metadata.namespace`).
-    pub namespace: Name,
+    pub namespace: Label,
     /// The name in it (`metadata.name`).
-    pub name: Name,
+    pub name: Label,
 }
+
+/// The key of a Job. Its copies share its memory.
+pub type Key = Arc<KeyNames>;
 
 /// A Job.
 #[derive(Drop)]
@@ -136,15 +139,6 @@ impl Copied for Kind {
     }
 }
 
-impl Copied for Key {
-    fn copy(&self) -> Result<Self, Want> {
-        Ok(Key {
-            namespace: self.namespace.copy()?,
-            name: self.name.copy()?,
-        })
-    }
-}
-
 impl Copied for Job {
     fn copy(&self) -> Result<Self, Want> {
         Ok(Job {
@@ -212,7 +206,7 @@ impl Same for Kind {
     }
 }
 
-impl Same for Key {
+impl Same for KeyNames {
     fn is_same(&self, other: &Self) -> bool {
         self.namespace.is_same(&other.namespace) && self.name.is_same(&other.name)
     }

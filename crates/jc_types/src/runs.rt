@@ -3,7 +3,7 @@
 ghost use Rattle.std.specs.Prelude.{◌≡◌, IfOk};
 
 use crate::copies::{Copied, Want};
-use crate::numbers::Version;
+use crate::numbers::{Seconds, Version};
 use crate::objects::Kind;
 use crate::pasts::Pasts;
 use crate::replies::Reply;
@@ -38,7 +38,7 @@ pub enum Sys {
     /// The node takes a pod one step further.
     Node,
     /// Seconds that pass.
-    Clock { add: u64 },
+    Clock { add: Seconds },
 }
 
 /// An event of a run.

@@ -5,6 +5,8 @@ ghost use Rattle.std.specs.Arc.{arc_value};
 
 use crate::copies::{Copied, Same, Want};
 use std::alloc::Global;
+use std::cmp::Ordering;
+use std::hash::{Hash, Hasher};
 use std::marker::Model;
 use std::ops::Deref;
 use std::sync;
@@ -66,5 +68,54 @@ impl<T: Drop> Copied for Arc<T> {
 impl<T: Same> Same for Arc<T> {
     fn is_same(&self, other: &Self) -> bool {
         (&*self.pointer).is_same(&*other.pointer)
+    }
+}
+
+impl<T: PartialEq> PartialEq for Arc<T> {
+    ghost eq = { T.eq };
+
+    ghost laws = { T.laws };
+
+    #[inline(always)]
+    fn eq(&self, other: &Self) -> bool {
+        *self.pointer == *other.pointer
+    }
+}
+
+impl<T: Eq> Eq for Arc<T> {
+    ghost laws = { T.Eq.laws };
+}
+
+impl<T: PartialOrd> PartialOrd for Arc<T> {
+    ghost partial_cmp = { T.partial_cmp };
+
+    ghost laws = { T.PartialOrd.laws };
+
+    fn partial_cmp(&self, other: &Self) -> Option<Ordering> {
+        (*self.pointer).partial_cmp(&*other.pointer)
+    }
+}
+
+impl<T: Ord> Ord for Arc<T> {
+    ghost cmp = { T.cmp };
+
+    ghost total = { T.total };
+
+    ghost matches_partial_cmp = { T.matches_partial_cmp };
+
+    ghost matches_eq = { T.matches_eq };
+
+    fn cmp(&self, other: &Self) -> Ordering {
+        (*self.pointer).cmp(&*other.pointer)
+    }
+}
+
+impl<T: Hash> Hash for Arc<T> {
+    ghost hash_input = { T.hash_input };
+
+    ghost respects_eq = { T.respects_eq };
+
+    fn hash<H: Hasher>(&self, state: &mut H) {
+        (*self.pointer).hash(state);
     }
 }

@@ -77,26 +77,29 @@ impl Same for Text {
     }
 }
 
-/// A name of 1 to 63 bytes, as Kubernetes bounds a DNS label. Its copies share its memory.
+/// A name of 1 to 63 bytes, as Kubernetes bounds a DNS label. A contract sees it as its bytes.
 #[derive(Drop)]
-pub struct Name {
-    letters: Arc<Letters>,
+pub struct Label {
+    letters: Letters,
 }
 
-impl Model for Name {
+impl Model for Label {
     ghost use Rattle.std.specs.Prelude.{List, ℕ, ◌<◌, ◌≤◌, length};
 
     ghost Value = { List ℕ };
 
-    ghost view = { λ n. n.letters };
+    ghost view = { λ l. l.letters };
 
-    ghost invariant = { λ n. (0 < length n.letters) × (length n.letters ≤ 63) };
+    ghost invariant = { λ l. (0 < length l.letters) × (length l.letters ≤ 63) };
 }
+
+/// A name. Its copies share its memory.
+pub type Name = Arc<Label>;
 
 /// Names in an order of their own.
 pub type Names = ListOf<Name>;
 
-impl Name {
+impl Label {
     /// The name with these bytes, of which there are 1 to 63.
     ///
     /// # Errors
@@ -104,24 +107,20 @@ impl Name {
     pub fn from_text(alloc: Global, text: &str) -> Result<Self, Want>
         requires not_empty { 0 < length text.now }
         requires short { length text.now ≤ 63 }
-        ensures { IfOk result (λ n. n ≡ text.now) }
+        ensures { IfOk result (λ l. l ≡ text.now) }
     {
-        Name::from_string(String::from_str(alloc, text)?)
+        Ok(Label::from_string(String::from_str(alloc, text)?))
     }
 
     /// The name that a string of 1 to 63 bytes spells.
-    ///
-    /// # Errors
-    /// `Want` where there is no memory for it.
-    pub fn from_string(string: String) -> Result<Self, Want>
+    pub fn from_string(string: String) -> Self
         requires not_empty { 0 < length (string_bytes string) }
         requires short { length (string_bytes string) ≤ 63 }
-        ensures { IfOk result (λ n. n ≡ string_bytes string) }
+        ensures { result ≡ string_bytes string }
     {
-        let alloc = *string.allocator();
-        Ok(Name {
-            letters: Arc::new(alloc, Letters::new(string))?,
-        })
+        Label {
+            letters: Letters::new(string),
+        }
     }
 
     /// The name's text.
@@ -134,35 +133,55 @@ impl Name {
     }
 }
 
-impl Copied for Name {
-    fn copy(&self) -> Result<Self, Want> {
-        Ok(Name {
-            letters: self.letters.copy()?,
-        })
+impl Arc<Label> {
+    /// The name with these bytes, of which there are 1 to 63.
+    ///
+    /// # Errors
+    /// `Want` where there is no memory for it.
+    pub fn from_text(alloc: Global, text: &str) -> Result<Self, Want>
+        requires not_empty { 0 < length text.now }
+        requires short { length text.now ≤ 63 }
+        ensures { IfOk result (λ n. n ≡ text.now) }
+    {
+        Arc::new(alloc, Label::from_text(alloc, text)?)
+    }
+
+    /// The name that a string of 1 to 63 bytes spells.
+    ///
+    /// # Errors
+    /// `Want` where there is no memory for it.
+    pub fn from_string(string: String) -> Result<Self, Want>
+        requires not_empty { 0 < length (string_bytes string) }
+        requires short { length (string_bytes string) ≤ 63 }
+        ensures { IfOk result (λ n. n ≡ string_bytes string) }
+    {
+        let alloc = *string.allocator();
+        Arc::new(alloc, Label::from_string(string))
     }
 }
 
-impl Same for Name {
+impl Same for Label {
     fn is_same(&self, other: &Self) -> bool {
         self.letters.is_equal(&other.letters)
     }
 }
 
-impl PartialEq for Name {
+impl PartialEq for Label {
     ghost eq = { pointwise nat_eq };
 
     ghost laws = { partial_equiv_from_equiv nat_list_eq_equiv };
 
+    #[inline(always)]
     fn eq(&self, other: &Self) -> bool {
         self.letters.is_equal(&other.letters)
     }
 }
 
-impl Eq for Name {
+impl Eq for Label {
     ghost laws = { nat_list_eq_equiv };
 }
 
-impl PartialOrd for Name {
+impl PartialOrd for Label {
     ghost partial_cmp = { λ x y. Some (slice_cmp nat_cmp x y) };
 
     ghost laws = { texts_po };
@@ -172,7 +191,7 @@ impl PartialOrd for Name {
     }
 }
 
-impl Ord for Name {
+impl Ord for Label {
     ghost cmp = { slice_cmp nat_cmp };
 
     ghost total = { nat_list_cmp_total };
@@ -186,10 +205,10 @@ impl Ord for Name {
     }
 }
 
-impl Hash for Name {
-    ghost hash_input = { λ n. fed.u64 (code_of n) };
+impl Hash for Label {
+    ghost hash_input = { λ l. fed.u64 (code_of l) };
 
-    ghost respects_eq = { λ x y h. ap (λ n. fed.u64 (code_of n)) ((bytes_decides x y).0 h) };
+    ghost respects_eq = { λ x y h. ap (λ l. fed.u64 (code_of l)) ((bytes_decides x y).0 h) };
 
     fn hash<H: Hasher>(&self, state: &mut H) {
         self.letters.code().hash(state);

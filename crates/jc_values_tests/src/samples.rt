@@ -3,9 +3,9 @@
 use jc_moment::Moment;
 use jc_ranges::Ranges;
 use jc_types::{
-    Arc, Conditions, Container, Containers, IndexCounts, Job, JobSpec, JobStatus, Key, Mode, Name,
-    Names, Phase, Pod, PodCondition, PodConditions, Replacement, Restart, Template, Text, Truth,
-    Uid, Uids, Version, Want,
+    Arc, Conditions, Container, Containers, IndexCounts, Job, JobSpec, JobStatus, Key, KeyNames,
+    Label, Mode, Name, Names, Phase, Pod, PodCondition, PodConditions, Replacement, Restart,
+    Template, Text, Truth, Uid, Uids, Version, Want,
 };
 use std::alloc::Global;
 use std::test::Fail;
@@ -26,10 +26,9 @@ pub fn moment(seconds: u64) -> Result<Moment, Fail> {
 /// # Errors
 /// `Want` where there is no memory for it.
 pub fn key(alloc: Global) -> Result<Key, Want> {
-    Ok(Key {
-        namespace: Name::from_text(alloc, "default")?,
-        name: Name::from_text(alloc, "pi")?,
-    })
+    let namespace = Label::from_text(alloc, "default")?;
+    let name = Label::from_text(alloc, "pi")?;
+    Key::new(alloc, KeyNames { namespace, name })
 }
 
 /// The specification that a manifest has after its defaults: one pod, one completion, one container `main`.

@@ -167,35 +167,10 @@ noted_more u old mid new rows i row within so_far notes =
 -- The rows that a search for the first UID without room leaves.
 pub fitting_result : (spec : JobSpec) (known : Uid → Option Outcome) (pods : List Pod) (space : ℕ) (rows others : List Row) (first : Option Uid) → IsRising pods → space ≡ space_by spec known pods
     → rows ≡ map (row_for spec) (waiting spec known pods) → others ≡ map (row_for spec) (waiting spec known pods)
-    → first ≡ first_beyond spec.mode space rows → {E : Type 0} (r : Result (Vec Row Global) E) → IfOk r (λ judged. judged.items ≡ rows_within spec.mode first others)
-    → IfOk r (λ new. new.items ≡ rows_for spec known pods)
-fitting_result spec known pods space rows others first rises room are same found (Ok v) h =
+    → first ≡ first_beyond spec.mode space rows → (judged : List Row) → judged ≡ rows_within spec.mode first others → judged ≡ rows_for spec known pods
+fitting_result spec known pods space rows others first rises room are same found judged h =
     h ∙ ap (rows_within spec.mode first) same
     ∙ ap (λ f. rows_within spec.mode f (map (row_for spec) (waiting spec known pods))) (found ∙ ap (λ n. first_beyond spec.mode n rows) room ∙ ap (first_beyond spec.mode (space_by spec known pods)) are)
-    ∙ fitting_rows spec (space_by spec known pods) (waiting spec known pods) (rises_filter 0 (is_fresh spec (λ u. is_some (known u))) pods rises)
-fitting_result spec known pods space rows others first rises room are same found (Err e) h = tt
-
--- Where there is room for all, all are within.
-all_within : (mode : Mode) (rows : List Row) → rows ≡ rows_within mode None rows
-all_within mode [] = refl
-all_within mode (row ∷ rows) = by (joins_list mode row.outcome) (all_within mode rows)
-  where
-    by : (b : Bool) → rows ≡ rows_within mode None rows → row ∷ rows ≡ cond (not b || true) (row ∷ rows_within mode None rows) (rows_within mode None rows)
-    by true ih = ap (λ rest. row ∷ rest) ih
-    by false ih = ap (λ rest. row ∷ rest) ih
-
--- What has no value.
-none_is : (first : Option Uid) → is_some first ≡ false → None ≡ first
-none_is None none = refl
-none_is (Some uid) none = absurd (both_ways true none refl)
-
--- The rows of those that wait are all judged, where the search finds no UID without room.
-pub fitting_all : (spec : JobSpec) (known : Uid → Option Outcome) (pods : List Pod) (space : ℕ) (rows : List Row) (first : Option Uid) → IsRising pods → space ≡ space_by spec known pods
-    → rows ≡ map (row_for spec) (waiting spec known pods) → first ≡ first_beyond spec.mode space rows → is_some first ≡ false → rows ≡ rows_for spec known pods
-fitting_all spec known pods space rows first rises room are found none =
-    all_within spec.mode rows
-    ∙ ap (λ f. rows_within spec.mode f rows) (none_is first none ∙ found ∙ ap (λ n. first_beyond spec.mode n rows) room)
-    ∙ ap (λ rs. rows_within spec.mode (first_beyond spec.mode (space_by spec known pods) rs) rs) are
     ∙ fitting_rows spec (space_by spec known pods) (waiting spec known pods) (rises_filter 0 (is_fresh spec (λ u. is_some (known u))) pods rises)
 
 -- The rows of new records.

@@ -18,7 +18,7 @@ ghost use Rattle.jc_verdicts.specs.Verdicts.{done_by, fresh_row, has_joined_list
 ghost use Rattle.jc_verdicts.specs.Verdicts.{success_index, success_indexes, waiting};
 
 use indexmap::IndexMap;
-use jc_account::{Judgement as Row, first_beyond, joins_list, rows_within};
+use jc_account::{Judgement as Row, first_beyond, joins_list, retain_within};
 use jc_failpol::{Outcome, is_verdict, outcome};
 use jc_states::has_end;
 use jc_types::{Arc, Job, JobSpec, MOST_UNCOUNTED, Mode, Phase, Pod, Uid, Want};
@@ -93,7 +93,7 @@ fn waiting_rows(
 }
 
 /// The rows of the pods that a write judges: of those that are still to be judged, as many as there is
-/// room for. Mostly there is room for all, and then none is copied.
+/// room for.
 pub fn new_rows(
     alloc: Global,
     spec: &JobSpec,
@@ -104,17 +104,14 @@ pub fn new_rows(
     ensures { IfOk result (λ new. new.items
         ≡ rows_for spec.now (at same_uid known.now.entries) pods.now) }
 {
-    let waiting = waiting_rows(alloc, spec, known, pods)?;
-    let rows = waiting.as_slice();
-    if rows.is_empty() {
-        return Ok(waiting);
+    let mut rows = waiting_rows(alloc, spec, known, pods)?;
+    if rows.as_slice().is_empty() {
+        return Ok(rows);
     }
     let space = space(spec, known, pods);
-    let first = first_beyond(spec.mode, rows, space);
-    if first.is_none() {
-        return Ok(waiting);
-    }
-    rows_within(alloc, spec.mode, first, rows)
+    let first = first_beyond(spec.mode, rows.as_slice(), space);
+    retain_within(&mut rows, spec.mode, first);
+    Ok(rows)
 }
 
 /// Notes the outcome of a row, where its UID has none. Mostly it has none, so it is looked for only

@@ -49,8 +49,8 @@ pub fn last_start<'a>(starts: &Starts<'a>, worker: Worker) -> Option<Start<'a>>
     starts.far.get(&worker).copied()
 }
 
-/// Notes with what a sync of the worker began, in place of what was noted of it before.
-pub fn put_start<'a>(starts: &mut Starts<'a>, worker: Worker, start: Start<'a>) -> Result<(), Want>
+// Notes with what a sync of the worker began, in place of what was noted of it before.
+fn put_start<'a>(starts: &mut Starts<'a>, worker: Worker, start: Start<'a>) -> Result<(), Want>
     ensures { OnOk result ((q : Worker) → last_start starts.new q
         ≡ (if same_worker worker q then Some start.entry else last_start starts.old q)) }
 {

@@ -1,9 +1,9 @@
-use Rattle.std.proofs.Common.{Some, ap, arith, length, sym, ◌∙◌}
+use Rattle.std.proofs.Common.{Some, ap, arith, length, subst, sym, ◌∙◌}
 use Rattle.std.specs.Option.{option_copied_mut}
 use Rattle.std.proofs.lemmas.Map.Steps.{set_value_same}
 use Rattle.jc_types.specs.declared.objects.Pod.{Pod}
 use Rattle.jc_types.specs.Keys.{same_key}
-use Rattle.jc_log.specs.Tables.{at}
+use Rattle.jc_log.specs.Tables.{Sets, at}
 use Rattle.jc_states.specs.PodLists.{put_pod}
 use Rattle.jc_table.proofs.ResultFacts.{on_err}
 use Rattle.jc_cache.proofs.CacheFacts.{pods_there, put-first}
@@ -32,4 +32,4 @@ returns-clause-puts c =
     (λ i. (c.get_mut.follows.holds-at-none i).entries) (c.in_ok-owner.ensures ∙ ap (λ (pod : Pod). pod.owner) c.deref.ensures) c.in_ok-again.ensures
     (c.in_ok-new.ensures ∙ c.in_ok-put-2.ensures.puts ∙ ap (put_pod c.in_ok-again.again) c.new-pods.ensures)
     (ap (λ (pod : Pod). at same_key c.args.rows.now.entries pod.owner) (sym c.deref.ensures) ∙ sym c.get_mut.ensures.value ∙ ap option_copied_mut c.in_default.is)
-    c.in_ok-insert.ensures.updates.0
+    (subst (λ key. Sets same_key c.get_mut.follows.lender-at-none.entries c.insert.new.self.entries key (Some c.in_ok-new.field-0)) c.owner.view_is c.in_ok-insert.ensures.updates.0)

@@ -1,7 +1,7 @@
 -- A basis of the whole log.
 use Rattle.std.proofs.Common.{ℕ, List, refl, ap, arith, length}
 use Rattle.jc_types.specs.declared.objects.Entry.{Entry}
-use Rattle.jc_types.specs.declared.objects.Key.{Key}
+use Rattle.jc_types.specs.declared.objects.KeyNames.{KeyNames as Key}
 use Rattle.jc_log.specs.Log.{job_in, pods_under}
 use Rattle.jc_log.proofs.LogFacts.{upto-all}
 use Rattle.jc_control.specs.Schedules.{log_end}

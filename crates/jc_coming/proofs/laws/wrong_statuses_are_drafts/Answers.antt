@@ -1,7 +1,7 @@
 -- Right and wrong statuses, worked out.
 use Rattle.std.proofs.Common.{◌≡◌, ◌≤◌, ℕ, nat_lt, ◌&&◌, Bool, true, false, List, ap, arith, ltb-true, refl}
 use Rattle.jc_types.specs.declared.objects.Entry.{Entry}
-use Rattle.jc_types.specs.declared.objects.Key.{Key}
+use Rattle.jc_types.specs.declared.objects.KeyNames.{KeyNames as Key}
 use Rattle.jc_log.specs.Log.{job_in}
 use Rattle.jc_plan.specs.Failures.{failing_in, failures_in}
 use Rattle.jc_history.specs.Notes.{Note}

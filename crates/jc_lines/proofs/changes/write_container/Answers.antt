@@ -1,4 +1,4 @@
-use Rattle.std.proofs.Common.{Some, ap, refl}
+use Rattle.std.proofs.Common.{Some, ap, refl, ◌∙◌}
 use Rattle.serde_json.specs.Data.{string}
 use Rattle.jc_lines.specs.ChangeTexts.{container_data, with_container, with_exit_member}
 use Rattle.jc_lines.proofs.ChangeMembers.{in_container}
@@ -10,6 +10,6 @@ unfolding container_data with_container with_exit_member
 returns c =
     object_of (in_container c.args.change.now) _ _ _ _ _ _ refl c.in_ok-begin_object.ensures
     (more _ _ _ _ _ _ _ c.in_ok-write_given_number.ensures refl
-    (more _ _ _ _ _ _ _ c.in_ok-write_text.ensures (ap (λ s. Some (string s)) c.as_str.ensures.value)
+    (more _ _ _ _ _ _ _ c.in_ok-write_text.ensures (ap (λ s. Some (string s)) (c.as_str.ensures.value ∙ c.deref.ensures))
     (more _ _ _ _ _ _ _ c.in_ok-write_given_exit.ensures refl (no_more _))))
     c.in_ok-end_object.ensures

@@ -1,4 +1,4 @@
-use Rattle.std.proofs.Common.{ap}
+use Rattle.std.proofs.Common.{ap, ◌∙◌}
 use Rattle.serde_json.specs.Data.{string}
 use Rattle.jc_print.specs.PrintedMembers.{texts_data}
 use Rattle.jc_print.specs.Tokens.{data_tokens}
@@ -11,7 +11,7 @@ loop-name-init c = no_item string _
 pub loop-name-preserved : goal.loop-name-preserved
 loop-name-preserved c =
     one_item string _ _ _ _ _ _ c.loop-name-test.true c.name-item.is
-    (adds_text _ _ _ _ _ c.as_str.ensures.value c.in_ok-string.ensures) c.loop-name.invariant
+    (adds_text _ _ _ _ _ (c.as_str.ensures.value ∙ c.deref.ensures) c.in_ok-string.ensures) c.loop-name.invariant
 
 pub returns : goal.returns
 returns c =

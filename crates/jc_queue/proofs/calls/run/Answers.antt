@@ -1,6 +1,6 @@
 use Rattle.std.proofs.Common.{arith, Global, Vec, ◌∷◌, ◌++◌, [], append-nil, ◌∙◌, sym, ap}
 use Rattle.std.specs.Option.{option_to_list}
-use Rattle.jc_types.specs.declared.objects.Key.{Key}
+use Rattle.jc_types.specs.declared.objects.KeyNames.{KeyNames as Key}
 use Rattle.jc_queue.proofs.CallFacts.{all_idle, stepped}
 use Rattle.jc_queue.proofs.calls.run.Goals as goal
 use Rattle.jc_queue.proofs.calls.run.Goals.{in-Some, in_default}

@@ -1,5 +1,5 @@
 -- Its history is orderly, and above the lanes of its commands each is used up.
-use Rattle.std.proofs.Common.{◌∙◌, ap, subst}
+use Rattle.std.proofs.Common.{◌∙◌, ap, subst, sym, true≢false}
 use Rattle.jc_types.specs.declared.actions.Script.{Script}
 use Rattle.jc_seats.specs.Names.{AreLanesBelow}
 use Rattle.jc_seats.proofs.UsedFacts.{used-above}
@@ -15,4 +15,5 @@ invariant_of-result g c = (
     few = c.lanes_of-lanes.ensures.few_lanes;
   },
   c.requires.named,
+  λ planned. absurd (true≢false (sym planned)),
 )

@@ -1,25 +1,15 @@
-use Rattle.std.proofs.Common.{ap, length, not, sym, ◌∙◌}
+use Rattle.std.proofs.Common.{ap, length, sym, ◌∙◌}
 use Rattle.std.proofs.lemmas.Bool.{eqb-true}
 use Rattle.jc_types.specs.Keys.{same_uid}
 use Rattle.jc_log.specs.Tables.{at}
-use Rattle.jc_account.specs.Judgements.{first_beyond}
-use Rattle.jc_verdicts.proofs.VerdictRows.{fitting_all, fitting_result, no_rows}
+use Rattle.jc_verdicts.proofs.VerdictRows.{fitting_result, no_rows}
 use Rattle.jc_verdicts.proofs.rows.new_rows.Goals as goal
 
 -- No pod is still to be judged.
 pub returns-then-is_empty : goal.returns-then-is_empty
 returns-then-is_empty c =
-    no_rows c.args.spec.now (at same_uid c.args.known.now.entries) c.args.pods.now c.in_ok-waiting.waiting.items c.in_ok-waiting.ensures
-    (ap length (sym c.as_slice-rows.ensures.value) ∙ eqb-true _ _ (sym c.is_empty.ensures ∙ c.if-is_empty.true))
-
--- There is room for all of them.
-pub returns-then-is_none : goal.returns-then-is_none
-returns-then-is_none c =
-    let spec = c.args.spec.now in
-    let known = at same_uid c.args.known.now.entries in
-    let pods = c.args.pods.now in
-    fitting_all spec known pods c.space-space.result c.in_ok-waiting.waiting.items c.first_beyond-first.result c.requires c.space-space.ensures
-    c.in_ok-waiting.ensures (c.first_beyond-first.ensures ∙ ap (first_beyond spec.mode c.space-space.result) c.as_slice-rows.ensures.value) (c.is_none.ensures ∙ ap not c.if-is_none.true)
+    no_rows c.args.spec.now (at same_uid c.args.known.now.entries) c.args.pods.now c.in_ok-rows.rows.items c.in_ok-rows.ensures
+    (ap length (sym c.as_slice.ensures.value) ∙ eqb-true _ _ (sym c.is_empty.ensures ∙ c.if-is_empty.true))
 
 -- The rows of those that are still to be judged for which there is room.
 pub returns : goal.returns
@@ -27,5 +17,5 @@ returns c =
     let spec = c.args.spec.now in
     let known = at same_uid c.args.known.now.entries in
     let pods = c.args.pods.now in
-    fitting_result spec known pods c.space-space.result c.as_slice-rows.result.now c.as_slice-rows.result.now c.first_beyond-first.result c.requires c.space-space.ensures
-    (c.as_slice-rows.ensures.value ∙ c.in_ok-waiting.ensures) (c.as_slice-rows.ensures.value ∙ c.in_ok-waiting.ensures) c.first_beyond-first.ensures c.rows_within.result c.rows_within.ensures
+    fitting_result spec known pods c.space-space.result c.as_slice-2.result.now c.in_ok-rows.rows.items c.first_beyond-first.result c.requires c.space-space.ensures
+    (c.as_slice-2.ensures.value ∙ c.in_ok-rows.ensures) c.in_ok-rows.ensures c.first_beyond-first.ensures c.retain_within.new.rows.items c.retain_within.ensures

@@ -1,6 +1,6 @@
 use Rattle.std.proofs.Common.{◌≡◌, IfOk, OnOk, sym, subst}
 use Rattle.jc_types.specs.declared.objects.Job.{Job}
-use Rattle.jc_types.specs.declared.objects.Key.{Key}
+use Rattle.jc_types.specs.declared.objects.KeyNames.{KeyNames as Key}
 use Rattle.jc_types.specs.declared.replies.Reply.TheVariants.{Ended}
 use Rattle.jc_runs.specs.Seen.{Seen, happened}
 use Rattle.jc_play.specs.SyncsSeen.{StartsCurrent, StepsWithoutStatus, begin_event, next_seen}

@@ -1,6 +1,6 @@
 use Rattle.std.proofs.Common.{◌≡◌, Bool, true, false, not, List, refl, sym, ap, ◌∙◌, subst, arith, true≢false}
 use Rattle.std.proofs.lemmas.Bool.{cond-true}
-use Rattle.jc_types.specs.declared.objects.Key.{Key}
+use Rattle.jc_types.specs.declared.objects.KeyNames.{KeyNames as Key}
 use Rattle.jc_queue.proofs.QueueFacts.{added_is}
 use Rattle.jc_queue.proofs.Steps.{added-parts, comes_in, stays_out}
 use Rattle.jc_queue.proofs.queue.Queue.add_reserved.Goals as goal

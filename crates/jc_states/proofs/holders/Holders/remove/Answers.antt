@@ -9,10 +9,10 @@ use Rattle.jc_states.proofs.holders.Holders.remove.Goals as goal
 pub returns : goal.returns
 returns c other n =
     let rows = c.self.inside.rows.entries in
-    let there = sym c.get_mut.ensures.value ∙ ap option_copied_mut c.in-Some.is in
-    written-held (λ k less. k - less) (λ k. omega arith) c.args.owner c.args.index c.in-Some.held.now c.remove.new.self rows (c.get_mut.follows.lender c.remove.new.self).entries
+    let there = sym c.row_mut.ensures.value ∙ ap option_copied_mut c.in-Some.is in
+    written-held (λ k less. k - less) (λ k. omega arith) c.args.owner c.args.index c.in-Some.held.now c.remove.new.self rows (c.row_mut.follows.lender c.remove.new.self).entries
     (some-held c.args.owner c.in-Some.held.now rows there)
     c.remove.ensures
-    (((c.get_mut.follows.holds c.remove.new.self).3 (subst IsSome (sym there) refl)).0)
+    (((c.row_mut.follows.holds c.remove.new.self).3 (subst IsSome (sym there) refl)).0)
     other n
     ∙ ap (λ all. held_in other n all - cond (same_uid c.args.owner other && (c.args.index == n)) 1 0) c.self.view_is

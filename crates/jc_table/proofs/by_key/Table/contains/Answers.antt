@@ -7,5 +7,5 @@ use Rattle.jc_table.proofs.by_key.Table.contains.Goals as goal
 pub returns : goal.returns
 returns g c =
     c.contains_key.ensures
-    ∙ is_there g.K.PartialEq.eq c.self.inside.rows.entries c.self.inside.numbers.entries c.self.inside.next c.self.invariant c.args.key.now
+    ∙ is_there g.K.PartialEq.eq c.self.inside.rows c.self.inside.numbers.entries c.self.inside.next c.self.invariant c.args.key.now
     ∙ ap (λ rows. is_some (at g.K.PartialEq.eq rows c.args.key.now)) c.self.view_is

@@ -1,53 +1,43 @@
-use Rattle.std.proofs.Common.{◌≡◌, None, Some, cond, is_some, sym, ap, true≢false, ◌∙◌}
+use Rattle.std.proofs.Common.{◌≡◌, None, Some, cond, sym, ap, ◌∙◌}
 use Rattle.std.specs.Map.{values_of}
-use Rattle.std.specs.Option.{option_map}
 use Rattle.jc_log.specs.Tables.{at, puts}
 use Rattle.jc_table.proofs.ResultFacts.{on_err}
-use Rattle.jc_table.proofs.RowFacts.{found, is_there, no_row, puts-sets, set-numbered, set-rows}
+use Rattle.jc_table.proofs.RowFacts.{has_row, no_row, puts-sets, second-numbered, second-rows}
 use Rattle.jc_table.proofs.by_key.Table.put.Goals as goal
 
 -- The key has no number.
 pub push-requires : goal.push-requires
 push-requires g c =
     ap (λ rows. at g.K.PartialEq.eq rows c.args.key) (sym c.self.view_is)
-    ∙ no_row g.K.PartialEq.eq c.self.inside.rows.entries c.self.inside.numbers.entries c.self.inside.next c.self.invariant c.args.key (sym c.in_default.ensures.value)
+    ∙ no_row g.K.PartialEq.eq c.self.inside.rows c.self.inside.numbers.entries c.self.inside.next c.self.invariant c.args.key (sym c.in_default.ensures.value)
 
 pub returns-in_default-clause-new_key : goal.returns-in_default-clause-new_key
 returns-in_default-clause-new_key g c =
     on_err c.push.result (at g.K.PartialEq.eq c.args.self.now c.args.key ≡ None)
     (ap (λ rows. at g.K.PartialEq.eq rows c.args.key) (sym c.self.view_is)
-    ∙ no_row g.K.PartialEq.eq c.self.inside.rows.entries c.self.inside.numbers.entries c.self.inside.next c.self.invariant c.args.key (sym c.in_default.ensures.value))
+    ∙ no_row g.K.PartialEq.eq c.self.inside.rows c.self.inside.numbers.entries c.self.inside.next c.self.invariant c.args.key (sym c.in_default.ensures.value))
 
 -- The number has a row.
-pub unreachable-requires : goal.unreachable-requires
-unreachable-requires g c =
-    true≢false
-    (ap is_some c.in-Some.ensures.value
-    ∙ is_there g.K.PartialEq.eq c.self.inside.rows.entries c.self.inside.numbers.entries c.self.inside.next c.self.invariant c.args.key
-    ∙ ap is_some
-    (sym
-    (ap (option_map (λ row. row.1)) c.in_default-get_mut.ensures.value
-    ∙ found g.K.PartialEq.eq c.self.inside.rows.entries c.self.inside.numbers.entries c.self.inside.next c.self.invariant c.args.key c.in-Some.number.now (sym c.in-Some.ensures.value))))
+pub set_second-requires : goal.set_second-requires
+set_second-requires g c =
+    has_row g.K.PartialEq.eq c.self.inside.rows c.self.inside.numbers.entries c.self.inside.next c.self.invariant c.args.key c.in-Some.number.now (sym c.in-Some.ensures.value)
 
 pub invariant_of-self : goal.invariant_of-self
 invariant_of-self g c =
-    let new = c.get_mut.follows.holds (c.in-Some-get_mut.row.now.0, c.args.value) in
-    set-numbered g.K.PartialEq.eq c.self.inside.rows.entries c.self.inside.numbers.entries c.self.inside.next c.self.invariant c.args.key c.args.value c.in-Some-get_mut.row.now c.in-Some.number.now _
-    (sym c.in-Some.ensures.value) (sym c.in-Some-get_mut.ensures.value) new.0
+    second-numbered g.K.PartialEq.eq c.self.inside.rows c.self.inside.numbers.entries c.self.inside.next c.self.invariant c.args.key
+    c.args.value c.in-Some.number.now c.set_second.new.self (sym c.in-Some.ensures.value) c.set_second.ensures
 
 pub returns-clause-sets : goal.returns-clause-sets
 returns-clause-sets g c =
-    let new = c.get_mut.follows.holds (c.in-Some-get_mut.row.now.0, c.args.value) in
     λ q.
     ap (λ rows. at g.K.PartialEq.eq rows q)
-    (set-rows g.K.PartialEq.eq c.self.inside.rows.entries c.self.inside.numbers.entries c.self.inside.next c.self.invariant c.args.key c.args.value c.in-Some-get_mut.row.now c.in-Some.number.now _
-    (sym c.in-Some.ensures.value) (sym c.in-Some-get_mut.ensures.value) new.0)
-    ∙ puts-sets g.K.PartialEq.eq g.met.K.Eq.laws c.args.key c.args.value (values_of c.self.inside.rows.entries) q
+    (second-rows g.K.PartialEq.eq c.self.inside.rows c.self.inside.numbers.entries c.self.inside.next c.self.invariant c.args.key
+    c.args.value c.in-Some.number.now c.set_second.new.self (sym c.in-Some.ensures.value) c.set_second.ensures)
+    ∙ puts-sets g.K.PartialEq.eq g.met.K.Eq.laws c.args.key c.args.value (values_of c.self.inside.rows) q
     ∙ ap (λ rows. cond (g.K.PartialEq.eq c.args.key q) (Some c.args.value) (at g.K.PartialEq.eq rows q)) c.self.view_is
 
 pub returns-clause-puts : goal.returns-clause-puts
 returns-clause-puts g c =
-    let new = c.get_mut.follows.holds (c.in-Some-get_mut.row.now.0, c.args.value) in
-    set-rows g.K.PartialEq.eq c.self.inside.rows.entries c.self.inside.numbers.entries c.self.inside.next c.self.invariant c.args.key c.args.value c.in-Some-get_mut.row.now c.in-Some.number.now _
-    (sym c.in-Some.ensures.value) (sym c.in-Some-get_mut.ensures.value) new.0
+    second-rows g.K.PartialEq.eq c.self.inside.rows c.self.inside.numbers.entries c.self.inside.next c.self.invariant c.args.key
+    c.args.value c.in-Some.number.now c.set_second.new.self (sym c.in-Some.ensures.value) c.set_second.ensures
     ∙ ap (λ rows. puts g.K.PartialEq.eq rows c.args.key c.args.value) c.self.view_is

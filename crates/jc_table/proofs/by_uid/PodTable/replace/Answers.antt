@@ -1,25 +1,22 @@
-use Rattle.std.proofs.Common.{ap, nat_cmp, sym, is_some, true≢false, ◌∙◌}
+use Rattle.std.proofs.Common.{ap, is_some, nat_cmp, ◌∙◌}
 use Rattle.std.specs.BTreeMap.{is_at}
 use Rattle.std.specs.Map.{lookup, set_value}
-use Rattle.std.specs.Option.{option_copied_mut}
 use Rattle.jc_table.proofs.PodRows.{get-is, set-order, set-puts}
 use Rattle.jc_table.proofs.by_uid.PodTable.replace.Goals as goal
 
-pub unreachable-requires : goal.unreachable-requires
-unreachable-requires c =
-    true≢false
-    (sym c.requires
-    ∙ ap is_some (sym (get-is c.self.inside.rows.entries c.args.self.now c.self.invariant c.self.view_is c.args.pod.uid)
-    ∙ ap (λ pod. lookup (is_at (nat_cmp pod.uid.0)) c.self.inside.rows.entries) (sym c.deref.ensures) ∙ sym c.get_mut.ensures.value ∙ ap option_copied_mut c.in_default.is))
+pub set-requires : goal.set-requires
+set-requires c =
+    ap is_some
+    (ap (λ n. lookup (is_at (nat_cmp n)) c.self.inside.rows) (c.from.ensures ∙ ap (λ pod. pod.uid.0) c.deref.ensures)
+    ∙ get-is c.self.inside.rows c.args.self.now c.self.invariant c.self.view_is c.args.pod.uid)
+    ∙ c.requires
 
 pub invariant_of-self : goal.invariant_of-self
 invariant_of-self c =
-    let new = c.get_mut.follows.holds c.args.pod in
-    set-order c.self.inside.rows.entries c.args.self.now c.self.invariant c.self.view_is c.args.pod _ c.requires
-    (new.0 ∙ ap (λ pod. set_value (is_at (nat_cmp pod.uid.0)) c.self.inside.rows.entries c.args.pod) c.deref.ensures)
+    set-order c.self.inside.rows c.args.self.now c.self.invariant c.self.view_is c.args.pod c.set.new.self c.requires
+    (c.set.ensures ∙ ap (λ n. set_value (is_at (nat_cmp n)) c.self.inside.rows c.args.pod) (c.from.ensures ∙ ap (λ pod. pod.uid.0) c.deref.ensures))
 
 pub returns : goal.returns
 returns c =
-    let new = c.get_mut.follows.holds c.args.pod in
-    set-puts c.self.inside.rows.entries c.args.self.now c.self.invariant c.self.view_is c.args.pod _ c.requires
-    (new.0 ∙ ap (λ pod. set_value (is_at (nat_cmp pod.uid.0)) c.self.inside.rows.entries c.args.pod) c.deref.ensures)
+    set-puts c.self.inside.rows c.args.self.now c.self.invariant c.self.view_is c.args.pod c.set.new.self c.requires
+    (c.set.ensures ∙ ap (λ n. set_value (is_at (nat_cmp n)) c.self.inside.rows c.args.pod) (c.from.ensures ∙ ap (λ pod. pod.uid.0) c.deref.ensures))
