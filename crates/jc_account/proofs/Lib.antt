@@ -6,6 +6,7 @@ pub mod NotedFacts
 pub mod Owned
 pub mod Placed
 pub mod RoomFacts
+pub mod ShortFacts
 pub mod StayingFacts
 pub mod Totals
 pub mod GainFacts

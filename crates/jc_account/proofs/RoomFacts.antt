@@ -41,7 +41,7 @@ none-before u low (x ∷ xs) h r = by (ltb x.uid.0 u.0) refl (none-before u (x.u
     by false e ih = ih
 
 -- What is below all of rising pods is before the one at each place.
-before-all : (u : Uid) (low n : ℕ) (xs : List Pod) → u.0 < low → RisesFrom low xs → has_room_for (option_map (λ (q : Pod). q.uid) (slice_get xs n)) u ≡ true
+pub before-all : (u : Uid) (low n : ℕ) (xs : List Pod) → u.0 < low → RisesFrom low xs → has_room_for (option_map (λ (q : Pod). q.uid) (slice_get xs n)) u ≡ true
 before-all u low n [] h r = refl
 before-all u low zero (x ∷ xs) h r = lt-ltb u.0 x.uid.0 (omega (arith, h, r.0))
 before-all u low (suc n) (x ∷ xs) h r = before-all u (x.uid.0 + 1) n xs (omega (arith, h, r.0)) r.1

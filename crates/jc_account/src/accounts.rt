@@ -8,7 +8,7 @@ ghost use Rattle.jc_states.specs.Indexes.{HasSmallIndex};
 ghost use Rattle.jc_states.specs.Bases.{CountsByIndex, TotalsFit};
 ghost use Rattle.jc_states.specs.PodLists.{IsRising};
 ghost use Rattle.jc_types.specs.Counts.{counts};
-ghost use Rattle.jc_states.specs.UidLists.{merge, uids_of};
+ghost use Rattle.jc_states.specs.UidLists.{Ascends, merge, uids_of};
 ghost use Rattle.jc_account.specs.Accounts.{counted_in, counted_out};
 ghost use Rattle.jc_account.specs.Modes.{gain, listing, succeeded_after};
 
@@ -34,6 +34,7 @@ fn raised(total: u64, before: &Uids, after: &Uids) -> u64
 
 // The list of uncounted successes with those that are judged now. An Indexed Job lists none.
 fn with_successes(alloc: Global, mode: Mode, uids: &Uids, newly: &Uids) -> Result<Uids, Want>
+    requires { Ascends newly.now }
     ensures merged { IfOk result (λ list. (pods : List Pod)
         → newly.now ≡ uids_of pods → list ≡ merge uids.now (listing mode pods)) }
     ensures no_longer { IfOk result (λ list. length list ≤ length uids.now + length newly.now) }
@@ -106,7 +107,7 @@ fn count_job(alloc: Global, job: &Job, pods: &[Arc<Pod>]) -> Result<CountIn, Wan
         index_failures: IndexCounts::new(alloc),
         left_succeeded: newly.left_succeeded,
         left_failed: newly.left_failed,
-        releases: releases(alloc, job, pods, newly.first_left)?,
+        releases: releases(alloc, job, pods, &newly)?,
         judged_failed: newly.failed,
         completed: newly.completed,
     })

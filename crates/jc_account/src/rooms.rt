@@ -1,6 +1,6 @@
 //! How many pods a sync judges.
 
-ghost use Rattle.std.specs.Prelude.{◌≡◌, ◌-◌, ◌&&◌, filter, length, slice_get};
+ghost use Rattle.std.specs.Prelude.{◌≡◌, ◌+◌, ◌-◌, ◌↔◌, ◌&&◌, IsTrue, filter, length, slice_get};
 ghost use Rattle.jc_types.specs.declared.limits.TheConstants.{MOST_UNCOUNTED};
 ghost use Rattle.jc_states.specs.Bases.{is_own};
 ghost use Rattle.jc_account.specs.Judged.{is_staying};
@@ -10,7 +10,7 @@ ghost use Rattle.jc_account.specs.Rooms.{joins_list};
 use crate::judgements::Judgement;
 use jc_failpol::{Outcome, same_outcome};
 use jc_states::{is_listed, is_own};
-use jc_types::{Arc, Job, MOST_UNCOUNTED, Mode, Pod, Uid};
+use jc_types::{Arc, Job, JobStatus, MOST_UNCOUNTED, Mode, Pod, Uid};
 
 /// Whether a pod that is judged so joins a list.
 pub fn joins_list(mode: Mode, outcome: Outcome) -> bool
@@ -46,11 +46,22 @@ fn is_own_staying(job: &Job, pod: &Pod) -> bool
     is_own(job, pod) && (pod.tracked && is_listed(&*job.status, pod.uid))
 }
 
-// How many of the Job's own pods stay listed.
+// Whether no UID is listed.
+fn lists_none(status: &JobStatus) -> bool
+    ensures { IsTrue result ↔ (length status.now.uncounted_succeeded
+        + length status.now.uncounted_failed ≡ 0) }
+{
+    status.uncounted_succeeded.len() == 0 && status.uncounted_failed.len() == 0
+}
+
+// How many of the Job's own pods stay listed. Where none is listed it goes over no pod.
 pub(crate) fn count_staying(job: &Job, pods: &[Arc<Pod>]) -> usize
     ensures { result
         ≡ length (filter (λ pod. is_own job.now pod && is_staying job.now pod) pods.now) }
 {
+    if lists_none(&*job.status) {
+        return 0;
+    }
     pods.iter().filter(|pod| is_own_staying(job, pod)).count()
 }
 

@@ -1,10 +1,11 @@
 //! Lists of UIDs.
 
-ghost use Rattle.std.specs.Prelude.{◌≡◌, ◌+◌, ◌<◌, ◌≤◌, IfOk, IfSome, OnOk, length, nat_le};
+ghost use Rattle.std.specs.Prelude.{◌≡◌, ◌+◌, ◌<◌, ◌≤◌, IfOk, IfSome, OnOk, is_some, length, nat_le};
 ghost use Rattle.std.specs.List.{position};
 ghost use Rattle.std.specs.VecDeque.{deque_len};
 ghost use Rattle.jc_types.specs.declared.numbers.Uid.{Uid};
-ghost use Rattle.jc_states.specs.UidLists.{merge, with_uid};
+ghost use Rattle.jc_types.specs.Keys.{same_uid};
+ghost use Rattle.jc_states.specs.UidLists.{Ascends, is_in, merge, with_uid};
 ghost use Rattle.jc_account.specs.Accounts.{unreleased};
 
 use jc_states::is_in;
@@ -69,19 +70,51 @@ fn with_each(alloc: Global, uids: &[Uid], more: &[Uid]) -> Result<Vec<Uid>, Want
     Ok(all.into_vec())
 }
 
-// The UIDs with each of the others in its place. Where there are no others, the list shares its memory.
+// The UIDs with each of the others in its place. Where one of the lists is empty, the list shares the memory
+// of the other.
 //
 // # Errors
 // `Want` where there is no memory for them.
 pub(crate) fn merged(alloc: Global, uids: &Uids, more: &Uids) -> Result<Uids, Want>
+    requires { Ascends more.now }
     ensures merged { IfOk result (λ list. list ≡ merge uids.now more.now) }
     ensures no_longer { IfOk result (λ list. length list ≤ length uids.now + length more.now) }
 {
     if more.is_empty() {
         return uids.copy();
     }
+    if uids.is_empty() {
+        return more.copy();
+    }
     let all = with_each(alloc, uids.as_slice(), more.as_slice())?;
     listed(alloc, all.as_slice())
+}
+
+// The place of the first UID that is this one.
+fn place_in(uid: Uid, uids: &[Uid]) -> Option<usize>
+    ensures place { result ≡ position (λ (other : Uid). same_uid other uid) uids.now }
+    ensures within { IfSome result (λ place. place < length uids.now) }
+{
+    uids.iter().position(|other| other.0 == uid.0)
+}
+
+// Where one looks for the next UID, where this one is among the UIDs and is looked for from there on: behind
+// it, where both ascend. None where it is not among them.
+fn behind(uid: Uid, uids: &[Uid], from: usize) -> Option<usize>
+    requires { from ≤ length uids.now }
+    ensures found { is_some result ≡ is_in uid uids.now }
+    ensures within { IfSome result (λ next. next ≤ length uids.now) }
+{
+    match place_in(uid, &uids[from..]) {
+        Some(place) => Some(from + place + 1),
+        None => {
+            if is_in(uid, &uids[..from]) {
+                Some(from)
+            } else {
+                None
+            }
+        }
+    }
 }
 
 // The UIDs that are not among the released ones.
@@ -93,9 +126,11 @@ pub(crate) fn unreleased(alloc: Global, released: &[Uid], uids: &[Uid]) -> Resul
     ensures shorter { IfOk result (λ list. length list ≤ length uids.now) }
 {
     let mut rest = Uids::new(alloc);
+    let mut from = 0;
     for uid in uids {
-        if !is_in(*uid, released) {
-            rest.push(*uid)?;
+        match behind(*uid, released, from) {
+            None => rest.push(*uid)?,
+            Some(next) => from = next,
         }
     }
     Ok(rest)

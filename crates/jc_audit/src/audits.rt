@@ -11,6 +11,7 @@ use crate::walking::take;
 use jc_play::Machine;
 use jc_types::{Commands, Script, Shape, Want};
 use std::alloc::Global;
+use std::mem;
 
 // Whether the first line is that of an event: it begins with a digit.
 fn begins_event(rest: &[u8]) -> bool
@@ -59,7 +60,8 @@ fn walk(alloc: Global, machine: &mut Machine, bytes: &[u8]) -> Result<Verdict, W
 /// with the reply that the machine gives; and then the lines of the Jobs that have come of it, and
 /// `full`, if at all, where the history is full. Else the first line is named that differs. Nothing is
 /// taken from who printed them: the machine is played along. It takes the time and the memory of the
-/// play.
+/// play, and what was played is not given back, piece by piece, which would take more: the program
+/// prints the verdict and ends. So each call loses that memory to its process.
 ///
 /// # Errors
 ///
@@ -72,5 +74,7 @@ pub fn audit(alloc: Global, bytes: &[u8], shape: Shape) -> Result<Verdict, Want>
     ensures { IfOk result (λ v. VerdictHolds shape bytes.now v) }
 {
     let mut machine = first_machine(alloc, shape)?;
-    walk(alloc, &mut machine, bytes)
+    let verdict = walk(alloc, &mut machine, bytes);
+    mem::forget(machine);
+    verdict
 }

@@ -56,6 +56,7 @@ fn put_pod(alloc: Global, rows: &mut IndexMap<Key, SharedPods>, pod: &Arc<Pod>) 
 // Drops a pod from those of its owner; the row of an owner that has none left goes.
 //
 // `Want` where there is no memory for it; the rows are then as before.
+#[inline(never)]
 fn drop_pod(rows: &mut IndexMap<Key, SharedPods>, pod: &Pod) -> Result<(), Want>
     ensures drops { OnOk result (TakesIn (PodGone pod.now) rows.old.entries rows.new.entries) }
     ensures kept { OnErr result (rows.new.entries ≡ rows.old.entries) }

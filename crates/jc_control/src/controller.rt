@@ -401,6 +401,7 @@ impl Controller {
     // Tells the cache of the kind of the next entry of the log.
     //
     // `Want` where there is no memory for it; the controller is then as before.
+    #[inline(always)]
     fn tell(&mut self, kind: Kind, entry: &Entry, version: Version) -> Result<(), Want>
         requires next { IsNext (number_of kind self.old.schedule) version }
         requires few_pods { HasFewPods self.old.rows }
@@ -466,6 +467,7 @@ fn no_failures() -> Backoff
 }
 
 // What is known of the key.
+#[inline(always)]
 fn known_of(rows: &IndexMap<Key, Known>, key: &Key) -> Known
     ensures { result ≡ unwrap_or (at same_key rows.now.entries key.now) unknown }
 {

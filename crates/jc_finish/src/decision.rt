@@ -84,9 +84,12 @@ fn is_overdue(now: Moment, spec: &JobSpec, status: &JobStatus) -> bool
     if spec.suspend {
         return false;
     }
-    match (spec.deadline, start_of(now, spec, status)) {
-        (Some(seconds), Some(start)) => have_passed(now, seconds, start),
-        _ => false,
+    let Some(seconds) = spec.deadline else {
+        return false;
+    };
+    match start_of(now, spec, status) {
+        None => false,
+        Some(start) => have_passed(now, seconds, start),
     }
 }
 

@@ -1,6 +1,6 @@
 //! When a Job starts, and when its deadline is.
 
-ghost use Rattle.std.specs.Prelude.{◌≡◌};
+ghost use Rattle.std.specs.Prelude.{◌≡◌, Some};
 ghost use Rattle.jc_moment.specs.Range.{as_moment};
 ghost use Rattle.jc_finish.specs.Starts.{begins, deadline_of, next_deadline, end_after, start_of, start_in_force};
 
@@ -28,24 +28,25 @@ pub fn start_of(now: Moment, spec: &JobSpec, status: &JobStatus) -> Option<Momen
     }
 }
 
-// The moment so many seconds after the start, where both are given and it is not past the last moment.
-fn moment_after(seconds: Option<u32>, start: Option<Moment>) -> Option<Moment>
-    ensures { result ≡ as_moment (end_after seconds start) }
+// The moment so many seconds after the start, where that is given and it is not past the last moment.
+fn moment_after(seconds: u32, start: Option<Moment>) -> Option<Moment>
+    ensures { result ≡ as_moment (end_after (Some seconds) start) }
 {
-    match (seconds, start) {
-        (Some(seconds), Some(start)) => start.plus(u64::from(seconds)),
-        _ => None,
+    match start {
+        None => None,
+        Some(start) => start.plus(u64::from(seconds)),
     }
 }
 
-// The moment of the deadline of a Job, in a sync at the moment `now`.
+// The moment of the deadline of a Job, in a sync at the moment `now`. Most Jobs have none.
 fn deadline(now: Moment, spec: &JobSpec, status: &JobStatus) -> Option<Moment>
     ensures { result ≡ deadline_of now spec.now status.now }
 {
     if spec.suspend || has_target(&status.conditions) {
         return None;
     }
-    moment_after(spec.deadline, start_of(now, spec, status))
+    let seconds = spec.deadline?;
+    moment_after(seconds, start_of(now, spec, status))
 }
 
 /// The start time in force of the basis's Job (batch/v1, `status.startTime`). It is the moment of the

@@ -1,5 +1,6 @@
 pub mod Items
 pub mod Lines
 pub mod Reading
+pub mod TrailFacts
 pub mod Views
 pub mod Written

@@ -3,4 +3,5 @@ pub mod Field
 pub mod Given
 pub mod Line
 pub mod Place
+pub mod Trails
 pub mod View

@@ -7,7 +7,7 @@ ghost use Rattle.jc_json.specs.View.{view};
 
 use crate::field::FieldFault;
 use crate::numbers::{Unfit, number_within};
-use crate::path::Path;
+use crate::trail::Trail;
 use crate::value::Value;
 use std::alloc::Global;
 
@@ -22,7 +22,7 @@ use std::alloc::Global;
 pub fn item_number(
     alloc: Global,
     item: &Value,
-    list: &Path,
+    list: &Trail,
     index: usize,
     least: i64,
     greatest: i64,
@@ -34,10 +34,10 @@ pub fn item_number(
     match number_within(item, least, greatest) {
         Ok(number) => Ok(number),
         Err(Unfit::OfType) => Err(FieldFault::WrongType {
-            path: list.place(index)?,
+            path: list.path_at(index).path()?,
         }),
         Err(Unfit::OfRange) => Err(FieldFault::OutOfRange {
-            path: list.place(index)?,
+            path: list.path_at(index).path()?,
         }),
     }
 }
@@ -51,7 +51,7 @@ pub fn item_number(
 #[tactic(auto, unfolding(crate::specs::Field::item_object))]
 pub fn item_object<'v, 'a>(
     item: &'v Value<'a>,
-    list: &Path,
+    list: &Trail,
     index: usize,
 ) -> Result<&'v Value<'a>, FieldFault>
     ensures { Gives (λ found. view found.now) result (item_object list.now index (view item.now)) }
@@ -60,6 +60,6 @@ pub fn item_object<'v, 'a>(
         return Ok(item);
     }
     Err(FieldFault::WrongType {
-        path: list.place(index)?,
+        path: list.path_at(index).path()?,
     })
 }

@@ -13,6 +13,7 @@ mod ordered;
 mod owned;
 mod path;
 mod reader;
+mod trail;
 mod value;
 
 pub use field::FieldFault;
@@ -24,4 +25,5 @@ pub use optional::{given_items, may_bool, may_list, may_number, may_object, may_
 pub use ordered::{Ordered, in_order};
 pub use owned::borrowed;
 pub use path::Path;
+pub use trail::Trail;
 pub use value::Value;

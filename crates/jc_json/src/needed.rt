@@ -8,6 +8,7 @@ ghost use Rattle.jc_json.specs.View.{view};
 use crate::field::FieldFault;
 use crate::optional::{may_items, may_number, may_object, may_text};
 use crate::path::Path;
+use crate::trail::Trail;
 use crate::value::Value;
 use std::alloc::Global;
 
@@ -20,7 +21,7 @@ use std::alloc::Global;
 pub fn need_text<'v, 'a>(
     alloc: Global,
     object: &'v Value<'a>,
-    path: &Path,
+    path: &Trail,
     name: &str,
 ) -> Result<&'v str, FieldFault>
     ensures { Gives (λ text. text.now) result
@@ -44,7 +45,7 @@ pub fn need_text<'v, 'a>(
 pub fn need_number(
     alloc: Global,
     object: &Value,
-    path: &Path,
+    path: &Trail,
     name: &str,
     least: i64,
     greatest: i64,
@@ -70,7 +71,7 @@ pub fn need_number(
 pub fn need_list<'v, 'a>(
     alloc: Global,
     object: &'v Value<'a>,
-    path: &Path,
+    path: &Trail,
     name: &str,
 ) -> Result<&'v Vec<Value<'a>>, FieldFault>
     ensures { Gives (λ items. map view items.now.items) result
@@ -93,7 +94,7 @@ pub fn need_list<'v, 'a>(
 pub fn need_object<'v, 'a>(
     alloc: Global,
     object: &'v Value<'a>,
-    path: &Path,
+    path: &Trail,
     name: &str,
 ) -> Result<&'v Value<'a>, FieldFault>
     ensures { Gives (λ found. view found.now) result

@@ -9,6 +9,7 @@ ghost use Rattle.jc_json.specs.View.{view};
 use crate::field::FieldFault;
 use crate::numbers::{Unfit, number_within};
 use crate::path::Path;
+use crate::trail::Trail;
 use crate::value::Value;
 use std::alloc::Global;
 
@@ -54,7 +55,7 @@ pub fn given_items<'v, 'a>(given: Option<&'v [Value<'a>]>) -> &'v [Value<'a>]
 pub fn may_text<'v, 'a>(
     alloc: Global,
     object: &'v Value<'a>,
-    path: &Path,
+    path: &Trail,
     name: &str,
 ) -> Result<Option<&'v str>, FieldFault>
     ensures { Gives (option_map (λ text. text.now)) result
@@ -78,7 +79,7 @@ pub fn may_text<'v, 'a>(
 pub fn may_bool(
     alloc: Global,
     object: &Value,
-    path: &Path,
+    path: &Trail,
     name: &str,
 ) -> Result<Option<bool>, FieldFault>
     ensures { Gives (λ truth. truth) result (optional_bool path.now name.now (view object.now)) }
@@ -104,7 +105,7 @@ pub fn may_bool(
 pub fn may_number(
     alloc: Global,
     object: &Value,
-    path: &Path,
+    path: &Trail,
     name: &str,
     least: i64,
     greatest: i64,
@@ -132,7 +133,7 @@ pub fn may_number(
 pub(crate) fn may_items<'v, 'a>(
     alloc: Global,
     object: &'v Value<'a>,
-    path: &Path,
+    path: &Trail,
     name: &str,
 ) -> Result<Option<&'v Vec<Value<'a>>>, FieldFault>
     ensures { Gives (option_map (λ items. map view items.now.items)) result
@@ -157,7 +158,7 @@ pub(crate) fn may_items<'v, 'a>(
 pub fn may_list<'v, 'a>(
     alloc: Global,
     object: &'v Value<'a>,
-    path: &Path,
+    path: &Trail,
     name: &str,
 ) -> Result<Option<&'v [Value<'a>]>, FieldFault>
     ensures { Gives (option_map (λ items. map view items.now)) result
@@ -179,7 +180,7 @@ pub fn may_list<'v, 'a>(
 pub fn may_object<'v, 'a>(
     alloc: Global,
     object: &'v Value<'a>,
-    path: &Path,
+    path: &Trail,
     name: &str,
 ) -> Result<Option<&'v Value<'a>>, FieldFault>
     ensures { Gives (option_map (λ found. view found.now)) result

@@ -1,6 +1,7 @@
 ghost use Rattle.std.specs.Prelude.{◌≡◌, ℕ, List, [], IfOk, string_bytes};
 ghost use Rattle.jc_json.specs.Place.{path_to, path_at};
 
+use crate::trail::Trail;
 use std::alloc::{AllocError, Global};
 use std::marker::Model;
 
@@ -27,34 +28,31 @@ impl Path {
         }
     }
 
-    // The path of the member of that name, in the memory of `alloc`.
-    #[tactic(auto, unfolding(crate::specs::Place::path_to))]
-    pub(crate) fn of_member(alloc: Global, object: &Path, name: &str) -> Result<Path, AllocError>
+    // The path of the member of that name of the object there, in the memory of `alloc`.
+    pub(crate) fn of_member(alloc: Global, object: &Trail, name: &str) -> Result<Path, AllocError>
         ensures { IfOk result (λ path. path ≡ path_to object.now name.now) }
     {
-        let front = object.as_str();
-        if front.is_empty() {
-            let text = String::from_str(alloc, name)?;
-            return Ok(Path { text });
-        }
-        // (in one piece of memory: a path is made for each member that is read)
-        let mut text = String::with_capacity(alloc, front.len() + name.len() + 1)?;
-        text.push_str(front)?;
-        text.push_str(".")?;
-        text.push_str(name)?;
+        object.path_in(alloc)?.member(name)
+    }
+
+    // The path of the member of that name.
+    #[tactic(auto, unfolding(crate::specs::Place::path_to))]
+    pub(crate) fn member(&self, name: &str) -> Result<Path, AllocError>
+        ensures { IfOk result (λ path. path ≡ path_to self.now name.now) }
+    {
+        let alloc = *self.text.allocator();
+        let front = self.as_str();
+        let text = if front.is_empty() {
+            String::from_str(alloc, name)?
+        } else {
+            format!(in alloc; "{front}.{name}")?
+        };
         Ok(Path { text })
     }
 
-    /// The path of the member of that name.
-    pub fn member(&self, name: &str) -> Result<Path, AllocError>
-        ensures { IfOk result (λ path. path ≡ path_to self.now name.now) }
-    {
-        Path::of_member(*self.text.allocator(), self, name)
-    }
-
-    /// The path of the item at that place, counted from 0.
+    // The path of the item at that place, counted from 0.
     #[tactic(auto, unfolding(crate::specs::Place::path_at))]
-    pub fn place(&self, index: usize) -> Result<Path, AllocError>
+    pub(crate) fn item(&self, index: usize) -> Result<Path, AllocError>
         ensures { IfOk result (λ path. path ≡ path_at self.now index) }
     {
         let front = self.as_str();

@@ -34,6 +34,7 @@ impl Machine {
     // A controller's cache of the kind is told of the next entry of the log.
     //
     // `Want` where there is no memory for it; the machine is then as before.
+    #[inline(always)]
     pub(crate) fn deliver(
         &mut self,
         event: Event,

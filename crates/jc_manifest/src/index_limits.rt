@@ -6,7 +6,7 @@ ghost use Rattle.jc_json.specs.Place.{path_to};
 ghost use Rattle.jc_manifest.specs.IndexLimits.{index_limits_refusal, index_limits_in, is_by_index, has_indexes_to_limit, has_indexes_to_fail, by_index_refusal};
 ghost use Rattle.jc_rows.specs.ManifestRows.{Checks, Reads, rule_row};
 
-use jc_json::{Path, Value};
+use jc_json::{Trail, Value};
 use jc_rows::{Counts, ManifestFault, broken, may_count};
 use jc_types::{GREATEST_COMPLETIONS, GREATEST_LIMIT, Mode};
 use std::alloc::Global;
@@ -32,7 +32,7 @@ pub fn is_by_index(limits: IndexLimits) -> bool
 pub fn read_index_limits(
     alloc: Global,
     spec: &Value,
-    path: &Path,
+    path: &Trail,
 ) -> Result<IndexLimits, ManifestFault>
     ensures { Reads (λ limits. limits) result (index_limits_refusal path.now (view spec.now))
         (index_limits_in path.now (view spec.now)) }
@@ -66,7 +66,7 @@ fn has_indexes_to_fail(counts: &Counts, limits: IndexLimits) -> bool
 }
 
 // That failures are limited for each index of an Indexed Job alone.
-fn check_limit(path: &Path, counts: &Counts, limits: IndexLimits) -> Result<(), ManifestFault>
+fn check_limit(path: &Trail, counts: &Counts, limits: IndexLimits) -> Result<(), ManifestFault>
     ensures { Checks result (rule_row (path_to path.now (codes "backoffLimitPerIndex")) 31
         (has_indexes_to_limit counts.now limits)) }
 {
@@ -77,7 +77,7 @@ fn check_limit(path: &Path, counts: &Counts, limits: IndexLimits) -> Result<(), 
 }
 
 // That a number of failed indexes stands beside a limit for each, and is at most that of all.
-fn check_most(path: &Path, counts: &Counts, limits: IndexLimits) -> Result<(), ManifestFault>
+fn check_most(path: &Trail, counts: &Counts, limits: IndexLimits) -> Result<(), ManifestFault>
     ensures { Checks result (rule_row (path_to path.now (codes "maxFailedIndexes")) 32
         (has_indexes_to_fail counts.now limits)) }
 {
@@ -90,7 +90,7 @@ fn check_most(path: &Path, counts: &Counts, limits: IndexLimits) -> Result<(), M
 /// That the Job has the indexes that the limits speak of.
 #[tactic(auto, unfolding(crate::specs::IndexLimits::by_index_refusal))]
 pub fn check_by_index(
-    path: &Path,
+    path: &Trail,
     counts: &Counts,
     limits: IndexLimits,
 ) -> Result<(), ManifestFault>

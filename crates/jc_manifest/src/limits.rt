@@ -5,7 +5,7 @@ ghost use Rattle.jc_json.specs.View.{view};
 ghost use Rattle.jc_rows.specs.ManifestRows.{Checks, Reads, bool_row};
 ghost use Rattle.jc_manifest.specs.Limits.{managed_row, limits_refusal, suspend_in, usual_backoff, limits_in};
 
-use jc_json::{Path, Value, may_bool, may_text};
+use jc_json::{Trail, Value, may_bool, may_text};
 use jc_rows::{ManifestFault, broken, may_count};
 use jc_types::GREATEST_LIMIT;
 use std::alloc::Global;
@@ -20,7 +20,7 @@ pub struct Limits {
 
 /// That this controller manages the Job.
 #[tactic(auto, unfolding(jc_rows::specs::ManifestRows::given_text_row))]
-pub fn check_managed(alloc: Global, spec: &Value, path: &Path) -> Result<(), ManifestFault>
+pub fn check_managed(alloc: Global, spec: &Value, path: &Trail) -> Result<(), ManifestFault>
     ensures { Checks result (managed_row path.now (view spec.now)) }
 {
     let Some(text) = may_text(alloc, spec, path, "managedBy")? else {
@@ -34,7 +34,7 @@ pub fn check_managed(alloc: Global, spec: &Value, path: &Path) -> Result<(), Man
 
 // Whether the Job makes no pods for now.
 #[tactic(auto, unfolding(jc_rows::specs::ManifestRows::bool_row, crate::specs::Limits::suspend_in))]
-fn read_suspend(alloc: Global, spec: &Value, path: &Path) -> Result<bool, ManifestFault>
+fn read_suspend(alloc: Global, spec: &Value, path: &Trail) -> Result<bool, ManifestFault>
     ensures { Reads (λ suspend. suspend) result
         (bool_row path.now (view spec.now) (codes "suspend"))
         (suspend_in path.now (view spec.now)) }
@@ -55,7 +55,7 @@ fn usual_backoff(by_index: bool) -> u32
 pub fn read_limits(
     alloc: Global,
     spec: &Value,
-    path: &Path,
+    path: &Trail,
     by_index: bool,
 ) -> Result<Limits, ManifestFault>
     ensures { Reads (λ limits. limits) result (limits_refusal path.now (view spec.now))

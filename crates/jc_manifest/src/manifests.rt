@@ -12,7 +12,7 @@ ghost use Rattle.jc_manifest.specs.Manifests.{metadata_part_refusal, spec_part_r
 use crate::index_limits::{IndexLimits, check_by_index, is_by_index, read_index_limits};
 use crate::limits::{Limits, check_managed, read_limits};
 use crate::metadata::{check_type, read_key};
-use jc_json::{Path, Value, may_text};
+use jc_json::{Trail, Value, may_text};
 use jc_policies::{read_failure, read_success};
 use jc_rows::{Counts, ManifestFault, broken, read_counts, read_object, read_template};
 use jc_types::{FailurePolicy, JobSpec, Key, Replacement, SuccessPolicy, Template};
@@ -62,7 +62,7 @@ fn usual_replacement(has_failure: bool) -> Replacement
 fn read_known_replacement(
     alloc: Global,
     spec: &Value,
-    path: &Path,
+    path: &Trail,
     has_failure: bool,
 ) -> Result<Replacement, ManifestFault>
     ensures { Reads (λ replacement. replacement) result
@@ -89,7 +89,7 @@ fn is_early(replacement: Replacement) -> bool
 
 // That pods with a failure policy are replaced only once they have failed.
 fn check_replacement(
-    path: &Path,
+    path: &Trail,
     has_failure: bool,
     replacement: Replacement,
 ) -> Result<(), ManifestFault>
@@ -107,7 +107,7 @@ fn check_replacement(
 fn read_replacement(
     alloc: Global,
     spec: &Value,
-    path: &Path,
+    path: &Trail,
     has_failure: bool,
 ) -> Result<Replacement, ManifestFault>
     ensures { Reads (λ replacement. replacement) result
@@ -124,7 +124,7 @@ fn read_replacement(
 fn read_policies(
     alloc: Global,
     spec: &Value,
-    path: &Path,
+    path: &Trail,
     head: &Head,
     template: &Template,
 ) -> Result<Policies, ManifestFault>
@@ -145,7 +145,7 @@ fn read_policies(
 
 // How many pods are wanted, and what bounds the run.
 #[tactic(auto, unfolding(crate::specs::Manifests::head_refusal, crate::specs::Manifests::head_in))]
-fn read_head(alloc: Global, spec: &Value, path: &Path) -> Result<Head, ManifestFault>
+fn read_head(alloc: Global, spec: &Value, path: &Trail) -> Result<Head, ManifestFault>
     ensures { Reads (λ head. head) result (head_refusal path.now (view spec.now))
         (head_in path.now (view spec.now)) }
 {
@@ -183,7 +183,7 @@ fn spec_with(head: Head, template: Template, policies: Policies) -> JobSpec
 
 // The specification of the Job.
 #[tactic(auto, unfolding(crate::specs::Manifests::head_in, crate::specs::Manifests::spec_refusal, crate::specs::Manifests::spec_in))]
-fn read_spec(alloc: Global, spec: &Value, path: &Path) -> Result<JobSpec, ManifestFault>
+fn read_spec(alloc: Global, spec: &Value, path: &Trail) -> Result<JobSpec, ManifestFault>
     ensures { Reads (λ spec. spec) result (spec_refusal path.now (view spec.now))
         (spec_in path.now (view spec.now)) }
 {
@@ -195,29 +195,33 @@ fn read_spec(alloc: Global, spec: &Value, path: &Path) -> Result<JobSpec, Manife
 
 // The key, of the member `metadata`.
 #[tactic(auto, unfolding(crate::specs::Manifests::metadata_part_refusal, crate::specs::Manifests::key_of))]
-fn read_metadata_part(alloc: Global, job: &Value, path: &Path) -> Result<Key, ManifestFault>
+fn read_metadata_part(alloc: Global, job: &Value, path: &Trail) -> Result<Key, ManifestFault>
     ensures { Reads (λ key. key) result (metadata_part_refusal path.now (view job.now))
         (key_of path.now (view job.now)) }
 {
     let metadata = read_object(alloc, job, path, "metadata")?;
-    let key = read_key(alloc, metadata, &path.member("metadata")?)?;
+    let key = read_key(alloc, metadata, &path.path_to("metadata"))?;
     Ok(key)
 }
 
 // The specification, of the member `spec`.
 #[tactic(auto, unfolding(crate::specs::Manifests::spec_part_refusal, crate::specs::Manifests::spec_of))]
-fn read_spec_part(alloc: Global, job: &Value, path: &Path) -> Result<JobSpec, ManifestFault>
+fn read_spec_part(alloc: Global, job: &Value, path: &Trail) -> Result<JobSpec, ManifestFault>
     ensures { Reads (λ spec. spec) result (spec_part_refusal path.now (view job.now))
         (spec_of path.now (view job.now)) }
 {
     let spec = read_object(alloc, job, path, "spec")?;
-    let spec = read_spec(alloc, spec, &path.member("spec")?)?;
+    let spec = read_spec(alloc, spec, &path.path_to("spec"))?;
     Ok(spec)
 }
 
 // What the whole manifest says.
 #[tactic(auto, unfolding(crate::specs::Manifests::manifest_refusal))]
-fn read_manifest(alloc: Global, value: &Value, path: &Path) -> Result<(Key, JobSpec), ManifestFault>
+fn read_manifest(
+    alloc: Global,
+    value: &Value,
+    path: &Trail,
+) -> Result<(Key, JobSpec), ManifestFault>
     ensures { Reads (λ job. job) result (manifest_refusal path.now (view value.now))
         (key_of path.now (view value.now), spec_of path.now (view value.now)) }
 {
@@ -234,7 +238,7 @@ fn read_manifest(alloc: Global, value: &Value, path: &Path) -> Result<(Key, JobS
 /// # Errors
 ///
 /// The first refusal in the order of the table, exactly where the table has one. `Want`: memory ran out.
-pub fn read_job(alloc: Global, value: &Value, path: &Path) -> Result<(Key, JobSpec), ManifestFault>
+pub fn read_job(alloc: Global, value: &Value, path: &Trail) -> Result<(Key, JobSpec), ManifestFault>
     ensures said { Reads (λ job. job) result (manifest_refusal path.now (view value.now))
         (key_of path.now (view value.now), spec_of path.now (view value.now)) }
     ensures valid { IfOk result (λ job. IsValidSpec job.1) }

@@ -6,7 +6,7 @@ ghost use Rattle.jc_rows.specs.ManifestRows.{Checks, Reads, text_row, given_text
 ghost use Rattle.jc_rows.specs.NameForms.{is_label, is_subdomain};
 ghost use Rattle.jc_manifest.specs.Metadata.{type_refusal, metadata_refusal, name_in, namespace_in, key_in};
 
-use jc_json::{Path, Value, may_text, need_text};
+use jc_json::{Trail, Value, may_text, need_text};
 use jc_rows::{ManifestFault, broken, is_label, is_subdomain};
 use jc_types::{Key, KeyNames, Label};
 use std::alloc::Global;
@@ -16,7 +16,7 @@ use std::alloc::Global;
 fn check_word(
     alloc: Global,
     object: &Value,
-    path: &Path,
+    path: &Trail,
     name: &str,
     word: &str,
     rule: u32,
@@ -33,7 +33,7 @@ fn check_word(
 
 /// That the manifest is of a Job of batch/v1.
 #[tactic(auto, unfolding(crate::specs::Metadata::type_refusal))]
-pub fn check_type(alloc: Global, job: &Value, path: &Path) -> Result<(), ManifestFault>
+pub fn check_type(alloc: Global, job: &Value, path: &Trail) -> Result<(), ManifestFault>
     ensures { Checks result (type_refusal path.now (view job.now)) }
 {
     check_word(alloc, job, path, "apiVersion", "batch/v1", 1)?;
@@ -43,7 +43,7 @@ pub fn check_type(alloc: Global, job: &Value, path: &Path) -> Result<(), Manifes
 
 // The Job's name.
 #[tactic(auto, unfolding(jc_rows::specs::ManifestRows::text_row, crate::specs::Metadata::name_in))]
-fn read_name(alloc: Global, metadata: &Value, path: &Path) -> Result<Label, ManifestFault>
+fn read_name(alloc: Global, metadata: &Value, path: &Trail) -> Result<Label, ManifestFault>
     ensures { Reads (λ name. name) result
         (text_row path.now (view metadata.now) (codes "name") 3 is_subdomain)
         (name_in path.now (view metadata.now)) }
@@ -57,7 +57,7 @@ fn read_name(alloc: Global, metadata: &Value, path: &Path) -> Result<Label, Mani
 
 // The Job's namespace.
 #[tactic(auto, unfolding(jc_rows::specs::ManifestRows::given_text_row, crate::specs::Metadata::namespace_in))]
-fn read_namespace(alloc: Global, metadata: &Value, path: &Path) -> Result<Label, ManifestFault>
+fn read_namespace(alloc: Global, metadata: &Value, path: &Trail) -> Result<Label, ManifestFault>
     ensures { Reads (λ name. name) result
         (given_text_row path.now (view metadata.now) (codes "namespace") 4 is_label)
         (namespace_in path.now (view metadata.now)) }
@@ -73,7 +73,7 @@ fn read_namespace(alloc: Global, metadata: &Value, path: &Path) -> Result<Label,
 
 /// The key of the Job.
 #[tactic(auto, unfolding(crate::specs::Metadata::metadata_refusal, crate::specs::Metadata::key_in))]
-pub fn read_key(alloc: Global, metadata: &Value, path: &Path) -> Result<Key, ManifestFault>
+pub fn read_key(alloc: Global, metadata: &Value, path: &Trail) -> Result<Key, ManifestFault>
     ensures { Reads (λ key. key) result (metadata_refusal path.now (view metadata.now))
         (key_in path.now (view metadata.now)) }
 {

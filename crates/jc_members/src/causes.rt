@@ -5,7 +5,7 @@ ghost use Rattle.jc_json.specs.Place.{path_to};
 ghost use Rattle.jc_members.specs.LineCauses.{IsCause, shown, cause_text};
 ghost use Rattle.jc_members.specs.declared.causes.Cause.TheVariants.{Invalid};
 
-use jc_json::{FieldFault, Path};
+use jc_json::{FieldFault, Path, Trail};
 use jc_rows::ManifestFault;
 use jc_types::{Copied, Want};
 use std::alloc::{AllocError, AllocFailed, Global};
@@ -125,10 +125,10 @@ impl<T: Drop> From<AllocFailed<T>> for LineFault {
 }
 
 /// The refusal by a rule of the member of that name.
-pub fn broken(object: &Path, name: &str, rule: u32) -> LineFault
+pub fn broken(object: &Trail, name: &str, rule: u32) -> LineFault
     ensures { IsCause result (Invalid (path_to object.now name.now) rule) }
 {
-    match object.member(name) {
+    match object.path_to(name).path() {
         Ok(path) => LineFault::Bad {
             cause: Cause::Invalid { path, rule },
         },

@@ -10,14 +10,14 @@ ghost use Rattle.jc_members.specs.Phases.{condition_members, condition_truth, co
 
 use crate::causes::{LineFault, broken};
 use crate::members::check_known;
-use jc_json::{Path, Value, given_items, item_object, may_list, may_text, need_text};
+use jc_json::{Trail, Value, given_items, item_object, may_list, may_text, need_text};
 use jc_policies::{is_type, truth_of};
 use jc_types::{PodCondition, PodConditions, Text, Truth};
 use std::alloc::Global;
 
 // The type of a condition.
 #[tactic(auto, unfolding(crate::specs::Members::text_in))]
-fn read_type(alloc: Global, condition: &Value, path: &Path) -> Result<Text, LineFault>
+fn read_type(alloc: Global, condition: &Value, path: &Trail) -> Result<Text, LineFault>
     ensures { Says (λ kind. kind) result
         (text_in path.now (codes "type") 30 is_type (view condition.now)) }
 {
@@ -30,7 +30,7 @@ fn read_type(alloc: Global, condition: &Value, path: &Path) -> Result<Text, Line
 
 // The status of a condition.
 #[tactic(auto, unfolding(crate::specs::Phases::condition_truth))]
-fn read_truth(alloc: Global, condition: &Value, path: &Path) -> Result<Truth, LineFault>
+fn read_truth(alloc: Global, condition: &Value, path: &Trail) -> Result<Truth, LineFault>
     ensures { Says (λ truth. truth) result (condition_truth path.now (view condition.now)) }
 {
     let Some(text) = may_text(alloc, condition, path, "status")? else {
@@ -44,7 +44,7 @@ fn read_truth(alloc: Global, condition: &Value, path: &Path) -> Result<Truth, Li
 
 // The members of one condition.
 #[tactic(auto, unfolding(crate::specs::Phases::condition_of))]
-fn read_members(alloc: Global, condition: &Value, path: &Path) -> Result<PodCondition, LineFault>
+fn read_members(alloc: Global, condition: &Value, path: &Trail) -> Result<PodCondition, LineFault>
     ensures { Says (λ condition. condition) result (condition_of path.now (view condition.now)) }
 {
     let kind = read_type(alloc, condition, path)?;
@@ -53,7 +53,7 @@ fn read_members(alloc: Global, condition: &Value, path: &Path) -> Result<PodCond
 }
 
 // That a condition has no other member.
-fn check_members(alloc: Global, condition: &Value, path: &Path) -> Result<(), LineFault>
+fn check_members(alloc: Global, condition: &Value, path: &Trail) -> Result<(), LineFault>
     ensures { Says (λ u. u) result
         (only_known path.now condition_members (view condition.now)) }
 {
@@ -65,20 +65,20 @@ fn check_members(alloc: Global, condition: &Value, path: &Path) -> Result<(), Li
 fn read_condition(
     alloc: Global,
     item: &Value,
-    list: &Path,
+    list: &Trail,
     place: usize,
 ) -> Result<PodCondition, LineFault>
     ensures { Says (λ condition. condition) result (condition_at list.now place (view item.now)) }
 {
     let condition = item_object(item, list, place)?;
-    let path = list.place(place)?;
+    let path = list.path_at(place);
     check_members(alloc, condition, &path)?;
     read_members(alloc, condition, &path)
 }
 
 // The conditions of a list.
 #[tactic(auto, using(crate::proofs::Fronts::one_more))]
-fn read_items(alloc: Global, items: &[Value], path: &Path) -> Result<PodConditions, LineFault>
+fn read_items(alloc: Global, items: &[Value], path: &Trail) -> Result<PodConditions, LineFault>
     ensures { Says (λ conditions. conditions) result
         (each_said (condition_at path.now) 0 (map view items.now)) }
 {
@@ -95,7 +95,7 @@ fn read_items(alloc: Global, items: &[Value], path: &Path) -> Result<PodConditio
 pub fn read_conditions(alloc: Global, value: &Value) -> Result<PodConditions, LineFault>
     ensures { Says (λ conditions. conditions) result (conditions_in (view value.now)) }
 {
-    let path = Path::new(alloc);
+    let path = Trail::new(alloc);
     let given = may_list(alloc, value, &path, "conditions")?;
-    read_items(alloc, given_items(given), &path.member("conditions")?)
+    read_items(alloc, given_items(given), &path.path_to("conditions"))
 }

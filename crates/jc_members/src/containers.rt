@@ -9,7 +9,7 @@ ghost use Rattle.jc_members.specs.Items.{all_said};
 ghost use Rattle.jc_members.specs.Phases.{given_names, member_names, entry_in, entries_fit, container_numbers, put_names, names_in_either, exit_in, container_restarts, container_count, container_change, containers_in};
 
 use crate::causes::{LineFault, broken};
-use jc_json::{Ordered, Path, Value, in_order, may_number, may_object};
+use jc_json::{Ordered, Trail, Value, in_order, may_number, may_object};
 use jc_rows::is_label;
 use jc_types::{ContainerChange, ContainerChanges, Name, Want};
 use std::alloc::Global;
@@ -60,7 +60,7 @@ fn names_in<'v, 'a>(alloc: Global, value: &'v Value<'a>) -> Result<Vec<&'v str>,
 fn read_entry(
     alloc: Global,
     numbers: &Value,
-    path: &Path,
+    path: &Trail,
     name: &str,
     least: i64,
     greatest: i64,
@@ -81,7 +81,7 @@ fn read_entry(
 fn check_entries(
     alloc: Global,
     numbers: &Value,
-    path: &Path,
+    path: &Trail,
     names: &[&str],
     least: i64,
     greatest: i64,
@@ -120,13 +120,13 @@ fn read_numbers<'v, 'a>(
     ensures { Says (λ numbers. view numbers.now) result
         (container_numbers name.now least greatest (view value.now)) }
 {
-    let path = Path::new(alloc);
+    let path = Trail::new(alloc);
     let numbers = given_or(may_object(alloc, value, &path, name)?, nothing);
     let names = names_in(alloc, numbers)?;
     check_entries(
         alloc,
         numbers,
-        &path.member(name)?,
+        &path.path_to(name),
         names.as_slice(),
         least,
         greatest,
@@ -189,7 +189,8 @@ fn read_exit(alloc: Global, exits: &Value, name: &str) -> Result<Option<i32>, Li
     ensures not_empty { IfOk result (λ _. 0 < length name.now) }
     ensures short { IfOk result (λ _. length name.now ≤ 63) }
 {
-    let path = Path::new(alloc).member("exitCodes")?;
+    let line = Trail::new(alloc);
+    let path = line.path_to("exitCodes");
     match read_entry(alloc, exits, &path, name, LEAST_EXIT, GREATEST)? {
         None => Ok(None),
         Some(exit) => Ok(Some(exit as i32)),
@@ -202,7 +203,8 @@ fn read_restarts(alloc: Global, restarts: &Value, name: &str) -> Result<Option<i
     ensures read { Says (λ count. count) result (container_restarts (view restarts.now) name.now) }
     ensures fits { IfOk result (λ o. IfSome o (λ n. (pos 0 ≤ℤ n) × (n ≤ℤ pos 2147483647))) }
 {
-    let path = Path::new(alloc).member("restartCounts")?;
+    let line = Trail::new(alloc);
+    let path = line.path_to("restartCounts");
     read_entry(alloc, restarts, &path, name, 0, GREATEST)
 }
 

@@ -10,14 +10,14 @@ ghost use Rattle.jc_members.specs.Members.{only_known, given_text_in};
 
 use crate::causes::{Cause, LineFault, broken};
 use crate::members::{check_known, read_given_number, read_list};
-use jc_json::{Path, Value, item_object, may_text, need_number};
+use jc_json::{Trail, Value, item_object, may_text, need_number};
 use jc_policies::is_type;
 use jc_types::{End, Ends, GREATEST_LIMIT, Text};
 use std::alloc::Global;
 
 // The condition that a pod then has, where one is given.
 #[tactic(auto, unfolding(crate::specs::Members::given_text_in))]
-fn read_condition(alloc: Global, end: &Value, path: &Path) -> Result<Option<Text>, LineFault>
+fn read_condition(alloc: Global, end: &Value, path: &Trail) -> Result<Option<Text>, LineFault>
     ensures { Says (λ condition. condition) result
         (given_text_in path.now (codes "condition") 30 is_type (view end.now)) }
 {
@@ -32,7 +32,7 @@ fn read_condition(alloc: Global, end: &Value, path: &Path) -> Result<Option<Text
 
 // The members of one end.
 #[tactic(auto, unfolding(crate::specs::EndMembers::end_said))]
-fn read_members(alloc: Global, end: &Value, path: &Path) -> Result<End, LineFault>
+fn read_members(alloc: Global, end: &Value, path: &Trail) -> Result<End, LineFault>
     ensures { Says (λ end. end) result (end_said path.now (view end.now)) }
 {
     let exit = need_number(alloc, end, path, "exitCode", 0, 255)?;
@@ -46,7 +46,7 @@ fn read_members(alloc: Global, end: &Value, path: &Path) -> Result<End, LineFaul
 }
 
 // That an end has no other member.
-fn check_members(alloc: Global, end: &Value, path: &Path) -> Result<(), LineFault>
+fn check_members(alloc: Global, end: &Value, path: &Trail) -> Result<(), LineFault>
     ensures { Says (λ u. u) result (only_known path.now end_members (view end.now)) }
 {
     check_known(alloc, end, path, &["exitCode", "restarts", "condition"])
@@ -54,18 +54,18 @@ fn check_members(alloc: Global, end: &Value, path: &Path) -> Result<(), LineFaul
 
 // One end, at its place in the list.
 #[tactic(auto, unfolding(crate::specs::EndMembers::end_said_at))]
-fn read_end(alloc: Global, item: &Value, list: &Path, place: usize) -> Result<End, LineFault>
+fn read_end(alloc: Global, item: &Value, list: &Trail, place: usize) -> Result<End, LineFault>
     ensures { Says (λ end. end) result (end_said_at list.now place (view item.now)) }
 {
     let end = item_object(item, list, place)?;
-    let path = list.place(place)?;
+    let path = list.path_at(place);
     check_members(alloc, end, &path)?;
     read_members(alloc, end, &path)
 }
 
 // That there are 1 to 100 of them.
 #[tactic(auto, unfolding(crate::specs::EndMembers::rightly_many))]
-fn check_many(items: &[Value], path: &Path) -> Result<(), LineFault>
+fn check_many(items: &[Value], path: &Trail) -> Result<(), LineFault>
     ensures { Says (λ u. u) result (rightly_many path.now (map view items.now)) }
 {
     if 0 < items.len() && items.len() <= 100 {
@@ -73,7 +73,7 @@ fn check_many(items: &[Value], path: &Path) -> Result<(), LineFault>
     }
     Err(LineFault::Bad {
         cause: Cause::Invalid {
-            path: path.copy()?,
+            path: path.path()?,
             rule: 30,
         },
     })
@@ -81,7 +81,7 @@ fn check_many(items: &[Value], path: &Path) -> Result<(), LineFault>
 
 // The ends of a list.
 #[tactic(auto, using(crate::proofs::Fronts::one_more))]
-fn read_items(alloc: Global, items: &[Value], path: &Path) -> Result<Ends, LineFault>
+fn read_items(alloc: Global, items: &[Value], path: &Trail) -> Result<Ends, LineFault>
     ensures { Says (λ ends. ends) result (each_said (end_said_at path.now) 0 (map view items.now)) }
 {
     let mut ends = Ends::new(alloc);
@@ -97,9 +97,9 @@ fn read_items(alloc: Global, items: &[Value], path: &Path) -> Result<Ends, LineF
 pub fn read_ends(alloc: Global, value: &Value) -> Result<Ends, LineFault>
     ensures { Says (λ ends. ends) result (ends_said (view value.now)) }
 {
-    let path = Path::new(alloc);
+    let path = Trail::new(alloc);
     let items = read_list(alloc, value, &path, "ends")?;
-    let at = path.member("ends")?;
+    let at = path.path_to("ends");
     check_many(items.as_slice(), &at)?;
     read_items(alloc, items.as_slice(), &at)
 }

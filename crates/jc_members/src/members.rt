@@ -10,7 +10,7 @@ ghost use Rattle.jc_members.specs.LineCauses.{Says, read_as};
 ghost use Rattle.jc_members.specs.Members.{is_unknown, unknown_among, unknown_in, only_known, whole_number_in, given_number_in};
 
 use crate::causes::{LineFault, broken};
-use jc_json::{Ordered, Path, Value, in_order, may_number, need_list, need_number, need_object};
+use jc_json::{Ordered, Trail, Value, in_order, may_number, need_list, need_number, need_object};
 use jc_types::Want;
 use std::alloc::Global;
 
@@ -101,7 +101,7 @@ fn unknown_in<'v, 'a>(
 pub fn check_known(
     alloc: Global,
     object: &Value,
-    path: &Path,
+    path: &Trail,
     known: &[&str],
 ) -> Result<(), LineFault>
     ensures { Says (λ u. u) result
@@ -118,7 +118,7 @@ pub fn check_known(
 pub fn read_number(
     alloc: Global,
     object: &Value,
-    path: &Path,
+    path: &Trail,
     name: &str,
     least: u32,
     greatest: u32,
@@ -142,7 +142,7 @@ pub fn read_number(
 pub fn read_given_number(
     alloc: Global,
     object: &Value,
-    path: &Path,
+    path: &Trail,
     name: &str,
     least: u32,
     greatest: u32,
@@ -167,7 +167,7 @@ pub fn read_given_number(
 pub fn read_object<'v, 'a>(
     alloc: Global,
     object: &'v Value<'a>,
-    path: &Path,
+    path: &Trail,
     name: &str,
 ) -> Result<&'v Value<'a>, LineFault>
     ensures { Says (λ found. view found.now) result
@@ -180,7 +180,7 @@ pub fn read_object<'v, 'a>(
 pub fn read_list<'v, 'a>(
     alloc: Global,
     object: &'v Value<'a>,
-    path: &Path,
+    path: &Trail,
     name: &str,
 ) -> Result<&'v Vec<Value<'a>>, LineFault>
     ensures { Says (λ items. map view items.now.items) result

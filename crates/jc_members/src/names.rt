@@ -6,7 +6,7 @@ ghost use Rattle.jc_members.specs.Named.{job_name_in, job_namespace_in, job_key_
 
 use crate::causes::{LineFault, broken};
 use crate::members::{read_given_number, read_number};
-use jc_json::{Path, Value, may_text, need_text};
+use jc_json::{Trail, Value, may_text, need_text};
 use jc_rows::{is_label, is_subdomain};
 use jc_types::{Key, KeyNames, Label, Shape, Uid};
 use std::alloc::Global;
@@ -23,7 +23,7 @@ pub struct Seat {
 fn read_name(alloc: Global, value: &Value) -> Result<Label, LineFault>
     ensures { Says (λ name. name) result (job_name_in (view value.now)) }
 {
-    let path = Path::new(alloc);
+    let path = Trail::new(alloc);
     let text = need_text(alloc, value, &path, "name")?;
     if !is_subdomain(text.as_bytes()) {
         return Err(broken(&path, "name", 3));
@@ -36,7 +36,7 @@ fn read_name(alloc: Global, value: &Value) -> Result<Label, LineFault>
 fn read_namespace(alloc: Global, value: &Value) -> Result<Label, LineFault>
     ensures { Says (λ name. name) result (job_namespace_in (view value.now)) }
 {
-    let path = Path::new(alloc);
+    let path = Trail::new(alloc);
     let Some(text) = may_text(alloc, value, &path, "namespace")? else {
         return Ok(Label::from_text(alloc, "default")?);
     };
@@ -61,7 +61,7 @@ pub fn read_key(alloc: Global, value: &Value) -> Result<Key, LineFault>
 pub fn read_pod(alloc: Global, value: &Value) -> Result<Uid, LineFault>
     ensures { Says (λ pod. pod) result (pod_named (view value.now)) }
 {
-    let number = read_number(alloc, value, &Path::new(alloc), "pod", 1, 4_294_967_295)?;
+    let number = read_number(alloc, value, &Trail::new(alloc), "pod", 1, 4_294_967_295)?;
     Ok(Uid(number))
 }
 
@@ -71,7 +71,14 @@ pub fn read_controller(alloc: Global, value: &Value, shape: &Shape) -> Result<u3
     ensures { Says (λ controller. controller) result (controller_in shape.now (view value.now)) }
 {
     let greatest = shape.controllers.saturating_sub(1);
-    let controller = read_given_number(alloc, value, &Path::new(alloc), "controller", 0, greatest)?;
+    let controller = read_given_number(
+        alloc,
+        value,
+        &Trail::new(alloc),
+        "controller",
+        0,
+        greatest,
+    )?;
     Ok(controller.unwrap_or(0))
 }
 
@@ -81,7 +88,7 @@ fn read_worker(alloc: Global, value: &Value, shape: &Shape) -> Result<u32, LineF
     ensures { Says (λ worker. worker) result (worker_in shape.now (view value.now)) }
 {
     let greatest = shape.workers.saturating_sub(1);
-    let worker = read_given_number(alloc, value, &Path::new(alloc), "worker", 0, greatest)?;
+    let worker = read_given_number(alloc, value, &Trail::new(alloc), "worker", 0, greatest)?;
     Ok(worker.unwrap_or(0))
 }
 
@@ -100,6 +107,6 @@ pub fn read_seat(alloc: Global, value: &Value, shape: &Shape) -> Result<Seat, Li
 pub fn read_times(alloc: Global, value: &Value) -> Result<u32, LineFault>
     ensures { Says (λ times. times) result (times_in (view value.now)) }
 {
-    let times = read_given_number(alloc, value, &Path::new(alloc), "times", 1, 10_000)?;
+    let times = read_given_number(alloc, value, &Trail::new(alloc), "times", 1, 10_000)?;
     Ok(times.unwrap_or(1))
 }

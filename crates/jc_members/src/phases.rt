@@ -9,7 +9,7 @@ ghost use Rattle.jc_members.specs.Phases.{phase_of, report_in};
 use crate::causes::{LineFault, broken};
 use crate::conditions::read_conditions;
 use crate::containers::read_containers;
-use jc_json::{Path, Value, need_text};
+use jc_json::{Trail, Value, need_text};
 use jc_types::{Phase, PhaseChange};
 use std::alloc::Global;
 
@@ -28,7 +28,7 @@ fn phase_of(text: &str) -> Option<Phase>
 
 // How far the pod has come.
 #[tactic(auto, unfolding(crate::specs::Members::word_in))]
-fn read_phase(alloc: Global, value: &Value, path: &Path) -> Result<Phase, LineFault>
+fn read_phase(alloc: Global, value: &Value, path: &Trail) -> Result<Phase, LineFault>
     ensures { Says (λ phase. phase) result
         (word_in path.now (codes "phase") phase_of (view value.now)) }
 {
@@ -44,7 +44,7 @@ fn read_phase(alloc: Global, value: &Value, path: &Path) -> Result<Phase, LineFa
 pub fn read_report(alloc: Global, value: &Value) -> Result<PhaseChange, LineFault>
     ensures { Says (λ change. change) result (report_in (view value.now)) }
 {
-    let phase = read_phase(alloc, value, &Path::new(alloc))?;
+    let phase = read_phase(alloc, value, &Trail::new(alloc))?;
     let containers = read_containers(alloc, value)?;
     let conditions = read_conditions(alloc, value)?;
     Ok(PhaseChange {

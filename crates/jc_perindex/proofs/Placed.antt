@@ -1,10 +1,11 @@
 -- A count that is written at its place in a list is what `raise` says.
-use Rattle.std.proofs.Common.{◌≡◌, ◌<◌, ◌≤◌, ◌+◌, ◌++◌, ℕ, suc, Bool, true, false, not, cond, eqb, ltb, leb, List, [], ◌∷◌, length, get_or, map, take, drop, Some, None, refl, ap, sym, ◌∙◌, subst, arith}
+use Rattle.std.proofs.Common.{◌≡◌, ◌<◌, ◌≤◌, ◌+◌, ◌++◌, ℕ, suc, zero, Bool, true, false, not, cond, eqb, ltb, leb, List, [], ◌∷◌, length, get_or, map, take, drop, Some, None, refl, ap, sym, ◌∙◌, subst, arith, true≢false}
 use Rattle.std.specs.List.{AllByRecursion as Each, position, position_or_len}
 use Rattle.std.proofs.Math.ListN.{set}
-use Rattle.std.proofs.lemmas.Bool.{ltb-true, ltb-false, leb-true, leb-false, eqb-true, eqb-false}
+use Rattle.std.proofs.lemmas.Bool.{ltb-true, ltb-false, leb-true, leb-false, eqb-true, eqb-false, le-ltb, lt-leb}
 use Rattle.std.proofs.lemmas.List.{take_all, drop_all, get_or_default, length-append}
 use Rattle.std.proofs.lemmas.List.Concat.{get_or-flat_map}
+use Rattle.std.proofs.lemmas.List.Elements.{All-from_recursion}
 use Rattle.jc_ranges.specs.Sets.{IsIncreasing}
 use Rattle.jc_ranges.proofs.Order.{each_from_zero}
 use Rattle.jc_types.specs.declared.statuses.IndexCount.{IndexCount}
@@ -91,6 +92,45 @@ raise_last n f counts past =
     raise_between n f (one_failure n f) counts (λ within same. absurd (omega (arith, within, past)))
     ∙ ap (λ xs. xs ++ one_failure n f ∷ drop (place n counts) counts) (take_all (place n counts) counts past)
     ∙ ap (λ xs. counts ++ one_failure n f ∷ xs) (drop_all (place n counts) counts past)
+
+-- What holds of each index holds of each count.
+each_count : (P : ℕ → Type 0) (counts : List IndexCount) → Each P (map (λ (count : IndexCount). count.index) counts) → Each (λ (count : IndexCount). P count.index) counts
+each_count P [] all = tt
+each_count P (c ∷ counts) all = (all.0, each_count P counts all.1)
+
+-- One more that is below is passed, too.
+one_below : (n : ℕ) (c : IndexCount) (rest : List IndexCount) → c.index < n → length rest ≤ place n rest → length (c ∷ rest) ≤ place n (c ∷ rest)
+one_below n c rest below past = by (leb n c.index) (lt-leb n c.index below)
+  where
+    by : (le : Bool) → le ≡ false → length (c ∷ rest) ≤ cond (not le) (1 + place n rest) 0
+    by true e = absurd (true≢false e)
+    by false e = omega (arith, past)
+
+-- Where the last one is below, all are.
+last_below : (n : ℕ) (counts : List IndexCount) (i : ℕ) (last : IndexCount) → IsIncreasing (map (λ (count : IndexCount). count.index) counts)
+    → i + 1 ≡ length counts → last ≡ get_or counts i last → last.index < n → length counts ≤ place n counts
+last_below n [] i last up end is below = omega arith
+last_below n (c ∷ []) i last up end is below =
+    let front : i ≡ 0 = omega (arith, end) in
+    let same : last ≡ c = is ∙ ap (λ k. get_or (c ∷ []) k last) front in
+    one_below n c [] (omega (arith, below, ap (λ (count : IndexCount). count.index) same)) (omega arith)
+last_below n (c ∷ d ∷ rest) zero last up end is below = absurd (omega (arith, end))
+last_below n (c ∷ d ∷ rest) (suc j) last up end is below =
+    let over = All-from_recursion (λ (count : IndexCount). c.index < count.index) (d ∷ rest) (each_count (λ k. c.index < k) (d ∷ rest) up.0) j last (omega (arith, end)) in
+    one_below n c (d ∷ rest) (omega (arith, over, below, ap (λ (count : IndexCount). count.index) is))
+    (last_below n (d ∷ rest) j last up.1 (omega (arith, end)) is below)
+
+-- Then none is found.
+none_from : (n : ℕ) (counts : List IndexCount) (i : ℕ) (last : IndexCount) → IsIncreasing (map (λ (count : IndexCount). count.index) counts)
+    → i + 1 ≡ length counts → last ≡ get_or counts i last → last.index < n → None ≡ position (λ (count : IndexCount). leb n count.index) counts
+none_from n counts i last up end is below =
+    sym (ap (λ b. cond b (Some (place n counts)) None) (le-ltb (place n counts) (length counts) (last_below n counts i last up end is below)))
+
+pub none_at : (n : ℕ) (counts : List IndexCount) (i : ℕ) (d : IndexCount) → IsIncreasing (map (λ (count : IndexCount). count.index) counts)
+    → i + 1 ≡ length counts → (get_or counts i d).index < n → None ≡ position (λ (count : IndexCount). leb n count.index) counts
+none_at n counts i d up end below =
+    let last = get_or counts i d in
+    none_from n counts i last up end (get_or_default counts i d last (omega (arith, end))) below
 
 -- ---- the place among pieces
 

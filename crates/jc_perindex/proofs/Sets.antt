@@ -1,10 +1,10 @@
 -- Sets of indexes in increasing order.
-use Rattle.std.proofs.Common.{◌≡◌, ℕ, ◌<◌, ◌≤◌, ◌+◌, suc, zero, nat_lt, Bool, true, false, cond, List, [], ◌∷◌, ◌++◌, map, filter, take, drop, length, get_or, subst, refl, ap, sym, ◌∙◌, append_assoc, arith}
-use Rattle.std.specs.List.{AllByRecursion as Each}
-use Rattle.std.proofs.lemmas.Bool.{lt-ltb, le-ltb, ltb-true}
+use Rattle.std.proofs.Common.{◌≡◌, ℕ, ◌<◌, ◌≤◌, ◌+◌, suc, zero, nat_lt, Bool, true, false, cond, not, ◌&&◌, List, [], ◌∷◌, ◌++◌, map, filter, take, drop, length, get_or, subst, refl, ap, sym, ◌∙◌, append_assoc, arith}
+use Rattle.std.specs.List.{AllByRecursion as Each, list_any}
+use Rattle.std.proofs.lemmas.Bool.{lt-ltb, le-ltb, ltb-true, or_parts as neither}
 use Rattle.std.proofs.lemmas.List.{append-nil, take_more}
 use Rattle.std.proofs.lemmas.List.Elements.{filter-append}
-use Rattle.jc_ranges.specs.Sets.{IsIncreasing, with_member}
+use Rattle.jc_ranges.specs.Sets.{IsIncreasing, has, with_member}
 use Rattle.jc_ranges.proofs.Order.{each_weaker, increasing_append}
 use Rattle.jc_types.specs.declared.statuses.IndexCount.{IndexCount}
 use Rattle.jc_types.specs.Pieces.{items_in}
@@ -12,6 +12,7 @@ use Rattle.jc_types.proofs.PieceFacts.{around, items_more}
 use Rattle.jc_types.proofs.ListFacts.{Each-filter, Each-map, Each-passes, Each-weaker, filter_all, filter_none}
 use Rattle.jc_states.specs.UidLists.{join}
 use Rattle.jc_account.proofs.IndexFacts.{with-last}
+use Rattle.jc_perindex.specs.Failures.{has_failed, is_past}
 
 -- ---- they stay in order
 
@@ -164,3 +165,31 @@ module _ (test : IndexCount → Bool) (pieces : List (List IndexCount)) (i : ℕ
       ∙ ap (map index_of) (sym (filter-append test (items_in (take i pieces)) piece))
       ∙ ap (λ p. map index_of (filter test (items_in (take i pieces) ++ p))) is
       ∙ ap (λ counts. map index_of (filter test counts)) (sym (items_more pieces i within))
+
+-- ---- one piece
+
+-- What stands behind others ascends where all do.
+up-back : (xs ys : List ℕ) → IsIncreasing (xs ++ ys) → IsIncreasing ys
+up-back [] ys up = up
+up-back (x ∷ xs) ys up = up-back xs ys up.1
+
+-- The indexes of a piece ascend where those of all do.
+pub piece-up : (pieces : List (List IndexCount)) (i : ℕ) (piece : List IndexCount) → IsIncreasing (map index_of (items_in pieces)) → i < length pieces → piece ≡ get_or pieces i [] → IsIncreasing (map index_of piece)
+piece-up pieces i piece up within is =
+    let all = λ (count : IndexCount). true in
+    let front = map index_of (filter all (items_in (take i pieces))) in
+    up-back front (map index_of piece) (piece-above all pieces i piece front up within is refl)
+
+-- Where no index is past the limit, and none was failed, none has failed.
+pub none-past : (limit completions : ℕ) (completed : List ℕ) (counts : List IndexCount) → list_any (is_past limit) counts ≡ false → filter (has_failed limit completions completed) counts ≡ []
+none-past limit completions completed [] h = refl
+none-past limit completions completed (count ∷ counts) h =
+    let no = neither (is_past limit count) (list_any (is_past limit) counts) h in
+    ap (λ b. cond (nat_lt count.index completions && (not (has count.index completed) && b)) (count ∷ filter (has_failed limit completions completed) counts) (filter (has_failed limit completions completed) counts)) no.0
+    ∙ off (nat_lt count.index completions) (not (has count.index completed))
+    ∙ none-past limit completions completed counts no.1
+  where
+    off : (a b : Bool) → cond (a && (b && false)) (count ∷ filter (has_failed limit completions completed) counts) (filter (has_failed limit completions completed) counts) ≡ filter (has_failed limit completions completed) counts
+    off true true = refl
+    off true false = refl
+    off false b = refl

@@ -7,6 +7,7 @@
 --     fails_at n counts                  one of them failed the index
 --     raised_at failure counts pods n    the same with the failures of these pods
 --     raised failure counts pods         so for each index of which a pod has failed
+--     is_past limit count                the pods of the index have failed more often than the limit, or one failed it
 --     has_failed limit n completed count the index of the count has failed, where so many completions are wanted
 --     failed_set ..                      the indexes that have failed; once the Job has ended they stay
 --     failures_in .., failing_in ..      both, where the pods of these UIDs have failed
@@ -69,6 +70,10 @@ raised_at failure counts pods n = record {
 abbrev pub raised : Option FailurePolicy → List IndexCount → List Pod → List IndexCount
 raised failure counts pods =
     map (raised_at failure counts pods) (join (map (λ (count : IndexCount). count.index) counts) (indexes_of pods))
+
+-- The pods of the index have failed more often than the limit allows, or one of them failed it.
+abbrev pub is_past : ℕ → IndexCount → Bool
+is_past limit count = nat_lt limit count.failures || count.fail
 
 -- The index of the count has failed: it is below the completions and not completed, and its pods have failed more
 -- often than the limit allows, or one of them failed it.

@@ -79,10 +79,16 @@ struct Found {
     count: IndexCount,
 }
 
-// The place in a piece of the first count whose index is not below the given one.
+// The place in a piece of the first count whose index is not below the given one. Mostly all are below, which
+// the last one tells.
 fn place_of(index: u32, counts: &[IndexCount]) -> Option<usize>
+    requires { IsIncreasing (map (λ (count : IndexCount). count.index) counts.now) }
     ensures { result ≡ position (λ (count : IndexCount). nat_le index count.index) counts.now }
 {
+    let many = counts.len();
+    if many > 0 && counts[many - 1].index < index {
+        return None;
+    }
     counts.iter().position(|count| index <= count.index)
 }
 

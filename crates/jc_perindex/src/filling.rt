@@ -1,5 +1,6 @@
 //! Which indexes have failed.
 
+ghost use Rattle.std.specs.List.{list_any};
 ghost use Rattle.std.specs.Prelude.{
   ◌≡◌,
   ◌<◌,
@@ -20,7 +21,7 @@ ghost use Rattle.jc_types.specs.declared.limits.TheConstants.{GREATEST_COMPLETIO
 ghost use Rattle.jc_types.specs.declared.statuses.IndexCount.{IndexCount};
 ghost use Rattle.jc_states.specs.Bases.{FailuresFit, own_pods};
 ghost use Rattle.jc_types.specs.ValidSpecs.{IsValidSpec};
-ghost use Rattle.jc_perindex.specs.Failures.{failed_set, filled_counts, has_failed, newly_failed};
+ghost use Rattle.jc_perindex.specs.Failures.{failed_set, filled_counts, has_failed, is_past, newly_failed};
 ghost use Rattle.jc_perindex.specs.FillingSteps.{raise_each};
 
 use crate::counts::raise_each;
@@ -29,16 +30,34 @@ use jc_states::{Basis, Pods, has_end};
 use jc_types::{CountIn, IndexCount, IndexCounts, Job, Uid, Want};
 use std::alloc::Global;
 
+// Whether the pods of the count's index have failed more often than the limit allows, or one of them
+// failed it.
+fn is_past(limit: u32, count: IndexCount) -> bool
+    ensures { result ≡ is_past limit count }
+{
+    u64::from(limit) < count.failures || count.fail
+}
+
 // Whether the index of the count has failed.
 fn has_failed(limit: u32, completions: u32, completed: &Ranges, count: IndexCount) -> bool
     ensures { result ≡ has_failed limit completions completed.now count }
 {
-    count.index < completions
-        && (u64::from(limit) < count.failures || count.fail)
-        && !completed.contains(count.index)
+    count.index < completions && is_past(limit, count) && !completed.contains(count.index)
 }
 
-// Adds the indexes of a piece that have failed to those of the pieces before.
+// Whether the pods of an index of the piece have failed more often than the limit allows, or one of them
+// failed it. It goes over all of them: to stop at the first takes a test at each, and mostly there is none.
+fn has_past(limit: u32, counts: &[IndexCount]) -> bool
+    ensures { result ≡ list_any (is_past limit) counts.now }
+{
+    let mut found = false;
+    for count in counts {
+        found |= is_past(limit, *count);
+    }
+    found
+}
+
+// Adds the indexes of a piece that have failed to those of the pieces before. Most pieces have none.
 //
 // # Errors
 // `Want` where there is no memory for them.
@@ -54,6 +73,9 @@ fn add_failed(
     ensures { OnOk result (set.new ≡ set.old ++ map (λ (count : IndexCount). count.index)
         (filter (has_failed limit completions completed.now) counts.now)) }
 {
+    if !has_past(limit, counts) {
+        return Ok(());
+    }
     for count in counts {
         if has_failed(limit, completions, completed, *count) {
             set.insert(count.index)?;

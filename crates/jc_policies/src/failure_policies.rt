@@ -10,7 +10,7 @@ ghost use Rattle.jc_policies.specs.FailurePolicies.{values_refusal, exit_codes_r
 ghost use Rattle.jc_policies.specs.FailurePolicies.{action_in, action_refusal, is_no_empty_list, has_exit_codes, has_patterns, is_just_one, given_exit_codes_refusal, given_patterns_refusal, requirement_refusal, requirement_in};
 ghost use Rattle.jc_policies.specs.FailurePolicies.{failure_rule_refusal, failure_rule_in, failure_rule_row, failure_rules_from, failure_rules_refusal, failure_rules_in, given_failure_refusal, failure_refusal, failure_in};
 
-use jc_json::{Path, Value, item_number, may_object, may_text, member, need_list, need_text};
+use jc_json::{Trail, Value, item_number, may_object, may_text, member, need_list, need_text};
 use jc_rows::{ManifestFault, broken, broken_at, check_objects, never_restarts, read_object};
 use jc_types::{
     Action, Codes, Copied, FailurePolicy, FailureRule, FailureRules, Name, Operator, Pattern,
@@ -66,7 +66,7 @@ pub fn truth_of(text: &str) -> Option<Truth>
 
 // How the exit codes of a rule are meant.
 #[tactic(auto, unfolding(jc_rows::specs::ManifestRows::text_row, crate::specs::FailurePolicies::operator_in))]
-fn read_operator(alloc: Global, exits: &Value, path: &Path) -> Result<Operator, ManifestFault>
+fn read_operator(alloc: Global, exits: &Value, path: &Trail) -> Result<Operator, ManifestFault>
     ensures { Reads (λ operator. operator) result
         (text_row path.now (view exits.now) (codes "operator") 16 is_operator)
         (operator_in path.now (view exits.now)) }
@@ -80,7 +80,7 @@ fn read_operator(alloc: Global, exits: &Value, path: &Path) -> Result<Operator, 
 
 // The codes of a list.
 #[tactic(auto, unfolding(crate::specs::FailurePolicies::code_row, crate::specs::FailurePolicies::number_at))]
-fn read_code(alloc: Global, item: &Value, path: &Path, place: usize) -> Result<i32, ManifestFault>
+fn read_code(alloc: Global, item: &Value, path: &Trail, place: usize) -> Result<i32, ManifestFault>
     ensures { Reads (λ code. code) result (code_row path.now place (view item.now))
         (number_at path.now place (view item.now)) }
 {
@@ -127,7 +127,7 @@ fn are_codes(operator: Operator, codes: &[i32]) -> bool
 
 // The codes that a list has.
 #[tactic(auto, unfolding(crate::specs::FailurePolicies::codes_in))]
-fn read_codes(alloc: Global, items: &[Value], path: &Path) -> Result<Codes, ManifestFault>
+fn read_codes(alloc: Global, items: &[Value], path: &Trail) -> Result<Codes, ManifestFault>
     ensures { Reads (λ codes. codes) result (each (code_row path.now) 0 (map view items.now))
         (codes_in path.now (map view items.now)) }
 {
@@ -144,7 +144,7 @@ fn read_codes(alloc: Global, items: &[Value], path: &Path) -> Result<Codes, Mani
 fn read_values(
     alloc: Global,
     exits: &Value,
-    path: &Path,
+    path: &Trail,
     operator: Operator,
 ) -> Result<Codes, ManifestFault>
     requires { operator ≡ operator_in path.now (view exits.now) }
@@ -152,10 +152,10 @@ fn read_values(
         (codes_in (path_to path.now (codes "values")) (list_in path.now (view exits.now) (codes "values"))) }
 {
     let items = need_list(alloc, exits, path, "values")?;
-    let at = path.member("values")?;
+    let at = path.path_to("values");
     let codes = read_codes(alloc, items.as_slice(), &at)?;
     if !are_codes(operator, codes.as_slice()) {
-        return Err(ManifestFault::Invalid { path: at, rule: 17 });
+        return Err(broken_at(&at, 17));
     }
     Ok(codes)
 }
@@ -196,7 +196,7 @@ fn named(template: &Template, text: &str) -> Result<Option<Name>, Want>
 fn read_container(
     alloc: Global,
     exits: &Value,
-    path: &Path,
+    path: &Trail,
     template: &Template,
 ) -> Result<Option<Name>, ManifestFault>
     ensures { Reads (λ name. name) result
@@ -218,7 +218,7 @@ fn read_container(
 fn read_exit_codes(
     alloc: Global,
     exits: &Value,
-    path: &Path,
+    path: &Trail,
     template: &Template,
 ) -> Result<Requirement, ManifestFault>
     ensures { Reads (λ requirement. requirement) result
@@ -244,7 +244,7 @@ pub fn is_type(text: &str) -> bool
 
 // The type of a condition.
 #[tactic(auto, unfolding(jc_rows::specs::ManifestRows::text_row, crate::specs::FailurePolicies::type_in))]
-fn read_type(alloc: Global, pattern: &Value, path: &Path) -> Result<Text, ManifestFault>
+fn read_type(alloc: Global, pattern: &Value, path: &Trail) -> Result<Text, ManifestFault>
     ensures { Reads (λ kind. kind) result
         (text_row path.now (view pattern.now) (codes "type") 30 is_type)
         (type_in path.now (view pattern.now)) }
@@ -258,7 +258,7 @@ fn read_type(alloc: Global, pattern: &Value, path: &Path) -> Result<Text, Manife
 
 // The status of a condition.
 #[tactic(auto, unfolding(jc_rows::specs::ManifestRows::given_text_row, crate::specs::FailurePolicies::truth_in))]
-fn read_truth(alloc: Global, pattern: &Value, path: &Path) -> Result<Truth, ManifestFault>
+fn read_truth(alloc: Global, pattern: &Value, path: &Trail) -> Result<Truth, ManifestFault>
     ensures { Reads (λ truth. truth) result
         (given_text_row path.now (view pattern.now) (codes "status") 20 is_truth)
         (truth_in path.now (view pattern.now)) }
@@ -273,7 +273,7 @@ fn read_truth(alloc: Global, pattern: &Value, path: &Path) -> Result<Truth, Mani
 }
 
 #[tactic(auto, unfolding(crate::specs::FailurePolicies::pattern_refusal, crate::specs::FailurePolicies::pattern_in))]
-fn read_pattern(alloc: Global, pattern: &Value, path: &Path) -> Result<Pattern, ManifestFault>
+fn read_pattern(alloc: Global, pattern: &Value, path: &Trail) -> Result<Pattern, ManifestFault>
     ensures { Reads (λ pattern. pattern) result (pattern_refusal path.now (view pattern.now))
         (pattern_in path.now (view pattern.now)) }
 {
@@ -284,21 +284,21 @@ fn read_pattern(alloc: Global, pattern: &Value, path: &Path) -> Result<Pattern, 
 
 // The patterns of a list.
 #[tactic(auto, unfolding(crate::specs::FailurePolicies::pattern_row))]
-fn read_patterns(alloc: Global, items: &[Value], path: &Path) -> Result<Patterns, ManifestFault>
+fn read_patterns(alloc: Global, items: &[Value], path: &Trail) -> Result<Patterns, ManifestFault>
     ensures { Reads (λ patterns. patterns) result
         (each (pattern_row path.now) 0 (map view items.now))
         (patterns_from path.now 0 (map view items.now)) }
 {
     let mut patterns = Patterns::new(alloc);
     for (place, item) in items.iter().enumerate() {
-        let pattern = read_pattern(alloc, item, &path.place(place)?)?;
+        let pattern = read_pattern(alloc, item, &path.path_at(place))?;
         patterns.push(pattern)?;
     }
     Ok(patterns)
 }
 
 // That a list has at most 20 items.
-fn check_few(items: &[Value], path: &Path, rule: u32) -> Result<(), ManifestFault>
+fn check_few(items: &[Value], path: &Trail, rule: u32) -> Result<(), ManifestFault>
     ensures { Checks result (rule_row path.now rule (nat_le (length (map view items.now)) 20)) }
 {
     if items.len() <= 20 {
@@ -309,7 +309,11 @@ fn check_few(items: &[Value], path: &Path, rule: u32) -> Result<(), ManifestFaul
 
 // The patterns of a list of at most 20.
 #[tactic(auto, unfolding(crate::specs::FailurePolicies::patterns_refusal))]
-fn read_few_patterns(alloc: Global, items: &[Value], path: &Path) -> Result<Patterns, ManifestFault>
+fn read_few_patterns(
+    alloc: Global,
+    items: &[Value],
+    path: &Trail,
+) -> Result<Patterns, ManifestFault>
     ensures { Reads (λ patterns. patterns) result (patterns_refusal path.now (map view items.now))
         (patterns_from path.now 0 (map view items.now)) }
 {
@@ -321,7 +325,7 @@ fn read_few_patterns(alloc: Global, items: &[Value], path: &Path) -> Result<Patt
 
 // The action of that word.
 #[tactic(auto, unfolding(jc_rows::specs::ManifestRows::text_row, crate::specs::FailurePolicies::action_in))]
-fn read_known_action(alloc: Global, rule: &Value, path: &Path) -> Result<Action, ManifestFault>
+fn read_known_action(alloc: Global, rule: &Value, path: &Trail) -> Result<Action, ManifestFault>
     ensures { Reads (λ action. action) result
         (text_row path.now (view rule.now) (codes "action") 14 is_action)
         (action_in path.now (view rule.now)) }
@@ -343,7 +347,7 @@ fn is_fail_index(action: Action) -> bool
 }
 
 // That an index fails by itself only where failures are limited by index.
-fn check_action(path: &Path, by_index: bool, action: Action) -> Result<(), ManifestFault>
+fn check_action(path: &Trail, by_index: bool, action: Action) -> Result<(), ManifestFault>
     ensures { Checks result (action_row by_index path.now action) }
 {
     if by_index || !is_fail_index(action) {
@@ -357,7 +361,7 @@ fn check_action(path: &Path, by_index: bool, action: Action) -> Result<(), Manif
 fn read_action(
     alloc: Global,
     rule: &Value,
-    path: &Path,
+    path: &Trail,
     by_index: bool,
 ) -> Result<Action, ManifestFault>
     ensures { Reads (λ action. action) result (action_refusal by_index path.now (view rule.now))
@@ -373,7 +377,7 @@ fn read_action(
 fn read_given_exit_codes(
     alloc: Global,
     rule: &Value,
-    path: &Path,
+    path: &Trail,
     template: &Template,
 ) -> Result<Requirement, ManifestFault>
     ensures { Reads (λ requirement. requirement) result
@@ -382,19 +386,19 @@ fn read_given_exit_codes(
         (object_in path.now (view rule.now) (codes "onExitCodes"))) }
 {
     let exits = read_object(alloc, rule, path, "onExitCodes")?;
-    let requirement = read_exit_codes(alloc, exits, &path.member("onExitCodes")?, template)?;
+    let requirement = read_exit_codes(alloc, exits, &path.path_to("onExitCodes"), template)?;
     Ok(requirement)
 }
 
 // The patterns of a rule.
 #[tactic(auto, unfolding(crate::specs::FailurePolicies::given_patterns_refusal, jc_rows::specs::Templates::list_in))]
-fn read_given_patterns(alloc: Global, rule: &Value, path: &Path) -> Result<Patterns, ManifestFault>
+fn read_given_patterns(alloc: Global, rule: &Value, path: &Trail) -> Result<Patterns, ManifestFault>
     ensures { Reads (λ patterns. patterns) result (given_patterns_refusal path.now (view rule.now))
         (patterns_from (path_to path.now (codes "onPodConditions")) 0
         (list_in path.now (view rule.now) (codes "onPodConditions"))) }
 {
     let items = need_list(alloc, rule, path, "onPodConditions")?;
-    let patterns = read_few_patterns(alloc, items.as_slice(), &path.member("onPodConditions")?)?;
+    let patterns = read_few_patterns(alloc, items.as_slice(), &path.path_to("onPodConditions"))?;
     Ok(patterns)
 }
 
@@ -434,7 +438,7 @@ fn has_patterns(rule: &Value) -> bool
 fn read_requirement(
     alloc: Global,
     rule: &Value,
-    path: &Path,
+    path: &Trail,
     template: &Template,
 ) -> Result<Requirement, ManifestFault>
     ensures { Reads (λ requirement. requirement) result
@@ -450,7 +454,7 @@ fn read_requirement(
 }
 
 // That a rule looks at exactly one of exit codes and conditions.
-fn check_one(path: &Path, exits: bool, patterns: bool) -> Result<(), ManifestFault>
+fn check_one(path: &Trail, exits: bool, patterns: bool) -> Result<(), ManifestFault>
     ensures { Checks result (rule_row path.now 15 (is_just_one exits patterns)) }
 {
     if exits != patterns {
@@ -463,7 +467,7 @@ fn check_one(path: &Path, exits: bool, patterns: bool) -> Result<(), ManifestFau
 fn read_failure_rule(
     alloc: Global,
     rule: &Value,
-    path: &Path,
+    path: &Trail,
     template: &Template,
     by_index: bool,
 ) -> Result<FailureRule, ManifestFault>
@@ -484,7 +488,7 @@ fn read_failure_rule(
 fn read_failure_rules(
     alloc: Global,
     items: &[Value],
-    path: &Path,
+    path: &Trail,
     template: &Template,
     by_index: bool,
 ) -> Result<FailureRules, ManifestFault>
@@ -494,7 +498,7 @@ fn read_failure_rules(
 {
     let mut rules = FailureRules::new(alloc);
     for (place, item) in items.iter().enumerate() {
-        let rule = read_failure_rule(alloc, item, &path.place(place)?, template, by_index)?;
+        let rule = read_failure_rule(alloc, item, &path.path_at(place), template, by_index)?;
         rules.push(rule)?;
     }
     Ok(rules)
@@ -504,7 +508,7 @@ fn read_failure_rules(
 fn read_failure_policy(
     alloc: Global,
     policy: &Value,
-    path: &Path,
+    path: &Trail,
     template: &Template,
     by_index: bool,
 ) -> Result<FailurePolicy, ManifestFault>
@@ -513,7 +517,7 @@ fn read_failure_policy(
         (failure_rules_in path.now (view policy.now)) }
 {
     let items = need_list(alloc, policy, path, "rules")?;
-    let at = path.member("rules")?;
+    let at = path.path_to("rules");
     check_few(items.as_slice(), &at, 12)?;
     check_objects(items.as_slice(), &at)?;
     let rules = read_failure_rules(alloc, items.as_slice(), &at, template, by_index)?;
@@ -521,7 +525,7 @@ fn read_failure_policy(
 }
 
 // That no container is restarted.
-fn check_never(path: &Path, restart: Restart) -> Result<(), ManifestFault>
+fn check_never(path: &Trail, restart: Restart) -> Result<(), ManifestFault>
     ensures { Checks result (rule_row path.now 13 (never_restarts restart)) }
 {
     if never_restarts(restart) {
@@ -534,7 +538,7 @@ fn check_never(path: &Path, restart: Restart) -> Result<(), ManifestFault>
 fn read_given_failure(
     alloc: Global,
     policy: &Value,
-    path: &Path,
+    path: &Trail,
     template: &Template,
     by_index: bool,
 ) -> Result<FailurePolicy, ManifestFault>
@@ -553,7 +557,7 @@ fn read_given_failure(
 pub fn read_failure(
     alloc: Global,
     spec: &Value,
-    path: &Path,
+    path: &Trail,
     template: &Template,
     by_index: bool,
 ) -> Result<Option<FailurePolicy>, ManifestFault>
@@ -564,7 +568,7 @@ pub fn read_failure(
     let Some(policy) = may_object(alloc, spec, path, "podFailurePolicy")? else {
         return Ok(None);
     };
-    let at = path.member("podFailurePolicy")?;
+    let at = path.path_to("podFailurePolicy");
     let policy = read_given_failure(alloc, policy, &at, template, by_index)?;
     Ok(Some(policy))
 }

@@ -11,7 +11,7 @@ ghost use Rattle.jc_rows.specs.PodCountRows.{completions_of};
 ghost use Rattle.jc_policies.specs.SuccessPolicies.{are_indexes, indexes_read, indexes_row, succeeded_indexes_in, is_reachable, count_in, count_row, count_refusal, says_something, success_rule_refusal, success_rule_in, success_rule_row};
 ghost use Rattle.jc_policies.specs.SuccessPolicies.{success_rules_from, success_rules_refusal, success_rules_in, given_success_refusal, success_refusal, success_in};
 
-use jc_json::{Path, Value, may_number, may_object, may_text, member, need_list};
+use jc_json::{Trail, Value, may_number, may_object, may_text, member, need_list};
 use jc_ranges::{Ranges, RangesFault};
 use jc_rows::{Counts, ManifestFault, broken, broken_at, check_objects};
 use jc_types::{GREATEST_COMPLETIONS, Mode, SuccessPolicy, SuccessRule, SuccessRules, Want};
@@ -55,7 +55,7 @@ fn indexes_read(alloc: Global, text: &str, completions: u32) -> Result<Option<Ra
 fn read_indexes(
     alloc: Global,
     rule: &Value,
-    path: &Path,
+    path: &Trail,
     completions: u32,
 ) -> Result<Option<Ranges>, ManifestFault>
     ensures { Reads (λ indexes. indexes) result (indexes_row completions path.now (view rule.now))
@@ -72,7 +72,7 @@ fn read_indexes(
 
 // How many indexes have to succeed, where a number is given.
 #[tactic(auto, unfolding(crate::specs::SuccessPolicies::count_row, crate::specs::SuccessPolicies::count_in))]
-fn read_number(alloc: Global, rule: &Value, path: &Path) -> Result<Option<u32>, ManifestFault>
+fn read_number(alloc: Global, rule: &Value, path: &Trail) -> Result<Option<u32>, ManifestFault>
     ensures { Reads (λ count. count) result (count_row path.now (view rule.now))
         (count_in path.now (view rule.now)) }
 {
@@ -98,7 +98,7 @@ fn is_reachable(completions: u32, indexes: &Option<Ranges>, count: u32) -> bool
 
 // That so many can succeed, where a number is given.
 fn check_reachable(
-    path: &Path,
+    path: &Trail,
     completions: u32,
     indexes: &Option<Ranges>,
     count: Option<u32>,
@@ -119,7 +119,7 @@ fn check_reachable(
 fn read_count(
     alloc: Global,
     rule: &Value,
-    path: &Path,
+    path: &Trail,
     completions: u32,
     indexes: &Option<Ranges>,
 ) -> Result<Option<u32>, ManifestFault>
@@ -147,7 +147,7 @@ fn says_something(rule: &Value) -> bool
 }
 
 // That a rule says something.
-fn check_said(rule: &Value, path: &Path) -> Result<(), ManifestFault>
+fn check_said(rule: &Value, path: &Trail) -> Result<(), ManifestFault>
     ensures { Checks result (rule_row path.now 23 (says_something (view rule.now))) }
 {
     if says_something(rule) {
@@ -160,7 +160,7 @@ fn check_said(rule: &Value, path: &Path) -> Result<(), ManifestFault>
 fn read_success_rule(
     alloc: Global,
     rule: &Value,
-    path: &Path,
+    path: &Trail,
     completions: u32,
 ) -> Result<SuccessRule, ManifestFault>
     ensures { Reads (λ rule. rule) result
@@ -177,7 +177,7 @@ fn read_success_rule(
 fn read_success_rules(
     alloc: Global,
     items: &[Value],
-    path: &Path,
+    path: &Trail,
     completions: u32,
 ) -> Result<SuccessRules, ManifestFault>
     ensures { Reads (λ rules. rules) result
@@ -186,14 +186,14 @@ fn read_success_rules(
 {
     let mut rules = SuccessRules::new(alloc);
     for (place, item) in items.iter().enumerate() {
-        let rule = read_success_rule(alloc, item, &path.place(place)?, completions)?;
+        let rule = read_success_rule(alloc, item, &path.path_at(place), completions)?;
         rules.push(rule)?;
     }
     Ok(rules)
 }
 
 // That there are 1 to 20 rules.
-fn check_some(items: &[Value], path: &Path) -> Result<(), ManifestFault>
+fn check_some(items: &[Value], path: &Trail) -> Result<(), ManifestFault>
     ensures { Checks result (rule_row path.now 22
         (nat_lt 0 (length (map view items.now)) && nat_le (length (map view items.now)) 20)) }
 {
@@ -207,7 +207,7 @@ fn check_some(items: &[Value], path: &Path) -> Result<(), ManifestFault>
 fn read_success_policy(
     alloc: Global,
     policy: &Value,
-    path: &Path,
+    path: &Trail,
     completions: u32,
 ) -> Result<SuccessPolicy, ManifestFault>
     ensures { Reads (λ policy. policy) result
@@ -215,7 +215,7 @@ fn read_success_policy(
         (success_rules_in completions path.now (view policy.now)) }
 {
     let items = need_list(alloc, policy, path, "rules")?;
-    let at = path.member("rules")?;
+    let at = path.path_to("rules");
     check_some(items.as_slice(), &at)?;
     check_objects(items.as_slice(), &at)?;
     let rules = read_success_rules(alloc, items.as_slice(), &at, completions)?;
@@ -232,7 +232,7 @@ fn is_indexed(mode: Mode) -> bool
 }
 
 // That the Job is Indexed.
-fn check_mode(path: &Path, mode: Mode) -> Result<(), ManifestFault>
+fn check_mode(path: &Trail, mode: Mode) -> Result<(), ManifestFault>
     ensures { Checks result (rule_row path.now 21 (is_indexed mode)) }
 {
     if is_indexed(mode) {
@@ -245,7 +245,7 @@ fn check_mode(path: &Path, mode: Mode) -> Result<(), ManifestFault>
 fn read_given_success(
     alloc: Global,
     policy: &Value,
-    path: &Path,
+    path: &Trail,
     counts: &Counts,
 ) -> Result<SuccessPolicy, ManifestFault>
     ensures { Reads (λ policy. policy) result
@@ -263,7 +263,7 @@ fn read_given_success(
 pub fn read_success(
     alloc: Global,
     spec: &Value,
-    path: &Path,
+    path: &Trail,
     counts: &Counts,
 ) -> Result<Option<SuccessPolicy>, ManifestFault>
     ensures { Reads (λ policy. policy) result (success_refusal counts.now path.now (view spec.now))
@@ -272,7 +272,7 @@ pub fn read_success(
     let Some(policy) = may_object(alloc, spec, path, "successPolicy")? else {
         return Ok(None);
     };
-    let at = path.member("successPolicy")?;
+    let at = path.path_to("successPolicy");
     let policy = read_given_success(alloc, policy, &at, counts)?;
     Ok(Some(policy))
 }

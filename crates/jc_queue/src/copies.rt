@@ -40,6 +40,7 @@ impl Twice {
     ///
     /// # Errors
     /// `Want` where there is no memory for them.
+    #[inline(always)]
     pub fn of(key: &Key) -> Result<Twice, Want>
         ensures { IfOk result (λ twice. twice ≡ key.now) }
     {

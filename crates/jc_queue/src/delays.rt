@@ -162,6 +162,7 @@ impl Delays {
     }
 
     /// Forgets the failures of the key; its moment stays. It takes no memory.
+    #[inline(always)]
     pub fn forget(&mut self, key: &Key)
         ensures forgotten { self.new.delays ≡ forgotten self.old.delays key.now }
         ensures room { self.new.room ≡ self.old.room }

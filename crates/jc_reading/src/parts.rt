@@ -7,7 +7,7 @@ ghost use Rattle.jc_reading.specs.LineReadings.{change_if, change_said, ends_if,
 
 use crate::manifests::{manifest_of, with_only};
 use crate::pod_reports::report_of;
-use jc_json::{JsonFault, Path, borrowed, read_owned};
+use jc_json::{JsonFault, Trail, borrowed, read_owned};
 use jc_manifest::read_job;
 use jc_rows::{ManifestFault, is_label, is_subdomain};
 use jc_script::{LineFault, read_change, read_ends, read_report};
@@ -114,7 +114,7 @@ fn accepted(alloc: Global, manifest: &Value) -> Result<Option<(Key, JobSpec)>, W
     ensures { IfOk result (λ o. o ≡ job_if (view manifest.now)) }
 {
     let manifest = borrowed(alloc, manifest)?;
-    match read_job(alloc, &manifest, &Path::new(alloc)) {
+    match read_job(alloc, &manifest, &Trail::new(alloc)) {
         Ok(job) => Ok(Some(job)),
         Err(ManifestFault::Want) => Err(AllocError),
         Err(_) => Ok(None),

@@ -7,9 +7,9 @@ ghost use Rattle.jc_json.specs.Line.{data_of};
 ghost use Rattle.jc_script.specs.LineCauses.{Says};
 ghost use Rattle.jc_script.specs.Items.{with_front};
 ghost use Rattle.jc_script.specs.Scripts.{most_bytes, script_of};
-ghost use Rattle.jc_reap.specs.TtlLines.{entries_of, line_ttls, makes_job, some_ttls, spec_member, spec_path, ttl_given, ttl_in, ttl_of_command, ttl_of_spec, ttls_of, ttls_say};
+ghost use Rattle.jc_reap.specs.TtlLines.{entries_of, line_ttls, makes_job, some_ttls, spec_member, ttl_given, ttl_in, ttl_of_command, ttl_of_spec, ttls_of, ttls_say};
 
-use jc_json::{JsonFault, Path, Room, Value, member, new_room, read_line};
+use jc_json::{JsonFault, Room, Trail, Value, member, new_room, read_line};
 use jc_script::{
     Cause, LineFault, Said, ScriptFault, first_line, read_given_number, read_text, trimmed,
 };
@@ -23,18 +23,13 @@ pub type Ttls = ListOf<Option<u32>>;
 // The greatest TTL.
 const GREATEST_TTL: u32 = 2_147_483_647;
 
-// Where the specification stands.
-fn spec_path(alloc: Global) -> Result<Path, Want>
-    ensures { IfOk result (λ path. path ≡ spec_path) }
-{
-    Path::new(alloc).member("job")?.member("spec")
-}
-
 // The TTL in a specification.
 fn read_in_spec(alloc: Global, spec: &Value) -> Result<Option<u32>, LineFault>
     ensures { Says (λ ttl. ttl) result (ttl_of_spec (Some (view spec.now))) }
 {
-    let path = spec_path(alloc)?;
+    let line = Trail::new(alloc);
+    let job = line.path_to("job");
+    let path = job.path_to("spec");
     read_given_number(
         alloc,
         spec,

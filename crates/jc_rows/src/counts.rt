@@ -6,7 +6,7 @@ ghost use Rattle.jc_rows.specs.ManifestRows.{Checks, Reads, given_text_row, numb
 ghost use Rattle.jc_rows.specs.PodCountRows.{is_mode, mode_of, mode_in, completions_or, indexed_row, numbers_refusal, numbers_in, counts_refusal, counts_in};
 
 use crate::refusals::{ManifestFault, broken};
-use jc_json::{Path, Value, may_number, may_text};
+use jc_json::{Trail, Value, may_number, may_text};
 use jc_types::{GREATEST_COMPLETIONS, GREATEST_PARALLELISM, Mode};
 use std::alloc::Global;
 
@@ -23,7 +23,7 @@ pub struct Counts {
 pub fn may_count(
     alloc: Global,
     object: &Value,
-    path: &Path,
+    path: &Trail,
     name: &str,
     greatest: u32,
 ) -> Result<Option<u32>, ManifestFault>
@@ -59,7 +59,7 @@ fn mode_of(text: &str) -> Option<Mode>
 
 // How completions are counted.
 #[tactic(auto, unfolding(crate::specs::ManifestRows::given_text_row, crate::specs::PodCountRows::mode_in))]
-fn read_mode(alloc: Global, spec: &Value, path: &Path) -> Result<Mode, ManifestFault>
+fn read_mode(alloc: Global, spec: &Value, path: &Trail) -> Result<Mode, ManifestFault>
     ensures { Reads (λ mode. mode) result
         (given_text_row path.now (view spec.now) (codes "completionMode") 5 is_mode)
         (mode_in path.now (view spec.now)) }
@@ -88,7 +88,7 @@ fn completions_or(parallelism: Option<u32>, completions: Option<u32>) -> Option<
 
 // That an Indexed Job has completions.
 #[tactic(auto, unfolding(crate::specs::PodCountRows::indexed_row))]
-fn check_indexed(path: &Path, mode: Mode, completions: Option<u32>) -> Result<(), ManifestFault>
+fn check_indexed(path: &Trail, mode: Mode, completions: Option<u32>) -> Result<(), ManifestFault>
     ensures { Checks result (indexed_row path.now mode completions) }
 {
     match (mode, completions) {
@@ -98,7 +98,7 @@ fn check_indexed(path: &Path, mode: Mode, completions: Option<u32>) -> Result<()
 }
 
 // How many pods are wanted at once, and how many completions.
-fn read_numbers(alloc: Global, spec: &Value, path: &Path) -> Result<Numbers, ManifestFault>
+fn read_numbers(alloc: Global, spec: &Value, path: &Trail) -> Result<Numbers, ManifestFault>
     ensures { Reads (λ numbers. numbers) result (numbers_refusal path.now (view spec.now))
         (numbers_in path.now (view spec.now)) }
 {
@@ -112,7 +112,7 @@ fn read_numbers(alloc: Global, spec: &Value, path: &Path) -> Result<Numbers, Man
 
 /// How many pods are wanted, and how they are counted.
 #[tactic(auto, unfolding(crate::specs::PodCountRows::numbers_in, crate::specs::PodCountRows::counts_refusal, crate::specs::PodCountRows::counts_in))]
-pub fn read_counts(alloc: Global, spec: &Value, path: &Path) -> Result<Counts, ManifestFault>
+pub fn read_counts(alloc: Global, spec: &Value, path: &Trail) -> Result<Counts, ManifestFault>
     ensures { Reads (λ counts. counts) result (counts_refusal path.now (view spec.now))
         (counts_in path.now (view spec.now)) }
 {

@@ -4,7 +4,7 @@ ghost use Rattle.std.specs.Prelude.{Some};
 ghost use Rattle.jc_json.specs.Place.{path_to};
 ghost use Rattle.jc_rows.specs.ManifestRows.{IsRefusal, invalid};
 
-use jc_json::{FieldFault, Path};
+use jc_json::{FieldFault, Path, Trail};
 use std::alloc::{AllocError, AllocFailed};
 
 /// Why a manifest is refused. Each refusal has the path of the member.
@@ -61,20 +61,20 @@ impl<T: Drop> From<AllocFailed<T>> for ManifestFault {
 }
 
 /// The refusal by a rule of the member of that name.
-pub fn broken(object: &Path, name: &str, rule: u32) -> ManifestFault
+pub fn broken(object: &Trail, name: &str, rule: u32) -> ManifestFault
     ensures { IsRefusal result (Some (invalid (path_to object.now name.now) rule)) }
 {
-    match object.member(name) {
+    match object.path_to(name).path() {
         Ok(path) => ManifestFault::Invalid { path, rule },
         Err(_) => ManifestFault::Want,
     }
 }
 
 /// The refusal by a rule at that path.
-pub fn broken_at(path: &Path, rule: u32) -> ManifestFault
+pub fn broken_at(path: &Trail, rule: u32) -> ManifestFault
     ensures { IsRefusal result (Some (invalid path.now rule)) }
 {
-    match path.copy() {
+    match path.path() {
         Ok(path) => ManifestFault::Invalid { path, rule },
         Err(_) => ManifestFault::Want,
     }

@@ -9,7 +9,9 @@ ghost use Rattle.jc_rows.specs.Templates.{container_name, names_row, names_in, a
 
 use crate::refusals::{ManifestFault, broken};
 use crate::words::is_label;
-use jc_json::{Path, Value, given_items, item_object, may_list, need_list, need_object, need_text};
+use jc_json::{
+    Trail, Value, given_items, item_object, may_list, need_list, need_object, need_text,
+};
 use jc_types::{Name, Names, Restart, Template};
 use std::alloc::Global;
 
@@ -38,7 +40,7 @@ fn restart_of(text: &str) -> Option<Restart>
 
 // What becomes of a container that exits.
 #[tactic(auto, unfolding(crate::specs::ManifestRows::text_row, crate::specs::Templates::restart_in))]
-fn read_restart(alloc: Global, pod: &Value, path: &Path) -> Result<Restart, ManifestFault>
+fn read_restart(alloc: Global, pod: &Value, path: &Trail) -> Result<Restart, ManifestFault>
     ensures { Reads (λ restart. restart) result
         (text_row path.now (view pod.now) (codes "restartPolicy") 9 is_restart)
         (restart_in path.now (view pod.now)) }
@@ -61,7 +63,7 @@ pub fn never_restarts(restart: Restart) -> bool
 }
 
 // That no container is restarted where failures are limited by index.
-fn check_restart(path: &Path, by_index: bool, restart: Restart) -> Result<(), ManifestFault>
+fn check_restart(path: &Trail, by_index: bool, restart: Restart) -> Result<(), ManifestFault>
     ensures { Checks result (restart_row by_index path.now restart) }
 {
     if by_index && !never_restarts(restart) {
@@ -75,7 +77,7 @@ fn check_restart(path: &Path, by_index: bool, restart: Restart) -> Result<(), Ma
 fn read_fit_restart(
     alloc: Global,
     pod: &Value,
-    path: &Path,
+    path: &Trail,
     by_index: bool,
 ) -> Result<Restart, ManifestFault>
     ensures { Reads (λ restart. restart) result
@@ -89,7 +91,7 @@ fn read_fit_restart(
 
 /// That each item of a list is an object.
 #[tactic(auto, unfolding(crate::specs::Templates::objects_row))]
-pub fn check_objects(items: &[Value], path: &Path) -> Result<(), ManifestFault>
+pub fn check_objects(items: &[Value], path: &Trail) -> Result<(), ManifestFault>
     ensures { Checks result (objects_row path.now (map view items.now)) }
 {
     for (place, item) in items.iter().enumerate() {
@@ -121,7 +123,7 @@ fn are_few(containers: usize, inits: usize) -> bool
 fn read_containers<'v, 'a>(
     alloc: Global,
     pod: &'v Value<'a>,
-    path: &Path,
+    path: &Trail,
 ) -> Result<&'v Vec<Value<'a>>, ManifestFault>
     ensures { Reads (λ items. map view items.now.items) result
         (containers_refusal path.now (view pod.now))
@@ -131,7 +133,7 @@ fn read_containers<'v, 'a>(
     if containers.len() == 0 || !are_few(containers.len(), init_count(pod)) {
         return Err(broken(path, "containers", 10));
     }
-    check_objects(containers.as_slice(), &path.member("containers")?)?;
+    check_objects(containers.as_slice(), &path.path_to("containers"))?;
     Ok(containers)
 }
 
@@ -140,14 +142,14 @@ fn read_containers<'v, 'a>(
 fn read_inits<'v, 'a>(
     alloc: Global,
     pod: &'v Value<'a>,
-    path: &Path,
+    path: &Trail,
 ) -> Result<Option<&'v [Value<'a>]>, ManifestFault>
     ensures { Reads (λ given. unwrap_or (option_map (λ items. map view items.now) given) [])
         result (inits_refusal path.now (view pod.now))
         (given_list_in path.now (view pod.now) (codes "initContainers")) }
 {
     let inits = may_list(alloc, pod, path, "initContainers")?;
-    check_objects(given_items(inits), &path.member("initContainers")?)?;
+    check_objects(given_items(inits), &path.path_to("initContainers"))?;
     Ok(inits)
 }
 
@@ -163,7 +165,7 @@ pub fn is_among(names: &[Name], text: &str) -> bool
 fn read_name(
     alloc: Global,
     container: &Value,
-    path: &Path,
+    path: &Trail,
     others: &Names,
     earlier: &Names,
 ) -> Result<Name, ManifestFault>
@@ -185,7 +187,7 @@ fn read_name(
 fn read_names(
     alloc: Global,
     items: &[Value],
-    path: &Path,
+    path: &Trail,
     others: &Names,
 ) -> Result<Names, ManifestFault>
     ensures { Reads (λ names. names) result
@@ -194,7 +196,7 @@ fn read_names(
 {
     let mut names = Names::new(alloc);
     for (place, item) in items.iter().enumerate() {
-        let name = read_name(alloc, item, &path.place(place)?, others, &names)?;
+        let name = read_name(alloc, item, &path.path_at(place), others, &names)?;
         names.push(name)?;
     }
     Ok(names)
@@ -206,15 +208,15 @@ fn read_all_names(
     alloc: Global,
     containers: &[Value],
     inits: &[Value],
-    path: &Path,
+    path: &Trail,
 ) -> Result<ContainerNames, ManifestFault>
     ensures { Reads (λ names. names) result
         (all_names_refusal path.now (map view containers.now) (map view inits.now))
         (names_of_both path.now (map view containers.now) (map view inits.now)) }
 {
-    let at = path.member("containers")?;
+    let at = path.path_to("containers");
     let containers = read_names(alloc, containers, &at, &Names::new(alloc))?;
-    let at = path.member("initContainers")?;
+    let at = path.path_to("initContainers");
     let inits = read_names(alloc, inits, &at, &containers)?;
     Ok(ContainerNames { containers, inits })
 }
@@ -224,7 +226,7 @@ fn read_all_names(
 fn read_all_containers(
     alloc: Global,
     pod: &Value,
-    path: &Path,
+    path: &Trail,
 ) -> Result<ContainerNames, ManifestFault>
     ensures { Reads (λ names. names) result (all_containers_refusal path.now (view pod.now))
         (all_names_in path.now (view pod.now)) }
@@ -240,7 +242,7 @@ fn read_all_containers(
 fn read_pod(
     alloc: Global,
     pod: &Value,
-    path: &Path,
+    path: &Trail,
     by_index: bool,
 ) -> Result<Template, ManifestFault>
     ensures { Reads (λ template. template) result (pod_refusal by_index path.now (view pod.now))
@@ -260,7 +262,7 @@ fn read_pod(
 pub fn read_object<'v, 'a>(
     alloc: Global,
     object: &'v Value<'a>,
-    path: &Path,
+    path: &Trail,
     name: &str,
 ) -> Result<&'v Value<'a>, ManifestFault>
     ensures { Reads (λ found. view found.now) result
@@ -275,15 +277,15 @@ pub fn read_object<'v, 'a>(
 pub fn read_template(
     alloc: Global,
     spec: &Value,
-    path: &Path,
+    path: &Trail,
     by_index: bool,
 ) -> Result<Template, ManifestFault>
     ensures { Reads (λ template. template) result (template_refusal by_index path.now (view spec.now))
         (template_in path.now (view spec.now)) }
 {
     let template = read_object(alloc, spec, path, "template")?;
-    let at = path.member("template")?;
+    let at = path.path_to("template");
     let pod = read_object(alloc, template, &at, "spec")?;
-    let template = read_pod(alloc, pod, &at.member("spec")?, by_index)?;
+    let template = read_pod(alloc, pod, &at.path_to("spec"), by_index)?;
     Ok(template)
 }

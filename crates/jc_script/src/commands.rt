@@ -8,7 +8,7 @@ ghost use Rattle.jc_script.specs.Commands.{restart_command_in, fault_in, action_
 
 use crate::updates::{read_change, read_version};
 use crate::verbs::{Verb, read_verb};
-use jc_json::{Path, Value, may_number, need_number, need_text};
+use jc_json::{Path, Trail, Value, may_number, need_number, need_text};
 use jc_manifest::read_job;
 use jc_members::{
     Cause, LineFault, broken, read_controller, read_ends, read_key, read_number, read_object,
@@ -51,7 +51,7 @@ fn fault_of(text: &str) -> Option<Fault>
 fn read_kind(alloc: Global, value: &Value) -> Result<Kind, LineFault>
     ensures { Says (λ kind. kind) result (kind_in (view value.now)) }
 {
-    let path = Path::new(alloc);
+    let path = Trail::new(alloc);
     let text = need_text(alloc, value, &path, "kind")?;
     match kind_named(text) {
         Some(kind) => Ok(kind),
@@ -64,7 +64,7 @@ fn read_kind(alloc: Global, value: &Value) -> Result<Kind, LineFault>
 fn read_fault_kind(alloc: Global, value: &Value) -> Result<Fault, LineFault>
     ensures { Says (λ fault. fault) result (fault_kind_in (view value.now)) }
 {
-    let path = Path::new(alloc);
+    let path = Trail::new(alloc);
     let text = need_text(alloc, value, &path, "kind")?;
     match fault_of(text) {
         Some(fault) => Ok(fault),
@@ -77,9 +77,9 @@ fn read_fault_kind(alloc: Global, value: &Value) -> Result<Fault, LineFault>
 fn read_create(alloc: Global, value: &Value) -> Result<Action1, LineFault>
     ensures { Says (λ action. action) result (create_in (view value.now)) }
 {
-    let path = Path::new(alloc);
+    let path = Trail::new(alloc);
     let job = read_object(alloc, value, &path, "job")?;
-    let (key, spec) = read_job(alloc, job, &path.member("job")?)?;
+    let (key, spec) = read_job(alloc, job, &path.path_to("job"))?;
     let spec = Arc::new(alloc, spec)?;
     Ok(Action1::Create { key, spec })
 }
@@ -142,7 +142,7 @@ fn read_finish(alloc: Global, value: &Value) -> Result<Action1, LineFault>
     ensures { Says (λ action. action) result (finish_in (view value.now)) }
 {
     let pod = read_pod(alloc, value)?;
-    let exit = need_number(alloc, value, &Path::new(alloc), "exit", 0, 255)?;
+    let exit = need_number(alloc, value, &Trail::new(alloc), "exit", 0, 255)?;
     Ok(Action1::Finish {
         pod,
         exit: exit as i32,
@@ -164,7 +164,7 @@ fn read_phase(alloc: Global, value: &Value) -> Result<Action1, LineFault>
 fn read_clock(alloc: Global, value: &Value) -> Result<Action1, LineFault>
     ensures { Says (λ action. action) result (clock_in (view value.now)) }
 {
-    let add = read_number(alloc, value, &Path::new(alloc), "add", 0, 4_294_967_295)?;
+    let add = read_number(alloc, value, &Trail::new(alloc), "add", 0, 4_294_967_295)?;
     Ok(Action1::Clock {
         add: u64::from(add),
     })
@@ -285,7 +285,7 @@ fn read_action(
 fn read_lane(alloc: Global, value: &Value) -> Result<u8, LineFault>
     ensures { Says (λ lane. lane) result (lane_in (view value.now)) }
 {
-    match may_number(alloc, value, &Path::new(alloc), "lane", 0, 15)? {
+    match may_number(alloc, value, &Trail::new(alloc), "lane", 0, 15)? {
         None => Ok(0),
         Some(lane) => Ok(lane as u8),
     }

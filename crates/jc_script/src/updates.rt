@@ -5,7 +5,7 @@ ghost use Rattle.jc_members.specs.LineCauses.{Says};
 ghost use Rattle.jc_script.specs.Updates.{version_said, change_members, counts_of, limits_of, change_at, change_in};
 ghost use Rattle.jc_members.specs.Members.{only_known};
 
-use jc_json::{Path, Value, may_bool};
+use jc_json::{Trail, Value, may_bool};
 use jc_members::{LineFault, check_known, read_given_number, read_object};
 use jc_types::{GREATEST_COMPLETIONS, GREATEST_LIMIT, GREATEST_PARALLELISM, SpecChange, Version};
 use std::alloc::Global;
@@ -29,7 +29,14 @@ struct NewLimits {
 pub fn read_version(alloc: Global, value: &Value) -> Result<Option<Version>, LineFault>
     ensures { Says (λ version. version) result (version_said (view value.now)) }
 {
-    match read_given_number(alloc, value, &Path::new(alloc), "version", 0, 4_294_967_295)? {
+    match read_given_number(
+        alloc,
+        value,
+        &Trail::new(alloc),
+        "version",
+        0,
+        4_294_967_295,
+    )? {
         None => Ok(None),
         Some(number) => Ok(Some(Version(number))),
     }
@@ -37,7 +44,7 @@ pub fn read_version(alloc: Global, value: &Value) -> Result<Option<Version>, Lin
 
 // The new numbers of pods.
 #[tactic(auto, unfolding(crate::specs::Updates::counts_of))]
-fn read_counts(alloc: Global, spec: &Value, path: &Path) -> Result<NewCounts, LineFault>
+fn read_counts(alloc: Global, spec: &Value, path: &Trail) -> Result<NewCounts, LineFault>
     ensures { Says (λ counts. counts) result (counts_of path.now (view spec.now)) }
 {
     let parallelism = read_given_number(alloc, spec, path, "parallelism", 0, GREATEST_PARALLELISM)?;
@@ -50,7 +57,7 @@ fn read_counts(alloc: Global, spec: &Value, path: &Path) -> Result<NewCounts, Li
 
 // The new bounds of the run.
 #[tactic(auto, unfolding(crate::specs::Updates::limits_of))]
-fn read_limits(alloc: Global, spec: &Value, path: &Path) -> Result<NewLimits, LineFault>
+fn read_limits(alloc: Global, spec: &Value, path: &Trail) -> Result<NewLimits, LineFault>
     ensures { Says (λ limits. limits) result (limits_of path.now (view spec.now)) }
 {
     let deadline = read_given_number(
@@ -70,7 +77,7 @@ fn read_limits(alloc: Global, spec: &Value, path: &Path) -> Result<NewLimits, Li
 
 // The new members, in their order.
 #[tactic(auto, unfolding(crate::specs::Updates::change_at))]
-fn read_members(alloc: Global, spec: &Value, path: &Path) -> Result<SpecChange, LineFault>
+fn read_members(alloc: Global, spec: &Value, path: &Trail) -> Result<SpecChange, LineFault>
     ensures { Says (λ change. change) result (change_at path.now (view spec.now)) }
 {
     let counts = read_counts(alloc, spec, path)?;
@@ -86,7 +93,7 @@ fn read_members(alloc: Global, spec: &Value, path: &Path) -> Result<SpecChange, 
 }
 
 // That no other member of the specification is given.
-fn check_members(alloc: Global, spec: &Value, path: &Path) -> Result<(), LineFault>
+fn check_members(alloc: Global, spec: &Value, path: &Trail) -> Result<(), LineFault>
     ensures { Says (λ u. u) result (only_known path.now change_members (view spec.now)) }
 {
     check_known(
@@ -108,9 +115,9 @@ fn check_members(alloc: Global, spec: &Value, path: &Path) -> Result<(), LineFau
 pub fn read_change(alloc: Global, value: &Value) -> Result<SpecChange, LineFault>
     ensures { Says (λ change. change) result (change_in (view value.now)) }
 {
-    let path = Path::new(alloc);
+    let path = Trail::new(alloc);
     let spec = read_object(alloc, value, &path, "spec")?;
-    let at = path.member("spec")?;
+    let at = path.path_to("spec");
     check_members(alloc, spec, &at)?;
     read_members(alloc, spec, &at)
 }

@@ -6,7 +6,7 @@ ghost use Rattle.jc_members.specs.LineCauses.{Says};
 ghost use Rattle.jc_members.specs.Members.{word_in};
 ghost use Rattle.jc_script.specs.Verbs.{verb_of, line_members, verb_in};
 
-use jc_json::{Path, Value, need_text};
+use jc_json::{Trail, Value, need_text};
 use jc_members::{LineFault, broken, check_known};
 use std::alloc::Global;
 
@@ -96,7 +96,7 @@ fn line_members(verb: Verb) -> &'static [&'static str]
 
 // The command that a line gives, by its member `do`.
 #[tactic(auto, unfolding(jc_members::specs::Members::word_in))]
-fn read_word(alloc: Global, value: &Value, path: &Path) -> Result<Verb, LineFault>
+fn read_word(alloc: Global, value: &Value, path: &Trail) -> Result<Verb, LineFault>
     ensures { Says (λ verb. verb) result
         (word_in path.now (codes "do") verb_of (view value.now)) }
 {
@@ -112,7 +112,7 @@ fn read_word(alloc: Global, value: &Value, path: &Path) -> Result<Verb, LineFaul
 pub fn read_verb(alloc: Global, value: &Value) -> Result<Verb, LineFault>
     ensures { Says (λ verb. verb) result (verb_in (view value.now)) }
 {
-    let path = Path::new(alloc);
+    let path = Trail::new(alloc);
     let verb = read_word(alloc, value, &path)?;
     check_known(alloc, value, &path, line_members(verb))?;
     Ok(verb)

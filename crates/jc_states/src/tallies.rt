@@ -68,6 +68,7 @@ fn open_restarts(pod: &Pod) -> u128
 }
 
 // The numbers with one more pod of the owner.
+#[inline(always)]
 fn tally_with(tally: Tally, pod: &Pod) -> Tally
     requires { HasRoom tally }
     ensures numbers { result ≡ tally_with tally pod.now }
@@ -86,6 +87,7 @@ fn tally_with(tally: Tally, pod: &Pod) -> Tally
 }
 
 // The numbers without this pod of the owner.
+#[inline(always)]
 fn tally_without(tally: Tally, pod: &Pod) -> Tally
     requires { CountsPod tally pod.now }
     ensures { result ≡ tally_without tally pod.now }

@@ -1,7 +1,7 @@
 //! What is read of the members of a JSON object, and which changes of a specification are refused.
 
 use jc_json::{
-    FieldFault, Path, is_written, need_number, need_text, new_room, read_line, read_owned,
+    FieldFault, Trail, is_written, need_number, need_text, new_room, read_line, read_owned,
 };
 use jc_manifest::{UpdateFault, check_update, read_job};
 use jc_types::{Field, SpecChange};
@@ -28,7 +28,7 @@ pub fn text(alloc: Global, text: &str) -> Result<String, AllocError> {
     let Ok(value) = read_line(alloc, line.as_bytes(), &mut room) else {
         return String::from_str(alloc, "not JSON");
     };
-    match need_text(alloc, &value, &Path::new(alloc), name) {
+    match need_text(alloc, &value, &Trail::new(alloc), name) {
         Ok(text) => String::from_str(alloc, text),
         Err(fault) => refused(alloc, fault),
     }
@@ -48,7 +48,7 @@ pub fn number(alloc: Global, text: &str) -> Result<String, AllocError> {
     let Ok(value) = read_line(alloc, line.as_bytes(), &mut room) else {
         return String::from_str(alloc, "not JSON");
     };
-    match need_number(alloc, &value, &Path::new(alloc), "n", least, greatest) {
+    match need_number(alloc, &value, &Trail::new(alloc), "n", least, greatest) {
         Ok(number) => format!(in alloc; "{number}"),
         Err(fault) => refused(alloc, fault),
     }
@@ -107,7 +107,7 @@ pub fn update(alloc: Global, text: &str) -> Result<String, AllocError> {
     let Ok(value) = read_line(alloc, line.as_bytes(), &mut room) else {
         return String::from_str(alloc, "not JSON");
     };
-    let Ok((_, old)) = read_job(alloc, &value, &Path::new(alloc)) else {
+    let Ok((_, old)) = read_job(alloc, &value, &Trail::new(alloc)) else {
         return String::from_str(alloc, "no manifest");
     };
     match check_update(&old, &change(&words)) {

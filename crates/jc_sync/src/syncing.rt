@@ -157,6 +157,7 @@ impl Syncing {
     ///
     /// # Errors
     /// `Want` where there is no memory.
+    #[inline(always)]
     pub fn new(alloc: Global, plan: Plan) -> Result<Syncing, Want>
         ensures { IfOk result (λ sync. sync ≡ new_sync plan.basis) }
     {

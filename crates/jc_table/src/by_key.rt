@@ -67,6 +67,7 @@ impl<K: Eq + Hash, V> Table<K, V> {
     }
 
     /// The value at the key; `None` exactly where no row has the key.
+    #[inline(always)]
     pub fn get(&self, key: &K) -> Option<&V>
         ensures { option_copied result ≡ at K.eq self.now key.now }
     {

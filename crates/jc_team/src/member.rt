@@ -232,6 +232,7 @@ impl Member {
     ///
     /// # Errors
     /// `Want` where there is no memory for it; all is then as before.
+    #[inline(always)]
     pub fn deliver(&mut self, store: &Store, window: u32, kind: Kind) -> Result<Reply, Want>
         requires few_pods { HasFewPods self.old.con.rows }
         ensures reply { IfOk result (λ r. MirrorsLog store.now self.old.con → r

@@ -72,6 +72,7 @@ pub struct Container {
 pub type Containers = ListOf<Container>;
 
 /// A pod of a Job.
+// What has a byte stands together: fields lie in this order, and each write of a pod keeps one.
 #[derive(Drop)]
 pub struct Pod {
     /// Its UID.
@@ -90,14 +91,14 @@ pub struct Pod {
     pub restart: Restart,
     /// How far it has come.
     pub phase: Phase,
+    /// Whether it has the finalizer `batch.kubernetes.io/job-tracking` (KEP-2307).
+    pub tracked: bool,
     /// Its containers, and after them its init containers.
     pub containers: Containers,
     /// Its conditions, in the order in which they came.
     pub conditions: PodConditions,
     /// When it was marked for deletion (`deletionTimestamp`).
     pub marked: Option<Moment>,
-    /// Whether it has the finalizer `batch.kubernetes.io/job-tracking` (KEP-2307).
-    pub tracked: bool,
     /// When it was created (`creationTimestamp`).
     pub created: Moment,
 }

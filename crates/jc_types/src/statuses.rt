@@ -62,14 +62,15 @@ pub struct Condition {
 pub type Conditions = ListOf<Condition>;
 
 /// How often pods of one index have failed (KEP-3850).
+// The two small ones stand together: fields lie in this order, and each status with one more failure has up to 64 copies.
 #[derive(Clone, Copy, PartialEq, Eq, Debug)]
 pub struct IndexCount {
     /// The index.
     pub index: u32,
-    /// How many of its pods were judged as failed.
-    pub failures: u64,
     /// Whether the failure policy failed the index for one of them.
     pub fail: bool,
+    /// How many of its pods were judged as failed.
+    pub failures: u64,
 }
 
 /// The failures of each index that has some, in ascending index.

@@ -4,6 +4,7 @@ pub mod VerdictRows
 pub mod VerdictEvents
 pub mod VerdictFacts
 pub mod StayFacts
+pub mod FrontFacts
 pub mod BookFacts
 pub mod PlaceLists
 pub mod TouchFacts

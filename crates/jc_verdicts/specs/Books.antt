@@ -22,18 +22,19 @@ use Rattle.jc_verdicts.specs.declared.books.Book.{Book}
 use Rattle.jc_ledger.specs.declared.counts.Verdicts.{Verdicts}
 use Rattle.jc_account.specs.declared.judgements.Judgement.{Judgement as Row}
 use Rattle.jc_ledger.specs.Ledger.{Ledger}
-use Rattle.jc_verdicts.specs.Verdicts.{HasSeen, IsCount, outcome_in}
+use Rattle.jc_verdicts.specs.Verdicts.{EndsAt, HasSeen, IsCount, outcome_in}
 
 -- The outcome under each UID is that of the first row of the UID.
 abbrev pub Knows : List (Uid × Outcome) → List Row → Type 0
 Knows known rows = (u : Uid) → at same_uid known u ≡ outcome_in rows u
 
 -- The book of the Job of the UID has those of the Job's pods among the first entries that stay; its
--- indexes rise, and its outcomes are those of its rows.
+-- indexes rise, its outcomes are those of its rows, and no pod of a UID above its last was judged.
 pub record IsBookOf (j : Uid) (log : List Entry) (book : Book) : Type 0 where
   pub seen : HasSeen j log book.known.entries book.pods.items book.at
   pub order : IsIncreasing book.done.items
   pub known : Knows book.known.entries book.rows.items
+  pub last : EndsAt book.last (at same_uid book.known.entries)
 
 -- So it is of each book.
 abbrev pub AreBooksOf : List Entry → List (Uid × Book) → Type 0

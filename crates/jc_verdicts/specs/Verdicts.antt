@@ -4,6 +4,7 @@
 --     sync_at d past                  the sync whose write of a status the deed is
 --     Row, row_of record              what a count keeps of a record
 --     outcome_in rows u               what the pod of the UID was judged, by the rows
+--     EndsAt last known               no pod of a greater UID was judged
 --     has_joined_list spec known pod  the pod is tracked, and was judged so that it joined a list
 --     space_by spec known pods        how many UIDs may join the lists
 --     waiting spec known pods         the pods that are still to be judged
@@ -87,6 +88,10 @@ is_row_of u row = same_uid row.uid u
 -- What the pod of the UID was judged, by the rows.
 abbrev pub outcome_in : List Row → Uid → Option Outcome
 outcome_in rows u = option_map (λ (row : Row). row.outcome) (find (is_row_of u) rows)
+
+-- No pod of a greater UID was judged, where pods were judged so.
+abbrev pub EndsAt : Uid → (Uid → Option Outcome) → Type 0
+EndsAt last known = (u : Uid) → last.0 < u.0 → known u ≡ None
 
 -- The pod is tracked, and was judged so that it joined a list, where pods were judged so.
 abbrev pub has_joined_list : JobSpec → (Uid → Option Outcome) → Pod → Bool

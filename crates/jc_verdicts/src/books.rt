@@ -8,7 +8,7 @@ ghost use Rattle.jc_log.specs.Tables.{at};
 ghost use Rattle.jc_verdicts.specs.Books.{AreCounts, AreBooksOf, IsBookOf};
 ghost use Rattle.jc_ledger.specs.Ledger.{Ledger, judged_by};
 ghost use Rattle.jc_verdicts.specs.LogPlaces.{ArePlaces};
-ghost use Rattle.jc_verdicts.specs.Verdicts.{done_once_seen, fresh_rows, outcome_in};
+ghost use Rattle.jc_verdicts.specs.Verdicts.{EndsAt, done_once_seen, fresh_rows, outcome_in};
 
 use crate::by_uid::places_under;
 use crate::places::Places;
@@ -27,6 +27,8 @@ pub struct Book {
     pub rows: Vec<Row>,
     /// What the pods of the UIDs were judged.
     pub known: IndexMap<Uid, Outcome>,
+    /// No pod of a greater UID was judged.
+    pub last: Uid,
     pub done: Vec<u32>,
     /// In ascending UID.
     pub pods: Vec<Arc<Pod>>,
@@ -38,6 +40,7 @@ pub struct Book {
 fn empty(alloc: Global) -> Book
     ensures rows { result.rows.items ≡ [] }
     ensures known { result.known.entries ≡ [] }
+    ensures last { result.last ≡ record { 0 = 0 } }
     ensures done { result.done.items ≡ [] }
     ensures pods { result.pods.items ≡ [] }
     ensures at { result.at ≡ 0 }
@@ -45,6 +48,7 @@ fn empty(alloc: Global) -> Book
     Book {
         rows: Vec::new(alloc),
         known: IndexMap::new(alloc),
+        last: Uid(0),
         done: Vec::new(alloc),
         pods: Vec::new(alloc),
         at: 0,
@@ -52,16 +56,23 @@ fn empty(alloc: Global) -> Book
 }
 
 /// Enters new rows, and what they say the pods were judged. Most writes judge none.
-fn enter(rows: &mut Vec<Row>, known: &mut IndexMap<Uid, Outcome>, new: &[Row]) -> Result<(), Want>
+fn enter(
+    rows: &mut Vec<Row>,
+    known: &mut IndexMap<Uid, Outcome>,
+    last: &mut Uid,
+    new: &[Row],
+) -> Result<(), Want>
+    requires { EndsAt last.old (at same_uid known.old.entries) }
     ensures rows { OnOk result (rows.new.items ≡ rows.old.items ++ new.now) }
     ensures known { OnOk result ((u : Uid) → at same_uid known.new.entries u
         ≡ option_or (at same_uid known.old.entries u) (outcome_in new.now u)) }
+    ensures last { OnOk result (EndsAt last.new (at same_uid known.new.entries)) }
 {
     if new.is_empty() {
         return Ok(());
     }
     rows.extend_from_slice(new)?;
-    add_outcomes(known, new)
+    add_outcomes(known, last, new)
 }
 
 /// Judges the pods of a Job, as they stood among the first entries that the sync saw.
@@ -92,10 +103,10 @@ fn judge(
         seen,
     )?;
     let pods = book.pods.as_slice();
-    let new = new_rows(alloc, &job.spec, &book.known, pods)?;
+    let new = new_rows(alloc, &job.spec, &book.known, book.last, pods)?;
     take_successes(&mut book.done, job, &book.known, pods)?;
     let fresh = new.as_slice();
-    enter(&mut book.rows, &mut book.known, fresh)?;
+    enter(&mut book.rows, &mut book.known, &mut book.last, fresh)?;
     Ok(())
 }
 

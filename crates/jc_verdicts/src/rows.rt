@@ -1,10 +1,11 @@
 //! What is kept of the judged pods of a Job.
 
-ghost use Rattle.std.specs.Prelude.{◌≡◌, ◌<◌, ◌^◌, ◌∷◌, [], IfOk, None, OnOk, Some, false, filter, if◌then◌else◌, is_some, length, map, nat_lt, take};
+ghost use Rattle.std.specs.Prelude.{◌≡◌, ◌<◌, ◌≤◌, ◌^◌, ◌∷◌, [], IfOk, None, OnOk, Some, false, filter, if◌then◌else◌, is_some, length, map, nat_lt, take};
 ghost use Rattle.std.specs.Option.{option_and_then, option_copied, option_map_or, option_or, unwrap_or};
 ghost use Rattle.jc_ranges.specs.Sets.{IsIncreasing, with_member};
 ghost use Rattle.jc_types.specs.declared.numbers.Uid.{Uid};
 ghost use Rattle.jc_types.specs.declared.objects.Job.{Job};
+ghost use Rattle.jc_types.specs.declared.specifications.Mode.TheVariants.{NonIndexed};
 ghost use Rattle.jc_types.specs.Keys.{same_uid};
 ghost use Rattle.jc_log.specs.Tables.{at};
 ghost use Rattle.jc_states.specs.PodLists.{IsRising};
@@ -14,7 +15,7 @@ ghost use Rattle.jc_failpol.specs.Outcomes.{is_succeeded, same_outcome};
 ghost use Rattle.jc_account.specs.declared.judgements.Judgement.{Judgement as Row};
 ghost use Rattle.jc_account.specs.Rooms.{joins_list};
 ghost use Rattle.jc_ledger.specs.Ledger.{is_within, kept as kept_of};
-ghost use Rattle.jc_verdicts.specs.Verdicts.{done_by, fresh_row, has_joined_list, is_success_by, outcome_in, row_for, rows_for, space_by};
+ghost use Rattle.jc_verdicts.specs.Verdicts.{EndsAt, done_by, fresh_row, has_joined_list, is_success_by, outcome_in, row_for, rows_for, space_by};
 ghost use Rattle.jc_verdicts.specs.Verdicts.{success_index, success_indexes, waiting};
 
 use indexmap::IndexMap;
@@ -42,12 +43,18 @@ fn has_joined_list(spec: &JobSpec, known: &IndexMap<Uid, Outcome>, pod: &Pod) ->
     pod.tracked && has_joined(spec.mode, known.get(&pod.uid))
 }
 
-/// How many UIDs may join the lists: one less for each pod that is tracked and joined one.
-fn space(spec: &JobSpec, known: &IndexMap<Uid, Outcome>, pods: &[Arc<Pod>]) -> usize
+/// How many UIDs may join the lists: one less for each pod that is tracked and joined one. It goes over
+/// no pods but those that may have been judged: they stand in front.
+fn space(spec: &JobSpec, known: &IndexMap<Uid, Outcome>, last: Uid, pods: &[Arc<Pod>]) -> usize
+    requires rising { IsRising pods.now }
+    requires last { EndsAt last (at same_uid known.now.entries) }
     ensures { result ≡ space_by spec.now (at same_uid known.now.entries) pods.now }
 {
     let mut space = MOST_UNCOUNTED as usize;
     for pod in pods {
+        if pod.uid.0 > last.0 {
+            return space;
+        }
         if has_joined_list(spec, known, pod) {
             space = space.saturating_sub(1);
         }
@@ -55,11 +62,20 @@ fn space(spec: &JobSpec, known: &IndexMap<Uid, Outcome>, pods: &[Arc<Pod>]) -> u
     space
 }
 
+/// Whether a pod of the UID was judged. Of one that is greater than each that was, nothing is looked up.
+fn was_judged(known: &IndexMap<Uid, Outcome>, last: Uid, uid: Uid) -> bool
+    requires { EndsAt last (at same_uid known.now.entries) }
+    ensures { result ≡ is_some (at same_uid known.now.entries uid) }
+{
+    uid.0 <= last.0 && known.contains_key(&uid)
+}
+
 /// The row of a pod, where the pod is still to be judged. Of one that was judged no policy is asked.
-fn fresh_row(spec: &JobSpec, known: &IndexMap<Uid, Outcome>, pod: &Pod) -> Option<Row>
+fn fresh_row(spec: &JobSpec, known: &IndexMap<Uid, Outcome>, last: Uid, pod: &Pod) -> Option<Row>
+    requires { EndsAt last (at same_uid known.now.entries) }
     ensures { result ≡ fresh_row spec.now (at same_uid known.now.entries) pod.now }
 {
-    if !pod.tracked || known.contains_key(&pod.uid) {
+    if !pod.tracked || was_judged(known, last, pod.uid) {
         return None;
     }
     let outcome = outcome(spec, pod);
@@ -73,23 +89,78 @@ fn fresh_row(spec: &JobSpec, known: &IndexMap<Uid, Outcome>, pod: &Pod) -> Optio
     })
 }
 
-/// The rows of the pods that are still to be judged: their UIDs are not known yet.
+/// The rows of the first of the pods that are still to be judged: their UIDs are not known yet.
+#[inline(always)]
 fn waiting_rows(
     alloc: Global,
     spec: &JobSpec,
     known: &IndexMap<Uid, Outcome>,
+    last: Uid,
     pods: &[Arc<Pod>],
+    most: usize,
 ) -> Result<Vec<Row>, Want>
+    requires { EndsAt last (at same_uid known.now.entries) }
     ensures { IfOk result (λ new. new.items
-        ≡ map (row_for spec.now) (waiting spec.now (at same_uid known.now.entries) pods.now)) }
+        ≡ take most (map (row_for spec.now) (waiting spec.now (at same_uid known.now.entries) pods.now))) }
 {
     let mut new = Vec::new(alloc);
     for pod in pods {
-        if let Some(row) = fresh_row(spec, known, pod) {
+        if new.len() >= most {
+            return Ok(new);
+        }
+        if let Some(row) = fresh_row(spec, known, last, pod) {
             new.push(row)?;
         }
     }
     Ok(new)
+}
+
+/// The rows of the pods that a write judges, where each joins a list: the first of those that are still to
+/// be judged. It goes over no more of them than the lists can hold.
+#[inline(always)]
+fn first_rows(
+    alloc: Global,
+    spec: &JobSpec,
+    known: &IndexMap<Uid, Outcome>,
+    last: Uid,
+    pods: &[Arc<Pod>],
+) -> Result<Vec<Row>, Want>
+    requires mode { spec.now.mode ≡ NonIndexed }
+    requires rising { IsRising pods.now }
+    requires last { EndsAt last (at same_uid known.now.entries) }
+    ensures { IfOk result (λ new. new.items
+        ≡ rows_for spec.now (at same_uid known.now.entries) pods.now) }
+{
+    let mut rows = waiting_rows(alloc, spec, known, last, pods, MOST_UNCOUNTED as usize)?;
+    if rows.as_slice().is_empty() {
+        return Ok(rows);
+    }
+    let space = space(spec, known, last, pods);
+    rows.truncate(space);
+    Ok(rows)
+}
+
+/// The rows of the pods that a write judges, where some may join no list: it goes over all.
+fn fitting_rows(
+    alloc: Global,
+    spec: &JobSpec,
+    known: &IndexMap<Uid, Outcome>,
+    last: Uid,
+    pods: &[Arc<Pod>],
+) -> Result<Vec<Row>, Want>
+    requires rising { IsRising pods.now }
+    requires last { EndsAt last (at same_uid known.now.entries) }
+    ensures { IfOk result (λ new. new.items
+        ≡ rows_for spec.now (at same_uid known.now.entries) pods.now) }
+{
+    let mut rows = waiting_rows(alloc, spec, known, last, pods, pods.len())?;
+    if rows.as_slice().is_empty() {
+        return Ok(rows);
+    }
+    let space = space(spec, known, last, pods);
+    let first = first_beyond(spec.mode, rows.as_slice(), space);
+    retain_within(&mut rows, spec.mode, first);
+    Ok(rows)
 }
 
 /// The rows of the pods that a write judges: of those that are still to be judged, as many as there is
@@ -98,20 +169,18 @@ pub fn new_rows(
     alloc: Global,
     spec: &JobSpec,
     known: &IndexMap<Uid, Outcome>,
+    last: Uid,
     pods: &[Arc<Pod>],
 ) -> Result<Vec<Row>, Want>
-    requires { IsRising pods.now }
+    requires rising { IsRising pods.now }
+    requires last { EndsAt last (at same_uid known.now.entries) }
     ensures { IfOk result (λ new. new.items
         ≡ rows_for spec.now (at same_uid known.now.entries) pods.now) }
 {
-    let mut rows = waiting_rows(alloc, spec, known, pods)?;
-    if rows.as_slice().is_empty() {
-        return Ok(rows);
+    match spec.mode {
+        Mode::NonIndexed => first_rows(alloc, spec, known, last, pods),
+        Mode::Indexed => fitting_rows(alloc, spec, known, last, pods),
     }
-    let space = space(spec, known, pods);
-    let first = first_beyond(spec.mode, rows.as_slice(), space);
-    retain_within(&mut rows, spec.mode, first);
-    Ok(rows)
 }
 
 /// Notes the outcome of a row, where its UID has none. Mostly it has none, so it is looked for only
@@ -126,13 +195,28 @@ fn add_outcome(known: &mut IndexMap<Uid, Outcome>, row: &Row) -> Result<(), Want
     Ok(())
 }
 
-/// Notes the outcomes of new rows.
-pub fn add_outcomes(known: &mut IndexMap<Uid, Outcome>, rows: &[Row]) -> Result<(), Want>
-    ensures { OnOk result ((u : Uid) → at same_uid known.new.entries u
+/// The greater of the UIDs.
+fn greater(left: Uid, right: Uid) -> Uid
+    ensures left { left.0 ≤ result.0 }
+    ensures right { right.0 ≤ result.0 }
+{
+    if left.0 < right.0 { right } else { left }
+}
+
+/// Notes the outcomes of new rows, and the greatest UID that has one.
+pub fn add_outcomes(
+    known: &mut IndexMap<Uid, Outcome>,
+    last: &mut Uid,
+    rows: &[Row],
+) -> Result<(), Want>
+    requires { EndsAt last.old (at same_uid known.old.entries) }
+    ensures outcomes { OnOk result ((u : Uid) → at same_uid known.new.entries u
         ≡ option_or (at same_uid known.old.entries u) (outcome_in rows.now u)) }
+    ensures last { OnOk result (EndsAt last.new (at same_uid known.new.entries)) }
 {
     for row in rows {
         add_outcome(known, row)?;
+        *last = greater(*last, row.uid);
     }
     Ok(())
 }

@@ -1,12 +1,15 @@
 -- The members of what is counted in.
-use Rattle.std.proofs.Common.{◌+◌, ◌-◌, length, refl, ap, sym, ◌∙◌, arith}
+use Rattle.std.proofs.Common.{◌+◌, ◌-◌, length, refl, ap, subst, sym, ◌∙◌, arith}
 use Rattle.jc_types.specs.declared.limits.TheConstants.{MOST_UNCOUNTED}
 use Rattle.jc_types.specs.declared.specifications.JobSpec.{JobSpec}
 use Rattle.jc_types.specs.declared.statuses.JobStatus.{JobStatus}
 use Rattle.jc_types.proofs.ListFacts.{filter_filter}
 use Rattle.jc_states.specs.Bases.{is_own, own_pods}
+use Rattle.jc_states.specs.UidLists.{Ascends}
+use Rattle.jc_failpol.specs.declared.outcomes.Outcome.TheVariants.{Failed, Succeeded}
 use Rattle.jc_account.specs.Judged.{is_staying, stayed}
 use Rattle.jc_account.specs.Modes.{gain}
+use Rattle.jc_account.proofs.AccountFacts.{newly-order}
 use Rattle.jc_account.proofs.Totals.{counted, successes_fit}
 use Rattle.jc_account.proofs.accounts.count_job.Goals as goal
 
@@ -72,3 +75,12 @@ judge-requires-clause-room c =
     let job = c.args.job.now in
     c.room_beside-room.ensures
     ∙ ap (λ n. MOST_UNCOUNTED - n) (c.count_staying.ensures ∙ ap length (sym (filter_filter (is_staying job) (is_own job) c.args.pods.now)))
+
+-- What is judged ascends.
+pub with_successes-requires : goal.with_successes-requires
+with_successes-requires c =
+    subst Ascends (sym c.in_ok-newly.ensures.succeeded) (newly-order c.args.job.now c.args.pods.now Succeeded c.requires.rising)
+
+pub merged-requires : goal.merged-requires
+merged-requires c =
+    subst Ascends (sym c.in_ok-newly.ensures.failed) (newly-order c.args.job.now c.args.pods.now Failed c.requires.rising)

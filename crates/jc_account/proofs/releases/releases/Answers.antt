@@ -1,16 +1,18 @@
-use Rattle.std.proofs.Common.{filter, ap, ◌∙◌, arith}
-use Rattle.jc_states.specs.Bases.{is_own, own_pods}
-use Rattle.jc_states.specs.UidLists.{uids_of}
-use Rattle.jc_states.proofs.PodListFacts.{rises_filter}
-use Rattle.jc_account.specs.Judgements.{is_to_go}
-use Rattle.jc_account.proofs.Owned.{own_uids}
-use Rattle.jc_account.proofs.RoomFacts.{due-released}
+-- Where all pods are new ones of one outcome, those that are judged are those that lose their finalizer.
+use Rattle.std.proofs.Common.{◌≡◌, IfOk, List, refl, subst}
+use Rattle.jc_types.specs.declared.numbers.Uid.{Uid}
+use Rattle.jc_failpol.specs.declared.outcomes.Outcome.TheVariants.{Failed, Succeeded}
+use Rattle.jc_account.proofs.ShortFacts.{alike-released}
 use Rattle.jc_account.proofs.releases.releases.Goals as goal
 
-pub returns : goal.returns
-returns c =
-    let job = c.args.job.now in
-    let pods = c.args.pods.now in
-    own_uids (is_to_go c.args.first job) job pods c.loop-pod.pod-index c.loop-pod.uids (omega arith) c.loop-pod.invariant
-    ∙ ap (λ first. uids_of (filter (is_to_go first job) (own_pods job pods))) c.requires.first
-    ∙ ap uids_of (due-released job (own_pods job pods) 0 (rises_filter 0 (is_own job) pods c.requires.rising))
+pub returns-then-are_all : goal.returns-then-are_all
+returns-then-are_all c =
+    subst (λ (us : List Uid). IfOk c.copy.result (λ uids. uids ≡ us))
+    (alike-released c.args.job.now c.args.pods.now Succeeded _ _ refl c.requires.succeeded c.requires.left_succeeded (c.are_all.ensures.0 c.if-are_all.true))
+    c.copy.ensures
+
+pub returns-then-are_all-2 : goal.returns-then-are_all-2
+returns-then-are_all-2 c =
+    subst (λ (us : List Uid). IfOk c.copy-then-are_all-2.result (λ uids. uids ≡ us))
+    (alike-released c.args.job.now c.args.pods.now Failed _ _ refl c.requires.failed c.requires.left_failed (c.are_all-2.ensures.0 c.if-are_all-2.true))
+    c.copy-then-are_all-2.ensures

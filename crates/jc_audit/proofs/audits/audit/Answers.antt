@@ -5,15 +5,15 @@ use Rattle.jc_audit.specs.Walks.{at_first}
 use Rattle.jc_runs.specs.Seen.{Seen}
 use Rattle.jc_audit.proofs.audits.audit.Goals as goal
 
-pub walk-requires-clause-first : goal.walk-requires-clause-first
-walk-requires-clause-first c =
+pub walk-verdict-requires-clause-first : goal.walk-verdict-requires-clause-first
+walk-verdict-requires-clause-first c =
     c.in_ok-machine.ensures ∙ ap (λ (s : Seen). at_first s.shape) (sym c.in_ok-machine.ensures)
 
-pub walk-requires-clause-small : goal.walk-requires-clause-small
-walk-requires-clause-small c =
+pub walk-verdict-requires-clause-small : goal.walk-verdict-requires-clause-small
+walk-verdict-requires-clause-small c =
     subst (λ (s : Seen). IsSmallShape s.shape) (sym c.in_ok-machine.ensures)
     (record { few_controllers = c.requires.few_controllers; few_workers = c.requires.few_workers; few_events = c.requires.few_events })
 
 pub returns : goal.returns
 returns c =
-    subst (λ (s : Seen). IfOk c.walk.result (λ v. VerdictHolds s.shape c.args.bytes.now v)) c.in_ok-machine.ensures c.walk.ensures
+    subst (λ (s : Seen). IfOk c.walk-verdict.result (λ v. VerdictHolds s.shape c.args.bytes.now v)) c.in_ok-machine.ensures c.walk-verdict.ensures

@@ -5,6 +5,7 @@ use Rattle.jc_ranges.specs.Sets.{IsIncreasing}
 use Rattle.jc_types.specs.declared.statuses.IndexCount.{IndexCount}
 use Rattle.jc_types.specs.Pieces.{items_in}
 use Rattle.jc_perindex.proofs.Placed.{below_more, here_inside, here_is, in_piece, not_in_piece, passed_few, passed_more, place, place_here, place_small}
+use Rattle.jc_perindex.proofs.Sets.{piece-up}
 use Rattle.jc_perindex.proofs.counts.first_from.Goals as goal
 
 -- The counts of the pieces ascend, as those of the list do.
@@ -81,3 +82,12 @@ loop-piece-preserved c =
       below = below_more c.args.index ps i c.loop-piece.passed items within is c.loop-piece.invariant.passed c.loop-piece.invariant.below
           (not_in_piece c.args.index items (sym c.in_default.is ∙ c.place_of.ensures));
     }
+
+-- The counts of a piece ascend.
+pub place_of-requires : goal.place_of-requires
+place_of-requires c =
+    let ps = c.pieces-pieces.result.now in
+    let i = c.loop-piece.piece-index in
+    let within = c.loop-piece-test.true in
+    piece-up ps i c.as_slice-items.result.now (ascends ps c.args.counts.now c.pieces-pieces.ensures c.requires) within
+    (c.as_slice-items.ensures ∙ get_or_read ps i _ within c.piece-item.is [])

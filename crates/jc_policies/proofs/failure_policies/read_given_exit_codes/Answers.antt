@@ -11,13 +11,13 @@ returns-in_err-requirement c =
     reads_err _ _ p.0 _ _ _ p.1 p.2
     (refuses_later _ _ _ c.in_ok-exits.ensures.0
     (refuses_or _ _ _ (refuses_at _ (exit_codes_refusal (c.args.template.now.containers ++ c.args.template.now.inits)) _ _ _ _
-    c.in_ok-member.ensures c.in_ok-exits.ensures.1 c.in_err-requirement.ensures)))
+    c.path_to.ensures c.in_ok-exits.ensures.1 c.in_err-requirement.ensures)))
 
 pub returns : goal.returns
 unfolding given_exit_codes_refusal
 returns c = (
   none_or _ _ c.in_ok-exits.ensures.0
       (none_or _ _ (none_at (exit_codes_refusal (c.args.template.now.containers ++ c.args.template.now.inits)) _ _ _ _
-      c.in_ok-member.ensures c.in_ok-exits.ensures.1 c.in_ok-requirement.ensures.0) refl),
-  said_at exit_codes_in _ _ _ _ _ c.in_ok-member.ensures c.in_ok-exits.ensures.1 c.in_ok-requirement.ensures.1,
+      c.path_to.ensures c.in_ok-exits.ensures.1 c.in_ok-requirement.ensures.0) refl),
+  said_at exit_codes_in _ _ _ _ _ c.path_to.ensures c.in_ok-exits.ensures.1 c.in_ok-requirement.ensures.1,
 )

@@ -14,7 +14,7 @@ returns-in_err-patterns c =
     let p = err_from_is_err_and c.from_residual-in_err-patterns.result c.from_residual-in_err-patterns.ensures.1 in
     reads_err _ _ p.0 _ _ _ p.1 p.2
     (refuses_later _ _ _ (ap reads c.in_ok-items.ensures)
-    (refuses_or _ _ _ (refuses_at _ patterns_refusal _ _ _ _ c.in_ok-member.ensures
+    (refuses_or _ _ _ (refuses_at _ patterns_refusal _ _ _ _ c.path_to.ensures
     (ap (map view) c.as_slice.ensures.value ∙ sym (ap (λ r. result_unwrap_or r []) c.in_ok-items.ensures))
     c.in_err-patterns.ensures)))
 
@@ -23,6 +23,6 @@ unfolding given_patterns_refusal list_in
 returns c =
     let items = ap (map view) c.as_slice.ensures.value ∙ sym (ap (λ r. result_unwrap_or r []) c.in_ok-items.ensures) in (
       none_or _ _ (ap reads c.in_ok-items.ensures)
-          (none_or _ _ (none_at patterns_refusal _ _ _ _ c.in_ok-member.ensures items c.in_ok-patterns.ensures.0) refl),
-      said_at (λ at ds. patterns_from at 0 ds) _ _ _ _ _ c.in_ok-member.ensures items c.in_ok-patterns.ensures.1,
+          (none_or _ _ (none_at patterns_refusal _ _ _ _ c.path_to.ensures items c.in_ok-patterns.ensures.0) refl),
+      said_at (λ at ds. patterns_from at 0 ds) _ _ _ _ _ c.path_to.ensures items c.in_ok-patterns.ensures.1,
     )

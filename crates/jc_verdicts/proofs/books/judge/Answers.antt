@@ -14,8 +14,8 @@ pub look-requires-clause-places : goal.look-requires-clause-places
 look-requires-clause-places c = c.places_under-own.ensures ∙ c.requires.places.pods c.args.job.now.uid
 
 -- The pods rise.
-pub new_rows-requires : goal.new_rows-requires
-new_rows-requires c =
+pub new_rows-requires-clause-rising : goal.new_rows-requires-clause-rising
+new_rows-requires-clause-rising c =
     subst IsRising (sym c.as_slice-pods.ensures.value) (seen-rise c.args.book.now.known.entries c.args.job.now.uid c.args.log.now c.look.new.pods.items c.in_ok-book.field-0 c.in_ok-book.ensures.seen)
 
 -- The book is in order after the new rows are entered.
@@ -28,6 +28,7 @@ returns-clause-sound c = record {
   known =
       knows-more c.args.book.now.known.entries c.enter.new.known.entries c.args.book.now.rows.items c.as_slice-fresh.result.now c.enter.new.rows.items c.requires.sound.known c.in_ok-enter.ensures.known
       c.in_ok-enter.ensures.rows;
+  last = c.in_ok-enter.ensures.last;
 }
 
 -- The new rows are those that the write judges.

@@ -37,6 +37,7 @@ judge-requires-2-clause-sound c = record {
   seen = seen-first c.empty-book.result.known.entries c.args.job.now.uid c.args.log.now c.empty-book.result.pods.items c.empty-book.result.at c.empty-book.ensures.pods c.empty-book.ensures.at;
   order = subst IsIncreasing (sym c.empty-book.ensures.done) tt;
   known = λ u. ap (λ es. at same_uid es u) c.empty-book.ensures.known ∙ ap (λ rows. outcome_in rows u) (sym c.empty-book.ensures.rows);
+  last = λ u above. ap (λ es. at same_uid es u) c.empty-book.ensures.known;
 }
 
 -- The book of the Job is new, and the others are as before.

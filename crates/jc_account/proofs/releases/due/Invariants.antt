@@ -2,7 +2,7 @@ use Rattle.std.proofs.Common.{◌≡◌, ◌&&◌, filter, take}
 use Rattle.jc_states.specs.Bases.{is_own}
 use Rattle.jc_states.specs.UidLists.{uids_of}
 use Rattle.jc_account.specs.Judgements.{is_to_go}
-use Rattle.jc_account.proofs.releases.releases.Given as goal
+use Rattle.jc_account.proofs.releases.due.Given as goal
 
 -- The UIDs so far are those of the pods before the index whose finalizer is to go.
 abbrev pub invariant-loop-pod : goal.invariant-loop-pod
