@@ -16,6 +16,7 @@ use Rattle.jc_single.proofs.DeedFacts.{deeds-are}
 use Rattle.jc_lines.specs.Reports.{report_text}
 use Rattle.jc_lines.specs.Told.{AreEvents}
 use Rattle.jc_shared.specs.SharedEnds.{IsEndOfRun, IsLeft}
+use Rattle.jc_single.specs.RunAnswers.{writing_text}
 use Rattle.jc_single.specs.declared.orders.Output.{Output}
 use Rattle.jc_single.specs.Headlines.{IsReport}
 
@@ -53,10 +54,10 @@ module _ (seen : Seen) (h : History) (events : reverse h.events.items ≡ seen.p
 -- The report of a cluster that was left is one of the script and the shape that were given.
 pub report_of : {E : Type 0} (r : Result Output E) (threads : ℕ) (script : Script) (shape : Shape) (seen : Seen) (full : Bool)
     → IsLeft script shape seen → 1 ≤ threads → IfOk r (λ output. output.full ≡ full)
-    → IfOk r (λ output. (n : ℕ) → 1 ≤ n → IsReport n seen.script seen.shape full output.text.items)
-    → IfOk r (λ output. IsReport threads script shape output.full output.text.items)
+    → IfOk r (λ output. (n : ℕ) → 1 ≤ n → IsReport n seen.script seen.shape full (writing_text output.text))
+    → IfOk r (λ output. IsReport threads script shape output.full (writing_text output.text))
 report_of (Err e) threads script shape seen full left some same report = tt
 report_of (Ok output) threads script shape seen full left some same report =
-    subst (λ s. IsReport threads s shape output.full output.text.items) left.script_is
-    (subst (λ s. IsReport threads seen.script s output.full output.text.items) left.shape_is
-    (subst (λ f. IsReport threads seen.script seen.shape f output.text.items) (sym same) (report threads some)))
+    subst (λ s. IsReport threads s shape output.full (writing_text output.text)) left.script_is
+    (subst (λ s. IsReport threads seen.script s output.full (writing_text output.text)) left.shape_is
+    (subst (λ f. IsReport threads seen.script seen.shape f (writing_text output.text)) (sym same) (report threads some)))

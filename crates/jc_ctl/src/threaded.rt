@@ -17,12 +17,13 @@ ghost use Rattle.jc_words.specs.declared.words.Order.TheVariants.{Run};
 ghost use Rattle.jc_single.specs.RunEnds.{RunHasEnded, HasMade, change};
 ghost use Rattle.jc_ctl.specs.Done.{IsPlayedBy};
 ghost use Rattle.jc_single.specs.Headlines.{IsReport};
+ghost use Rattle.jc_single.specs.RunAnswers.{writing_text};
 
 use jc_io::{ReadEnd, Sink, Source, read_all};
 use jc_script::{ScriptFault, read_script, scripts_fit_their_shape};
 use jc_shared::{Cluster, Gate, Host, Play, ThreadsFault, run_threads, run_turn};
 use jc_single::{
-    MOST_BYTES, Output, Status, legal_histories_keep_the_promises,
+    MOST_BYTES, Output, Status, Writing, legal_histories_keep_the_promises,
     orderly_histories_have_small_numbers, report, write_output,
 };
 use jc_types::{Shape, Want};
@@ -47,13 +48,16 @@ fn told(alloc: Global, cluster: &Cluster, full: bool) -> Result<Output, Want>
     ensures full { IfOk result (λ output. output.full ≡ full) }
     ensures report { IfOk result (λ output. (threads : ℕ) → 1 ≤ threads
         → IsReport threads cluster.now.seen.script cluster.now.seen.shape full
-        output.text.items) }
+        (writing_text output.text)) }
 {
     legal_histories_keep_the_promises();
     orderly_histories_have_small_numbers();
     let _history = cluster.history();
     let text = report(alloc, cluster, full)?;
-    Ok(Output { text, full })
+    Ok(Output {
+        text: Writing::Whole(text),
+        full,
+    })
 }
 
 // The cluster of a run on threads that has ended, and whether its history had no room for an event that was to come.
@@ -131,7 +135,7 @@ fn threaded_report<R: Threads + Wait + Sync, G: Gate + Sync>(
     requires lanes { Each (λ (command : Command). command.lane < 2 ^ 8) play.script.now.commands }
     requires fit_shape { IsFitShape play.shape.now }
     ensures { IfOk result (λ output.
-        IsReport play.entry.threads play.entry.script.now play.entry.shape.now output.full output.text.items) }
+        IsReport play.entry.threads play.entry.script.now play.entry.shape.now output.full (writing_text output.text)) }
 {
     let ended = run_by(host, lock, play)?;
     let output = told(host.alloc, &ended.cluster, ended.full);
@@ -153,7 +157,7 @@ fn threaded_answer<R: Threads + Wait + Sync, G: Gate + Sync>(
     requires short { length input.now ≤ most_bytes }
     ensures report { IfOk result (λ output. IsOkAnd (script_of shape.now input.now) (λ commands.
         IsReport threads (record { commands = commands }) shape.now output.full
-        output.text.items)) }
+        (writing_text output.text))) }
     ensures bad_line { (number : ℕ) (cause : Cause)
         → IsErrOf result (ScriptFault.BadLine number cause)
         → script_of shape.now input.now ≡ Err (record { number = number; cause = cause }) }
@@ -217,7 +221,7 @@ pub(crate) fn run_threaded<R: Threads + Wait + Sync, S: Source, K: Sink, G: Gate
         (IsPlayedBy threads shape.now) result }
 {
     match threaded_made(host, lock, shape, threads, source) {
-        Ok(output) => write_output(&output, sink),
+        Ok(output) => write_output(output, sink),
         Err(status) => status,
     }
 }

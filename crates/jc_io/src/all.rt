@@ -128,6 +128,26 @@ pub fn read_all<S: Source>(alloc: Global, source: &mut S, limit: u64) -> Result<
     }
 }
 
+/// Writes all `bytes` to `sink`, in order. It is not finished.
+///
+/// # Errors
+///
+/// `WriteFault` comes only where the sink's count of faults rose in this call. What was appended
+/// is then a front of `bytes`.
+pub fn write_part<K: Sink>(sink: &mut K, bytes: &[u8]) -> Result<(), WriteFault>
+    ensures all { OnOk result (Appends (K.held sink.old) (K.held sink.new) bytes.now) }
+    ensures fault { HasCause (K.faults sink.old) (K.faults sink.new) result }
+    ensures front { OnErr result (AppendsFront (K.held sink.old) (K.held sink.new) bytes.now) }
+    ensures later { K.faults sink.old ≤ K.faults sink.new }
+    ensures not_finished { K.finished sink.new ≡ K.finished sink.old }
+{
+    let mut at = 0;
+    'writing: while at < bytes.len() {
+        at += sink.write_some(&bytes[at..])?;
+    }
+    Ok(())
+}
+
 /// Writes all `bytes` to `sink`, in order, and finishes it.
 ///
 /// # Errors
@@ -144,10 +164,7 @@ pub fn write_all<K: Sink>(sink: &mut K, bytes: &[u8]) -> Result<(), WriteFault>
         (K.finished sink.new ≡ raised_count (K.finished sink.old)) }
     ensures not_finished { OnErr result (K.finished sink.new ≡ K.finished sink.old) }
 {
-    let mut at = 0;
-    'writing: while at < bytes.len() {
-        at += sink.write_some(&bytes[at..])?;
-    }
+    write_part(sink, bytes)?;
     sink.finish()?;
     Ok(())
 }

@@ -15,7 +15,7 @@ mod memory;
 mod plan;
 mod standard;
 
-pub use all::{ReadEnd, WriteFault, read_all, write_all};
+pub use all::{ReadEnd, WriteFault, read_all, write_all, write_part};
 pub use memory::{MemSink, MemSource};
 pub use standard::{StdSink, StdSource};
 use std::alloc::AllocError;

@@ -1,4 +1,3 @@
-mod ChangeMembers
 pub mod Digits
 mod Given
 mod Lines

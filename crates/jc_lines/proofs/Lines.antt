@@ -7,9 +7,9 @@ use Rattle.jc_types.specs.declared.actions.Script.{Script}
 use Rattle.jc_types.specs.declared.runs.Event.{Event}
 use Rattle.jc_types.specs.declared.runs.Event.TheVariants as event
 use Rattle.jc_types.specs.declared.runs.Past.{Past}
-use Rattle.jc_lines.specs.ActTexts.{act_text}
+use Rattle.jc_texts.specs.ActTexts.{act_text}
 use Rattle.jc_lines.specs.Events.{event_line, event_lines, tag_text}
-use Rattle.jc_lines.specs.ReplyTexts.{reply_text}
+use Rattle.jc_texts.specs.ReplyTexts.{reply_text}
 use Rattle.jc_lines.specs.Told.{AreEvents, Follow, Glimpse, IsEvent, OfLane, OfSystem, glimpse}
 use Rattle.jc_lines.proofs.Digits.{number_ends}
 use Rattle.jc_lines.proofs.Systems.{first_of_both, system_told}

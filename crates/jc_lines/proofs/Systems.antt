@@ -5,9 +5,9 @@ use Rattle.jc_types.specs.declared.objects.Kind.TheVariants.{Jobs, Pods}
 use Rattle.jc_types.specs.declared.runs.Sys.{Sys}
 use Rattle.jc_types.specs.declared.runs.Sys.TheVariants as sys
 use Rattle.jc_log.specs.Deeds.{act_of_system}
-use Rattle.jc_lines.specs.ActTexts.{act_text}
+use Rattle.jc_texts.specs.ActTexts.{act_text}
 use Rattle.jc_lines.specs.Told.{IsSystem}
-use Rattle.jc_lines.specs.ReportWords.{objects_word}
+use Rattle.jc_texts.specs.ReportWords.{objects_word}
 use Rattle.jc_lines.proofs.Digits.{Told, number_ends}
 
 -- What the event does, in words.

@@ -1,9 +1,10 @@
 -- How a report grows, line by line.
-use Rattle.std.proofs.Common.{◌≡◌, ℕ, ◌+◌, ◌<◌, List, [], ◌∷◌, ◌++◌, length, map, take, drop, slice_get, Some, refl, sym, ap, ◌∙◌, arith, append_assoc}
+use Rattle.std.proofs.Common.{◌≡◌, ℕ, ◌+◌, ◌<◌, List, [], ◌∷◌, ◌++◌, length, map, take, drop, slice_get, Some, refl, sym, ap, ◌∙◌, arith, append_assoc, length-append}
 use Rattle.std.specs.BTreeMap.{insert_entry}
 use Rattle.std.proofs.lemmas.List.{append-nil, drop_more, flat_map_more, length-map, length-take-le, map-append}
 use Rattle.std.proofs.lemmas.Option.{get_or_from_slice_get, slice_get_within}
 use Rattle.jc_ledger.specs.declared.counts.Verdicts.{Verdicts}
+use Rattle.jc_lines.specs.LongLines.{long_end, long_ends, long_line, long_lines}
 use Rattle.jc_lines.specs.Events.{event_line, event_lines}
 use Rattle.jc_log.specs.Deeds.{Deed, deed}
 use Rattle.jc_queue.specs.Delayed.{key_order}
@@ -75,3 +76,63 @@ jobs_text-same f g same (job ∷ jobs) =
 -- The three parts of a report.
 pub parts : (a b c d whole : List ℕ) → whole ≡ (a ++ b) ++ c → b ≡ d → whole ≡ a ++ (d ++ c)
 parts a b c d whole is same = is ∙ append_assoc a b c ∙ ap (λ l. a ++ (l ++ c)) same
+
+-- ---- lines that are not short
+
+pub long_lines-more : (n : ℕ) (ds : List Deed) (d : Deed) → long_lines n (ds ++ d ∷ []) ≡ long_lines n ds ++ long_line (n + length ds) d
+long_lines-more n [] d =
+    let same : n ≡ n + 0 = omega arith in
+    append-nil (long_line n d) ∙ ap (λ m. long_line m d) same
+long_lines-more n (e ∷ ds) d =
+    let same : n + 1 + length ds ≡ n + length (e ∷ ds) = omega arith in
+    ap (λ l. long_line n e ++ l) (long_lines-more (n + 1) ds d ∙ ap (λ m. long_lines (n + 1) ds ++ long_line m d) same)
+    ∙ sym (append_assoc (long_line n e) (long_lines (n + 1) ds) (long_line (n + length (e ∷ ds)) d))
+
+pub long_ends-more : (at n : ℕ) (ds : List Deed) (d : Deed)
+    → long_ends at n (ds ++ d ∷ []) ≡ long_ends at n ds ++ long_end (at + length (long_lines n (ds ++ d ∷ []))) d
+long_ends-more at n [] d =
+    append-nil (long_end (at + length (long_line n d)) d)
+    ∙ ap (λ (l : List ℕ). long_end (at + length l) d) (sym (append-nil (long_line n d)))
+long_ends-more at n (e ∷ ds) d =
+    let first = long_line n e in
+    let rest = long_lines (n + 1) (ds ++ d ∷ []) in
+    let count : length (first ++ rest) ≡ length first + length rest = length-append first rest in
+    let place : at + length first + length rest ≡ at + length (first ++ rest) = omega (arith, count) in
+    ap (λ (l : List ℕ). long_end (at + length first) e ++ l)
+    (long_ends-more (at + length first) (n + 1) ds d ∙ ap (λ m. long_ends (at + length first) (n + 1) ds ++ long_end m d) place)
+    ∙ sym (append_assoc (long_end (at + length first) e) (long_ends (at + length first) (n + 1) ds) (long_end (at + length (first ++ rest)) d))
+
+-- Those of the events up to a place, and that of the event there.
+pub record Drafted (script : Script) (events : List Past) (place : ℕ) (long ends : List ℕ) : Type 0 where
+  pub lines : long ≡ long_lines 1 (map (deed script) (take place events))
+  pub ends_at : ends ≡ long_ends 0 1 (map (deed script) (take place events))
+
+pub drafted-more : (script : Script) (events : List Past) (place : ℕ) (past : Past) (long more ends more_ends : List ℕ)
+    → place < length events → take (place + 1) events ≡ take place events ++ past ∷ []
+    → Drafted script events place long ends
+    → more ≡ long ++ long_line (place + 1) (deed script past)
+    → more_ends ≡ ends ++ long_end (length more) (deed script past)
+    → Drafted script events (place + 1) more more_ends
+drafted-more script events place past long more ends more_ends within one so next next_end =
+    let first = map (deed script) (take place events) in
+    let last = deed script past in
+    let count : length first ≡ place = length-map (take place events) (deed script) ∙ length-take-le place events (omega (arith, within)) in
+    let number : 1 + length first ≡ place + 1 = omega (arith, count) in
+    let all : first ++ last ∷ [] ≡ map (deed script) (take (place + 1) events) =
+    sym (ap (map (deed script)) one ∙ map-append (deed script) (take place events) (past ∷ [])) in
+    let whole : more ≡ long_lines 1 (first ++ last ∷ []) =
+    next
+    ∙ ap (λ (l : List ℕ). l ++ long_line (place + 1) last) so.lines
+    ∙ ap (λ m. long_lines 1 first ++ long_line m last) (sym number)
+    ∙ sym (long_lines-more 1 first last) in
+    let long_is : length more ≡ length (long_lines 1 (first ++ last ∷ [])) = ap length whole in
+    let end : length more ≡ 0 + length (long_lines 1 (first ++ last ∷ [])) = omega (arith, long_is) in
+    record {
+      lines = whole ∙ ap (long_lines 1) all;
+      ends_at =
+          next_end
+          ∙ ap (λ (l : List ℕ). l ++ long_end (length more) last) so.ends_at
+          ∙ ap (λ m. long_ends 0 1 first ++ long_end m last) end
+          ∙ sym (long_ends-more 0 1 first last)
+          ∙ ap (long_ends 0 1) all;
+    }

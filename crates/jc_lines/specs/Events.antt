@@ -4,8 +4,8 @@
 --     event_lines number deeds   the lines of several, oldest first, numbered from this number on
 use Rattle.std.specs.Prelude.{ℕ, ◌+◌, List, [], ◌∷◌, ◌++◌, Option, None, Some, codes, decimal}
 use Rattle.jc_log.specs.Deeds.{Deed}
-use Rattle.jc_lines.specs.ActTexts.{act_text}
-use Rattle.jc_lines.specs.ReplyTexts.{reply_text}
+use Rattle.jc_texts.specs.ActTexts.{act_text}
+use Rattle.jc_texts.specs.ReplyTexts.{reply_text}
 
 abbrev pub tag_text : Option ℕ → List ℕ
 tag_text None = codes "-"

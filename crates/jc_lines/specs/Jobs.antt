@@ -8,7 +8,7 @@ use Rattle.uuid.specs.Text.{hyphenated_text, lower}
 use Rattle.jc_print.specs.PrintedStatuses.{status_data}
 use Rattle.jc_types.specs.declared.numbers.Uid.{Uid}
 use Rattle.jc_types.specs.declared.objects.Job.{Job}
-use Rattle.jc_lines.specs.ReportWords.{key_text, version_text}
+use Rattle.jc_texts.specs.ReportWords.{key_text, version_text}
 
 abbrev pub uid_words : Uid → List ℕ
 uid_words uid = hyphenated_text lower (to_be_bytes w128 uid.0)

@@ -9,7 +9,7 @@ use Rattle.jc_types.specs.declared.specifications.Mode.{Mode}
 use Rattle.jc_types.specs.declared.specifications.Mode.TheVariants.{NonIndexed, Indexed}
 use Rattle.jc_types.specs.declared.statuses.CondKind.{CondKind}
 use Rattle.jc_types.specs.declared.statuses.CondKind.TheVariants.{Complete, Failed}
-use Rattle.jc_lines.specs.ReportWords.{key_text}
+use Rattle.jc_texts.specs.ReportWords.{key_text}
 
 -- How many indexes are completed, which is said of an Indexed Job alone.
 abbrev pub indexes_text : Mode → ℕ → List ℕ

@@ -4,10 +4,10 @@ ghost use Rattle.std.specs.Prelude.{◌≡◌, ◌++◌, OnErr, OnOk, codes, str
 ghost use Rattle.serde_json.specs.Written.{compact_text};
 ghost use Rattle.jc_print.specs.PrintedStatuses.{status_data};
 ghost use Rattle.jc_lines.specs.Jobs.{job_line, uid_words};
-ghost use Rattle.jc_lines.specs.ReportWords.{version_text};
+ghost use Rattle.jc_texts.specs.ReportWords.{version_text};
 
-use crate::keys::{print_key, print_version};
 use jc_print::print_status;
+use jc_texts::{print_key, print_version};
 use jc_types::{Job, Want, uid_text};
 use std::alloc::Global;
 

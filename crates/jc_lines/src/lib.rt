@@ -3,21 +3,20 @@
 //! function `print_..` or `put_..` puts a text behind what stands already.
 #![tactic(auto)]
 
-mod acts;
-mod changes;
+mod drafts;
 mod events;
 mod job_lists;
 mod jobs;
-mod keys;
 mod laws;
-mod replies;
 mod reports;
+mod short;
 mod summaries;
-mod words;
 
-pub use acts::{print_action, print_system};
-pub use events::{print_event, put_event};
+pub use drafts::{Draft, draft_of_parts};
+pub use events::{print_event, put_event, put_short_event};
+pub use jc_texts::{print_action, print_system};
 pub use jobs::print_job;
 pub use laws::{lines_determine_histories, lines_tell_events, lines_tell_histories};
 pub use reports::{report_of_parts, summary_of_parts, tail};
+pub use short::is_short;
 pub use summaries::{print_full, print_summary, print_verdicts};

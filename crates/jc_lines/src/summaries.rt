@@ -5,9 +5,9 @@ ghost use Rattle.jc_lines.specs.Summaries.{all_failed, all_succeeded, jobs_summa
 ghost use Rattle.jc_lines.specs.Summaries.{full_line, indexes_text, summary_text, verdicts_line};
 ghost use Rattle.jc_lines.specs.Summaries.{with_condition};
 
-use crate::keys::print_key;
 use jc_print::put_decimal;
 use jc_states::stands;
+use jc_texts::print_key;
 use jc_types::{Arc, CondKind, Job, Mode, Want};
 use std::alloc::Global;
 

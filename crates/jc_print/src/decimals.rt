@@ -1,6 +1,7 @@
 //! Numbers in decimal digits.
 
 ghost use Rattle.std.specs.Prelude.{◌≡◌, ◌<◌, ◌≤◌, ◌++◌, OnErr, OnOk, decimal, string_bytes};
+ghost use Rattle.jc_print.specs.Puts.{PutsAtMost};
 
 use itoa::{Buffer, Integer};
 use jc_types::Want;
@@ -10,6 +11,7 @@ use jc_types::Want;
 fn put_digits<I: Integer>(out: &mut String, number: I) -> Result<(), Want>
     ensures digits { OnOk result (string_bytes out.new ≡ string_bytes out.old ++ I.text number) }
     ensures kept { OnErr result (string_bytes out.new ≡ string_bytes out.old) }
+    ensures most { PutsAtMost 40 out.old out.new result }
 {
     let mut buffer = Buffer::new();
     out.push_str(buffer.format(number))
@@ -23,6 +25,7 @@ fn put_digits<I: Integer>(out: &mut String, number: I) -> Result<(), Want>
 pub fn put_decimal<I: Integer>(out: &mut String, number: I) -> Result<(), Want>
     ensures digits { OnOk result (string_bytes out.new ≡ string_bytes out.old ++ I.text number) }
     ensures kept { OnErr result (string_bytes out.new ≡ string_bytes out.old) }
+    ensures most { PutsAtMost 40 out.old out.new result }
 {
     put_digits(out, number)
 }
@@ -32,6 +35,7 @@ fn put_digit(out: &mut String, digit: u8) -> Result<(), Want>
     requires { digit < 10 }
     ensures digits { OnOk result (string_bytes out.new ≡ string_bytes out.old ++ decimal digit) }
     ensures kept { OnErr result (string_bytes out.new ≡ string_bytes out.old) }
+    ensures most { PutsAtMost 40 out.old out.new result }
 {
     out.push(char::from(b'0' + digit))
 }
@@ -42,7 +46,8 @@ fn put_digit(out: &mut String, digit: u8) -> Result<(), Want>
 fn put_up_to_six(out: &mut String, number: u64) -> Result<(), Want>
     requires low { 1000 ≤ number }
     requires high { number < 1000000 }
-    ensures { OnOk result (string_bytes out.new ≡ string_bytes out.old ++ decimal number) }
+    ensures digits { OnOk result (string_bytes out.new ≡ string_bytes out.old ++ decimal number) }
+    ensures most { PutsAtMost 40 out.old out.new result }
 {
     let mut buffer = Buffer::new();
     let digits = buffer.format(1_000_000 + number % 1_048_576);
@@ -64,7 +69,8 @@ fn put_up_to_six(out: &mut String, number: u64) -> Result<(), Want>
 // Called, so that what calls it stays short, and goes where its words are known.
 #[inline(never)]
 pub fn put_long(out: &mut String, number: u64) -> Result<(), Want>
-    ensures { OnOk result (string_bytes out.new ≡ string_bytes out.old ++ decimal number) }
+    ensures digits { OnOk result (string_bytes out.new ≡ string_bytes out.old ++ decimal number) }
+    ensures most { PutsAtMost 40 out.old out.new result }
 {
     if number < 1000 || number >= 1_000_000 || out.capacity() - out.len() < 6 {
         return put_decimal(out, number);
@@ -80,6 +86,7 @@ pub fn put_long(out: &mut String, number: u64) -> Result<(), Want>
 pub fn put_small(out: &mut String, number: u32) -> Result<(), Want>
     ensures digits { OnOk result (string_bytes out.new ≡ string_bytes out.old ++ decimal number) }
     ensures kept { OnErr result (string_bytes out.new ≡ string_bytes out.old) }
+    ensures most { PutsAtMost 40 out.old out.new result }
 {
     if number < 10 {
         return put_digit(out, number as u8);

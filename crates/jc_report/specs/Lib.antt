@@ -1,3 +1,5 @@
+pub mod Drafted
+pub mod Sent
 -- Words of the crates below, handed on to those above.
 pub use Rattle.jc_lines.specs.Reports
 pub use Rattle.jc_lines.specs.Told

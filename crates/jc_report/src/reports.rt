@@ -9,17 +9,11 @@ use jc_io::{Bytes, Want};
 use jc_lines::{report_of_parts, summary_of_parts};
 use std::alloc::Global;
 
-/// The report of what happened to the machine, in UTF-8. It has a line for each event, numbered from 1:
-/// its lane, what it did, and what it was answered. Then two lines for each Job that is there, in
-/// ascending key: its version and status, and on how many of its pods the writes of its status have
-/// given a verdict (KEP-2307). Where the history is `full`, as the caller knows, a line says so at last.
-/// Each line ends with a line feed.
-///
-/// # Errors
-///
-/// Want of memory.
+// The report of what happened to the machine, as `report_of_machine`, in memory as a whole.
+//
+// `Want` where there is no memory for it.
 #[tactic(auto, using(jc_lines::proofs::PlaceFacts::numbered))]
-pub fn report_of_machine(alloc: Global, machine: &Machine, full: bool) -> Result<Bytes, Want>
+fn whole_report(alloc: Global, machine: &Machine, full: bool) -> Result<Bytes, Want>
     ensures { IfOk result (λ bytes. bytes.items ≡ report_text machine.now.script
         (reverse machine.now.pasts) (log_seen machine.now) full) }
 {
@@ -37,7 +31,7 @@ pub fn report_of_machine(alloc: Global, machine: &Machine, full: bool) -> Result
     Ok(text.into_bytes())
 }
 
-/// The report of what happened to the cluster: that of its machine.
+/// The report of what happened to the cluster, as `report_of_machine` says, in memory as a whole.
 ///
 /// # Errors
 ///
@@ -46,7 +40,7 @@ pub fn report(alloc: Global, cluster: &Cluster, full: bool) -> Result<Bytes, Wan
     ensures { IfOk result (λ bytes. bytes.items ≡ report_text cluster.now.seen.script
         (reverse cluster.now.seen.pasts) (log_seen cluster.now.seen) full) }
 {
-    report_of_machine(alloc, cluster.machine(), full)
+    whole_report(alloc, cluster.machine(), full)
 }
 
 /// The summary of what became of the machine's Jobs, in UTF-8: how many there are, are complete and have

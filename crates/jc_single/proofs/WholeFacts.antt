@@ -10,7 +10,7 @@ use Rattle.jc_script.specs.Scripts.{script_of}
 use Rattle.jc_report.specs.Turns.{playing_of}
 use Rattle.jc_words.specs.FitOrders.{IsFitShape}
 use Rattle.jc_single.specs.Played.{as_script}
-use Rattle.jc_single.specs.RunAnswers.{Printed, printed_by, report_printed, reported, summary_printed}
+use Rattle.jc_single.specs.RunAnswers.{Printed, printed_by, report_printed, reported, summary_printed, writing_text}
 use Rattle.jc_single.specs.declared.orders.Output.{Output}
 use Rattle.jc_single.specs.declared.plays.Played.{Played}
 
@@ -34,7 +34,7 @@ printed_of text full = record { text = text; full = full }
 
 pub report_is : {E : Type 0} (script : Script) (shape : Shape) (played : Played) (r : Result Output E)
     → played.machine.script ≡ script → whole_play script shape ≡ playing_of played.full played.machine
-    → IfOk r (λ output. output.text.items
+    → IfOk r (λ output. writing_text output.text
     ≡ report_text played.machine.script (reverse played.machine.pasts) (log_seen played.machine) played.full)
     → IfOk r (λ output. output.full ≡ played.full)
     → IfOk r (λ output. printed_by output ≡ report_printed script shape)
@@ -50,7 +50,7 @@ counted_from p = record { text = summary_of p.log p.full; full = p.full }
 
 pub summary_is : {E : Type 0} (script other : Script) (shape that : Shape) (played : Played) (r : Result Output E)
     → script ≡ other → shape ≡ that → whole_play script shape ≡ playing_of played.full played.machine
-    → IfOk r (λ output. output.text.items ≡ summary_of (log_seen played.machine) played.full)
+    → IfOk r (λ output. writing_text output.text ≡ summary_of (log_seen played.machine) played.full)
     → IfOk r (λ output. output.full ≡ played.full)
     → IfOk r (λ output. printed_by output ≡ summary_printed other that)
 unfolding summary_printed

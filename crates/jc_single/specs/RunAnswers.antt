@@ -10,6 +10,7 @@
 --     OfInput order left P           P holds of the bytes that the order reads
 --     OfPrinted order left P         P holds of what is printed of them on one thread
 --     status_of answer               the status of a run that meets no fault and no want of memory
+--     writing_text writing           the text of what is to be written
 --     printed_by output              what is written, as it is printed
 --     EndsUnread status              so a run may end that reads nothing
 use Rattle.std.specs.Prelude.{◌≡◌, ℕ, ◌⊎◌, Bool, false, List, [], Option, Result, Ok, Err, IfSome, IsOkAnd, if◌then◌else◌}
@@ -24,6 +25,8 @@ use Rattle.jc_words.specs.declared.words.Order.TheVariants as order
 use Rattle.jc_words.specs.Words.{default_shape}
 use Rattle.jc_single.specs.Played.{script_played}
 use Rattle.jc_single.specs.declared.orders.Output.{Output}
+use Rattle.jc_single.specs.declared.orders.Writing.{Writing}
+use Rattle.jc_single.specs.declared.orders.Writing.TheVariants as writing
 use Rattle.jc_single.specs.declared.status.Status.{Status}
 use Rattle.jc_single.specs.declared.status.Status.TheVariants as status
 
@@ -100,6 +103,11 @@ abbrev pub MayEnd : Result (List Command) BadLine → Status → Type 0
 MayEnd (Ok commands) ended = (ended ≡ status.Ok) ⊎ (ended ≡ status.HistoryFull)
 MayEnd (Err bad) ended = ended ≡ status.BadScript bad.number bad.cause
 
+-- The text of what is to be written.
+abbrev pub writing_text : Writing → List ℕ
+writing_text (writing.Whole bytes) = bytes.items
+writing_text (writing.Drafted report) = report
+
 -- What is written, as it is printed.
 abbrev pub printed_by : Output → Printed
-printed_by output = record { text = output.text.items; full = output.full }
+printed_by output = record { text = writing_text output.text; full = output.full }

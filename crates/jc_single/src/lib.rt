@@ -19,6 +19,6 @@ pub use laws::{
     jobs_end_or_wait, plays_tell_their_history, reapers_collect_what_is_due,
     runs_tell_their_history, single_runs_end_as_told,
 };
-pub use orders::Output;
+pub use orders::{Output, Writing};
 pub use single::{MOST_BYTES, run_order, run_single, write_output};
 pub use status::Status;

@@ -11,57 +11,65 @@ ghost use Rattle.jc_script.specs.Cause.{Cause};
 ghost use Rattle.jc_words.specs.FitOrders.{IsFitOrder, IsFitShape};
 ghost use Rattle.jc_words.specs.Words.{default_shape};
 ghost use Rattle.jc_single.specs.Played.{as_script};
-ghost use Rattle.jc_single.specs.RunAnswers.{IsSingle, answer_of, printed_by, report_printed, reported, summary_printed};
+ghost use Rattle.jc_single.specs.RunAnswers.{IsSingle, answer_of, printed_by, report_printed, reported, summary_printed, writing_text};
 
 use crate::plays::{Played, play_whole};
 use crate::reaps::reap_answer;
 use jc_gen::{generate, generated_commands_are_valid, generated_scripts_are_fit};
 use jc_io::Bytes;
-use jc_report::{report_of_machine, summary_of_machine};
+use jc_report::{Report, report_of_machine, summary_of_machine};
 use jc_script::{Cause, ScriptFault, read_script, scripts_fit_their_shape};
 use jc_types::{Script, Shape, Want};
 use jc_words::{Order, default_shape, orders_fit};
 use std::alloc::Global;
-use std::mem;
+
+/// A text that is to be written, in UTF-8.
+#[derive(Drop)]
+pub enum Writing {
+    /// It is there as a whole.
+    Whole(Bytes),
+    /// It is put together as it is written.
+    Drafted(Report),
+}
 
 /// What a run writes.
 #[derive(Drop)]
 pub struct Output {
-    /// The text, in UTF-8.
-    pub text: Bytes,
+    /// The text.
+    pub text: Writing,
     /// Whether the history is full.
     pub full: bool,
 }
 
 // The report of a play.
-fn print_report(alloc: Global, played: &Played) -> Result<Output, Want>
-    ensures text { IfOk result (λ output. output.text.items
-        ≡ report_text played.now.machine.script (reverse played.now.machine.pasts)
-        (log_seen played.now.machine) played.now.full) }
-    ensures full { IfOk result (λ output. output.full ≡ played.now.full) }
+fn print_report(alloc: Global, played: Played) -> Result<Output, Want>
+    ensures text { IfOk result (λ output. writing_text output.text
+        ≡ report_text played.machine.script (reverse played.machine.pasts)
+        (log_seen played.machine) played.full) }
+    ensures full { IfOk result (λ output. output.full ≡ played.full) }
 {
-    let text = report_of_machine(alloc, &played.machine, played.full)?;
+    let Played { machine, full } = played;
+    let report = report_of_machine(alloc, machine, full)?;
     Ok(Output {
-        text,
-        full: played.full,
+        text: Writing::Drafted(report),
+        full,
     })
 }
 
 // The summary of a play.
 fn print_summary(alloc: Global, played: &Played) -> Result<Output, Want>
-    ensures text { IfOk result (λ output. output.text.items
+    ensures text { IfOk result (λ output. writing_text output.text
         ≡ summary_of (log_seen played.now.machine) played.now.full) }
     ensures full { IfOk result (λ output. output.full ≡ played.now.full) }
 {
     let text = summary_of_machine(alloc, &played.machine, played.full)?;
     Ok(Output {
-        text,
+        text: Writing::Whole(text),
         full: played.full,
     })
 }
 
-/// The report of the play of a script. What was played is not given back piece by piece, which takes a tenth of the
-/// time: the program prints the report and ends.
+/// The report of the play of a script.
 pub(crate) fn script_answer(alloc: Global, script: Script, shape: Shape) -> Result<Output, Want>
     requires valid_actions { AreValidCommands script.commands }
     requires fits_shape { IsScriptFor script shape }
@@ -70,9 +78,7 @@ pub(crate) fn script_answer(alloc: Global, script: Script, shape: Shape) -> Resu
     ensures { IfOk result (λ output. printed_by output ≡ report_printed script shape) }
 {
     let played = play_whole(alloc, script, shape)?;
-    let output = print_report(alloc, &played)?;
-    mem::forget(played);
-    Ok(output)
+    print_report(alloc, played)
 }
 
 // The report of the play of the script in the input.

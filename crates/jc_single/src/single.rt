@@ -1,22 +1,23 @@
 //! The top call on one thread: it reads, plays and writes.
 
-ghost use Rattle.std.specs.Prelude.{◌≡◌, ◌≢◌, ◌≤◌, ◌+◌, ◌⊎◌, Err, IfOk, IsErrOf, None, Ok, OnErr, Some, if◌then◌else◌, map, string_bytes, vec_len};
-ghost use Rattle.std.specs.Io.KnownBytes.{Keeps};
-ghost use Rattle.jc_io.specs.Faults.{Rose};
-ghost use Rattle.jc_io.specs.Moved.{TakesAtMost, TakesCount};
+ghost use Rattle.std.specs.Prelude.{◌≡◌, ◌≢◌, ◌≤◌, ◌+◌, ◌⊎◌, Err, IfOk, IsErrOf, None, Ok, OnErr, OnOk, Some, if◌then◌else◌, map, string_bytes, vec_len};
+ghost use Rattle.std.specs.Io.KnownBytes.{Appends, Keeps};
+ghost use Rattle.jc_io.specs.Faults.{HasCause, Rose};
+ghost use Rattle.jc_io.specs.Moved.{AppendsFront, TakesAtMost, TakesCount};
 ghost use Rattle.jc_script.specs.Scripts.{most_bytes};
 ghost use Rattle.jc_words.specs.Words.{order_of};
 ghost use Rattle.jc_words.specs.declared.words.Order.{Order};
 ghost use Rattle.jc_words.specs.FitOrders.{IsFitOrder};
 ghost use Rattle.jc_single.specs.RunEnds.{Answers, HasMade, HasRun, HasWritten, IsUnread, RunHasEnded, change};
 ghost use Rattle.jc_single.specs.Played.{OfPlayed};
-ghost use Rattle.jc_single.specs.RunAnswers.{IsSingle, OfInput, printed_by};
+ghost use Rattle.jc_single.specs.RunAnswers.{IsSingle, OfInput, printed_by, writing_text};
 ghost use Rattle.jc_single.specs.Headlines.{TellsHistory, ends_full};
 
 use crate::laws::runs_tell_their_history;
-use crate::orders::{Output, answer};
+use crate::orders::{Output, Writing, answer};
 use crate::status::Status;
 use jc_io::{Bytes, ReadEnd, Sink, Source, WriteFault, read_all, write_all};
+use jc_report::write_report;
 use jc_script::ScriptFault;
 use jc_words::{Order, orders_fit, read_words};
 use std::alloc::Global;
@@ -80,13 +81,29 @@ fn made<S: Source>(alloc: Global, order: &Order, source: &mut S) -> Result<Outpu
     }
 }
 
+// Writes the text.
+//
+// As `write_all`.
+fn write_text<K: Sink>(text: Writing, sink: &mut K) -> Result<(), WriteFault>
+    ensures all { OnOk result (Appends (K.held sink.old) (K.held sink.new) (writing_text text)) }
+    ensures fault { HasCause (K.faults sink.old) (K.faults sink.new) result }
+    ensures front { OnErr result
+        (AppendsFront (K.held sink.old) (K.held sink.new) (writing_text text)) }
+{
+    match text {
+        Writing::Whole(bytes) => write_all(sink, bytes.as_slice()),
+        Writing::Drafted(report) => write_report(report, sink),
+    }
+}
+
 /// Writes the text, and says how the run ends.
-pub fn write_output<K: Sink>(output: &Output, sink: &mut K) -> Status
-    ensures { HasWritten (printed_by output.now)
+pub fn write_output<K: Sink>(output: Output, sink: &mut K) -> Status
+    ensures { HasWritten (printed_by output)
         (change (K.held sink.old) (K.held sink.new) (K.faults sink.old) (K.faults sink.new)) result }
 {
-    match write_all(sink, output.text.as_slice()) {
-        Ok(()) => ended(output.full),
+    let Output { text, full } = output;
+    match write_text(text, sink) {
+        Ok(()) => ended(full),
         Err(WriteFault) => Status::WriteFault,
     }
 }
@@ -107,7 +124,7 @@ pub fn run_order<S: Source, K: Sink>(
         (Answers order.now) result }
 {
     match made(alloc, order, source) {
-        Ok(output) => write_output(&output, sink),
+        Ok(output) => write_output(output, sink),
         Err(status) => status,
     }
 }

@@ -1,0 +1,3 @@
+pub mod AheadFacts
+pub mod LineFacts
+pub mod SendFacts
