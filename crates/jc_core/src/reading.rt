@@ -24,6 +24,14 @@ impl Cluster {
         &self.machine
     }
 
+    /// The machine, once no seat has a register to hold: these are given up.
+    pub fn into_machine(self) -> Machine
+        ensures { result ≡ self.seen }
+    {
+        let Cluster { machine, slots: _ } = self;
+        machine
+    }
+
     /// The script. It can be played on the shape.
     pub fn script(&self) -> &Script
         ensures script { result.now ≡ self.now.seen.script }

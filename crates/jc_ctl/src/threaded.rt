@@ -24,38 +24,36 @@ use jc_script::{ScriptFault, read_script, scripts_fit_their_shape};
 use jc_shared::{Cluster, Gate, Host, Play, ThreadsFault, run_threads, run_turn};
 use jc_single::{
     MOST_BYTES, Output, Status, Writing, legal_histories_keep_the_promises,
-    orderly_histories_have_small_numbers, report, write_output,
+    orderly_histories_have_small_numbers, report_of_machine, write_output,
 };
 use jc_types::{Shape, Want};
 use jc_words::LockKind;
 use std::alloc::{AllocError, Global};
-use std::mem;
 use std::sync::Wait;
 use std::thread::Threads;
 
 // What is printed of the cluster of a run on threads that has ended.
-fn told(alloc: Global, cluster: &Cluster, full: bool) -> Result<Output, Want>
-    requires valid_actions { AreValidCommands cluster.now.seen.script.commands }
-    requires some_controllers { 0 < cluster.now.seen.shape.controllers }
-    requires some_workers { 0 < cluster.now.seen.shape.workers }
-    requires few_events { cluster.now.seen.shape.events ≤ 200000 }
+fn told(alloc: Global, cluster: Cluster, full: bool) -> Result<Output, Want>
+    requires valid_actions { AreValidCommands cluster.seen.script.commands }
+    requires some_controllers { 0 < cluster.seen.shape.controllers }
+    requires some_workers { 0 < cluster.seen.shape.workers }
+    requires few_events { cluster.seen.shape.events ≤ 200000 }
     requires lanes { Each (λ (command : Command). command.lane < 2 ^ 8)
-        cluster.now.seen.script.commands }
-    requires few_controllers { cluster.now.seen.shape.controllers ≤ 4 }
-    requires few_workers { cluster.now.seen.shape.workers ≤ 16 }
-    requires ended { IsEndOfRun cluster.now.seen.script cluster.now.seen.shape
-        cluster.now.seen full }
+        cluster.seen.script.commands }
+    requires few_controllers { cluster.seen.shape.controllers ≤ 4 }
+    requires few_workers { cluster.seen.shape.workers ≤ 16 }
+    requires ended { IsEndOfRun cluster.seen.script cluster.seen.shape cluster.seen full }
     ensures full { IfOk result (λ output. output.full ≡ full) }
     ensures report { IfOk result (λ output. (threads : ℕ) → 1 ≤ threads
-        → IsReport threads cluster.now.seen.script cluster.now.seen.shape full
+        → IsReport threads cluster.seen.script cluster.seen.shape full
         (writing_text output.text)) }
 {
     legal_histories_keep_the_promises();
     orderly_histories_have_small_numbers();
     let _history = cluster.history();
-    let text = report(alloc, cluster, full)?;
+    let report = report_of_machine(alloc, cluster.into_machine(), full)?;
     Ok(Output {
-        text: Writing::Whole(text),
+        text: Writing::Drafted(report),
         full,
     })
 }
@@ -123,8 +121,7 @@ fn run_by<R: Threads + Wait + Sync, G: Gate + Sync>(
     }
 }
 
-// The report of a run of the script on threads. The cluster is not given back piece by piece: the program
-// prints the report and ends.
+// The report of a run of the script on threads.
 fn threaded_report<R: Threads + Wait + Sync, G: Gate + Sync>(
     host: &Host<'_, R, G>,
     lock: LockKind,
@@ -138,9 +135,7 @@ fn threaded_report<R: Threads + Wait + Sync, G: Gate + Sync>(
         IsReport play.entry.threads play.entry.script.now play.entry.shape.now output.full (writing_text output.text)) }
 {
     let ended = run_by(host, lock, play)?;
-    let output = told(host.alloc, &ended.cluster, ended.full);
-    mem::forget(ended);
-    output
+    told(host.alloc, ended.cluster, ended.full)
 }
 
 // The report of a run on threads of the script in the input.

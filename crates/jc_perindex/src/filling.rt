@@ -1,6 +1,5 @@
 //! Which indexes have failed.
 
-ghost use Rattle.std.specs.List.{list_any};
 ghost use Rattle.std.specs.Prelude.{
   ◌≡◌,
   ◌<◌,
@@ -27,7 +26,7 @@ ghost use Rattle.jc_perindex.specs.FillingSteps.{raise_each};
 use crate::counts::raise_each;
 use jc_ranges::Ranges;
 use jc_states::{Basis, Pods, has_end};
-use jc_types::{CountIn, IndexCount, IndexCounts, Job, Uid, Want};
+use jc_types::{CountIn, IndexCount, IndexCounts, Job, Piece, Uid, Want};
 use std::alloc::Global;
 
 // Whether the pods of the count's index have failed more often than the limit allows, or one of them
@@ -45,19 +44,7 @@ fn has_failed(limit: u32, completions: u32, completed: &Ranges, count: IndexCoun
     count.index < completions && is_past(limit, count) && !completed.contains(count.index)
 }
 
-// Whether the pods of an index of the piece have failed more often than the limit allows, or one of them
-// failed it. It goes over all of them: to stop at the first takes a test at each, and mostly there is none.
-fn has_past(limit: u32, counts: &[IndexCount]) -> bool
-    ensures { result ≡ list_any (is_past limit) counts.now }
-{
-    let mut found = false;
-    for count in counts {
-        found |= is_past(limit, *count);
-    }
-    found
-}
-
-// Adds the indexes of a piece that have failed to those of the pieces before. Most pieces have none.
+// Adds those of the indexes that have failed to those before them.
 //
 // # Errors
 // `Want` where there is no memory for them.
@@ -73,15 +60,35 @@ fn add_failed(
     ensures { OnOk result (set.new ≡ set.old ++ map (λ (count : IndexCount). count.index)
         (filter (has_failed limit completions completed.now) counts.now)) }
 {
-    if !has_past(limit, counts) {
-        return Ok(());
-    }
     for count in counts {
         if has_failed(limit, completions, completed, *count) {
             set.insert(count.index)?;
         }
     }
     Ok(())
+}
+
+// Adds the indexes of a piece that have failed to those of the pieces before. Most pieces have none, which a piece
+// tells without a look at its counts.
+//
+// # Errors
+// `Want` where there is no memory for them.
+fn add_piece(
+    set: &mut Ranges,
+    limit: u32,
+    completions: u32,
+    completed: &Ranges,
+    piece: &Piece,
+) -> Result<(), Want>
+    requires ascending { IsIncreasing (set.old ++ map (λ (count : IndexCount). count.index) piece.now) }
+    requires few_completions { completions ≤ GREATEST_COMPLETIONS }
+    ensures { OnOk result (set.new ≡ set.old ++ map (λ (count : IndexCount). count.index)
+        (filter (has_failed limit completions completed.now) piece.now)) }
+{
+    if piece.is_within(limit) {
+        return Ok(());
+    }
+    add_failed(set, limit, completions, completed, piece.as_slice())
 }
 
 // The indexes that have failed, of counts in ascending index.
@@ -100,7 +107,7 @@ fn failed_of(
     let mut set = Ranges::new(alloc);
     let pieces = counts.pieces();
     for piece in pieces {
-        add_failed(&mut set, limit, completions, completed, piece.as_slice())?;
+        add_piece(&mut set, limit, completions, completed, piece)?;
     }
     Ok(set)
 }

@@ -14,7 +14,7 @@ pub use jc_promise::{
     plays_are_orderly_histories,
 };
 pub use jc_reap::{reaped_commands_can_be_said, reaped_commands_fit};
-pub use jc_report::report;
+pub use jc_report::{report, report_of_machine};
 pub use laws::{
     jobs_end_or_wait, plays_tell_their_history, reapers_collect_what_is_due,
     runs_tell_their_history, single_runs_end_as_told,

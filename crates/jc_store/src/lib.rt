@@ -4,6 +4,7 @@
 //! do not name.
 #![tactic(auto)]
 
+mod containers;
 mod job_requests;
 mod new_objects;
 mod pod_requests;

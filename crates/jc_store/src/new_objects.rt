@@ -3,6 +3,7 @@ ghost use Rattle.std.specs.Prelude.{◌≡◌, ◌++◌, [], IfOk, OnOk, map, tr
 ghost use Rattle.jc_types.specs.declared.objects.Phase.TheVariants.{Pending};
 ghost use Rattle.jc_log.specs.Requests.{empty_status, new_container, new_containers};
 
+use super::containers::NewContainers;
 use jc_moment::Moment;
 use jc_ranges::Ranges;
 use jc_types::{
@@ -76,7 +77,7 @@ fn push_containers(list: &mut Containers, names: &[Name], init: bool) -> Result<
 }
 
 // The containers of a new pod.
-fn new_containers(alloc: Global, template: &Template) -> Result<Containers, Want>
+pub(super) fn new_containers(alloc: Global, template: &Template) -> Result<Containers, Want>
     ensures { IfOk result (λ r. r ≡ new_containers template.now) }
 {
     let mut list = Containers::new(alloc);
@@ -88,6 +89,7 @@ fn new_containers(alloc: Global, template: &Template) -> Result<Containers, Want
 // A pod of a Job: Pending, tracked and unmarked, with the containers of the Job's template.
 pub(super) fn new_pod(
     alloc: Global,
+    made: &mut NewContainers,
     owner: &Job,
     index: Option<u32>,
     serial: u32,
@@ -121,7 +123,7 @@ pub(super) fn new_pod(
         index,
         restart: template.restart,
         phase: Phase::Pending,
-        containers: new_containers(alloc, template)?,
+        containers: made.of(alloc, template)?,
         conditions: Patterns::new(alloc),
         marked: None,
         tracked: true,

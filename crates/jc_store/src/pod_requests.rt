@@ -30,7 +30,8 @@ impl Store {
         let uid = self.next_uid();
         let version = self.next_version()?;
         let serial = self.made_for(owner.uid);
-        let pod = new_pod(self.allocator(), owner, index, serial, uid, version, now)?;
+        let alloc = self.allocator();
+        let pod = new_pod(alloc, &mut self.fresh, owner, index, serial, uid, version, now)?;
         self.make_pod(pod)?;
         Ok(Reply::Created { uid, version })
     }
@@ -120,6 +121,7 @@ impl Store {
         let Some(found) = self.pod(pod) else {
             return Ok(Reply::NotFound);
         };
+        let found = found.copy()?;
         if is_final(found.phase) {
             return Ok(Reply::Final { phase: found.phase });
         }
@@ -129,13 +131,14 @@ impl Store {
                 to: Phase::Pending,
             });
         }
-        if let Some(unnamed) = first_unnamed(found, change.containers.as_slice()) {
+        if let Some(unnamed) = first_unnamed(&found, change.containers.as_slice()) {
             let name = unnamed.name.copy()?;
             return Ok(Reply::NoContainer { name });
         }
         let version = self.next_version()?;
-        let changed = with_report(self.allocator(), found, version, change)?;
-        if same_course_of(found, &changed) {
+        let alloc = self.allocator();
+        let changed = with_report(alloc, &mut self.reported, &found, version, change)?;
+        if same_course_of(&found, &changed) {
             return Ok(Reply::Unchanged {
                 version: found.version,
             });

@@ -6,6 +6,7 @@ ghost use Rattle.jc_types.specs.declared.objects.Phase.TheVariants.{Pending, Run
 ghost use Rattle.jc_log.specs.Requests.{changed_by, changed_container, given_exit, is_unnamed, named, put_pattern, same_course_of};
 ghost use Rattle.jc_types.specs.Equality.{same_phase, same_container, same_pattern};
 
+use super::containers::ReportedContainers;
 use jc_states::same_phase;
 use jc_types::{
     Arc, Container, ContainerChange, ContainerChanges, Containers, Copied, Name, Pattern, Patterns,
@@ -16,6 +17,7 @@ use std::alloc::Global;
 // The pod as the report says.
 pub(super) fn with_report(
     alloc: Global,
+    made: &mut ReportedContainers,
     pod: &Pod,
     version: Version,
     change: &PhaseChange,
@@ -38,7 +40,7 @@ pub(super) fn with_report(
             index: pod.index,
             restart: pod.restart,
             phase: change.phase,
-            containers: reported(alloc, &pod.containers, &change.containers)?,
+            containers: reported(alloc, made, &pod.containers, &change.containers)?,
             conditions: with_conditions(alloc, &pod.conditions, &change.conditions)?,
             marked: pod.marked,
             tracked: pod.tracked,
@@ -50,6 +52,7 @@ pub(super) fn with_report(
 // The containers as the report says. Most reports name none, and the pod's are then shared.
 fn reported(
     alloc: Global,
+    made: &mut ReportedContainers,
     containers: &Containers,
     changes: &ContainerChanges,
 ) -> Result<Containers, Want>
@@ -58,11 +61,11 @@ fn reported(
     if changes.is_empty() {
         return containers.copy();
     }
-    changed_containers(alloc, containers.as_slice(), changes.as_slice())
+    made.of(alloc, containers, changes)
 }
 
 // The containers with each change of their names.
-fn changed_containers(
+pub(super) fn changed_containers(
     alloc: Global,
     containers: &[Container],
     changes: &[ContainerChange],

@@ -11,6 +11,7 @@ ghost use Rattle.jc_log.specs.Tables.{Sets, at, puts};
 ghost use Rattle.jc_log.specs.Writes.{CanEnd, CanGo, IsNewJob, IsNewPod, StepsFrom, Stored};
 ghost use Rattle.jc_store.specs.Kept.{count_of};
 
+use super::containers::{NewContainers, ReportedContainers};
 use super::pod_table::owned;
 use indexmap::IndexMap;
 use jc_states::goes;
@@ -34,6 +35,10 @@ pub struct Store {
     pods: StoredPods,
     // How many pods were made for each owner that had one.
     made: IndexMap<Uid, u32>,
+    // The containers of the pod that was made last.
+    pub(super) fresh: NewContainers,
+    // The containers of the pod that was last reported of.
+    pub(super) reported: ReportedContainers,
 }
 
 impl Model for Store {
@@ -154,6 +159,8 @@ impl Store {
             jobs: Table::new(alloc),
             pods: StoredPods::new(alloc),
             made: IndexMap::new(alloc),
+            fresh: NewContainers::new(alloc),
+            reported: ReportedContainers::new(alloc),
         }
     }
 

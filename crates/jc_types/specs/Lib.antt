@@ -5,5 +5,6 @@ pub mod Counts
 pub mod PastLists
 pub mod ValidSpecs
 pub mod Pieces
+pub mod Weights
 pub mod Letters
 pub mod Halves

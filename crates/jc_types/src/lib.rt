@@ -40,7 +40,7 @@ pub use objects::{
     Container, Containers, Entries, Entry, Job, Jobs, Key, KeyNames, Kind, Phase, Pod,
 };
 pub use pasts::Pasts;
-pub use pieces::Pieces;
+pub use pieces::{IndexCounts, Piece};
 pub use policies::{
     Action, Codes, FailurePolicy, FailureRule, FailureRules, Operator, Pattern, Patterns,
     PodCondition, PodConditions, Requirement, SuccessPolicy, SuccessRule, SuccessRules, Truth,
@@ -49,7 +49,7 @@ pub use replies::{Answer, Field, Reply, Request};
 pub use runs::{Event, History, Past, Shape, Sys};
 pub use shared::Arc;
 pub use specifications::{JobSpec, Mode, Replacement, Restart, Template};
-pub use statuses::{CondKind, Condition, Conditions, IndexCount, IndexCounts, JobStatus, Reason};
+pub use statuses::{CondKind, Condition, Conditions, IndexCount, JobStatus, Reason};
 pub use syncs::{Backoff, CountIn, Indexes, PodVersions, counts};
 pub use texts::{Label, Name, Names, Text};
 pub use uid_words::uid_text;

@@ -1,4 +1,4 @@
-//! Lists in pieces, whose copies share all pieces but those that change.
+//! The failures of each index, in pieces: copies share all of them but those that change.
 
 ghost use Rattle.std.specs.Prelude.{
   ◌≡◌,
@@ -7,6 +7,7 @@ ghost use Rattle.std.specs.Prelude.{
   ◌-◌,
   ◌<◌,
   ◌≤◌,
+  All,
   ◌++◌,
   ◌∷◌,
   [],
@@ -26,9 +27,12 @@ ghost use Rattle.std.specs.Prelude.{
 };
 ghost use Rattle.std.specs.List.{flat_map, insert};
 ghost use Rattle.jc_types.specs.Pieces.{items_in, items_left, place_in};
+ghost use Rattle.jc_types.specs.Weights.{IsWithin, weight};
+ghost use Rattle.jc_types.specs.declared.statuses.IndexCount.{IndexCount};
 
 use crate::copies::{Copied, Same, Want};
 use crate::lists::{ListOf, copied_slice};
+use crate::statuses::IndexCount;
 use std::alloc::Global;
 use std::marker::Model;
 
@@ -45,27 +49,116 @@ struct Spot {
     place: usize,
 }
 
-/// A list in pieces. A contract sees the list of its items. Its copies share its memory; a change while a
-/// copy is alive copies one piece, and the list of the pieces.
+/// A piece of the failures of each index. A contract sees the list of its counts.
 #[derive(Drop)]
-pub struct Pieces<T> {
-    alloc: Global,
-    pieces: ListOf<ListOf<T>>,
+pub struct Piece {
+    counts: ListOf<IndexCount>,
+    // No count weighs more.
+    most: u64,
 }
 
-impl<T> Model for Pieces<T> {
+impl Model for Piece {
+    ghost use Rattle.std.specs.Prelude.{◌≤◌, All, List};
+    ghost use Rattle.jc_types.specs.declared.statuses.IndexCount.{IndexCount};
+    ghost use Rattle.jc_types.specs.Weights.{weight};
+
+    ghost Value = { List IndexCount };
+
+    ghost view = { λ p. p.counts };
+
+    ghost invariant = { λ p. All (λ (count : IndexCount). weight count ≤ p.most) p.counts };
+}
+
+/// The failures of each index that has some, in ascending index. They stand in pieces; a contract sees the list of
+/// all. Its copies share its memory; a change while a copy is alive copies one piece, and the list of the pieces.
+#[derive(Drop)]
+pub struct IndexCounts {
+    alloc: Global,
+    pieces: ListOf<Piece>,
+}
+
+impl Model for IndexCounts {
     ghost use Rattle.std.specs.Prelude.{List};
     ghost use Rattle.std.specs.List.{flat_map};
+    ghost use Rattle.jc_types.specs.declared.statuses.IndexCount.{IndexCount};
 
-    ghost Value = { List T };
+    ghost Value = { List IndexCount };
 
     ghost view = { λ p. flat_map (λ piece. piece) p.pieces };
+}
+
+// What a count weighs: its failures, and the most where the failure policy failed its index.
+fn weight(count: IndexCount) -> u64
+    ensures { result ≡ weight count }
+{
+    if count.fail { u64::MAX } else { count.failures }
+}
+
+// The greater of two weights.
+fn greater(one: u64, other: u64) -> u64
+    ensures one { one ≤ result }
+    ensures other { other ≤ result }
+{
+    if one < other { other } else { one }
+}
+
+// The greatest weight of these counts; 0 of none.
+fn greatest(counts: &[IndexCount]) -> u64
+    ensures { All (λ (count : IndexCount). weight count ≤ result) counts.now }
+{
+    let mut most = 0;
+    for count in counts {
+        most = greater(most, weight(*count));
+    }
+    most
+}
+
+impl Piece {
+    // The piece of these counts, which it takes over.
+    fn of_vec(alloc: Global, counts: Vec<IndexCount>) -> Result<Self, Want>
+        ensures { IfOk result (λ p. p ≡ counts.items) }
+    {
+        let most = greatest(counts.as_slice());
+        let counts = ListOf::of_vec(alloc, counts)?;
+        Ok(Piece { counts, most })
+    }
+
+    /// The number of counts.
+    pub fn len(&self) -> usize
+        ensures { result ≡ length self.now }
+    {
+        self.counts.len()
+    }
+
+    /// The counts, in ascending index.
+    pub fn as_slice(&self) -> &[IndexCount]
+        ensures { result.now ≡ self.now }
+    {
+        self.counts.as_slice()
+    }
+
+    /// Whether it is known, without a look at the counts, that none has more failures than this limit, and that the
+    /// failure policy failed the index of none.
+    pub fn is_within(&self, limit: u32) -> bool
+        ensures { IsTrue result → All (λ count. IsWithin limit count) self.now }
+    {
+        self.most <= u64::from(limit)
+    }
+}
+
+impl Copied for Piece {
+    fn copy(&self) -> Result<Self, Want> {
+        Ok(Piece {
+            counts: self.counts.copy()?,
+            most: self.most,
+        })
+    }
 }
 
 // The first spot at or behind the given one that has an item; the place of the given one may lie behind
 // its piece.
 #[tactic(auto, using(crate::proofs::PieceFacts::next_piece, crate::proofs::PieceFacts::all_passed))]
-fn spot_from<T>(pieces: &[ListOf<T>], from: Spot) -> Option<Spot>
+fn spot_from(pieces: &[Piece], from: Spot) -> Option<Spot>
     requires { from.piece ≤ length pieces.now }
     ensures piece { IfSome result (λ spot. spot.piece < length pieces.now) }
     ensures inside { IfSome result (λ spot. spot.place < length (get_or pieces.now spot.piece [])) }
@@ -99,27 +192,27 @@ fn with_other<T: Copied>(alloc: Global, items: &[T], place: usize, item: T) -> R
 }
 
 // The pieces with these items in place of a piece.
-fn with_one<T: Copied>(
+fn with_one(
     alloc: Global,
-    pieces: &[ListOf<T>],
+    pieces: &[Piece],
     number: usize,
-    items: Vec<T>,
-) -> Result<ListOf<ListOf<T>>, Want>
+    items: Vec<IndexCount>,
+) -> Result<ListOf<Piece>, Want>
     requires { number < length pieces.now }
     ensures { IfOk result (λ r. r ≡ set pieces.now number items.items) }
 {
-    let piece = ListOf::of_vec(alloc, items)?;
+    let piece = Piece::of_vec(alloc, items)?;
     ListOf::of_vec(alloc, with_other(alloc, pieces, number, piece)?)
 }
 
 // The pieces with these two in place of one.
-fn with_two<T: Copied>(
+fn with_two(
     alloc: Global,
-    pieces: &[ListOf<T>],
+    pieces: &[Piece],
     number: usize,
-    first: ListOf<T>,
-    second: ListOf<T>,
-) -> Result<ListOf<ListOf<T>>, Want>
+    first: Piece,
+    second: Piece,
+) -> Result<ListOf<Piece>, Want>
     requires { number < length pieces.now }
     ensures { IfOk result (λ r. r ≡ insert (set pieces.now number first) (number + 1) second) }
 {
@@ -130,31 +223,31 @@ fn with_two<T: Copied>(
 }
 
 // The pieces with these items, of which there are too many for one, in two pieces in place of one.
-fn with_halves<T: Copied>(
+fn with_halves(
     alloc: Global,
-    pieces: &[ListOf<T>],
+    pieces: &[Piece],
     number: usize,
-    items: Vec<T>,
-) -> Result<ListOf<ListOf<T>>, Want>
+    items: Vec<IndexCount>,
+) -> Result<ListOf<Piece>, Want>
     requires number { number < length pieces.now }
     requires many { HALF ≤ length items.items }
     ensures { IfOk result (λ r. r
         ≡ insert (set pieces.now number (take HALF items.items)) (number + 1) (drop HALF items.items)) }
 {
     let mut items = items;
-    let second = ListOf::of_vec(alloc, copied_slice(alloc, &items.as_slice()[HALF..], 0)?)?;
+    let second = Piece::of_vec(alloc, copied_slice(alloc, &items.as_slice()[HALF..], 0)?)?;
     items.truncate(HALF);
-    let first = ListOf::of_vec(alloc, items)?;
+    let first = Piece::of_vec(alloc, items)?;
     with_two(alloc, pieces, number, first, second)
 }
 
 // The pieces with an item in place of the one at the place.
-fn with_item<T: Copied>(
+fn with_item(
     alloc: Global,
-    pieces: &[ListOf<T>],
+    pieces: &[Piece],
     place: usize,
-    item: T,
-) -> Result<ListOf<ListOf<T>>, Want>
+    item: IndexCount,
+) -> Result<ListOf<Piece>, Want>
     requires { place < length (items_in pieces.now) }
     ensures { IfOk result (λ r. items_in r ≡ set (items_in pieces.now) place item) }
 {
@@ -168,12 +261,12 @@ fn with_item<T: Copied>(
 }
 
 // The pieces with an item more, before the one at the spot.
-fn with_more<T: Copied>(
+fn with_more(
     alloc: Global,
-    pieces: &[ListOf<T>],
+    pieces: &[Piece],
     spot: Spot,
-    item: T,
-) -> Result<ListOf<ListOf<T>>, Want>
+    item: IndexCount,
+) -> Result<ListOf<Piece>, Want>
     requires piece { spot.piece < length pieces.now }
     requires place { spot.place ≤ length (get_or pieces.now spot.piece []) }
     ensures { IfOk result (λ r. items_in r
@@ -189,7 +282,7 @@ fn with_more<T: Copied>(
 }
 
 // The end of the last piece, where it has room for an item more.
-fn room_of<T>(pieces: &[ListOf<T>]) -> Option<Spot>
+fn room_of(pieces: &[Piece]) -> Option<Spot>
     ensures piece { IfSome result (λ spot. spot.piece < length pieces.now) }
     ensures place { IfSome result (λ spot. spot.place ≤ length (get_or pieces.now spot.piece [])) }
     ensures last { IfSome result (λ spot. place_in pieces.now spot.piece spot.place
@@ -210,12 +303,12 @@ fn room_of<T>(pieces: &[ListOf<T>]) -> Option<Spot>
 }
 
 // The spot behind these items, where they stand in the pieces from the given spot on.
-fn spot_behind<T: Same>(pieces: &[ListOf<T>], from: Spot, items: &[T]) -> Option<Spot>
+fn spot_behind(pieces: &[Piece], from: Spot, items: &[IndexCount]) -> Option<Spot>
     requires { from.piece ≤ length pieces.now }
     ensures piece { IfSome result (λ spot. spot.piece ≤ length pieces.now) }
     ensures same { IfSome result (λ spot. items_left pieces.now from.piece from.place
         ≡ items.now ++ items_left pieces.now spot.piece spot.place) }
-    ensures other { IsNone result → (more : List T)
+    ensures other { IsNone result → (more : List IndexCount)
         → items_left pieces.now from.piece from.place ≡ items.now ++ more → ⊥ }
 {
     let mut spot = from;
@@ -235,7 +328,7 @@ fn spot_behind<T: Same>(pieces: &[ListOf<T>], from: Spot, items: &[T]) -> Option
 }
 
 // Whether the pieces have the same items, however they are cut.
-fn has_same_items<T: Same>(left: &[ListOf<T>], right: &[ListOf<T>]) -> bool
+fn has_same_items(left: &[Piece], right: &[Piece]) -> bool
     ensures { IsTrue result ↔ (items_in left.now ≡ items_in right.now) }
 {
     let mut spot = Spot { piece: 0, place: 0 };
@@ -248,32 +341,32 @@ fn has_same_items<T: Same>(left: &[ListOf<T>], right: &[ListOf<T>]) -> bool
     spot_from(right, spot).is_none()
 }
 
-impl<T> Pieces<T> {
+impl IndexCounts {
     /// The empty list. It takes no memory.
     pub fn new(alloc: Global) -> Self
         ensures { result ≡ [] }
     {
-        Pieces {
+        IndexCounts {
             alloc,
             pieces: ListOf::new(alloc),
         }
     }
 
     /// The pieces: their items, piece by piece, are those of the list.
-    pub fn pieces(&self) -> &[ListOf<T>]
+    pub fn pieces(&self) -> &[Piece]
         ensures { flat_map (λ piece. piece) result.now ≡ self.now }
     {
         self.pieces.as_slice()
     }
 }
 
-impl<T: Copied> Pieces<T> {
+impl IndexCounts {
     /// Adds an item at the end.
     ///
     /// # Errors
     /// `Want` where there is no memory; the list is then as before.
     #[tactic(auto, using(crate::proofs::PieceFacts::insert_end, crate::proofs::PieceFacts::piece_more))]
-    pub fn push(&mut self, item: T) -> Result<(), Want>
+    pub fn push(&mut self, item: IndexCount) -> Result<(), Want>
         ensures added { OnOk result (self.new ≡ self.old ++ item ∷ []) }
         ensures kept { OnErr result (self.new ≡ self.old) }
     {
@@ -281,16 +374,16 @@ impl<T: Copied> Pieces<T> {
             self.pieces = with_more(self.alloc, self.pieces.as_slice(), spot, item)?;
             return Ok(());
         }
-        let mut piece = ListOf::new(self.alloc);
-        piece.push(item)?;
-        self.pieces.push(piece)
+        let mut counts = Vec::with_capacity(self.alloc, 1)?;
+        counts.push(item)?;
+        self.pieces.push(Piece::of_vec(self.alloc, counts)?)
     }
 
     /// Writes an item in place of the one at the place, counted from 0.
     ///
     /// # Errors
     /// `Want` where there is no memory; the list is then as before.
-    pub fn set(&mut self, place: usize, item: T) -> Result<(), Want>
+    pub fn set(&mut self, place: usize, item: IndexCount) -> Result<(), Want>
         requires { place < length self.old }
         ensures written { OnOk result (self.new ≡ set self.old place item) }
         ensures kept { OnErr result (self.new ≡ self.old) }
@@ -304,7 +397,7 @@ impl<T: Copied> Pieces<T> {
     /// # Errors
     /// `Want` where there is no memory; the list is then as before.
     #[tactic(auto, using(crate::proofs::PieceFacts::insert_end))]
-    pub fn insert(&mut self, place: usize, item: T) -> Result<(), Want>
+    pub fn insert(&mut self, place: usize, item: IndexCount) -> Result<(), Want>
         requires { place ≤ length self.old }
         ensures added { OnOk result (self.new ≡ insert self.old place item) }
         ensures kept { OnErr result (self.new ≡ self.old) }
@@ -319,16 +412,16 @@ impl<T: Copied> Pieces<T> {
     }
 }
 
-impl<T: Copied> Copied for Pieces<T> {
+impl Copied for IndexCounts {
     fn copy(&self) -> Result<Self, Want> {
-        Ok(Pieces {
+        Ok(IndexCounts {
             alloc: self.alloc,
             pieces: self.pieces.copy()?,
         })
     }
 }
 
-impl<T: Same> Same for Pieces<T> {
+impl Same for IndexCounts {
     fn is_same(&self, other: &Self) -> bool {
         has_same_items(self.pieces.as_slice(), other.pieces.as_slice())
     }

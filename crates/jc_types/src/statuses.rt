@@ -3,7 +3,7 @@
 use crate::copies::{Copied, Same, Want};
 use crate::lists::ListOf;
 use crate::numbers::Uids;
-use crate::pieces::Pieces;
+use crate::pieces::IndexCounts;
 use jc_moment::Moment;
 use jc_ranges::Ranges;
 
@@ -72,9 +72,6 @@ pub struct IndexCount {
     /// How many of its pods were judged as failed.
     pub failures: u64,
 }
-
-/// The failures of each index that has some, in ascending index.
-pub type IndexCounts = Pieces<IndexCount>;
 
 /// The observed state of a Job.
 #[derive(Drop)]

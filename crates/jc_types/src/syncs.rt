@@ -6,7 +6,7 @@ ghost use Rattle.jc_types.specs.Counts.{counts as counts_of};
 use crate::copies::{Copied, Same, Want};
 use crate::lists::ListOf;
 use crate::numbers::{Uid, Uids, Version};
-use crate::statuses::IndexCounts;
+use crate::pieces::IndexCounts;
 use jc_moment::Moment;
 use jc_ranges::Ranges;
 

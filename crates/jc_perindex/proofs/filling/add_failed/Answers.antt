@@ -1,10 +1,8 @@
 -- The index of a count that has failed joins the set of those before it.
-use Rattle.std.proofs.Common.{◌++◌, map, refl, sym, ap, ◌∙◌}
-use Rattle.std.proofs.lemmas.List.{append-nil}
+use Rattle.std.proofs.Common.{refl, sym, ap, ◌∙◌}
 use Rattle.jc_ranges.specs.Sets.{with_member}
 use Rattle.jc_perindex.specs.Failures.{has_failed}
-use Rattle.jc_types.specs.declared.statuses.IndexCount.{IndexCount}
-use Rattle.jc_perindex.proofs.Sets.{joins-next, none-past, skips-next}
+use Rattle.jc_perindex.proofs.Sets.{joins-next, skips-next}
 use Rattle.jc_perindex.proofs.filling.add_failed.Goals as goal
 use Rattle.jc_perindex.proofs.filling.add_failed.Goals.{then-has_failed+in_ok-insert, else-has_failed}
 
@@ -20,10 +18,3 @@ loop-count-preserved c =
           ∙ skips-next (has_failed c.args.limit c.args.completions c.args.completed.now) c.args.set.now c.args.counts.now c.loop-count.count-index _ _ c.requires.ascending c.loop-count-test.true refl
           (sym c.has_failed.ensures ∙ w.if-has_failed.false)
     ]
-
--- Where no index is past the limit none has failed.
-pub returns-then-not-has_past : goal.returns-then-not-has_past
-returns-then-not-has_past c =
-    sym (ap (λ counts. c.args.set.now ++ map (λ (count : IndexCount). count.index) counts)
-    (none-past c.args.limit c.args.completions c.args.completed.now c.args.counts.now (sym c.has_past.ensures ∙ c.if-not-has_past.true))
-    ∙ append-nil c.args.set.now)

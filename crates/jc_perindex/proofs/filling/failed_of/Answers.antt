@@ -8,16 +8,16 @@ use Rattle.jc_perindex.specs.Failures.{has_failed}
 use Rattle.jc_perindex.proofs.Sets.{next-piece, piece-above}
 use Rattle.jc_perindex.proofs.filling.failed_of.Goals as goal
 
-pub add_failed-requires-clause-ascending : goal.add_failed-requires-clause-ascending
-add_failed-requires-clause-ascending c =
+pub add_piece-requires-clause-ascending : goal.add_piece-requires-clause-ascending
+add_piece-requires-clause-ascending c =
     piece-above (has_failed c.args.limit c.args.completions c.args.completed.now) c.pieces-pieces.result.now c.loop-piece.piece-index _ _
     (subst (λ counts. IsIncreasing (map (λ (count : IndexCount). count.index) counts)) (sym c.pieces-pieces.ensures) c.requires.ascending) c.loop-piece-test.true
-    (c.as_slice.ensures ∙ get_or_read c.pieces-pieces.result.now c.loop-piece.piece-index _ c.loop-piece-test.true c.piece-item.is []) c.loop-piece.invariant
+    (get_or_read c.pieces-pieces.result.now c.loop-piece.piece-index _ c.loop-piece-test.true c.piece-item.is []) c.loop-piece.invariant
 
 pub loop-piece-preserved : goal.loop-piece-preserved
 loop-piece-preserved c =
     next-piece (has_failed c.args.limit c.args.completions c.args.completed.now) c.pieces-pieces.result.now c.loop-piece.piece-index _ _ _ c.loop-piece-test.true
-    (c.as_slice.ensures ∙ get_or_read c.pieces-pieces.result.now c.loop-piece.piece-index _ c.loop-piece-test.true c.piece-item.is []) c.loop-piece.invariant c.in_ok-add_failed.ensures
+    (get_or_read c.pieces-pieces.result.now c.loop-piece.piece-index _ c.loop-piece-test.true c.piece-item.is []) c.loop-piece.invariant c.in_ok-add_piece.ensures
 
 pub returns : goal.returns
 returns c =

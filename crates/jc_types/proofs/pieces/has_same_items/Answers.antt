@@ -11,7 +11,7 @@ turned true h = refl
 turned false h = absurd (true≢false h)
 
 pub returns-in-None : goal.returns-in-None
-returns-in-None g c = (
+returns-in-None c = (
   λ t. absurd (true≢false (sym t)),
   λ e.
       absurd (c.in-None.ensures.other refl (items_in (drop (suc c.loop-piece.piece-index) c.args.left.now))
@@ -20,7 +20,7 @@ returns-in-None g c = (
 )
 
 pub returns : goal.returns
-returns g c =
+returns c =
     let same : items_in c.args.right.now ≡ items_in c.args.left.now ++ items_left c.args.right.now c.loop-piece.spot.piece c.loop-piece.spot.place =
     c.loop-piece.invariant.same
     ∙ ap (λ ps. items_in ps ++ items_left c.args.right.now c.loop-piece.spot.piece c.loop-piece.spot.place) (take_all c.loop-piece.piece-index c.args.left.now c.loop-piece-test.false) in (

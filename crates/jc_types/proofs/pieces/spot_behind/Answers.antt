@@ -5,7 +5,7 @@ use Rattle.jc_types.proofs.PieceFacts.{another, left_here, one_found}
 use Rattle.jc_types.proofs.pieces.spot_behind.Goals as goal
 
 pub returns-then-not-is_same-clause-other : goal.returns-then-not-is_same-clause-other
-returns-then-not-is_same-clause-other g c =
+returns-then-not-is_same-clause-other c =
     λ _ more e.
     another _ c.args.items.now _ _ c.loop-item.item-index c.item-item.result c.index-as_slice-found.result c.index-as_slice-found.result c.loop-item.invariant.same
     (left_here c.args.pieces.now c.in-Some.found.piece c.in-Some.found.place c.loop-item.spot.piece c.loop-item.spot.place c.index-as_slice-found.result c.index-as_slice-found.result
@@ -15,7 +15,7 @@ returns-then-not-is_same-clause-other g c =
     (get_or_read c.args.items.now c.loop-item.item-index _ c.loop-item-test.true c.item-item.is c.index-as_slice-found.result) more e
 
 pub loop-item-preserved : goal.loop-item-preserved
-loop-item-preserved g c = record {
+loop-item-preserved c = record {
   within = omega (arith, c.in-Some.ensures.piece);
   same =
       one_found _ c.args.items.now _ _ c.loop-item.item-index c.item-item.result c.index-as_slice-found.result c.index-as_slice-found.result c.loop-item.invariant.same

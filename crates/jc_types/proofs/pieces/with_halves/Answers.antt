@@ -5,7 +5,7 @@ use Rattle.jc_types.specs.declared.pieces.TheConstants.{HALF}
 use Rattle.jc_types.proofs.pieces.with_halves.Goals as goal
 
 pub returns : goal.returns
-returns g c =
+returns c =
     IfOk-weaker c.with_two.result _ _
     (λ r e.
     let first : c.in_ok-first.first ≡ take HALF c.args.items.items = c.in_ok-first.ensures ∙ c.truncate.ensures.items in

@@ -7,7 +7,7 @@ use Rattle.jc_types.proofs.PieceFacts.{set_at}
 use Rattle.jc_types.proofs.pieces.with_item.Goals as goal
 
 pub returns : goal.returns
-returns g c =
+returns c =
     IfOk-weaker c.with_one.result _ _
     (λ r e.
     let items : c.in_ok-items-in-Some.items.items ≡ set (get_or c.args.pieces.now c.in-Some.spot.piece []) c.in-Some.spot.place c.args.item =

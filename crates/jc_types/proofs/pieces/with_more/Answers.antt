@@ -10,7 +10,7 @@ use Rattle.jc_types.proofs.pieces.with_more.Goals as goal
 
 -- The items of the piece with one more.
 pub returns-then-len-le-MOST : goal.returns-then-len-le-MOST
-returns-then-len-le-MOST g c =
+returns-then-len-le-MOST c =
     IfOk-weaker c.with_one.result _ _
     (λ r e.
     let own : c.in_ok-items.items.items ≡ get_or c.args.pieces.now c.args.spot.piece [] =
@@ -22,7 +22,7 @@ returns-then-len-le-MOST g c =
     c.with_one.ensures
 
 pub returns-else-len-le-MOST : goal.returns-else-len-le-MOST
-returns-else-len-le-MOST g c =
+returns-else-len-le-MOST c =
     IfOk-weaker c.with_halves.result _ _
     (λ r e.
     let own : c.in_ok-items.items.items ≡ get_or c.args.pieces.now c.args.spot.piece [] =

@@ -1,0 +1,13 @@
+-- What a count of the failures of an index weighs against a limit.
+--     IsWithin limit count   not more pods of the index have failed than this, and the failure policy failed it for none
+--     weight count           the failures, or more than any limit where the failure policy failed the index
+use Rattle.std.specs.Prelude.{ℕ, ◌≡◌, ◌-◌, ◌^◌, ◌≤◌, false, if◌then◌else◌}
+use Rattle.jc_types.specs.declared.statuses.IndexCount.{IndexCount}
+
+-- Not more pods of the index have failed than this, and the failure policy failed it for none.
+abbrev pub IsWithin : ℕ → IndexCount → Type 0
+IsWithin limit count = (count.failures ≤ limit) × (count.fail ≡ false)
+
+-- The failures, or more than any limit of 32 bits where the failure policy failed the index.
+abbrev pub weight : IndexCount → ℕ
+weight count = if count.fail then 2 ^ 64 - 1 else count.failures
