@@ -2,8 +2,8 @@
 use Rattle.std.proofs.Common.{◌≡◌, ℕ, ◌+◌, ◌-◌, ◌<◌, ◌≤◌, zero, suc, List, [], ◌∷◌, ◌++◌, length, get_or, take, drop, Option, Some, None, false, refl, sym, ap, ◌∙◌, append_assoc, arith}
 use Rattle.std.specs.Prelude.{IfSome, is_some}
 use Rattle.std.proofs.Math.ListN.{set}
-use Rattle.std.specs.List.{flat_map, insert}
-use Rattle.std.proofs.lemmas.List.{append-nil, append_cancel_left, length-append, length-drop, length-take-le, nil_from_length, set-append_left, set-append_right, take-append-drop, take-append-le, drop-append-le, take_all, drop_all}
+use Rattle.std.specs.List.{insert}
+use Rattle.std.proofs.lemmas.List.{length-append, length-drop, length-take-le, nil_from_length, set-append_left, set-append_right, take-append-drop, take-append-le, drop-append-le, take_all, drop_all}
 use Rattle.std.proofs.lemmas.List.{drop_more, take_more, get_or_at, get_or_append_left, flat_map_more}
 use Rattle.std.proofs.lemmas.List.Concat.{get_or-flat_map}
 use Rattle.jc_types.specs.Pieces.{items_in, items_left, place_in}
