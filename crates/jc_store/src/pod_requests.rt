@@ -31,7 +31,16 @@ impl Store {
         let version = self.next_version()?;
         let serial = self.made_for(owner.uid);
         let alloc = self.allocator();
-        let pod = new_pod(alloc, &mut self.fresh, owner, index, serial, uid, version, now)?;
+        let pod = new_pod(
+            alloc,
+            &mut self.fresh,
+            owner,
+            index,
+            serial,
+            uid,
+            version,
+            now,
+        )?;
         self.make_pod(pod)?;
         Ok(Reply::Created { uid, version })
     }

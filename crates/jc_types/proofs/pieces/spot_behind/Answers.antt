@@ -23,15 +23,15 @@ returns-then-not-is_same-clause-other c =
     refl more e
 
 pub loop-item-preserved : goal.loop-item-preserved
-loop-item-preserved c = 
-  let none : IndexCount = record { index = 0; failures = 0; fail = false } in
-  record {
-  within = omega (arith, c.in-Some.ensures.piece);
-  same =
-      one_found _ c.args.items.now _ _ c.loop-item.item-index (get_or c.args.items.now c.loop-item.item-index none) (get_or c.as_slice.result.now c.in-Some.found.place none) none c.loop-item.invariant.same
-      (left_here c.args.pieces.now c.in-Some.found.piece c.in-Some.found.place c.loop-item.spot.piece c.loop-item.spot.place (get_or c.as_slice.result.now c.in-Some.found.place none) none
-      c.in-Some.ensures.piece c.in-Some.ensures.inside c.in-Some.ensures.same
-      (ap (λ p. get_or p c.in-Some.found.place none) (c.as_slice.ensures ∙ get_or_read c.args.pieces.now c.in-Some.found.piece _ c.in-Some.ensures.piece c.index-pieces-found.is [])))
-      c.loop-item-test.true (c.is_same.ensures.0 c.if-not-is_same.false)
-      refl;
-}
+loop-item-preserved c =
+    let none : IndexCount = record { index = 0; failures = 0; fail = false } in
+    record {
+      within = omega (arith, c.in-Some.ensures.piece);
+      same =
+          one_found _ c.args.items.now _ _ c.loop-item.item-index (get_or c.args.items.now c.loop-item.item-index none) (get_or c.as_slice.result.now c.in-Some.found.place none) none c.loop-item.invariant.same
+          (left_here c.args.pieces.now c.in-Some.found.piece c.in-Some.found.place c.loop-item.spot.piece c.loop-item.spot.place (get_or c.as_slice.result.now c.in-Some.found.place none) none
+          c.in-Some.ensures.piece c.in-Some.ensures.inside c.in-Some.ensures.same
+          (ap (λ p. get_or p c.in-Some.found.place none) (c.as_slice.ensures ∙ get_or_read c.args.pieces.now c.in-Some.found.piece _ c.in-Some.ensures.piece c.index-pieces-found.is [])))
+          c.loop-item-test.true (c.is_same.ensures.0 c.if-not-is_same.false)
+          refl;
+    }
