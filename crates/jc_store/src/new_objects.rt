@@ -3,7 +3,6 @@ ghost use Rattle.std.specs.Prelude.{◌≡◌, ◌++◌, [], IfOk, OnOk, map, tr
 ghost use Rattle.jc_types.specs.declared.objects.Phase.TheVariants.{Pending};
 ghost use Rattle.jc_log.specs.Requests.{empty_status, new_container, new_containers};
 
-use super::containers::NewContainers;
 use jc_moment::Moment;
 use jc_ranges::Ranges;
 use jc_types::{
@@ -86,17 +85,18 @@ pub(super) fn new_containers(alloc: Global, template: &Template) -> Result<Conta
     Ok(list)
 }
 
-// A pod of a Job: Pending, tracked and unmarked, with the containers of the Job's template.
+// A pod of a Job: Pending, tracked and unmarked, with these containers, those of the Job's template.
 pub(super) fn new_pod(
     alloc: Global,
-    made: &mut NewContainers,
     owner: &Job,
+    containers: Containers,
     index: Option<u32>,
     serial: u32,
     uid: Uid,
     version: Version,
     now: Moment,
 ) -> Result<Pod, Want>
+    requires { containers ≡ new_containers owner.now.spec.template }
     ensures { IfOk result (λ r. r ≡ record {
       uid = uid;
       version = version;
@@ -113,7 +113,6 @@ pub(super) fn new_pod(
       created = now;
     }) }
 {
-    let template = &owner.spec.template;
     Ok(Pod {
         uid,
         version,
@@ -121,9 +120,9 @@ pub(super) fn new_pod(
         owner_uid: owner.uid,
         serial,
         index,
-        restart: template.restart,
+        restart: owner.spec.template.restart,
         phase: Phase::Pending,
-        containers: made.of(alloc, template)?,
+        containers,
         conditions: Patterns::new(alloc),
         marked: None,
         tracked: true,

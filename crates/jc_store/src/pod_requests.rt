@@ -27,20 +27,12 @@ impl Store {
         ensures { GivesOrKeeps self.old self.new
             (create_pod_gives self.old owner.now index now) result }
     {
+        let containers = self.containers_of(&owner.spec.template)?;
         let uid = self.next_uid();
         let version = self.next_version()?;
         let serial = self.made_for(owner.uid);
         let alloc = self.allocator();
-        let pod = new_pod(
-            alloc,
-            &mut self.fresh,
-            owner,
-            index,
-            serial,
-            uid,
-            version,
-            now,
-        )?;
+        let pod = new_pod(alloc, owner, containers, index, serial, uid, version, now)?;
         self.make_pod(pod)?;
         Ok(Reply::Created { uid, version })
     }
@@ -144,9 +136,9 @@ impl Store {
             let name = unnamed.name.copy()?;
             return Ok(Reply::NoContainer { name });
         }
+        let containers = self.containers_after(&found.containers, &change.containers)?;
         let version = self.next_version()?;
-        let alloc = self.allocator();
-        let changed = with_report(alloc, &mut self.reported, &found, version, change)?;
+        let changed = with_report(self.allocator(), &found, version, change, containers)?;
         if same_course_of(&found, &changed) {
             return Ok(Reply::Unchanged {
                 version: found.version,

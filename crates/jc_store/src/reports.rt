@@ -6,22 +6,22 @@ ghost use Rattle.jc_types.specs.declared.objects.Phase.TheVariants.{Pending, Run
 ghost use Rattle.jc_log.specs.Requests.{changed_by, changed_container, given_exit, is_unnamed, named, put_pattern, same_course_of};
 ghost use Rattle.jc_types.specs.Equality.{same_phase, same_container, same_pattern};
 
-use super::containers::ReportedContainers;
 use jc_states::same_phase;
 use jc_types::{
-    Arc, Container, ContainerChange, ContainerChanges, Containers, Copied, Name, Pattern, Patterns,
-    Phase, PhaseChange, Pod, Same, Text, Version, Want,
+    Arc, Container, ContainerChange, Containers, Copied, Name, Pattern, Patterns, Phase,
+    PhaseChange, Pod, Same, Text, Version, Want,
 };
 use std::alloc::Global;
 
-// The pod as the report says.
+// The pod as the report says, with these containers, which are as it says.
 pub(super) fn with_report(
     alloc: Global,
-    made: &mut ReportedContainers,
     pod: &Pod,
     version: Version,
     change: &PhaseChange,
+    containers: Containers,
 ) -> Result<Arc<Pod>, Want>
+    requires { containers ≡ map (changed_container change.now.containers) pod.now.containers }
     ensures { IfOk result (λ r. r ≡ record pod.now {
       version = version;
       phase = change.now.phase;
@@ -40,28 +40,13 @@ pub(super) fn with_report(
             index: pod.index,
             restart: pod.restart,
             phase: change.phase,
-            containers: reported(alloc, made, &pod.containers, &change.containers)?,
+            containers,
             conditions: with_conditions(alloc, &pod.conditions, &change.conditions)?,
             marked: pod.marked,
             tracked: pod.tracked,
             created: pod.created,
         },
     )
-}
-
-// The containers as the report says. Most reports name none, and the pod's are then shared.
-fn reported(
-    alloc: Global,
-    made: &mut ReportedContainers,
-    containers: &Containers,
-    changes: &ContainerChanges,
-) -> Result<Containers, Want>
-    ensures { IfOk result (λ r. r ≡ map (changed_container changes.now) containers.now) }
-{
-    if changes.is_empty() {
-        return containers.copy();
-    }
-    made.of(alloc, containers, changes)
 }
 
 // The containers with each change of their names.

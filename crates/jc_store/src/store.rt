@@ -1,8 +1,8 @@
 //! The store, what can be read of it, and how entries are appended.
-ghost use Rattle.std.specs.Prelude.{◌≡◌, ◌<◌, ◌≤◌, ◌+◌, ◌-◌, ◌^◌, ◌∷◌, ◌++◌, [], reverse, length, option_copied, find, nat_le, ◌&&◌, false, true, IfOk, IsSome, OnOk, OnErr, None, Some};
+ghost use Rattle.std.specs.Prelude.{◌≡◌, ◌<◌, ◌≤◌, ◌+◌, ◌-◌, ◌^◌, ◌∷◌, ◌++◌, [], reverse, length, map, option_copied, find, nat_le, ◌&&◌, false, true, IfOk, IsSome, OnOk, OnErr, None, Some};
 ghost use Rattle.jc_types.specs.declared.numbers.Uid.{Uid};
 ghost use Rattle.jc_types.specs.declared.objects.Entry.TheVariants.{JobGone, JobPut, PodGone, PodPut};
-ghost use Rattle.jc_log.specs.Requests.{pod_entry};
+ghost use Rattle.jc_log.specs.Requests.{changed_container, new_containers, pod_entry};
 ghost use Rattle.jc_types.specs.Keys.{same_key, same_uid};
 ghost use Rattle.jc_log.specs.Log.{RowsRise, births, entry_at, job_in, jobs_in, life, made_for, next_uid, next_version, pod_in, pods_in, pods_of};
 ghost use Rattle.jc_states.specs.PodLists.{put_pod};
@@ -16,7 +16,10 @@ use super::pod_table::owned;
 use indexmap::IndexMap;
 use jc_states::goes;
 use jc_table::{PodTable, StoredPods, Table};
-use jc_types::{Arc, Copied, Entries, Entry, Job, Key, ListOf, Pod, Uid, Version, Want};
+use jc_types::{
+    Arc, ContainerChanges, Containers, Copied, Entries, Entry, Job, Key, ListOf, Pod, Template,
+    Uid, Version, Want,
+};
 use std::alloc::{AllocError, Global};
 use std::marker::Model;
 
@@ -36,9 +39,9 @@ pub struct Store {
     // How many pods were made for each owner that had one.
     made: IndexMap<Uid, u32>,
     // The containers of the pod that was made last.
-    pub(super) fresh: NewContainers,
+    fresh: NewContainers,
     // The containers of the pod that was last reported of.
-    pub(super) reported: ReportedContainers,
+    reported: ReportedContainers,
 }
 
 impl Model for Store {
@@ -237,6 +240,30 @@ impl Store {
         ensures { IfOk result (λ pods. pods.items ≡ pods_of owner self.now) }
     {
         owned(self.alloc, self.pods.all(), owner)
+    }
+
+    // The containers of a new pod of the template.
+    pub(super) fn containers_of(&mut self, template: &Template) -> Result<Containers, Want>
+        ensures kept { self.new ≡ self.old }
+        ensures containers { IfOk result (λ r. r ≡ new_containers template.now) }
+    {
+        self.fresh.of(self.alloc, template)
+    }
+
+    // The containers as a report says. Most reports name none, and the pod's are then shared.
+    pub(super) fn containers_after(
+        &mut self,
+        containers: &Containers,
+        changes: &ContainerChanges,
+    ) -> Result<Containers, Want>
+        ensures kept { self.new ≡ self.old }
+        ensures containers { IfOk result
+            (λ r. r ≡ map (changed_container changes.now) containers.now) }
+    {
+        if changes.is_empty() {
+            return containers.copy();
+        }
+        self.reported.of(self.alloc, containers, changes)
     }
 
     // Where the memory of new objects comes from.

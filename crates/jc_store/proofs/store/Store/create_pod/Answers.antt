@@ -10,7 +10,7 @@ make_pod-requires-clause-new_pod c = record {
   serial =
       ap (λ p. p.serial) c.in_ok-pod.ensures
       ∙ c.made_for-serial.ensures
-      ∙ ap (λ p. made_for p.owner_uid c.args.self.now) (sym c.in_ok-pod.ensures);
+      ∙ ap (λ p. made_for p.owner_uid c.containers_of.new.self) (sym c.in_ok-pod.ensures);
   phase = ap (λ p. p.phase) c.in_ok-pod.ensures;
   exits =
       subst (Each (λ container. container.exit ≡ None)) (sym (ap (λ p. p.containers) c.in_ok-pod.ensures))
