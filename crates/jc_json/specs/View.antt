@@ -1,7 +1,7 @@
 -- The data that a value stands for.
 use Rattle.std.specs.Prelude.{ℕ, true, false, List, [], ◌∷◌, map}
 use Rattle.std.specs.Borrow.{Bor}
-use Rattle.serde_json.specs.Data.{Data, null, boolean, number, string, array, object, Items, no_items, item, Members, no_members, member, put}
+use Rattle.serde_json.specs.Data.{Data, null, boolean, number, string, array, object, Items, Members, no_members, member, put}
 use Rattle.serde_json.specs.View.{items_of, number_view}
 use Rattle.jc_json.specs.declared.value.Value.{Value, fold-Value}
 use Rattle.jc_json.specs.declared.value.Value.TheOpen.{Value-F}

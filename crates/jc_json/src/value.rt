@@ -1,6 +1,6 @@
 //! Values that borrow their texts from the line that they were read of.
 
-ghost use Rattle.std.specs.Prelude.{◌≡◌, is_some, option_map};
+ghost use Rattle.std.specs.Prelude.{◌≡◌, bytes_eq, is_some, option_map};
 ghost use Rattle.serde_json.specs.Data.{boolean, no_members};
 ghost use Rattle.serde_json.specs.Find.{as_array, as_object, get, get_member};
 ghost use Rattle.jc_json.specs.View.{view, items_view, members_view};
@@ -71,6 +71,14 @@ pub(crate) fn truth<'a>(is_true: bool) -> Value<'a>
     if is_true { Value::True } else { Value::False }
 }
 
+// Whether a name is the other. One of another length is passed with no call.
+#[inline(always)]
+fn is_named(name: &str, other: &str) -> bool
+    ensures { result ≡ bytes_eq name.now other.now }
+{
+    name.len() == other.len() && name == other
+}
+
 // The last member of that name.
 fn find<'v, 'a>(members: &'v Vec<(&'a str, Value<'a>)>, name: &str) -> Option<&'v Value<'a>>
     ensures { option_map (λ v. view v.now) result
@@ -80,7 +88,7 @@ fn find<'v, 'a>(members: &'v Vec<(&'a str, Value<'a>)>, name: &str) -> Option<&'
     while left > 0 {
         left -= 1;
         let member = &members[left];
-        if member.0 == name {
+        if is_named(member.0, name) {
             return Some(&member.1);
         }
     }

@@ -1,8 +1,8 @@
 //! What is reported of a pod's containers.
 
-ghost use Rattle.std.specs.Prelude.{◌≡◌, ◌≤◌, ◌<◌, ◌≤ℤ◌, true, IfOk, IfSome, OnOk, is_some, length, map, option_map, pos, unwrap_or};
-ghost use Rattle.serde_json.specs.Data.{boolean, null, no_members, put};
-ghost use Rattle.jc_json.specs.View.{view, ordered_view};
+ghost use Rattle.std.specs.Prelude.{◌≡◌, ◌≤◌, ◌<◌, ◌≤ℤ◌, [], true, IfOk, IfSome, IsTrue, OnOk, is_some, length, map, option_map, pos, unwrap_or};
+ghost use Rattle.serde_json.specs.Data.{boolean, member, null, no_members, put};
+ghost use Rattle.jc_json.specs.View.{members_view, ordered_view, view};
 ghost use Rattle.jc_json.specs.Field.{unless_null};
 ghost use Rattle.jc_members.specs.LineCauses.{Says};
 ghost use Rattle.jc_members.specs.Items.{all_said};
@@ -43,6 +43,33 @@ fn given_names<'v, 'a>(alloc: Global, members: &Ordered<'v, 'a>) -> Result<Vec<&
     Ok(names)
 }
 
+// The name of a member, where it is given.
+fn given_name<'v>(alloc: Global, name: &'v str, value: &Value) -> Result<Vec<&'v str>, Want>
+    ensures { IfOk result (λ names. map (λ name. name.now) names.items
+        ≡ given_names (member name.now (view value.now) no_members)) }
+{
+    let mut names = Vec::new(alloc);
+    if is_given(value) {
+        names.push(name)?;
+    }
+    Ok(names)
+}
+
+// The names of those of these members that are given. One member is in order.
+#[tactic(auto, using(crate::proofs::Named::one_member))]
+fn names_of<'v, 'a>(
+    alloc: Global,
+    members: &'v [(&'a str, Value<'a>)],
+) -> Result<Vec<&'v str>, Want>
+    ensures { IfOk result (λ names. map (λ name. name.now) names.items
+        ≡ given_names (members_view members.now no_members)) }
+{
+    if members.len() == 1 {
+        return given_name(alloc, members[0].0, &members[0].1);
+    }
+    given_names(alloc, &in_order(alloc, members)?)
+}
+
 // The names of the members of an object that are given.
 #[tactic(auto, unfolding(crate::specs::Phases::member_names))]
 fn names_in<'v, 'a>(alloc: Global, value: &'v Value<'a>) -> Result<Vec<&'v str>, Want>
@@ -50,7 +77,7 @@ fn names_in<'v, 'a>(alloc: Global, value: &'v Value<'a>) -> Result<Vec<&'v str>,
         ≡ member_names (view value.now)) }
 {
     match value.as_object() {
-        Some(members) => given_names(alloc, &in_order(alloc, members.as_slice())?),
+        Some(members) => names_of(alloc, members.as_slice()),
         None => Ok(Vec::new(alloc)),
     }
 }
@@ -259,8 +286,16 @@ fn read_changes(
     Ok(changes)
 }
 
+// Whether the names of both are those of the first, and in order: one name is, beside none.
+fn is_one(exits: &[&str], restarts: &[&str]) -> bool
+    ensures few { IsTrue result → length (map (λ name. name.now) exits.now) ≤ 1 }
+    ensures none { IsTrue result → map (λ name. name.now) restarts.now ≡ [] }
+{
+    exits.len() <= 1 && restarts.is_empty()
+}
+
 // What is said of each container that either object names.
-#[tactic(auto, using(crate::proofs::Named::either_named))]
+#[tactic(auto, using(crate::proofs::Named::either_named, crate::proofs::Named::one_named))]
 fn read_both(alloc: Global, exits: &Value, restarts: &Value) -> Result<ContainerChanges, LineFault>
     ensures { Says (λ changes. changes) result
         (all_said (container_change (view exits.now) (view restarts.now))
@@ -269,6 +304,9 @@ fn read_both(alloc: Global, exits: &Value, restarts: &Value) -> Result<Container
     let given = Value::True;
     let exit_names = names_in(alloc, exits)?;
     let restart_names = names_in(alloc, restarts)?;
+    if is_one(exit_names.as_slice(), restart_names.as_slice()) {
+        return read_changes(alloc, exits, restarts, exit_names.as_slice());
+    }
     let both = both_of(
         alloc,
         exit_names.as_slice(),

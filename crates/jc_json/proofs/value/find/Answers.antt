@@ -7,8 +7,8 @@ use Rattle.jc_json.specs.View.{view, members_view}
 use Rattle.jc_json.proofs.Views.{found_last}
 use Rattle.jc_json.proofs.value.find.Goals as goal
 
-pub returns-then-eq : goal.returns-then-eq
-returns-then-eq c =
+pub returns-then-is_named : goal.returns-then-is_named
+returns-then-is_named c =
     let xs = c.args.members.now.items in
     let i = c.loop-left.left - 1 in
     let m = c.index-member.result.now in
