@@ -144,8 +144,8 @@ fn run_words<R: Threads + Wait + Sync, S: Source, K: Sink, G: Gate + Sync>(
 /// On one thread the history is that of the play. On threads it may wait, and what it promises holds if it
 /// returns; which of the possible histories it is, is not said.
 ///
-/// The memory of what a `run` on one thread or a `reap` has played last is not given back, as the program ends then: who
-/// calls it again and again loses it each time.
+/// The memory of what a `run` or a `reap` has played last is not given back, as the program ends then: who calls it again
+/// and again loses it each time.
 pub fn run_program<R: Threads + Wait + Sync, S: Source, K: Sink, G: Gate + Sync>(
     rt: &R,
     alloc: Global,

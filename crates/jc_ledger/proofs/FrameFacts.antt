@@ -29,7 +29,7 @@ use Rattle.jc_ledger.specs.Flights.{IsBasisOf, IsSent, Flies}
 use Rattle.jc_ledger.specs.Ledger.{Record, Ledger, ledger_of}
 use Rattle.jc_ledger.specs.Once.{Taking, taking_of, PutBefore, Cause, WasJudged, IsIgnored, WasActive, NeedsNone, needs_none, IsJustified}
 use Rattle.jc_ledger.specs.Syncs.{reach, request_of, appends}
-use Rattle.jc_ledger.specs.Tied.{made_as, made_after, IsTrueRecord, IsCurrent, TiesJob, Ties, HasIndexIn, PodsHaveIndexes, TakesWell, AllWell, IsWithin, IsReached, Tied}
+use Rattle.jc_ledger.specs.Tied.{made_as, made_after, IsTrueRecord, IsCurrent, TiesJob, Ties, HasIndexIn, PodsHaveIndexes, TakesWell, AllWell, StandsWithin, IsReached, Tied}
 use Rattle.jc_ledger.proofs.LedgerFacts.{AllWithin, AllWithin-more, reach-is, ledger_of-more}
 use Rattle.jc_ledger.proofs.MadeFacts.{made_as-uid, made_as-more, made_as-upto, WasMadeUnder, has_job-was_made}
 
@@ -348,7 +348,7 @@ grow d past e log flights t w =
       legal = (w.allowed, t.legal);
       reached = (long, (omega (arith, is), subst (IsReached past) (sym is) t.reached));
       within = (
-        subst (λ o. IfSome o (IsWithin (suc (length log)))) (sym w.began) tt,
+        subst (λ o. IfSome o (StandsWithin (suc (length log)))) (sym w.began) tt,
         AllWithin-more (length log) (suc (length log)) past (omega arith) t.within,
       );
       appends = lt-ltb (reach past) d.length.0 (omega (arith, is, long));

@@ -15,17 +15,17 @@ use Rattle.jc_types.proofs.ListFacts.{Each-weaker, find_each}
 use Rattle.jc_log.proofs.LogFacts.{upto-fixed}
 use Rattle.jc_ledger.specs.Ledger.{Ledger, Judging, entered, is_status, judging_at, judging_of, judged_by, ledger_of}
 use Rattle.jc_ledger.specs.Syncs.{reach, Began, began_of, is_begin, began_by, sync_of, stepper, request_of, step_sync, appends}
-use Rattle.jc_ledger.specs.Tied.{IsWithin, IsReached}
+use Rattle.jc_ledger.specs.Tied.{StandsWithin, IsReached}
 
 -- What began in the deeds is within the first n entries.
 abbrev pub AllWithin : ℕ → List Deed → Type 0
-AllWithin n deeds = Each (λ d. IfSome (began_of d.reply) (IsWithin n)) deeds
+AllWithin n deeds = Each (λ d. IfSome (began_of d.reply) (StandsWithin n)) deeds
 
 -- It is within more entries, too.
 pub AllWithin-more : (m n : ℕ) (deeds : List Deed) → m ≤ n → AllWithin m deeds → AllWithin n deeds
 AllWithin-more m n deeds le h =
-    Each-weaker (λ d. IfSome (began_of d.reply) (IsWithin m)) (λ d. IfSome (began_of d.reply) (IsWithin n))
-    (λ d w. IfSome_then (began_of d.reply) {P = IsWithin m} {Q = IsWithin n} w (λ began p. (omega (arith, p.0, le), omega (arith, p.1, le)))) deeds h
+    Each-weaker (λ d. IfSome (began_of d.reply) (StandsWithin m)) (λ d. IfSome (began_of d.reply) (StandsWithin n))
+    (λ d w. IfSome_then (began_of d.reply) {P = StandsWithin m} {Q = StandsWithin n} w (λ began p. (omega (arith, p.0, le), omega (arith, p.1, le)))) deeds h
 
 -- The lengths that the deeds tell end with that of the log.
 pub reach-is : (deeds : List Deed) (n : ℕ) → IsReached deeds n → reach deeds ≡ n
@@ -33,32 +33,32 @@ reach-is [] n h = sym h
 reach-is (d ∷ past) n h = h.0
 
 -- With what the worker's sync began by a deed is what the deed's reply says.
-began_by-within : (n c w : ℕ) (d : Deed) (began : Began) → IfSome (began_of d.reply) (IsWithin n) → began_by c w d ≡ Some began → IsWithin n began
+began_by-within : (n c w : ℕ) (d : Deed) (began : Began) → IfSome (began_of d.reply) (StandsWithin n) → began_by c w d ≡ Some began → StandsWithin n began
 began_by-within n c w d began h is = by (is_begin c w d.act) is
   where
-    by : (b : Bool) → cond b (began_of d.reply) None ≡ Some began → IsWithin n began
-    by true g = subst (λ o. IfSome o (IsWithin n)) g h
+    by : (b : Bool) → cond b (began_of d.reply) None ≡ Some began → StandsWithin n began
+    by true g = subst (λ o. IfSome o (StandsWithin n)) g h
     by false g = absurd (true≢false (sym (ap is_some g)))
 
 -- A worker's sync began within the log.
-sync_of-within : (n c w : ℕ) (past : List Deed) (began : Began) → AllWithin n past → sync_of c w past ≡ Some began → IsWithin n began
+sync_of-within : (n c w : ℕ) (past : List Deed) (began : Began) → AllWithin n past → sync_of c w past ≡ Some began → StandsWithin n began
 sync_of-within n c w past began all is = by (find (λ d. is_some (began_by c w d)) past) refl is
   where
-    by : (o : Option Deed) → find (λ d. is_some (began_by c w d)) past ≡ o → option_and_then (began_by c w) o ≡ Some began → IsWithin n began
+    by : (o : Option Deed) → find (λ d. is_some (began_by c w d)) past ≡ o → option_and_then (began_by c w) o ≡ Some began → StandsWithin n began
     by None found g = absurd (true≢false (sym (ap is_some g)))
     by (Some d) found g =
-        began_by-within n c w d began (find_each (λ d. IfSome (began_of d.reply) (IsWithin n)) (λ d. is_some (began_by c w d)) past d all found) g
+        began_by-within n c w d began (find_each (λ d. IfSome (began_of d.reply) (StandsWithin n)) (λ d. is_some (began_by c w d)) past d all found) g
 
 -- The sync of a step began within the log.
-pub step_sync-within : (n : ℕ) (d : Deed) (past : List Deed) (began : Began) → AllWithin n past → step_sync d past ≡ Some began → IsWithin n began
+pub step_sync-within : (n : ℕ) (d : Deed) (past : List Deed) (began : Began) → AllWithin n past → step_sync d past ≡ Some began → StandsWithin n began
 step_sync-within n d past began all is = by (stepper d.act) is
   where
-    by : (o : Option (ℕ × ℕ)) → option_and_then (λ worker. sync_of worker.0 worker.1 past) o ≡ Some began → IsWithin n began
+    by : (o : Option (ℕ × ℕ)) → option_and_then (λ worker. sync_of worker.0 worker.1 past) o ≡ Some began → StandsWithin n began
     by None g = absurd (true≢false (sym (ap is_some g)))
     by (Some worker) g = sync_of-within n worker.0 worker.1 past began all g
 
 -- What a write judges whose sync began within the log is fixed.
-judging_at-more : (v : ℕ) (e : Entry) (log : List Entry) (began : Began) → IsWithin (length log) began → judging_at v (e ∷ log) began ≡ judging_at v log began
+judging_at-more : (v : ℕ) (e : Entry) (log : List Entry) (began : Began) → StandsWithin (length log) began → judging_at v (e ∷ log) began ≡ judging_at v log began
 judging_at-more v e log began h =
     ap (λ l. option_map (λ (job : Job). record { job = job; seen = began.pods_at; at = v }) (job_in began.key l)) (upto-fixed began.jobs_at e log h.0)
 
@@ -75,7 +75,7 @@ judging_of-more d past e log all =
 judging_of-within : (n : ℕ) (d : Deed) (past : List Deed) (log : List Entry) → AllWithin n past → IfSome (judging_of d past log) (λ judging. judging.seen ≤ n)
 judging_of-within n d past log all = by (is_status (request_of d.reply) && appends d past)
   where
-    of_job : (began : Began) → IsWithin n began → (o : Option Job) → IfSome (option_map (λ (job : Job). record { job = job; seen = began.pods_at; at = d.length.0 }) o) (λ (judging : Judging). judging.seen ≤ n)
+    of_job : (began : Began) → StandsWithin n began → (o : Option Job) → IfSome (option_map (λ (job : Job). record { job = job; seen = began.pods_at; at = d.length.0 }) o) (λ (judging : Judging). judging.seen ≤ n)
     of_job began h None = tt
     of_job began h (Some job) = h.1
 

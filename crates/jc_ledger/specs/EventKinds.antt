@@ -47,14 +47,14 @@ use Rattle.jc_ledger.specs.Flights.{known, IsBasisOf}
 use Rattle.jc_ledger.specs.Ledger.{is_status}
 use Rattle.jc_ledger.specs.Once.{taking_of}
 use Rattle.jc_ledger.specs.Syncs.{Began, began_of, request_of, step_sync}
-use Rattle.jc_ledger.specs.Tied.{HasIndexIn, IsWithin}
+use Rattle.jc_ledger.specs.Tied.{HasIndexIn, StandsWithin}
 
 -- ---- deeds
 
 -- The deed appended nothing, and a sync that it began is within the log.
 pub record AppendsNoEntry (d : Deed) (log : List Entry) : Type 0 where
   pub still : d.length.0 ≡ length log
-  pub within : IfSome (began_of d.reply) (IsWithin (length log))
+  pub within : IfSome (began_of d.reply) (StandsWithin (length log))
 
 -- The deed appended one entry, which is allowed, and began nothing.
 pub record IsWritten (d : Deed) (log : List Entry) (e : Entry) : Type 0 where

@@ -162,8 +162,8 @@ AllWell (d ∷ past) log = TakesWell d past log × AllWell past log
 -- ---- all together
 
 -- The two numbers are places of the log.
-abbrev pub IsWithin : ℕ → Began → Type 0
-IsWithin n began = (began.jobs_at ≤ n) × (began.pods_at ≤ n)
+abbrev pub StandsWithin : ℕ → Began → Type 0
+StandsWithin n began = (began.jobs_at ≤ n) × (began.pods_at ≤ n)
 
 -- The lengths that the deeds tell do not fall, and end with that of the log.
 abbrev pub IsReached : List Deed → ℕ → Type 0
@@ -180,7 +180,7 @@ OnceBefore (d ∷ past) log = OnceAtEach past log
 pub record Tied (deeds : List Deed) (log : List Entry) (flights : List Flight) : Type 0 where
   pub legal : Legal log
   pub reached : IsReached deeds (length log)
-  pub within : Each (λ d. IfSome (began_of d.reply) (IsWithin (length log))) deeds
+  pub within : Each (λ d. IfSome (began_of d.reply) (StandsWithin (length log))) deeds
   pub jobs : (j : Uid) → Ties (made_as j log) log (ledger_of j deeds log)
   pub numbered : (v : ℕ) → PodsHaveIndexes (upto v log)
   pub totals : TotalsAreWithin log

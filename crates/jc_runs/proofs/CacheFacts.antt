@@ -24,7 +24,7 @@ use Rattle.jc_log.specs.Deeds.{Deed}
 use Rattle.jc_log.specs.Log.{entry_at, pods_in}
 use Rattle.jc_log.specs.Writes.{Stored}
 use Rattle.jc_ledger.specs.Syncs.{began_of}
-use Rattle.jc_ledger.specs.Tied.{IsWithin}
+use Rattle.jc_ledger.specs.Tied.{StandsWithin}
 use Rattle.jc_asks.specs.Readings.{told_step}
 use Rattle.jc_sync.proofs.RegisterFacts.{quiet_syncs}
 use Rattle.jc_sync.specs.AllRegisters.{HasSyncs}
@@ -130,7 +130,7 @@ module _ (shape : Shape) (past : List Deed) (log : List Entry) (teams : List Tea
         faults = ap (λ fs. length fs) f ∙ team.faults;
       })
       (subst (HasSyncs (d ∷ past) log) (registers_stay teams i old new there r)
-      (quiet_syncs d past log (registers_of teams) run.syncs (record { still = done.length; within = subst (λ o. IfSome o (IsWithin (length log))) (sym none) tt }) none untold))
+      (quiet_syncs d past log (registers_of teams) run.syncs (record { still = done.length; within = subst (λ o. IfSome o (StandsWithin (length log))) (sym none) tt }) none untold))
       run.plannable
     where
       team : IsTeam shape past (log_given shape past) i old

@@ -13,7 +13,7 @@ use Rattle.jc_types.specs.declared.runs.Shape.{Shape}
 use Rattle.jc_log.specs.Requests.{Answered, grown, refused}
 use Rattle.jc_log.specs.Deeds.{Deed}
 use Rattle.jc_ledger.specs.Syncs.{began_of}
-use Rattle.jc_ledger.specs.Tied.{IsWithin as IsReached}
+use Rattle.jc_ledger.specs.Tied.{StandsWithin as IsReached}
 use Rattle.jc_history.specs.Available.{is_quiescent}
 use Rattle.jc_history.specs.Diaries.{is_now, moment, notes_taken, notes, restarts, ticks}
 use Rattle.jc_history.specs.Legal.{IsOfShape, MaySettle}

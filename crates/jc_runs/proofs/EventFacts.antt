@@ -15,7 +15,7 @@ use Rattle.jc_log.specs.Acts.{Act}
 use Rattle.jc_log.specs.Deeds.{Deed}
 use Rattle.jc_ledger.specs.EventKinds.{AppendsNoEntry}
 use Rattle.jc_ledger.specs.Syncs.{began_of}
-use Rattle.jc_ledger.specs.Tied.{IsWithin as IsReached}
+use Rattle.jc_ledger.specs.Tied.{StandsWithin as IsReached}
 use Rattle.jc_history.specs.Agrees.{IsScheduleOf}
 use Rattle.jc_history.specs.Available.{is_quiescent}
 use Rattle.jc_history.specs.Diaries.{moment, notes_taken, notes, restarts}

@@ -22,7 +22,7 @@ use Rattle.jc_log.specs.Tables.{at}
 use Rattle.jc_log.proofs.ObjectFacts.{jobs_in-at}
 use Rattle.jc_ledger.specs.Flights.{IsBasisOf}
 use Rattle.jc_ledger.specs.Syncs.{began_of}
-use Rattle.jc_ledger.specs.Tied.{IsWithin}
+use Rattle.jc_ledger.specs.Tied.{StandsWithin}
 use Rattle.jc_ledger.proofs.OwnFacts.{basis-rises}
 use Rattle.jc_ledger.proofs.QuietFacts.{IfSome-of}
 use Rattle.jc_sync.specs.AllRegisters.{HasSyncs, Registers, put_at, register_at}
@@ -114,7 +114,7 @@ begun_syncs d past log rs c w now ctl basis h free holds answer act told_is stil
     let b = begun_by now ctl basis answer in
     let held = basis_held log now ctl basis holds b in
     begin_syncs d past log rs c w (new_sync basis) h free act (ap began_of told_is) (record {
-      quiet = record { still = still; within = subst (λ o. IfSome o (IsWithin (length log))) (sym (ap began_of told_is)) (held.jobs_at, held.pods_at) };
+      quiet = record { still = still; within = subst (λ o. IfSome o (StandsWithin (length log))) (sym (ap began_of told_is)) (held.jobs_at, held.pods_at) };
       basis = held;
       reached = basis_reached now ctl basis b;
       written = refl;

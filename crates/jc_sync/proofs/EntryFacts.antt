@@ -13,7 +13,7 @@ use Rattle.jc_states.specs.Pods.{goes}
 use Rattle.jc_log.specs.Writes.{IsOwned, Stored}
 use Rattle.jc_ledger.specs.EventKinds.{AppendsNoEntry, IsWritten, pod_of}
 use Rattle.jc_ledger.specs.Syncs.{began_of}
-use Rattle.jc_ledger.specs.Tied.{IsWithin}
+use Rattle.jc_ledger.specs.Tied.{StandsWithin}
 use Rattle.jc_ledger.proofs.QuietFacts.{IfSome-absent}
 
 -- A write of a pod puts it or takes it away.
@@ -48,4 +48,4 @@ written-by d log e asked given reply grown stored owned = record {
 
 -- Or nothing.
 pub quiet-by : (d : Deed) (log : List Entry) → began_of d.reply ≡ None → d.length.0 ≡ length log → AppendsNoEntry d log
-quiet-by d log none still = record { still = still; within = IfSome-absent (began_of d.reply) (IsWithin (length log)) none }
+quiet-by d log none still = record { still = still; within = IfSome-absent (began_of d.reply) (StandsWithin (length log)) none }
