@@ -16,6 +16,9 @@ use jc_play::{Actor, Machine, available, fits};
 use jc_types::{Command, Event, Sys, Want};
 use std::alloc::{AllocError, Global};
 
+// The room for a line: most take less.
+const MOST_LINE: usize = 256;
+
 // The seconds by which the clock can pass of itself, where it can.
 fn clock_seconds(machine: &Machine) -> Option<u64>
     ensures it_can_come { IfSome result
@@ -98,7 +101,7 @@ pub fn last_text(alloc: Global, machine: &Machine) -> Result<String, Want>
 {
     let events = machine.history().events.as_slice();
     let count = events.len();
-    let mut text = String::new(alloc);
+    let mut text = String::with_capacity(alloc, MOST_LINE)?;
     put_event(
         &mut text,
         alloc,

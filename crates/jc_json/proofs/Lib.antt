@@ -1,4 +1,5 @@
 pub mod Items
+pub mod NodeFacts
 pub mod Lines
 pub mod Reading
 pub mod TrailFacts

@@ -1,11 +1,16 @@
 -- The grammar's loops, a turn at a time, under the conversion to data; and values that are read one behind the other.
-use Rattle.std.proofs.Common.{◌≡◌, ℕ, zero, suc, ◌-◌, ◌<◌, ◌≤◌, List, [], ◌∷◌, ◌++◌, length, Option, Some, None, option_map, option_and_then, refl, ap, ◌∙◌}
+use Rattle.std.proofs.Common.{◌≡◌, ℕ, zero, suc, ◌-◌, ◌<◌, ◌≤◌, List, [], ◌∷◌, ◌++◌, length, Option, Some, None, option_map, option_and_then, refl, ap, ◌∙◌, arith}
 use Rattle.json.specs.Token.{Token}
 use Rattle.json.specs.Json as json
 use Rattle.json.specs.Json.{Parse, parse_map, after_end_array, read_key, items_step, items, members, if_last}
+use Rattle.json.specs.Json.{document, value}
+use Rattle.json.specs.Lex.{tokens}
+use Rattle.json.proofs.Nesting.{value-depth}
+use Rattle.json.proofs.Printed.Trees.{value-json_tokens}
+use Rattle.json.proofs.Unique.Spelling.{value-json_tokens_back}
 use Rattle.json.proofs.Grammar.{items_end, items_more, members_end, members_no_key, members_more}
 use Rattle.serde_json.specs.Data.{Data, array, object, Items, no_items, item, Members, no_members, put}
-use Rattle.serde_json.specs.Read.{of_json, of_items, of_members, converted}
+use Rattle.serde_json.specs.Read.{of_json, of_items, of_members, converted, read}
 use Rattle.jc_json.specs.View.{view, items_view}
 use Rattle.jc_json.specs.declared.value.Value.{Value}
 
@@ -131,3 +136,18 @@ pub whole_refused : (o : Option (json.Json × List Token)) → converted of_json
 whole_refused None e = refl
 whole_refused (Some (j, [])) e = refused [] (of_json j) e
 whole_refused (Some (j, t ∷ r)) e = refl
+
+-- A value is read with more depth as well.
+deeper : (ts r : List Token) (j : json.Json) → value 127 ts ≡ Some (j, r) → value 128 ts ≡ Some (j, r)
+deeper ts r j e =
+    let within = value-depth 127 ts r j e in
+    ap (value 128) (value-json_tokens_back 127 ts r j e) ∙ value-json_tokens j 128 r (omega (arith, within))
+
+-- What is no document spells nothing.
+pub no_document : (text : List ℕ) → document text ≡ None → read text ≡ None
+no_document text none = by (value 127 (tokens text)) refl
+  where
+    by : (o : Option (json.Json × List Token)) → value 127 (tokens text) ≡ o → whole o ≡ None
+    by None e = refl
+    by (Some (j, [])) e = let found : document text ≡ Some j = ap (λ o. option_and_then (λ p. if_last p.0 p.1) o) (deeper (tokens text) [] j e) in absurd (cc)
+    by (Some (j, t ∷ r)) e = refl

@@ -1,5 +1,5 @@
 -- A value, level by level, and the members of an object as they are found.
-use Rattle.std.proofs.Common.{◌≡◌, ◌∙◌, refl, sym, ap, ℕ, List, [], ◌∷◌, ◌++◌, Bool, true, false, cond, Some, bytes_eq, Vec, Global, Bor, Ordering, Less, Equal, Greater, nat_cmp, true≢false, rules}
+use Rattle.std.proofs.Common.{◌≡◌, ◌∙◌, refl, sym, ap, ℕ, List, [], ◌∷◌, ◌++◌, Bool, true, false, cond, Some, bytes_eq, Bor, Ordering, Less, Equal, Greater, nat_cmp, true≢false, rules}
 use Rattle.std.proofs.lemmas.Slice.Eq.{bytes_eq-Decides}
 use Rattle.std.specs.BTreeMap.{insert_entry}
 use Rattle.std.specs.Cmp.Lexicographic.{slice_cmp}
@@ -13,10 +13,10 @@ use Rattle.jc_json.specs.declared.value.Value.{Value, Array, Object, the_lemmas}
 abbrev pub Entry : Type 0
 Entry = Bor (List ℕ) × Value
 
-pub view-Array : (v : Vec Value Global) → view (Array v) ≡ array (items_view v.items)
+pub view-Array : (v : Bor (List Value)) → view (Array v) ≡ array (items_view v.now)
 view-Array v = search (rules, the_lemmas)
 
-pub view-Object : (v : Vec Entry Global) → view (Object v) ≡ object (members_view v.items no_members)
+pub view-Object : (v : Bor (List Entry)) → view (Object v) ≡ object (members_view v.now no_members)
 view-Object v = search (rules, the_lemmas)
 
 -- one more member behind the others

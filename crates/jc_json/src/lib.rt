@@ -6,6 +6,7 @@ mod given;
 mod item;
 mod line;
 mod needed;
+mod nodes;
 mod numbers;
 mod numerals;
 mod optional;

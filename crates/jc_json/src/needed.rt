@@ -6,7 +6,7 @@ ghost use Rattle.jc_json.specs.Exact.{Gives};
 ghost use Rattle.jc_json.specs.View.{view};
 
 use crate::field::FieldFault;
-use crate::optional::{may_items, may_number, may_object, may_text};
+use crate::optional::{may_list, may_number, may_object, may_text};
 use crate::path::Path;
 use crate::trail::Trail;
 use crate::value::Value;
@@ -68,16 +68,16 @@ pub fn need_number(
 ///
 /// `Missing` exactly where the member is absent, and the refusals of `may_list`.
 #[tactic(auto, unfolding(crate::specs::Field::needed_list, crate::specs::Field::optional_list))]
-pub fn need_list<'v, 'a>(
+pub fn need_list<'a>(
     alloc: Global,
-    object: &'v Value<'a>,
+    object: &Value<'a>,
     path: &Trail,
     name: &str,
-) -> Result<&'v Vec<Value<'a>>, FieldFault>
-    ensures { Gives (λ items. map view items.now.items) result
+) -> Result<&'a [Value<'a>], FieldFault>
+    ensures { Gives (λ items. map view items.now) result
         (needed_list path.now name.now (view object.now)) }
 {
-    match may_items(alloc, object, path, name)? {
+    match may_list(alloc, object, path, name)? {
         Some(found) => Ok(found),
         None => Err(FieldFault::Missing {
             path: Path::of_member(alloc, path, name)?,

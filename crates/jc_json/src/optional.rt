@@ -26,14 +26,11 @@ pub fn member<'v, 'a>(object: &'v Value<'a>, name: &str) -> Option<&'v Value<'a>
 
 // The items of a value that is a list.
 #[tactic(auto, using(crate::proofs::Items::items_seen))]
-fn listed<'v, 'a>(value: &'v Value<'a>) -> Option<&'v Vec<Value<'a>>>
-    ensures { option_map (λ items. map view items.now.items) result
+fn listed<'a>(value: &Value<'a>) -> Option<&'a [Value<'a>]>
+    ensures { option_map (λ items. map view items.now) result
         ≡ option_map listed_items (as_array (view value.now)) }
 {
-    match value.as_array() {
-        Some(items) => Some(items),
-        None => None,
-    }
+    value.as_array()
 }
 
 /// The items of a list that may be given; none of one that is not.
@@ -128,15 +125,19 @@ pub fn may_number(
     }
 }
 
-// The items of a member that is a list, as `may_list` does.
+/// The items of a member that is a list, or `None` where it is absent. `path` is that of the object.
+///
+/// # Errors
+///
+/// `WrongType` exactly where the member is no list. `Want`: memory ran out.
 #[tactic(auto, unfolding(crate::specs::Field::optional_list))]
-pub(crate) fn may_items<'v, 'a>(
+pub fn may_list<'a>(
     alloc: Global,
-    object: &'v Value<'a>,
+    object: &Value<'a>,
     path: &Trail,
     name: &str,
-) -> Result<Option<&'v Vec<Value<'a>>>, FieldFault>
-    ensures { Gives (option_map (λ items. map view items.now.items)) result
+) -> Result<Option<&'a [Value<'a>]>, FieldFault>
+    ensures { Gives (option_map (λ items. map view items.now)) result
         (optional_list path.now name.now (view object.now)) }
 {
     let Some(found) = member(object, name) else {
@@ -147,26 +148,6 @@ pub(crate) fn may_items<'v, 'a>(
         None => Err(FieldFault::WrongType {
             path: Path::of_member(alloc, path, name)?,
         }),
-    }
-}
-
-/// The items of a member that is a list, or `None` where it is absent. `path` is that of the object.
-///
-/// # Errors
-///
-/// `WrongType` exactly where the member is no list. `Want`: memory ran out.
-pub fn may_list<'v, 'a>(
-    alloc: Global,
-    object: &'v Value<'a>,
-    path: &Trail,
-    name: &str,
-) -> Result<Option<&'v [Value<'a>]>, FieldFault>
-    ensures { Gives (option_map (λ items. map view items.now)) result
-        (optional_list path.now name.now (view object.now)) }
-{
-    match may_items(alloc, object, path, name)? {
-        Some(items) => Ok(Some(items.as_slice())),
-        None => Ok(None),
     }
 }
 

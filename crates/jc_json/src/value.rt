@@ -7,38 +7,38 @@ ghost use Rattle.jc_json.specs.View.{view, items_view, members_view};
 
 use serde_json::Number;
 
-/// A JSON value. Its texts lie in the line, or in the room that the line was read with.
-#[derive(Drop)]
+/// A JSON value. Its texts lie in the line, or in the room that the line was read with, as its parts do.
+#[derive(Clone, Copy, Drop)]
 pub enum Value<'a> {
     Null,
     True,
     False,
     Number(Number),
     String(&'a str),
-    Array(Vec<Value<'a>>),
+    Array(&'a [Value<'a>]),
     /// The members in the order of the line. Of a name that stands twice the last value counts.
-    Object(Vec<(&'a str, Value<'a>)>),
+    Object(&'a [(&'a str, Value<'a>)]),
 }
 
 impl<'a> Value<'a> {
     /// The items, where this is an array.
-    pub fn as_array<'v>(&'v self) -> Option<&'v Vec<Value<'a>>>
-        ensures { option_map (λ v. items_view v.now.items) result ≡ as_array (view self.now) }
+    pub fn as_array(&self) -> Option<&'a [Value<'a>]>
+        ensures { option_map (λ v. items_view v.now) result ≡ as_array (view self.now) }
     {
         if let Value::Array(items) = self {
-            Some(items)
+            Some(*items)
         } else {
             None
         }
     }
 
     /// The members in the order of the line, where this is an object.
-    pub fn as_object<'v>(&'v self) -> Option<&'v Vec<(&'a str, Value<'a>)>>
-        ensures { option_map (λ v. members_view v.now.items no_members) result
+    pub fn as_object(&self) -> Option<&'a [(&'a str, Value<'a>)]>
+        ensures { option_map (λ v. members_view v.now no_members) result
             ≡ as_object (view self.now) }
     {
         if let Value::Object(members) = self {
-            Some(members)
+            Some(*members)
         } else {
             None
         }
@@ -52,11 +52,11 @@ impl<'a> Value<'a> {
     }
 
     /// The member of that name, where this is an object.
-    pub fn get<'v>(&'v self, name: &str) -> Option<&'v Value<'a>>
+    pub fn get(&self, name: &str) -> Option<&'a Value<'a>>
         ensures { option_map (λ v. view v.now) result ≡ get name.now (view self.now) }
     {
         if let Value::Object(members) = self {
-            find(members, name)
+            find(*members, name)
         } else {
             None
         }
@@ -80,9 +80,9 @@ fn is_named(name: &str, other: &str) -> bool
 }
 
 // The last member of that name.
-fn find<'v, 'a>(members: &'v Vec<(&'a str, Value<'a>)>, name: &str) -> Option<&'v Value<'a>>
+fn find<'a>(members: &'a [(&'a str, Value<'a>)], name: &str) -> Option<&'a Value<'a>>
     ensures { option_map (λ v. view v.now) result
-        ≡ get_member name.now (members_view members.now.items no_members) }
+        ≡ get_member name.now (members_view members.now no_members) }
 {
     let mut left = members.len();
     while left > 0 {

@@ -77,7 +77,7 @@ fn names_in<'v, 'a>(alloc: Global, value: &'v Value<'a>) -> Result<Vec<&'v str>,
         ≡ member_names (view value.now)) }
 {
     match value.as_object() {
-        Some(members) => names_of(alloc, members.as_slice()),
+        Some(members) => names_of(alloc, members),
         None => Ok(Vec::new(alloc)),
     }
 }

@@ -100,6 +100,6 @@ pub fn read_ends(alloc: Global, value: &Value) -> Result<Ends, LineFault>
     let path = Trail::new(alloc);
     let items = read_list(alloc, value, &path, "ends")?;
     let at = path.path_to("ends");
-    check_many(items.as_slice(), &at)?;
-    read_items(alloc, items.as_slice(), &at)
+    check_many(items, &at)?;
+    read_items(alloc, items, &at)
 }

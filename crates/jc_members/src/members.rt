@@ -91,7 +91,7 @@ fn unknown_in<'v, 'a>(
         ≡ unknown_in (map (λ k. k.now) known.now) (view object.now)) }
 {
     match object.as_object() {
-        Some(members) => unknown_of(alloc, members.as_slice(), known),
+        Some(members) => unknown_of(alloc, members, known),
         None => Ok(None),
     }
 }
@@ -177,13 +177,13 @@ pub fn read_object<'v, 'a>(
 }
 
 /// The items of a member that must be a list.
-pub fn read_list<'v, 'a>(
+pub fn read_list<'a>(
     alloc: Global,
-    object: &'v Value<'a>,
+    object: &Value<'a>,
     path: &Trail,
     name: &str,
-) -> Result<&'v Vec<Value<'a>>, LineFault>
-    ensures { Says (λ items. map view items.now.items) result
+) -> Result<&'a [Value<'a>], LineFault>
+    ensures { Says (λ items. map view items.now) result
         (read_as (needed_list path.now name.now (view object.now))) }
 {
     Ok(need_list(alloc, object, path, name)?)

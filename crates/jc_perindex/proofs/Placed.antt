@@ -132,6 +132,19 @@ none_at n counts i d up end below =
     let last = get_or counts i d in
     none_from n counts i last up end (get_or_default counts i d last (omega (arith, end))) below
 
+-- Where the last one of the last piece is below, all are.
+pub all_below : (n : ℕ) (pieces : List (List IndexCount)) (i k : ℕ) (piece : List IndexCount) (last : IndexCount) → IsIncreasing (map (λ (count : IndexCount). count.index) (items_in pieces))
+    → i + 1 ≡ length pieces → piece ≡ get_or pieces i [] → k + 1 ≡ length piece → last ≡ get_or piece k last → last.index < n → length (items_in pieces) ≤ place n (items_in pieces)
+all_below n pieces i k piece last up end is behind here below =
+    let within : i < length pieces = omega (arith, end) in
+    let whole : length (items_in (take (i + 1) pieces)) ≡ length (items_in pieces) = ap (λ ps. length (items_in ps)) (take_all (i + 1) pieces (omega (arith, end))) in
+    let front = items_in (take i pieces) in
+    let sums : length front + length piece ≡ length (items_in pieces) =
+    omega (arith, whole, ap length is, ap length (items_more pieces i within), length-append front (get_or pieces i [])) in
+    last_below n (items_in pieces) (length front + k) last up (omega (arith, sums, behind))
+    (here ∙ ap (λ p. get_or p k last) is ∙ sym (get_or-flat_map (λ (p : List IndexCount). p) pieces i k [] last within (omega (arith, behind, ap length is))))
+    below
+
 -- ---- the place among pieces
 
 -- Where all of the front part are below, the place is behind it.

@@ -1,8 +1,8 @@
 -- Sets of indexes in increasing order.
 use Rattle.std.proofs.Common.{◌≡◌, ℕ, ◌<◌, ◌≤◌, ◌+◌, suc, zero, nat_lt, Bool, true, false, cond, not, ◌&&◌, ◌||◌, List, [], ◌∷◌, ◌++◌, map, filter, take, drop, length, get_or, subst, refl, ap, sym, ◌∙◌, append_assoc, arith}
 use Rattle.std.specs.Prelude.{All}
-use Rattle.std.specs.List.{AllByRecursion as Each, list_any}
-use Rattle.std.proofs.lemmas.Bool.{lt-ltb, le-ltb, ltb-true, or_parts as neither}
+use Rattle.std.specs.List.{AllByRecursion as Each}
+use Rattle.std.proofs.lemmas.Bool.{lt-ltb, le-ltb, ltb-true}
 use Rattle.std.proofs.lemmas.List.{append-nil, take_more}
 use Rattle.std.proofs.lemmas.List.Elements.{filter-append, recursion_from_All}
 use Rattle.jc_ranges.specs.Sets.{IsIncreasing, has, with_member}
@@ -14,7 +14,7 @@ use Rattle.jc_types.proofs.PieceFacts.{around, items_more}
 use Rattle.jc_types.proofs.ListFacts.{Each-filter, Each-map, Each-passes, Each-weaker, filter_all, filter_none}
 use Rattle.jc_states.specs.UidLists.{join}
 use Rattle.jc_account.proofs.IndexFacts.{with-last}
-use Rattle.jc_perindex.specs.Failures.{has_failed, is_past}
+use Rattle.jc_perindex.specs.Failures.{has_failed}
 
 -- ---- they stay in order
 
@@ -182,28 +182,21 @@ piece-up pieces i piece up within is =
     let front = map index_of (filter all (items_in (take i pieces))) in
     up-back front (map index_of piece) (piece-above all pieces i piece front up within is refl)
 
--- Where no index is past the limit, and none was failed, none has failed.
-none-past : (limit completions : ℕ) (completed : List ℕ) (counts : List IndexCount) → list_any (is_past limit) counts ≡ false → filter (has_failed limit completions completed) counts ≡ []
-none-past limit completions completed [] h = refl
-none-past limit completions completed (count ∷ counts) h =
-    let no = neither (is_past limit count) (list_any (is_past limit) counts) h in
-    ap (λ b. cond (nat_lt count.index completions && (not (has count.index completed) && b)) (count ∷ filter (has_failed limit completions completed) counts) (filter (has_failed limit completions completed) counts)) no.0
+-- A count within the limit has not failed its index.
+not-failed : (limit completions : ℕ) (completed : List ℕ) (count : IndexCount) → IsWithin limit count → has_failed limit completions completed count ≡ false
+not-failed limit completions completed count within =
+    ap (λ b. nat_lt count.index completions && (not (has count.index completed) && (b || count.fail))) (le-ltb limit count.failures within.0)
+    ∙ ap (λ b. nat_lt count.index completions && (not (has count.index completed) && b)) within.1
     ∙ off (nat_lt count.index completions) (not (has count.index completed))
-    ∙ none-past limit completions completed counts no.1
   where
-    off : (a b : Bool) → cond (a && (b && false)) (count ∷ filter (has_failed limit completions completed) counts) (filter (has_failed limit completions completed) counts) ≡ filter (has_failed limit completions completed) counts
+    off : (a b : Bool) → a && (b && false) ≡ false
     off true true = refl
     off true false = refl
     off false b = refl
 
--- Where each count is within the limit, no index is past it.
-not-past : (limit : ℕ) (counts : List IndexCount) → Each (IsWithin limit) counts → list_any (is_past limit) counts ≡ false
-not-past limit [] within = refl
-not-past limit (count ∷ counts) within =
-    ap (λ b. (b || count.fail) || list_any (is_past limit) counts) (le-ltb limit count.failures within.0.0)
-    ∙ ap (λ b. b || list_any (is_past limit) counts) within.0.1
-    ∙ not-past limit counts within.1
-
+-- Where each count is within the limit, no index has failed.
 pub none-within : (limit completions : ℕ) (completed : List ℕ) (counts : List IndexCount) → All (λ count. IsWithin limit count) counts
     → filter (has_failed limit completions completed) counts ≡ []
-none-within limit completions completed counts within = none-past limit completions completed counts (not-past limit counts (recursion_from_All (IsWithin limit) counts within))
+none-within limit completions completed counts within =
+    filter_none (has_failed limit completions completed) counts
+    (Each-weaker (IsWithin limit) (λ count. has_failed limit completions completed count ≡ false) (not-failed limit completions completed) counts (recursion_from_All (IsWithin limit) counts within))

@@ -79,7 +79,7 @@ is_past limit count = nat_lt limit count.failures || count.fail
 -- often than the limit allows, or one of them failed it.
 abbrev pub has_failed : ℕ → ℕ → List ℕ → IndexCount → Bool
 has_failed limit completions completed count =
-    nat_lt count.index completions && (not (has count.index completed) && (nat_lt limit count.failures || count.fail))
+    nat_lt count.index completions && (not (has count.index completed) && is_past limit count)
 
 -- The indexes that have failed. Those of a Job that has ended stay as they are.
 abbrev pub failed_set : Job → ℕ → List ℕ → List IndexCount → List ℕ

@@ -11,6 +11,7 @@ ghost use Rattle.std.specs.Prelude.{
   IfOk,
   IfSome,
   IsNone,
+  IsTrue,
   OnOk,
   get_or,
   length,
@@ -19,6 +20,7 @@ ghost use Rattle.std.specs.Prelude.{
 };
 ghost use Rattle.std.specs.List.{position, position_or_len};
 ghost use Rattle.jc_ranges.specs.Sets.{IsIncreasing};
+ghost use Rattle.jc_types.specs.Pieces.{items_in};
 ghost use Rattle.jc_types.specs.declared.statuses.IndexCount.{IndexCount};
 ghost use Rattle.jc_states.specs.Bases.{is_own, own_pods};
 ghost use Rattle.jc_states.specs.UidLists.{is_in};
@@ -27,7 +29,9 @@ ghost use Rattle.jc_perindex.specs.FillingSteps.{one_failure, raise, raise_each,
 
 use jc_failpol::action_of;
 use jc_states::{is_in, is_own};
-use jc_types::{Action, Arc, Copied, FailurePolicy, IndexCount, IndexCounts, Job, Pod, Uid, Want};
+use jc_types::{
+    Action, Arc, Copied, FailurePolicy, IndexCount, IndexCounts, Job, Piece, Pod, Uid, Want,
+};
 
 // Whether the action fails the index.
 fn is_fail_index_action(action: Action) -> bool
@@ -92,7 +96,22 @@ fn place_of(index: u32, counts: &[IndexCount]) -> Option<usize>
     counts.iter().position(|count| index <= count.index)
 }
 
-// The first count whose index is not below the given one.
+// Whether all counts have a lower index, as the last one of the last piece tells.
+fn are_below(index: u32, pieces: &[Piece]) -> bool
+    requires { IsIncreasing (map (λ (count : IndexCount). count.index) (items_in pieces.now)) }
+    ensures { IsTrue result → length (items_in pieces.now)
+        ≤ position_or_len (λ (count : IndexCount). nat_le index count.index) (items_in pieces.now) }
+{
+    let Some(piece) = pieces.last() else {
+        return false;
+    };
+    match piece.as_slice().last() {
+        None => false,
+        Some(count) => count.index < index,
+    }
+}
+
+// The first count whose index is not below the given one. Mostly all are below.
 fn first_from(index: u32, counts: &IndexCounts) -> Option<Found>
     requires { IsIncreasing (map (λ (count : IndexCount). count.index) counts.now) }
     ensures past { IsNone result → length counts.now
@@ -103,6 +122,9 @@ fn first_from(index: u32, counts: &IndexCounts) -> Option<Found>
     ensures count { IfSome result (λ found. found.count ≡ get_or counts.now found.place found.count) }
 {
     let pieces = counts.pieces();
+    if are_below(index, pieces) {
+        return None;
+    }
     let mut passed = 0;
     for piece in pieces {
         let items = piece.as_slice();

@@ -153,7 +153,7 @@ fn read_values(
 {
     let items = need_list(alloc, exits, path, "values")?;
     let at = path.path_to("values");
-    let codes = read_codes(alloc, items.as_slice(), &at)?;
+    let codes = read_codes(alloc, items, &at)?;
     if !are_codes(operator, codes.as_slice()) {
         return Err(broken_at(&at, 17));
     }
@@ -398,7 +398,7 @@ fn read_given_patterns(alloc: Global, rule: &Value, path: &Trail) -> Result<Patt
         (list_in path.now (view rule.now) (codes "onPodConditions"))) }
 {
     let items = need_list(alloc, rule, path, "onPodConditions")?;
-    let patterns = read_few_patterns(alloc, items.as_slice(), &path.path_to("onPodConditions"))?;
+    let patterns = read_few_patterns(alloc, items, &path.path_to("onPodConditions"))?;
     Ok(patterns)
 }
 
@@ -518,9 +518,9 @@ fn read_failure_policy(
 {
     let items = need_list(alloc, policy, path, "rules")?;
     let at = path.path_to("rules");
-    check_few(items.as_slice(), &at, 12)?;
-    check_objects(items.as_slice(), &at)?;
-    let rules = read_failure_rules(alloc, items.as_slice(), &at, template, by_index)?;
+    check_few(items, &at, 12)?;
+    check_objects(items, &at)?;
+    let rules = read_failure_rules(alloc, items, &at, template, by_index)?;
     Ok(FailurePolicy { rules })
 }
 

@@ -216,9 +216,9 @@ fn read_success_policy(
 {
     let items = need_list(alloc, policy, path, "rules")?;
     let at = path.path_to("rules");
-    check_some(items.as_slice(), &at)?;
-    check_objects(items.as_slice(), &at)?;
-    let rules = read_success_rules(alloc, items.as_slice(), &at, completions)?;
+    check_some(items, &at)?;
+    check_objects(items, &at)?;
+    let rules = read_success_rules(alloc, items, &at, completions)?;
     Ok(SuccessPolicy { rules })
 }
 

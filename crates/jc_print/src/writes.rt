@@ -36,7 +36,7 @@ pub fn put_written(out: &mut String, writer: Writer) -> Result<(), Want>
     ensures { OnOk result (string_bytes out.new
         ≡ string_bytes out.old ++ print writer.tokens) }
 {
-    let text = String::from_utf8(writer.into_inner()).unwrap();
+    let text = unsafe { String::from_utf8_unchecked(writer.into_inner()) };
     out.push_str(text.as_str())
 }
 

@@ -7,6 +7,7 @@ ghost use Rattle.jc_reading.specs.LineReadings.{change_if, change_said, ends_if,
 
 use crate::manifests::{manifest_of, with_only};
 use crate::pod_reports::report_of;
+use bumpalo::Bump;
 use jc_json::{JsonFault, Trail, borrowed, read_owned};
 use jc_manifest::read_job;
 use jc_rows::{ManifestFault, is_label, is_subdomain};
@@ -113,7 +114,8 @@ fn read_value(alloc: Global, word: &[u8]) -> Result<Option<Value>, Want>
 fn accepted(alloc: Global, manifest: &Value) -> Result<Option<(Key, JobSpec)>, Want>
     ensures { IfOk result (λ o. o ≡ job_if (view manifest.now)) }
 {
-    let manifest = borrowed(alloc, manifest)?;
+    let bump = Bump::new(alloc);
+    let manifest = borrowed(&bump, manifest)?;
     match read_job(alloc, &manifest, &Trail::new(alloc)) {
         Ok(job) => Ok(Some(job)),
         Err(ManifestFault::Want) => Err(AllocError),
@@ -137,7 +139,8 @@ pub fn read_created(alloc: Global, key: &Key, word: &[u8]) -> Result<Option<(Key
 fn change_in(alloc: Global, line: &Value) -> Result<Option<SpecChange>, Want>
     ensures { IfOk result (λ o. o ≡ change_if (view line.now)) }
 {
-    let line = borrowed(alloc, line)?;
+    let bump = Bump::new(alloc);
+    let line = borrowed(&bump, line)?;
     match read_change(alloc, &line) {
         Ok(change) => Ok(Some(change)),
         Err(LineFault::Want) => Err(AllocError),
@@ -161,7 +164,8 @@ pub fn read_changed(alloc: Global, word: &[u8]) -> Result<Option<SpecChange>, Wa
 fn report_in(alloc: Global, line: &Value) -> Result<Option<PhaseChange>, Want>
     ensures { IfOk result (λ o. o ≡ report_if (view line.now)) }
 {
-    let line = borrowed(alloc, line)?;
+    let bump = Bump::new(alloc);
+    let line = borrowed(&bump, line)?;
     match read_report(alloc, &line) {
         Ok(change) => Ok(Some(change)),
         Err(LineFault::Want) => Err(AllocError),
@@ -185,7 +189,8 @@ pub fn read_reported(alloc: Global, word: &[u8]) -> Result<Option<PhaseChange>, 
 fn ends_in(alloc: Global, line: &Value) -> Result<Option<Ends>, Want>
     ensures { IfOk result (λ o. o ≡ ends_if (view line.now)) }
 {
-    let line = borrowed(alloc, line)?;
+    let bump = Bump::new(alloc);
+    let line = borrowed(&bump, line)?;
     match read_ends(alloc, &line) {
         Ok(ends) => Ok(Some(ends)),
         Err(LineFault::Want) => Err(AllocError),

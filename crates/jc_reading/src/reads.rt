@@ -20,6 +20,9 @@ use jc_print::put_decimal;
 use jc_types::{Action1, Arc, Seconds, Sys, Want};
 use std::alloc::Global;
 
+// The room for the front of a line: most take less. Without it a text grows by halves, and is moved four times.
+const MOST_FRONT: usize = 64;
+
 /// What an event does: a command's action, or an event of the system.
 #[derive(Drop)]
 pub enum LineAct {
@@ -304,7 +307,7 @@ fn front(alloc: Global, number: u64, read: &LineRead) -> Result<String, Want>
     ensures { IfOk result (λ text. string_bytes text
         ≡ front_text number read.now.lane (act_of_line read.now.act)) }
 {
-    let mut out = String::new(alloc);
+    let mut out = String::with_capacity(alloc, MOST_FRONT)?;
     put_decimal(&mut out, number)?;
     out.push_str(" ")?;
     print_tag(&mut out, read.lane)?;

@@ -61,7 +61,7 @@ fn read_in(alloc: Global, value: &Value) -> Result<Option<u32>, LineFault>
 fn read_given(alloc: Global, text: &[u8], room: &mut Room) -> Result<Option<u32>, LineFault>
     ensures { Says (λ ttl. ttl) result (ttl_given (data_of text.now)) }
 {
-    match read_line(alloc, text, room) {
+    match read_line(text, room) {
         Ok(value) => read_in(alloc, &value),
         Err(JsonFault::NotJson) => Ok(None),
         Err(JsonFault::Want) => Err(LineFault::Want),

@@ -120,12 +120,12 @@ fn are_few(containers: usize, inits: usize) -> bool
 
 // The containers.
 #[tactic(auto, unfolding(crate::specs::Templates::containers_refusal, crate::specs::Templates::list_in))]
-fn read_containers<'v, 'a>(
+fn read_containers<'a>(
     alloc: Global,
-    pod: &'v Value<'a>,
+    pod: &Value<'a>,
     path: &Trail,
-) -> Result<&'v Vec<Value<'a>>, ManifestFault>
-    ensures { Reads (λ items. map view items.now.items) result
+) -> Result<&'a [Value<'a>], ManifestFault>
+    ensures { Reads (λ items. map view items.now) result
         (containers_refusal path.now (view pod.now))
         (list_in path.now (view pod.now) (codes "containers")) }
 {
@@ -133,17 +133,17 @@ fn read_containers<'v, 'a>(
     if containers.len() == 0 || !are_few(containers.len(), init_count(pod)) {
         return Err(broken(path, "containers", 10));
     }
-    check_objects(containers.as_slice(), &path.path_to("containers"))?;
+    check_objects(containers, &path.path_to("containers"))?;
     Ok(containers)
 }
 
 // The init containers, where they are given.
 #[tactic(auto, unfolding(crate::specs::Templates::inits_refusal, crate::specs::Templates::given_list_in))]
-fn read_inits<'v, 'a>(
+fn read_inits<'a>(
     alloc: Global,
-    pod: &'v Value<'a>,
+    pod: &Value<'a>,
     path: &Trail,
-) -> Result<Option<&'v [Value<'a>]>, ManifestFault>
+) -> Result<Option<&'a [Value<'a>]>, ManifestFault>
     ensures { Reads (λ given. unwrap_or (option_map (λ items. map view items.now) given) [])
         result (inits_refusal path.now (view pod.now))
         (given_list_in path.now (view pod.now) (codes "initContainers")) }
@@ -233,7 +233,7 @@ fn read_all_containers(
 {
     let containers = read_containers(alloc, pod, path)?;
     let inits = read_inits(alloc, pod, path)?;
-    let names = read_all_names(alloc, containers.as_slice(), given_items(inits), path)?;
+    let names = read_all_names(alloc, containers, given_items(inits), path)?;
     Ok(names)
 }
 

@@ -60,7 +60,7 @@ pub fn read_text(
             cause: Cause::LineTooLong,
         });
     }
-    match read_line(alloc, text, room) {
+    match read_line(text, room) {
         Ok(value) => read_value(alloc, &value, shape),
         Err(JsonFault::NotJson) => Err(LineFault::Bad {
             cause: Cause::NotJson,

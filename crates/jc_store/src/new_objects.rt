@@ -85,7 +85,7 @@ pub(super) fn new_containers(alloc: Global, template: &Template) -> Result<Conta
     Ok(list)
 }
 
-// A pod of a Job: Pending, tracked and unmarked, with these containers, those of the Job's template.
+// A pod of a Job: Pending, tracked and unmarked, with these containers.
 pub(super) fn new_pod(
     alloc: Global,
     owner: &Job,
@@ -96,7 +96,6 @@ pub(super) fn new_pod(
     version: Version,
     now: Moment,
 ) -> Result<Pod, Want>
-    requires { containers ≡ new_containers owner.now.spec.template }
     ensures { IfOk result (λ r. r ≡ record {
       uid = uid;
       version = version;
@@ -106,7 +105,7 @@ pub(super) fn new_pod(
       index = index;
       restart = owner.now.spec.template.restart;
       phase = Pending;
-      containers = new_containers owner.now.spec.template;
+      containers = containers;
       conditions = [];
       marked = None;
       tracked = true;

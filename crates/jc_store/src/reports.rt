@@ -13,7 +13,7 @@ use jc_types::{
 };
 use std::alloc::Global;
 
-// The pod as the report says, with these containers, which are as it says.
+// The pod with the phase and the conditions of the report, and with these containers.
 pub(super) fn with_report(
     alloc: Global,
     pod: &Pod,
@@ -21,11 +21,10 @@ pub(super) fn with_report(
     change: &PhaseChange,
     containers: Containers,
 ) -> Result<Arc<Pod>, Want>
-    requires { containers ≡ map (changed_container change.now.containers) pod.now.containers }
     ensures { IfOk result (λ r. r ≡ record pod.now {
       version = version;
       phase = change.now.phase;
-      containers = map (changed_container change.now.containers) pod.now.containers;
+      containers = containers;
       conditions = fold put_pattern pod.now.conditions change.now.conditions;
     }) }
 {

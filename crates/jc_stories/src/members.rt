@@ -25,7 +25,7 @@ pub fn text(alloc: Global, text: &str) -> Result<String, AllocError> {
     let (name, line) = text.split_once(' ').unwrap_or((text, ""));
     let name = if name == "-" { "" } else { name };
     let mut room = new_room(alloc);
-    let Ok(value) = read_line(alloc, line.as_bytes(), &mut room) else {
+    let Ok(value) = read_line(line.as_bytes(), &mut room) else {
         return String::from_str(alloc, "not JSON");
     };
     match need_text(alloc, &value, &Trail::new(alloc), name) {
@@ -45,7 +45,7 @@ pub fn number(alloc: Global, text: &str) -> Result<String, AllocError> {
         return String::from_str(alloc, "two numbers");
     };
     let mut room = new_room(alloc);
-    let Ok(value) = read_line(alloc, line.as_bytes(), &mut room) else {
+    let Ok(value) = read_line(line.as_bytes(), &mut room) else {
         return String::from_str(alloc, "not JSON");
     };
     match need_number(alloc, &value, &Trail::new(alloc), "n", least, greatest) {
@@ -104,7 +104,7 @@ pub fn update(alloc: Global, text: &str) -> Result<String, AllocError> {
     let words: Vec<&str> = text.split_whitespace().collect(alloc)?;
     let line = words.get(4).unwrap_or(&"");
     let mut room = new_room(alloc);
-    let Ok(value) = read_line(alloc, line.as_bytes(), &mut room) else {
+    let Ok(value) = read_line(line.as_bytes(), &mut room) else {
         return String::from_str(alloc, "not JSON");
     };
     let Ok((_, old)) = read_job(alloc, &value, &Trail::new(alloc)) else {

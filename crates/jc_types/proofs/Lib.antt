@@ -4,4 +4,5 @@ pub mod EqualityFacts
 pub mod ObjectEqualityFacts
 pub mod FirstPlaceFacts
 pub mod PieceFacts
+pub mod WeightFacts
 pub mod LetterFacts

@@ -3,9 +3,12 @@
 --     hash_of bytes       a hash of all bytes
 --     code_of bytes       the front of a short text as one number; of a longer one its hash, with 8 as the last byte
 --     IsCoded code bytes  the text has this code, and the front of a short one stands in bytes
-use Rattle.std.specs.Prelude.{◌≡◌, ℕ, ◌+◌, ◌*◌, ◌/◌, ◌<◌, ◌≤◌, List, [], ◌∷◌, length, get_or, nat_le, if◌then◌else◌}
+--     text_spelled s      the text, wherever it stands
+use Rattle.std.specs.Prelude.{◌≡◌, ℕ, ◌+◌, ◌*◌, ◌/◌, ◌<◌, ◌≤◌, List, [], ◌∷◌, length, get_or, nat_le, string_bytes, if◌then◌else◌}
 use Rattle.std.specs.Int.{w64, from_le_bytes}
 use Rattle.std.specs.Hash.FoldHasher as folding
+use Rattle.jc_types.specs.declared.letters.Spelled.{Spelled}
+use Rattle.jc_types.specs.declared.letters.Spelled.TheVariants as spelled
 
 -- How many bytes there are, and those up to the seventh, with zeros behind the last.
 abbrev pub front : List ℕ → List ℕ
@@ -26,3 +29,8 @@ code_of bytes =
 pub record IsCoded (code : ℕ) (bytes : List ℕ) : Type 0 where
   pub is : code ≡ code_of bytes
   pub small : length bytes ≤ 7 → (i : ℕ) → get_or (front bytes) i 0 < 256
+
+-- The text, in the value itself or in memory of its own.
+abbrev pub text_spelled : Spelled → List ℕ
+text_spelled (spelled.InPlace text) = text.bytes
+text_spelled (spelled.Apart text) = string_bytes text

@@ -27,7 +27,7 @@ ghost use Rattle.std.specs.Prelude.{
 };
 ghost use Rattle.std.specs.List.{flat_map, insert};
 ghost use Rattle.jc_types.specs.Pieces.{items_in, items_left, place_in};
-ghost use Rattle.jc_types.specs.Weights.{IsWithin, weight};
+ghost use Rattle.jc_types.specs.Weights.{IsGreatest, IsWithin, weight};
 ghost use Rattle.jc_types.specs.declared.statuses.IndexCount.{IndexCount};
 
 use crate::copies::{Copied, Same, Want};
@@ -53,20 +53,20 @@ struct Spot {
 #[derive(Drop)]
 pub struct Piece {
     counts: ListOf<IndexCount>,
-    // No count weighs more.
+    // The greatest weight of the counts; 0 of none.
     most: u64,
 }
 
 impl Model for Piece {
-    ghost use Rattle.std.specs.Prelude.{◌≤◌, All, List};
+    ghost use Rattle.std.specs.Prelude.{List};
     ghost use Rattle.jc_types.specs.declared.statuses.IndexCount.{IndexCount};
-    ghost use Rattle.jc_types.specs.Weights.{weight};
+    ghost use Rattle.jc_types.specs.Weights.{IsGreatest};
 
     ghost Value = { List IndexCount };
 
     ghost view = { λ p. p.counts };
 
-    ghost invariant = { λ p. All (λ (count : IndexCount). weight count ≤ p.most) p.counts };
+    ghost invariant = { λ p. IsGreatest p.most p.counts };
 }
 
 /// The failures of each index that has some, in ascending index. They stand in pieces; a contract sees the list of
@@ -94,21 +94,13 @@ fn weight(count: IndexCount) -> u64
     if count.fail { u64::MAX } else { count.failures }
 }
 
-// The greater of two weights.
-fn greater(one: u64, other: u64) -> u64
-    ensures one { one ≤ result }
-    ensures other { other ≤ result }
-{
-    if one < other { other } else { one }
-}
-
 // The greatest weight of these counts; 0 of none.
 fn greatest(counts: &[IndexCount]) -> u64
-    ensures { All (λ (count : IndexCount). weight count ≤ result) counts.now }
+    ensures { IsGreatest result counts.now }
 {
-    let mut most = 0;
+    let mut most: u64 = 0;
     for count in counts {
-        most = greater(most, weight(*count));
+        most = most.max(weight(*count));
     }
     most
 }
@@ -137,10 +129,10 @@ impl Piece {
         self.counts.as_slice()
     }
 
-    /// Whether it is known, without a look at the counts, that none has more failures than this limit, and that the
-    /// failure policy failed the index of none.
+    /// Whether no count has more failures than this limit, and the failure policy failed the index of none. It is
+    /// known without a look at the counts.
     pub fn is_within(&self, limit: u32) -> bool
-        ensures { IsTrue result → All (λ count. IsWithin limit count) self.now }
+        ensures { IsTrue result ↔ All (λ count. IsWithin limit count) self.now }
     {
         self.most <= u64::from(limit)
     }

@@ -39,7 +39,9 @@ impl Text {
     pub fn from_str(alloc: Global, text: &str) -> Result<Self, Want>
         ensures { IfOk result (λ t. t ≡ text.now) }
     {
-        Text::from_string(String::from_str(alloc, text)?)
+        Ok(Text {
+            letters: Arc::new(alloc, Letters::of_text(alloc, text)?)?,
+        })
     }
 
     /// The text of a string.
@@ -51,7 +53,7 @@ impl Text {
     {
         let alloc = *string.allocator();
         Ok(Text {
-            letters: Arc::new(alloc, Letters::new(string))?,
+            letters: Arc::new(alloc, Letters::of_string(string))?,
         })
     }
 
@@ -109,7 +111,9 @@ impl Label {
         requires short { length text.now ≤ 63 }
         ensures { IfOk result (λ l. l ≡ text.now) }
     {
-        Ok(Label::from_string(String::from_str(alloc, text)?))
+        Ok(Label {
+            letters: Letters::of_text(alloc, text)?,
+        })
     }
 
     /// The name that a string of 1 to 63 bytes spells.
@@ -119,7 +123,7 @@ impl Label {
         ensures { result ≡ string_bytes string }
     {
         Label {
-            letters: Letters::new(string),
+            letters: Letters::of_string(string),
         }
     }
 

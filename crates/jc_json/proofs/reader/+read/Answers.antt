@@ -1,111 +1,111 @@
 use Rattle.std.proofs.Common.{◌≡◌, ◌-◌, ◌<◌, [], ◌∷◌, length, Some, None, sym, ap, ap₂, ◌∙◌, arith, rules}
 use Rattle.json.specs.Token.{Token}
 use Rattle.json.specs.Json.{parse_map, after_end_array, read_key, items, members, value}
-use Rattle.json.specs.Reads.{token_of}
+use Rattle.json.specs.Tape.{node_token}
 use Rattle.json.proofs.Grammar.{value_is, value-begin_array, value-begin_object, read_key-shorter}
-use Rattle.serde_json.specs.Data.{null, boolean, no_members, number, string, array, object, put}
+use Rattle.serde_json.specs.Data.{null, no_members, number, string, array, object, put}
 use Rattle.serde_json.specs.Read.{of_json, of_items, of_members, converted}
 use Rattle.serde_json.specs.View.{number_view}
-use Rattle.jc_json.specs.View.{view, members_view}
+use Rattle.jc_json.specs.View.{view, items_view, members_view}
 use Rattle.jc_json.specs.declared.value.Value.{String, Number, Null, the_lemmas}
 use Rattle.jc_json.proofs.Reading.{converted-array, converted-object, item_read, item_refused, items_over, member_read, member_refused, key_refused, members_over, items_before, items_before-no_items, one_more_item, none_before}
 use Rattle.jc_json.proofs.Views.{view-Array, view-Object, members_view-push}
 use Rattle.jc_json.proofs.reader.+read.Goals as goal
 
-pub read-returns-in_err-token-clause-err : goal.read-returns-in_err-token-clause-err
-read-returns-in_err-token-clause-err t c refused =
+pub read-returns-in_default-clause-err : goal.read-returns-in_default-clause-err
+read-returns-in_default-clause-err t c refused =
     let empty : c.args.reader.now ≡ [] = grind arith in
     ap (converted of_json) (ap (value c.args.depth) empty ∙ value_is c.args.depth [])
 
 pub read-returns-then-depth-eq0-clause-err : goal.read-returns-then-depth-eq0-clause-err
 unfolding value
 read-returns-then-depth-eq0-clause-err t c never =
-    let first : c.args.reader.now ≡ token_of c.in_ok-token.token ∷ c.next.new.self = grind arith in
+    let first : c.args.reader.now ≡ node_token c.in-Some.node.now ∷ c.next.new.self = grind arith in
     let none : c.args.depth ≡ 0 = omega arith in
-    ap (converted of_json) (ap₂ value none (first ∙ ap (λ k. token_of k ∷ c.next.new.self) c.in-BeginArray.is))
+    ap (converted of_json) (ap₂ value none (first ∙ ap (λ k. node_token k ∷ c.next.new.self) c.in-Array.is))
 
 pub read-returns-then-depth-eq0-2-clause-err : goal.read-returns-then-depth-eq0-2-clause-err
 unfolding value
 read-returns-then-depth-eq0-2-clause-err t c never =
-    let first : c.args.reader.now ≡ token_of c.in_ok-token.token ∷ c.next.new.self = grind arith in
+    let first : c.args.reader.now ≡ node_token c.in-Some.node.now ∷ c.next.new.self = grind arith in
     let none : c.args.depth ≡ 0 = omega arith in
-    ap (converted of_json) (ap₂ value none (first ∙ ap (λ k. token_of k ∷ c.next.new.self) c.in-BeginObject.is))
+    ap (converted of_json) (ap₂ value none (first ∙ ap (λ k. node_token k ∷ c.next.new.self) c.in-Object.is))
 
-pub read-returns-in_err-read_items-in-BeginArray-clause-err : goal.read-returns-in_err-read_items-in-BeginArray-clause-err
-read-returns-in_err-read_items-in-BeginArray-clause-err t c refused =
-    let first : c.args.reader.now ≡ token_of c.in_ok-token.token ∷ c.next.new.self = grind arith in
+pub read-returns-in_err-read_items-in-Array-clause-err : goal.read-returns-in_err-read_items-in-Array-clause-err
+read-returns-in_err-read_items-in-Array-clause-err t c refused =
+    let first : c.args.reader.now ≡ node_token c.in-Some.node.now ∷ c.next.new.self = grind arith in
     let opened = ap (converted of_json) (ap (value c.args.depth)
-    (first ∙ ap (λ k. token_of k ∷ c.next.new.self) c.in-BeginArray.is)
+    (first ∙ ap (λ k. node_token k ∷ c.next.new.self) c.in-Array.is)
     ∙ value-begin_array c.args.depth c.next.new.self (omega arith))
     ∙ converted-array (items (value (c.args.depth - 1)) (length c.next.new.self) c.next.new.self) in
     opened ∙ ap (parse_map array) (c.read_items.ensures.err (grind arith))
 
-pub read-returns-in_err-read_members-in-BeginObject-clause-err : goal.read-returns-in_err-read_members-in-BeginObject-clause-err
-read-returns-in_err-read_members-in-BeginObject-clause-err t c refused =
-    let first : c.args.reader.now ≡ token_of c.in_ok-token.token ∷ c.next.new.self = grind arith in
+pub read-returns-in_err-read_members-in-Object-clause-err : goal.read-returns-in_err-read_members-in-Object-clause-err
+read-returns-in_err-read_members-in-Object-clause-err t c refused =
+    let first : c.args.reader.now ≡ node_token c.in-Some.node.now ∷ c.next.new.self = grind arith in
     let opened = ap (converted of_json) (ap (value c.args.depth)
-    (first ∙ ap (λ k. token_of k ∷ c.next.new.self) c.in-BeginObject.is)
+    (first ∙ ap (λ k. node_token k ∷ c.next.new.self) c.in-Object.is)
     ∙ value-begin_object c.args.depth c.next.new.self (omega arith))
     ∙ converted-object (members (value (c.args.depth - 1)) (length c.next.new.self) c.next.new.self) in
     opened ∙ ap (parse_map object) (c.read_members.ensures.err (grind arith))
 
 pub read-returns-in-String-clause-ok : goal.read-returns-in-String-clause-ok
 read-returns-in-String-clause-ok t c =
-    let first : c.args.reader.now ≡ token_of c.in_ok-token.token ∷ c.next.new.self = grind arith in
+    let first : c.args.reader.now ≡ node_token c.in-Some.node.now ∷ c.next.new.self = grind arith in
     let is : c.args.reader.now ≡ Token.string c.in-String.text.now ∷ c.next.new.self = grind (arith, first) in
     let seen : view (String c.in-String.text) ≡ string c.in-String.text.now = search (rules, the_lemmas) in
     ap (converted of_json) (ap (value c.args.depth) is ∙ value_is c.args.depth _) ∙ ap (λ d. Some (d, c.next.new.self)) (sym seen)
 
 pub read-returns-in-Bool-clause-ok : goal.read-returns-in-Bool-clause-ok
 read-returns-in-Bool-clause-ok t c =
-    let first : c.args.reader.now ≡ token_of c.in_ok-token.token ∷ c.next.new.self = grind arith in
+    let first : c.args.reader.now ≡ node_token c.in-Some.node.now ∷ c.next.new.self = grind arith in
     let is : c.args.reader.now ≡ Token.boolean c.in-Bool.b ∷ c.next.new.self = grind (arith, first) in
     ap (converted of_json) (ap (value c.args.depth) is ∙ value_is c.args.depth _) ∙ ap (λ d. Some (d, c.next.new.self)) (sym c.truth.ensures)
 
 pub read-returns-in-Null-clause-ok : goal.read-returns-in-Null-clause-ok
 read-returns-in-Null-clause-ok t c =
-    let first : c.args.reader.now ≡ token_of c.in_ok-token.token ∷ c.next.new.self = grind arith in
+    let first : c.args.reader.now ≡ node_token c.in-Some.node.now ∷ c.next.new.self = grind arith in
     let is : c.args.reader.now ≡ Token.null ∷ c.next.new.self = grind (arith, first) in
     let seen : view (Null) ≡ null = search (rules, the_lemmas) in
     ap (converted of_json) (ap (value c.args.depth) is ∙ value_is c.args.depth _) ∙ ap (λ d. Some (d, c.next.new.self)) (sym seen)
 
-pub read-returns-in-Some-clause-ok : goal.read-returns-in-Some-clause-ok
-read-returns-in-Some-clause-ok t c =
-    let first : c.args.reader.now ≡ token_of c.in_ok-token.token ∷ c.next.new.self = grind arith in
+pub read-returns-in-Some-number-clause-ok : goal.read-returns-in-Some-number-clause-ok
+read-returns-in-Some-number-clause-ok t c =
+    let first : c.args.reader.now ≡ node_token c.in-Some.node.now ∷ c.next.new.self = grind arith in
     let is : c.args.reader.now ≡ Token.number c.in-Number.text.now ∷ c.next.new.self = grind (arith, first) in
-    let seen : view (Number c.in-Some.number) ≡ number (number_view c.in-Some.number) = search (rules, the_lemmas) in
-    ap (converted of_json) (ap (value c.args.depth) is ∙ value_is c.args.depth _) ∙ rw (← c.in-Some.ensures, seen)
+    let seen : view (Number c.in-Some-number.number) ≡ number (number_view c.in-Some-number.number) = search (rules, the_lemmas) in
+    ap (converted of_json) (ap (value c.args.depth) is ∙ value_is c.args.depth _) ∙ rw (← c.in-Some-number.ensures, seen)
 
 pub read-returns-in-None-clause-err : goal.read-returns-in-None-clause-err
 read-returns-in-None-clause-err t c refused =
-    let first : c.args.reader.now ≡ token_of c.in_ok-token.token ∷ c.next.new.self = grind arith in
+    let first : c.args.reader.now ≡ node_token c.in-Some.node.now ∷ c.next.new.self = grind arith in
     let is : c.args.reader.now ≡ Token.number c.in-Number.text.now ∷ c.next.new.self = grind (arith, first) in
     ap (converted of_json) (ap (value c.args.depth) is ∙ value_is c.args.depth _) ∙ rw (← c.in-None.ensures)
 
 pub read-returns-in-EndObject-clause-err : goal.read-returns-in-EndObject-clause-err
 read-returns-in-EndObject-clause-err t c refused =
-    let first : c.args.reader.now ≡ token_of c.in_ok-token.token ∷ c.next.new.self = grind arith in
+    let first : c.args.reader.now ≡ node_token c.in-Some.node.now ∷ c.next.new.self = grind arith in
     let none : value c.args.depth c.args.reader.now ≡ None = rw (value_is c.args.depth c.args.reader.now, first) (grind arith) in
     ap (converted of_json) none
 
-pub read-returns-in_ok-read_items-in-BeginArray-clause-ok : goal.read-returns-in_ok-read_items-in-BeginArray-clause-ok
-read-returns-in_ok-read_items-in-BeginArray-clause-ok t c =
-    let first : c.args.reader.now ≡ token_of c.in_ok-token.token ∷ c.next.new.self = grind arith in
+pub read-returns-in_ok-read_items-in-Array-clause-ok : goal.read-returns-in_ok-read_items-in-Array-clause-ok
+read-returns-in_ok-read_items-in-Array-clause-ok t c =
+    let first : c.args.reader.now ≡ node_token c.in-Some.node.now ∷ c.next.new.self = grind arith in
     let opened = ap (converted of_json) (ap (value c.args.depth)
-    (first ∙ ap (λ k. token_of k ∷ c.next.new.self) c.in-BeginArray.is)
+    (first ∙ ap (λ k. node_token k ∷ c.next.new.self) c.in-Array.is)
     ∙ value-begin_array c.args.depth c.next.new.self (omega arith))
     ∙ converted-array (items (value (c.args.depth - 1)) (length c.next.new.self) c.next.new.self) in
-    let found = c.in_ok-read_items-in-BeginArray in
+    let found = c.in_ok-read_items-in-Array in
     opened ∙ ap (parse_map array) found.ensures.ok ∙ ap (λ d. Some (d, c.read_items.new.reader)) (sym (view-Array found.field-0))
 
-pub read-returns-in_ok-read_members-in-BeginObject-clause-ok : goal.read-returns-in_ok-read_members-in-BeginObject-clause-ok
-read-returns-in_ok-read_members-in-BeginObject-clause-ok t c =
-    let first : c.args.reader.now ≡ token_of c.in_ok-token.token ∷ c.next.new.self = grind arith in
+pub read-returns-in_ok-read_members-in-Object-clause-ok : goal.read-returns-in_ok-read_members-in-Object-clause-ok
+read-returns-in_ok-read_members-in-Object-clause-ok t c =
+    let first : c.args.reader.now ≡ node_token c.in-Some.node.now ∷ c.next.new.self = grind arith in
     let opened = ap (converted of_json) (ap (value c.args.depth)
-    (first ∙ ap (λ k. token_of k ∷ c.next.new.self) c.in-BeginObject.is)
+    (first ∙ ap (λ k. node_token k ∷ c.next.new.self) c.in-Object.is)
     ∙ value-begin_object c.args.depth c.next.new.self (omega arith))
     ∙ converted-object (members (value (c.args.depth - 1)) (length c.next.new.self) c.next.new.self) in
-    let found = c.in_ok-read_members-in-BeginObject in
+    let found = c.in_ok-read_members-in-Object in
     opened ∙ ap (parse_map object) found.ensures.ok ∙ ap (λ d. Some (d, c.read_members.new.reader)) (sym (view-Object found.field-0))
 
 pub read_items-items-init : goal.read_items-items-init
@@ -145,7 +145,7 @@ read_items-returns-clause-ok t c =
     let l = c.items in
     let n = l.invariant.0 in
     let r = c.take_end_array.new.self in
-    l.invariant.2 ∙ ap (parse_map (items_before l.found.items)) (items_over p n l.reader r l.invariant.1 (grind arith)) ∙ ap (λ ds. Some (ds, r)) (items_before-no_items l.found.items)
+    l.invariant.2 ∙ ap (parse_map (items_before l.found.items)) (items_over p n l.reader r l.invariant.1 (grind arith)) ∙ ap (λ ds. Some (ds, r)) (items_before-no_items l.found.items ∙ ap items_view (sym c.into_bump_slice.ensures))
 
 pub read_members-members-init : goal.read_members-members-init
 read_members-members-init t c =
@@ -158,7 +158,7 @@ read_members-returns-in_err-name-clause-err t c refused =
     let l = c.members in
     let n = l.invariant.0 in
     let old = members_view l.found.items no_members in
-    l.invariant.2 ∙ key_refused p old n l.reader c.in_err-name.ensures.value
+    l.invariant.2 ∙ key_refused p old n l.reader c.in_err-name.ensures
 
 pub read_members-returns-in_err-member-clause-err : goal.read_members-returns-in_err-member-clause-err
 read_members-returns-in_err-member-clause-err t c refused =
@@ -201,3 +201,4 @@ read_members-returns-clause-ok t c =
     let n = l.invariant.0 in
     let old = members_view l.found.items no_members in
     l.invariant.2 ∙ members_over p old n l.reader c.next_key.new.self l.invariant.1 (grind arith)
+    ∙ ap (λ ms. Some (members_view ms no_members, c.next_key.new.self)) (sym c.into_bump_slice.ensures)

@@ -9,12 +9,12 @@ use Rattle.jc_json.proofs.value.find.Goals as goal
 
 pub returns-then-is_named : goal.returns-then-is_named
 returns-then-is_named c =
-    let xs = c.args.members.now.items in
+    let xs = c.args.members.now in
     let i = c.loop-left.left - 1 in
-    let m = c.index-member.result.now in
+    let m = c.index-members-left.result in
     let name = c.args.name.now in
     let next : c.loop-left.left ≡ i + 1 = omega arith in
-    let front : take c.loop-left.left xs ≡ take i xs ++ m ∷ [] = ap (λ k. take k xs) next ∙ take_more xs i m (omega arith) ∙ ap (λ y. take i xs ++ y ∷ []) (sym c.index-member.ensures) in
+    let front : take c.loop-left.left xs ≡ take i xs ++ m ∷ [] = ap (λ k. take k xs) next ∙ take_more xs i m (omega arith) ∙ ap (λ y. take i xs ++ y ∷ []) (sym c.index-members-left.is) in
     let step = c.loop-left.invariant.0 ∙ ap (λ ys. get_member name (members_view ys no_members)) front ∙ found_last name (take i xs) m in
     let pick = λ (b : Bool). cond b (Some (view m.1)) (get_member name (members_view (take i xs) no_members)) in
     let same : bytes_eq m.0.now name ≡ true = grind arith in
@@ -22,12 +22,12 @@ returns-then-is_named c =
 
 pub loop-left-preserved : goal.loop-left-preserved
 loop-left-preserved c =
-    let xs = c.args.members.now.items in
+    let xs = c.args.members.now in
     let i = c.loop-left.left - 1 in
-    let m = c.index-member.result.now in
+    let m = c.index-members-left.result in
     let name = c.args.name.now in
     let next : c.loop-left.left ≡ i + 1 = omega arith in
-    let front : take c.loop-left.left xs ≡ take i xs ++ m ∷ [] = ap (λ k. take k xs) next ∙ take_more xs i m (omega arith) ∙ ap (λ y. take i xs ++ y ∷ []) (sym c.index-member.ensures) in
+    let front : take c.loop-left.left xs ≡ take i xs ++ m ∷ [] = ap (λ k. take k xs) next ∙ take_more xs i m (omega arith) ∙ ap (λ y. take i xs ++ y ∷ []) (sym c.index-members-left.is) in
     let step = c.loop-left.invariant.0 ∙ ap (λ ys. get_member name (members_view ys no_members)) front ∙ found_last name (take i xs) m in
     let pick = λ (b : Bool). cond b (Some (view m.1)) (get_member name (members_view (take i xs) no_members)) in
     let other : bytes_eq m.0.now name ≡ false = grind arith in

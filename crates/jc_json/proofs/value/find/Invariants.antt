@@ -5,7 +5,7 @@ use Rattle.jc_json.specs.View.{members_view}
 use Rattle.jc_json.proofs.value.find.Given as goal
 
 abbrev pub invariant-loop-left : goal.invariant-loop-left
-invariant-loop-left l = (get_member l.name (members_view l.members.items no_members) ≡ get_member l.name (members_view (take l.left l.members.items) no_members)) × (l.left ≤ length l.members.items)
+invariant-loop-left l = (get_member l.name (members_view l.members no_members) ≡ get_member l.name (members_view (take l.left l.members) no_members)) × (l.left ≤ length l.members)
 
 abbrev pub decreases-loop-left : goal.decreases-loop-left
 decreases-loop-left l = l.left

@@ -1,8 +1,7 @@
--- No count before the index weighs more.
-use Rattle.std.proofs.Common.{◌≤◌, All, take}
-use Rattle.jc_types.specs.Weights.{weight}
-use Rattle.jc_types.specs.declared.statuses.IndexCount.{IndexCount}
+-- The greatest weight of the counts before the index.
+use Rattle.std.proofs.Common.{take}
+use Rattle.jc_types.specs.Weights.{IsGreatest}
 use Rattle.jc_types.proofs.pieces.greatest.Given as goal
 
 abbrev pub invariant-loop-count : goal.invariant-loop-count
-invariant-loop-count l = All (λ (count : IndexCount). weight count ≤ l.most) (take l.count-index l.counts)
+invariant-loop-count l = IsGreatest l.most (take l.count-index l.counts)

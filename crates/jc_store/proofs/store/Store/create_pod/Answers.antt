@@ -13,8 +13,8 @@ make_pod-requires-clause-new_pod c = record {
       ∙ ap (λ p. made_for p.owner_uid c.containers_of.new.self) (sym c.in_ok-pod.ensures);
   phase = ap (λ p. p.phase) c.in_ok-pod.ensures;
   exits =
-      subst (Each (λ container. container.exit ≡ None)) (sym (ap (λ p. p.containers) c.in_ok-pod.ensures))
-      (new_containers-no_exits c.args.owner.now.spec.template);
+      subst (Each (λ container. container.exit ≡ None)) (sym (ap (λ p. p.containers) c.in_ok-pod.ensures ∙ c.in_ok-containers.ensures.containers))
+      (new_containers-no_exits c.deref.result.now.template);
   conditions = ap (λ p. p.conditions) c.in_ok-pod.ensures;
   marked = ap (λ p. p.marked) c.in_ok-pod.ensures;
   tracked = ap (λ p. p.tracked) c.in_ok-pod.ensures;
