@@ -123,8 +123,8 @@ fn run_words<R: Threads + Wait + Sync, S: Source, K: Sink, G: Gate + Sync>(
 /// Does what the words ask for. `words` are those after the program's name.
 ///
 /// `run` with its options reads a script of at most 67,108,864 bytes from the source, plays it, and
-/// writes the report; `reap` plays it with a settle behind it, then all of it once more with the
-/// commands behind that which a reaper gives, and writes the report of that; `audit` reads a
+/// writes the report; `reap` plays it with a settle behind it, goes on with the commands behind that
+/// which a reaper gives to what is left, and writes the report of all; `audit` reads a
 /// report, and writes whether it is one; `generate` with three numbers plays a generated script,
 /// and writes the summary. With `--threads` from 1 on as many seats play the script, and make their
 /// plans beside each other; `gate` is told of each plan. They share the cluster by the lock that

@@ -4,6 +4,7 @@ pub mod RunFacts
 pub mod EndFacts
 pub mod WordFacts
 pub mod ReapFacts
+pub mod ExtendFacts
 pub mod InTimeFacts
 -- Lemmas of the crates below, handed on to those above.
 pub use Rattle.jc_promise.proofs.DeedFacts

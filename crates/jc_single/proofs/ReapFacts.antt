@@ -147,19 +147,6 @@ last-is script shape seen ttls last is script_is room e =
     ap script_with (e ∙ ap (λ (s : Seen). s.script.commands ++ reap_list s ttls) is)
     ∙ sym (more-last script shape ttls room)
 
--- It is where the play that it is made of is full, and where that is not.
-pub last-by : {E : Type 0} (script : Script) (shape : Shape) (seen : Seen) (ttls : List (Option ℕ)) (full : Bool) (r : Result Script E)
-    → is_full script shape ≡ full → seen ≡ seen_at_end script shape → seen.script ≡ script
-    → (full ≡ true → IfOk r (λ last. last ≡ seen.script))
-    → (full ≡ false → IfOk r (λ last. last.commands ≡ seen.script.commands ++ reap_list seen ttls))
-    → IfOk r (λ last. last ≡ then_reaped script shape ttls)
-last-by script shape seen ttls true r e is script_is full more =
-    if-ok (λ s. s ≡ seen.script) (λ s. s ≡ then_reaped script shape ttls) r
-    (λ last same. same ∙ script_is ∙ sym (full-last script shape ttls e)) (full refl)
-last-by script shape seen ttls false r e is script_is full more =
-    if-ok (λ s. s.commands ≡ seen.script.commands ++ reap_list seen ttls) (λ s. s ≡ then_reaped script shape ttls) r
-    (λ last same. last-is script shape seen ttls last is script_is e same) (more refl)
-
 -- ---- what is printed
 
 pub reaped-is : (shape : Shape) (commands : List Command) (ttls : List (Option ℕ)) (output : Output)
@@ -181,22 +168,3 @@ pub ttls-bad : (shape : Shape) (commands : List Command) (said : Result (List Co
     → reaped_of shape said given ≡ Err bad
 ttls-bad shape commands said given bad commands_are e =
     ap (λ r. reaped_of shape r given) commands_are ∙ ap (λ r. reaped_of shape (Ok commands) r) e
-
--- What is asked of a script and of a reaper's commands is asked of the script that is played last.
-pub last-valid : (script last : Script) (shape : Shape) (ttls : List (Option ℕ)) → last ≡ then_reaped script shape ttls
-    → AreValid script.commands → AreValid (reap_list (seen_at_end script shape) ttls) → AreValid last.commands
-last-valid script last shape ttls is first more =
-    subst (λ (s : Script). AreValid s.commands) (sym is) (last-holds (λ (s : Script). AreValid s.commands) script shape ttls first
-    (both (λ (c : Command). IsValidAction c.action) script.commands (reap_list (seen_at_end script shape) ttls) first more))
-
-pub last-within : (script last : Script) (shape : Shape) (ttls : List (Option ℕ)) → last ≡ then_reaped script shape ttls
-    → IsScriptFor script shape → AreWithin shape (reap_list (seen_at_end script shape) ttls) → IsScriptFor last shape
-last-within script last shape ttls is first more =
-    subst (λ (s : Script). IsScriptFor s shape) (sym is) (last-holds (λ (s : Script). IsScriptFor s shape) script shape ttls first
-    (both (λ (c : Command). IsOfShape shape (act_of_action c.action)) script.commands (reap_list (seen_at_end script shape) ttls) first more))
-
--- The report of the script that is played last.
-pub last-told : (script last : Script) (shape : Shape) (ttls : List (Option ℕ)) (output : Output)
-    → last ≡ then_reaped script shape ttls → printed_by output ≡ report_printed last shape
-    → printed_by output ≡ report_printed (then_reaped script shape ttls) shape
-last-told script last shape ttls output e is = is ∙ ap (λ (s : Script). report_printed s shape) e

@@ -3,6 +3,7 @@
 --     staging_of order                 those of an order that has a report written
 --     as_script commands               the script of the commands that a text says
 --     at_rest commands                 the script of the commands, with a settle behind them
+--     with_commands seen more          what is seen, once more commands stand at the end of the script
 --     then_reaped script shape ttls    the script with a reaper's commands behind it, unless its play is full
 --     CollectsDue script shape ttls    what a reaper's commands find in that script's play
 --     script_played order input        the script that is played last, or the first bad line
@@ -13,7 +14,7 @@ use Rattle.jc_types.specs.declared.actions.Command.{Command}
 use Rattle.jc_types.specs.declared.actions.Script.{Script}
 use Rattle.jc_types.specs.declared.runs.Shape.{Shape}
 use Rattle.jc_promise.specs.Play.{deeds_played, is_full, whole_play}
-use Rattle.jc_promise.specs.Seen.{deeds_seen}
+use Rattle.jc_promise.specs.Seen.{Seen, deeds_seen}
 use Rattle.jc_reap.specs.Finds.{IsCollected, seen_at_end}
 use Rattle.jc_reap.specs.Reaping.{command, reap_list, ttl_seen}
 use Rattle.jc_reap.specs.TtlLines.{ttls_of}
@@ -46,6 +47,10 @@ as_script (Err bad) = Err bad
 -- The script of the commands, with a settle behind them.
 abbrev pub at_rest : List Command → Script
 at_rest commands = record { commands = commands ++ command act.Settle ∷ [] }
+
+-- What is seen, once more commands stand at the end of the script: what happened stays.
+abbrev pub with_commands : Seen → List Command → Seen
+with_commands seen more = record seen { script = record { commands = seen.script.commands ++ more } }
 
 -- The script with the commands behind it that a reaper gives to what its play leaves. Where that play is full it is
 -- the script itself.

@@ -41,8 +41,8 @@ pub struct Output {
     pub full: bool,
 }
 
-// The report of a play.
-fn print_report(alloc: Global, played: Played) -> Result<Output, Want>
+/// The report of a play.
+pub(crate) fn print_report(alloc: Global, played: Played) -> Result<Output, Want>
     ensures text { IfOk result (λ output. writing_text output.text
         ≡ report_text played.machine.script (reverse played.machine.pasts)
         (log_seen played.machine) played.full) }
@@ -69,8 +69,8 @@ fn print_summary(alloc: Global, played: &Played) -> Result<Output, Want>
     })
 }
 
-/// The report of the play of a script.
-pub(crate) fn script_answer(alloc: Global, script: Script, shape: Shape) -> Result<Output, Want>
+// The report of the play of a script.
+fn script_answer(alloc: Global, script: Script, shape: Shape) -> Result<Output, Want>
     requires valid_actions { AreValidCommands script.commands }
     requires fits_shape { IsScriptFor script shape }
     requires fits { length script.commands < 2 ^ 32 }

@@ -20,8 +20,8 @@ pub(crate) struct Played {
     pub(crate) full: bool,
 }
 
-// Plays what is left of the machine's script, and answers whether its history had no room for an event that was to come.
-fn play_out(machine: &mut Machine) -> Result<bool, Want>
+/// Plays what is left of the machine's script, and answers whether its history had no room for an event that was to come.
+pub(crate) fn play_out(machine: &mut Machine) -> Result<bool, Want>
     requires { IsScriptFor machine.old.script machine.old.shape }
     ensures script { machine.new.script ≡ machine.old.script }
     ensures shape { machine.new.shape ≡ machine.old.shape }

@@ -1,27 +1,31 @@
-//! Collection after finish: a script is played until nothing is left to do, and then once more with the commands of a
+//! Collection after finish: a script is played until nothing is left to do, and the play goes on with the commands of a
 //! reaper behind it.
 
-ghost use Rattle.std.specs.Prelude.{◌≡◌, ◌<◌, ◌≤◌, ◌++◌, ◌^◌, Err, IfOk, IsErrOf, Ok, OnOk, false, length, true, ℕ};
-ghost use Rattle.jc_types.specs.declared.actions.Command.{Command};
+ghost use Rattle.std.specs.Prelude.{◌≡◌, ◌<◌, ◌≤◌, ◌^◌, Err, IfOk, IsErrOf, Ok, OnOk, false, length, true, ℕ};
 ghost use Rattle.jc_promise.specs.ValidActions.{AreValidCommands};
 ghost use Rattle.jc_promise.specs.Available.{is_quiescent};
+ghost use Rattle.jc_promise.specs.Play.{whole_play};
 ghost use Rattle.jc_promise.specs.Plays.{IsScriptFor, ends_in_settle};
 ghost use Rattle.jc_promise.specs.Seen.{deeds_seen, log_seen};
-ghost use Rattle.jc_reap.specs.Reaping.{reap_list};
+ghost use Rattle.jc_reap.specs.Reaping.{reaped_script};
 ghost use Rattle.jc_reap.specs.TtlLines.{ttls_of};
+ghost use Rattle.jc_report.specs.Turns.{playing_of};
 ghost use Rattle.jc_script.specs.Scripts.{most_bytes, most_commands, script_of};
 ghost use Rattle.jc_script.specs.Cause.{Cause};
 ghost use Rattle.jc_words.specs.FitOrders.{IsFitShape};
-ghost use Rattle.jc_single.specs.Played.{at_rest, reaped_of, then_reaped};
+ghost use Rattle.jc_single.specs.Played.{at_rest, reaped_of, then_reaped, with_commands};
 ghost use Rattle.jc_single.specs.RunAnswers.{printed_by, report_printed, reported};
 
-use crate::orders::{Output, script_answer};
-use crate::plays::{Played, play_whole};
+use crate::orders::{Output, print_report};
+use crate::plays::{Played, play_out, play_whole};
 use jc_promise::settled_plays_are_at_rest;
-use jc_reap::{Ttls, as_many_ttls_as_commands, read_ttls, reap_machine, reaped_commands_fit};
+use jc_reap::{
+    Ttls, as_many_ttls_as_commands, longer_scripts_play_on, read_ttls, reap_machine,
+    reaped_commands_fit,
+};
 use jc_report::Machine;
 use jc_script::{Cause, ScriptFault, read_script, scripts_fit_their_shape};
-use jc_types::{Action1, Command, Commands, Copied, Script, Shape, Want};
+use jc_types::{Action1, Command, Copied, Script, Shape, Want};
 use std::alloc::{AllocError, Global};
 
 // Puts a settle at the end of the script.
@@ -34,70 +38,60 @@ fn settle_at_end(script: &mut Script) -> Result<(), Want>
     })
 }
 
-// Puts more commands at the end.
-fn append(commands: &mut Commands, more: &[Command]) -> Result<(), Want>
-    ensures { OnOk result (commands.new ≡ commands.old ++ more.now) }
+// Puts the commands at the end of the machine's script. What happened stays.
+//
+// `Want` also where there are 2^32 commands then, which no memory holds.
+fn extend(machine: &mut Machine, commands: &[Command]) -> Result<(), Want>
+    requires { AreValidCommands commands.now }
+    ensures { OnOk result (machine.new ≡ with_commands machine.old commands.now) }
 {
-    for command in more {
-        commands.push(command.copy()?)?;
+    for command in commands {
+        if machine.script().commands.len() >= u32::MAX as usize {
+            return Err(AllocError);
+        }
+        machine.extend(command.copy()?)?;
     }
     Ok(())
 }
 
-// The script that was played, with the commands behind it that a reaper gives to what it has left.
-//
-// `Want` also where they are 2^32 or more, which no memory holds.
-fn reaped(alloc: Global, machine: &Machine, ttls: &Ttls) -> Result<Script, Want>
-    requires rest { is_quiescent machine.now.shape (deeds_seen machine.now)
-        (log_seen machine.now) ≡ true }
-    requires few_ttls { length ttls.now ≤ length machine.now.script.commands }
-    ensures script { IfOk result (λ script. script.commands
-        ≡ machine.now.script.commands ++ reap_list machine.now ttls.now) }
-    ensures fits { IfOk result (λ script. length script.commands < 2 ^ 32) }
+// The play goes on, with the commands that a reaper gives to what it has left.
+fn play_on(alloc: Global, mut machine: Machine, ttls: &Ttls) -> Result<Played, Want>
+    requires fits_shape { IsScriptFor machine.script machine.shape }
+    requires rest { is_quiescent machine.shape (deeds_seen machine) (log_seen machine) ≡ true }
+    requires few_ttls { length ttls.now ≤ length machine.script.commands }
+    requires play { whole_play machine.script machine.shape ≡ playing_of false machine }
+    ensures script { IfOk result (λ played. played.machine.script ≡ reaped_script machine ttls.now) }
+    ensures play { IfOk result (λ played. whole_play (reaped_script machine ttls.now) machine.shape
+        ≡ playing_of played.full played.machine) }
 {
-    let commands = reap_machine(alloc, machine, ttls)?;
-    let mut script = machine.script().copy()?;
-    append(&mut script.commands, commands.as_slice())?;
-    if script.commands.len() > u32::MAX as usize {
-        return Err(AllocError);
-    }
-    Ok(script)
+    longer_scripts_play_on();
+    reaped_commands_fit();
+    let commands = reap_machine(alloc, &machine, ttls)?;
+    extend(&mut machine, commands.as_slice())?;
+    let full = play_out(&mut machine)?;
+    Ok(Played { machine, full })
 }
 
-// The script that is played last, of the first play: the script itself where that is full, and else the one with the
-// commands of a reaper behind it.
-fn last_of(alloc: Global, played: &Played, ttls: &Ttls) -> Result<Script, Want>
-    requires rest { played.now.full ≡ false → is_quiescent played.now.machine.shape
-        (deeds_seen played.now.machine) (log_seen played.now.machine) ≡ true }
-    requires few_ttls { length ttls.now ≤ length played.now.machine.script.commands }
-    requires fits { length played.now.machine.script.commands < 2 ^ 32 }
-    ensures full { played.now.full ≡ true
-        → IfOk result (λ last. last ≡ played.now.machine.script) }
-    ensures more { played.now.full ≡ false → IfOk result (λ last. last.commands
-        ≡ played.now.machine.script.commands ++ reap_list played.now.machine ttls.now) }
-    ensures fits { IfOk result (λ last. length last.commands < 2 ^ 32) }
-{
-    if played.full {
-        return played.machine.script().copy();
-    }
-    reaped(alloc, &played.machine, ttls)
-}
-
-// The script that is played last. The machine of the first play is given up at the end, so that two are never there at
-// once.
-fn last_script(alloc: Global, script: Script, ttls: &Ttls, shape: &Shape) -> Result<Script, Want>
+// The play of the script that is played last: that of the script itself, which goes on with the commands of a reaper
+// where it is not full.
+fn play_last(alloc: Global, script: Script, ttls: &Ttls, shape: &Shape) -> Result<Played, Want>
     requires valid_actions { AreValidCommands script.commands }
     requires fits_shape { IsScriptFor script shape.now }
     requires fits { length script.commands < 2 ^ 32 }
     requires few_ttls { length ttls.now ≤ length script.commands }
     requires ends { ends_in_settle script.commands ≡ true }
     requires few_events { shape.now.events ≤ 200000 }
-    ensures last { IfOk result (λ last. last ≡ then_reaped script shape.now ttls.now) }
-    ensures fits { IfOk result (λ last. length last.commands < 2 ^ 32) }
+    ensures script { IfOk result
+        (λ played. played.machine.script ≡ then_reaped script shape.now ttls.now) }
+    ensures play { IfOk result (λ played. whole_play (then_reaped script shape.now ttls.now) shape.now
+        ≡ playing_of played.full played.machine) }
 {
     settled_plays_are_at_rest();
     let played = play_whole(alloc, script, *shape)?;
-    last_of(alloc, &played, ttls)
+    if played.full {
+        return Ok(played);
+    }
+    play_on(alloc, played.machine, ttls)
 }
 
 // The report of a reaper, of the script and the TTLs that it gives.
@@ -115,10 +109,9 @@ fn settled_answer(
     ensures { IfOk result (λ output. printed_by output
         ≡ report_printed (then_reaped (at_rest script.commands) shape.now ttls.now) shape.now) }
 {
-    reaped_commands_fit();
     settle_at_end(&mut script)?;
-    let last = last_script(alloc, script, ttls, shape)?;
-    script_answer(alloc, last, *shape)
+    let played = play_last(alloc, script, ttls, shape)?;
+    print_report(alloc, played)
 }
 
 /// The report of a reaper, of the script in the input and the TTLs that it gives.
